@@ -520,6 +520,16 @@ def write_at(name, at, data):
     return change
 
 
+def half_merged(name):
+    """The state 3, and a GUID that is pending."""
+
+    def change(folder):
+        write_at(name, 22, b"\3")(folder)
+        write_at(name, 48, b"\1")(folder)
+
+    return change
+
+
 # Files that something else has changed, each from the files of a session: the change, the words or script, and what they say. The last ones show what
 # isn't seen: that a level 0 has all its pages, and a byte of a page.
 HOSTILE = [
@@ -611,8 +621,8 @@ ADVICE = [
     ("a standby", None, "-I -R b.db a.0", "a.0 is no level file: only levels of 1 to 9 are merged, those that -B made"),
     ("a standby", cut("a.1", 4180), "-I -R b.db a.1", "a.1 isn't whole, as a stopped backup or copy leaves it: take another copy of it, or a chain without it"),
     ("a standby", write_at("b.db", 22, b"\3"), "-I -R b.db a.1", "b.db isn't whole, since its restore or its creation was stopped: give the same words again"),
-    ("a standby", write_at("b.db", 22, b"\3" + bytes(25) + b"\1"), "-I -R b.db a.1", f"the level file of the GUID 01{NIL[2:]} is half merged into b.db: finish that first: nehumiro -I -R b.db FILE; where it is lost, restore a chain to another name"),
-    ("a standby", write_at("b.db", 22, b"\3" + bytes(25) + b"\1"), "stat b.db", f"the level file of the GUID 01{NIL[2:]} is half merged into b.db: finish that first: nehumiro -I -R b.db FILE; where it is lost, restore a chain to another name"),
+    ("a standby", half_merged("b.db"), "-I -R b.db a.1", f"the level file of the GUID 01{NIL[2:]} is half merged into b.db: finish that first: nehumiro -I -R b.db FILE; where it is lost, restore a chain to another name"),
+    ("a standby", half_merged("b.db"), "stat b.db", f"the level file of the GUID 01{NIL[2:]} is half merged into b.db: finish that first: nehumiro -I -R b.db FILE; where it is lost, restore a chain to another name"),
     ("a level merged into a standby", None, "-I -R b.db a.1", "a.1 is merged into b.db already: nothing is to be done"),
     ("a level merged into a standby", None, "-I -R b.db a.x", "a.x goes on from the backup G1, and b.db is of the backup G2: make a level since that one: nehumiro -B G2 PRIMARY FILE"),
     ("a standby", write_at("b.db", 28, b"\3"), "-I -R b.db a.1", "a.1 goes on from SCN 1 and b.db has 2, though their GUIDs agree: one of them was changed; make the standby anew by a restore"),
