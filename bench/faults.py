@@ -8,8 +8,8 @@ has the number and the text of the first line that does.
 Then what others do with a database: a user who may not write it makes no difference file beside it, runs that only read it never fail each
 other, and one that changes it waits for them as long as NEHUMIRO_WAIT says, and is refused at once where that says nothing.
 
-Then a backup that is cut off at each of its syncs: behind the line of the failure the standard error says what stands exactly where the database is
-locked or half merged, and what it says to do helps. And memory that runs out is said, with what the cache of a script asks for.
+Then a backup, and a merge into a standby, that is cut off at each of its syncs: behind the line of the failure the standard error says what stands
+exactly where the database is locked or half merged, and what it says to do helps. Two merges into one standby at once don't harm each other. And memory that runs out is said, with what the cache of a script asks for.
 """
 
 import fcntl
@@ -253,6 +253,79 @@ def standing(path):
         yield from of_others(folder, path)
 
 
+def merges(path):
+    """What is said otherwise of a merge into a standby at each of its syncs that fails, and behind it; and beside others who have its files."""
+    half = "nehumiro: y.db is half merged: give the same words again, with the same file\n"
+    words, states = [path, "-I", "-R", "y.db", "x.1"], set()
+    with Folder() as folder:
+        create(folder, path)
+        run(folder, [path, "-B", "0", "x.db", "x.0"])
+        run(folder, [path, "-R", "y.db", "x.0"])
+        folder.write_script("script", ["1: open 'y.db'", "1: access read_only"])
+        run(folder, [path, "run", "script"])
+        folder.write_script("script", ["1: open 'x.db'", write_line(5, "new")])
+        run(folder, [path, "run", "script"])
+        run(folder, [path, "-B", "1", "x.db", "x.1"])
+        shutil.copy(folder.file("y.db"), folder.file("kept"))
+        # Who has which file, and what the merge then says.
+        for name, kind, line in [("y.db", fcntl.LOCK_SH, "y.db is in use"), ("y.db", fcntl.LOCK_EX, "y.db is in use"), ("x.1", fcntl.LOCK_EX, "x.1 is in use")]:
+            with open(folder.file(name), "rb") as file:
+                fcntl.flock(file, kind)
+                ran = run(folder, words)
+            if ran != (3, [], f"nehumiro: {line}\n"):
+                yield f"{ran} of a merge while another has {name}"
+        for when in range(1, 100):
+            shutil.copy(folder.file("kept"), folder.file("y.db"))
+            inject = ["strace", "-f", "-qq", "-o", "/dev/null", "-e", "trace=fdatasync", "-e", f"inject=fdatasync:error=EIO:when={when}"]
+            status, _, said = run(folder, inject + words)
+            if status == 0:
+                break
+            with open(folder.file("y.db"), "rb") as file:
+                state = file.read(24)[22]
+            states.add(state)
+            if said != f"nehumiro: y.db: sync: Input/output error (os error 5)\n{half if state else ''}":
+                yield f"{said!r} of a merge in the state {state}, behind the sync {when}"
+            ran = run(folder, words)
+            if ran[0] != 0 and not (state == 0 and ran[2] == "nehumiro: x.1 is merged into y.db already: nothing is to be done\n"):
+                yield f"{ran} of the same merge again, behind the sync {when}"
+        if status or states != {0, 3}:
+            yield f"a merge ends with {status}, and was cut off in the states {states}"
+        # While the level file is read by others the merge goes on.
+        shutil.copy(folder.file("kept"), folder.file("y.db"))
+        with open(folder.file("x.1"), "rb") as file:
+            fcntl.flock(file, fcntl.LOCK_SH)
+            ran = run(folder, words)
+        if ran[0] != 0:
+            yield f"{ran} of a merge while another reads the level file"
+    yield from two_merges(path)
+
+
+def two_merges(path):
+    """What is wrong where two programs merge into one standby at once: one does, or the other behind it, and none harms the other."""
+    with Folder() as folder:
+        create(folder, path)
+        run(folder, [path, "-B", "0", "x.db", "x.0"])
+        run(folder, [path, "-R", "y.db", "x.0"])
+        folder.write_script("script", ["1: open 'y.db'", "1: access read_only"])
+        run(folder, [path, "run", "script"])
+        folder.write_script("script", ["1: open 'x.db'"] + [write_line(*write) for write in writes(COUNT)])
+        run(folder, [path, "run", "script"])
+        run(folder, [path, "-B", "1", "x.db", "x.1"])
+        run(folder, [path, "-R", "whole.db", "x.0", "x.1"])
+        shutil.copy(folder.file("y.db"), folder.file("kept"))
+        with open(folder.file("whole.db"), "rb") as file:
+            whole = bytearray(file.read())
+        whole[65] = 1
+        for _ in range(LOOKS):
+            shutil.copy(folder.file("kept"), folder.file("y.db"))
+            pair = [subprocess.Popen([path, "-I", "-R", "y.db", "x.1"], cwd=folder.path, stdout=subprocess.DEVNULL, stderr=subprocess.DEVNULL) for _ in range(2)]
+            ended = sorted(merge.wait() for merge in pair)
+            with open(folder.file("y.db"), "rb") as file:
+                is_whole = file.read() == whole
+            if ended not in ([0, 1], [0, 3]) or not is_whole:
+                yield f"two merges at once ended with {ended}"
+
+
 def of_others(folder, path):
     """What is said otherwise where another program has the database, which it locks and doesn't unlock in the time that is waited."""
     with open(folder.file("x.db"), "r+b") as file:
@@ -301,7 +374,7 @@ def main():
     wrong += broken_scripts(path)
     broken = len(wrong) - failed
     shared = [*without_rights(path), *locks(path), *scripts_beside_readers(path), *looks_beside_backups(path)]
-    stands = [*standing(path), *shortages(path)]
+    stands = [*standing(path), *merges(path), *shortages(path)]
     report(
         "faults",
         not wrong and not shared and not stands,

@@ -84,6 +84,12 @@ def is_restored(folder):
     return part(folder, "b.db", 22, 1) == b"\0" and len(whole(folder, "b.db")) == 13312
 
 
+def is_merged(folder):
+    """The standby is what the chain gives, but for its access, byte 65, and the difference file beside it is as it was."""
+    standby, restored = whole(folder, "b.db"), whole(folder, "whole.db")
+    return [at for at, pair in enumerate(zip(standby, restored)) if pair[0] != pair[1]] == [65] and standby[65] == 1 and whole(folder, "b.db.delta") == b"beside"
+
+
 def copied(name, to):
     return lambda folder: shutil.copy(folder.file(name), folder.file(to))
 
@@ -217,6 +223,38 @@ CASES = [
         ],
         "a chain restored",
         no_c,
+    ),
+    Case(
+        "a standby",
+        [
+            (words("-B 1 a.db a.x"), "1: ok level 1 scn 5 pages 4 guid G3", 0),
+            (words("-R b.db a.0"), "1: ok pages 13", 0),
+            (words("-I -R b.db a.1"), "1: refused 20 Access 0", 1),
+            (script("1: open 'b.db'", "1: access read_only"), "1: ok pages 13 state 0|1: ok", 0),
+            copied("b.db", "before.db"),
+        ],
+        "level 1",
+    ),
+    Case(
+        "a level merged into a standby",
+        [
+            left("b.db.delta", b"beside"),
+            (words("-I -R b.db a.1"), "1: ok pages 13", 0),
+            (words("-I -R b.db a.1"), "1: refused 17 ChainGuid a.1 G1 G2", 1),
+            (words("-I -R b.db a.x"), "1: refused 17 ChainGuid a.x G1 G2", 1),
+            (words("-R whole.db a.0 a.1"), "1: ok pages 13", 0),
+            (script("1: open 'b.db'", "1: read 6", "1: write 6 'x'"), "1: ok pages 13 state 0|1: ok 'new'|1: refused 20 Access 1", 1),
+        ],
+        "a standby",
+        is_merged,
+    ),
+    Case(
+        "a standby that was written",
+        [
+            (script("1: open 'b.db'", "1: access read_write", "1: write 7 'mine'", "1: access read_only"), "1: ok pages 13 state 0|1: ok|1: ok|1: ok", 0),
+            (words("-I -R b.db a.1"), "1: refused 19 ChainScn a.1 2 1", 1),
+        ],
+        "a standby",
     ),
     Case(
         "since a GUID",
@@ -482,6 +520,16 @@ def write_at(name, at, data):
     return change
 
 
+def half_merged(name):
+    """The state 3, and a GUID that is pending."""
+
+    def change(folder):
+        write_at(name, 22, b"\3")(folder)
+        write_at(name, 48, b"\1")(folder)
+
+    return change
+
+
 # Files that something else has changed, each from the files of a session: the change, the words or script, and what they say. The last ones show what
 # isn't seen: that a level 0 has all its pages, and a byte of a page.
 HOSTILE = [
@@ -526,6 +574,10 @@ USAGE = [
     (["-S", "a.db"], "-S names no job by itself"),
     (["-B", "-R", "x", "y"], "-B -R name no job together"),
     (["-R", "a", *"bcdefghijkl"], "a chain has 10 files at most"),
+    (["-I", "-R", "b.db"], "there are too few words for: nehumiro -I -R DB FILE"),
+    (["-I", "-R", "b.db", "a.1", "a.2"], "there are too many words for: nehumiro -I -R DB FILE"),
+    (["-I", "-R", "b.db", "a.delta"], '"a.delta" is no name of a file: names that end in .delta are those of difference files'),
+    (["-I", "b.db", "a.1"], "-I names no job by itself"),
     (["gen", "007", "s"], '"007" is no number of 0 to 18446744073709551615'),
     ([b"stat", b"\xff"], "a word is no text"),
 ]
@@ -562,6 +614,21 @@ ADVICE = [
     ("lock, copy, fixup", None, "-F a.db", "a.db.delta stands beside a.db, so it is the locked database itself and no copy: end its backup with: nehumiro -N a.db"),
     ("lock, copy, fixup", None, "-F k.db", "k.db is a database of its own already: nothing is to be done"),
     ("a write while stalled", write_at("a.db", 22, b"\2"), "-F a.db", "a.db is the database itself, not merged yet behind its last backup: end that with: nehumiro -N a.db"),
+    ("a standby", None, "-I -R b.db no.1", "there is no file no.1: a name counts from the folder in which the program is started"),
+    ("a standby", cut("b.db", 13000), "-I -R b.db a.1", r"b.db is no whole database \(page 12\): make the standby anew by a restore"),
+    ("a standby", None, "-I -R a.0 a.1", "a.0 is locked, or is a copy of a locked database, and no standby: restore one from the copy: nehumiro -R STANDBY a.0"),
+    ("a standby", write_at("b.db", 22, b"\2"), "-I -R b.db a.1", "b.db isn't merged yet behind a backup, and is no standby: make one by a restore"),
+    ("a standby", None, "-I -R b.db a.0", "a.0 is no level file: only levels of 1 to 9 are merged, those that -B made"),
+    ("a standby", cut("a.1", 4180), "-I -R b.db a.1", "a.1 isn't whole, as a stopped backup or copy leaves it: take another copy of it, or a chain without it"),
+    ("a standby", write_at("b.db", 22, b"\3"), "-I -R b.db a.1", "b.db isn't whole, since its restore or its creation was stopped: give the same words again"),
+    ("a standby", half_merged("b.db"), "-I -R b.db a.1", f"the level file of the GUID 01{NIL[2:]} is half merged into b.db: finish that first: nehumiro -I -R b.db FILE; where it is lost, restore a chain to another name"),
+    ("a standby", half_merged("b.db"), "stat b.db", f"the level file of the GUID 01{NIL[2:]} is half merged into b.db: finish that first: nehumiro -I -R b.db FILE; where it is lost, restore a chain to another name"),
+    ("a level merged into a standby", None, "-I -R b.db a.1", "a.1 is merged into b.db already: nothing is to be done"),
+    ("a level merged into a standby", None, "-I -R b.db a.x", "a.x goes on from the backup G1, and b.db is of the backup G2: make a level since that one: nehumiro -B G2 PRIMARY FILE"),
+    ("a standby", write_at("b.db", 28, b"\3"), "-I -R b.db a.1", "a.1 goes on from SCN 1 and b.db has 2, though their GUIDs agree: one of them was changed; make the standby anew by a restore"),
+    ("a standby that was written", None, "-I -R b.db a.1", "b.db was written since its backup of the SCN 1, as a stamp of 2 shows: it is no standby any more; make it anew by a restore, and keep it read-only"),
+    ("level 1", None, "-I -R a.db a.1", "a.1 is merged into a.db already: nothing is to be done"),
+    ("a standby", write_at("b.db", 65, b"\0"), "-I -R b.db a.1", "b.db can be written, and no standby may be: a script with the line '1: access read_only' sees to that"),
     ("a generated script", None, "gen 8 i.s", "gen.db is there already: choose another name, or move it away"),
 ]
 

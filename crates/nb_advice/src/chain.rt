@@ -19,7 +19,7 @@ fn before<'a>(files: &'a [Name], name: &str) -> &'a str {
 }
 
 /// A file that breaks the form of a backup file at that byte.
-fn broken_file(
+pub(crate) fn broken_file(
     alloc: Global,
     file: &str,
     at: &str,

@@ -73,6 +73,9 @@ pub fn standing(
         Job::Restore { db, .. } if seen.there == There::Unfinished => Ok(Some(format!(in alloc;
             "{db} isn't whole, and its name is free: give the same words again"
         )?)),
+        Job::Apply { db, .. } if seen.state == Some(3) => Ok(Some(format!(in alloc;
+            "{db} is half merged: give the same words again, with the same file"
+        )?)),
         _ => Ok(None),
     }
 }

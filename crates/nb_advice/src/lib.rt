@@ -2,7 +2,7 @@
 //! failed.
 //!
 //! Texts alone: each is made of a job, of the reply that refused it and of what a look at the files told, and no file is asked here. It
-//! rests on `nb_model` for jobs, on `nb_page` for headers and on `jiff_core` for the calendar. The layer above looks, and says the texts.
+//! rests on `nb_model` for jobs, on `nb_page` for headers, on `jiff_core` for the calendar and on `uuid` for GUIDs. The layer above looks, and says the texts.
 #![tactic(auto)]
 
 mod backup;
@@ -16,6 +16,7 @@ mod opening;
 mod refusal;
 mod refused;
 mod seen;
+mod standby;
 mod usage;
 mod word;
 
@@ -24,5 +25,5 @@ pub use levels::Levels;
 pub use memory::shortage;
 pub use refusal::advice;
 pub use refused::Refused;
-pub use seen::{Seen, There};
+pub use seen::{Seen, There, is_level_of};
 pub use usage::complaint;

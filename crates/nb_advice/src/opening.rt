@@ -2,6 +2,7 @@
 use crate::moment::since;
 use crate::refused::Refused;
 use crate::seen::Seen;
+use crate::standby::unfinished;
 use nb_host::Name;
 use std::alloc::{AllocError, Global};
 
@@ -68,9 +69,7 @@ pub(crate) fn opening(
             without_delta(alloc, db, what.as_str(), seen)
         }
         "NotDatabase" => broken_page(alloc, db, value),
-        "Unfinished" => Ok(Some(format!(in alloc;
-            "{db} isn't whole, since its restore or its creation was stopped: give the same words again"
-        )?)),
+        "Unfinished" => Ok(Some(unfinished(alloc, db, seen.pending)?)),
         _ => Ok(None),
     }
 }

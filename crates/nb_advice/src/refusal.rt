@@ -5,6 +5,7 @@ use crate::fixup::fixup;
 use crate::opening::opening;
 use crate::refused::Refused;
 use crate::seen::Seen;
+use crate::standby::merge;
 use nb_model::Job;
 use std::alloc::{AllocError, Global};
 
@@ -22,9 +23,10 @@ pub fn advice(
         Job::Backup { db, .. } | Job::BackupSince { db, .. } => backup(alloc, db, refused, seen),
         Job::Restore { files, .. } => restore(alloc, files.as_slice(), refused, seen),
         Job::Fixup { db } => fixup(alloc, db, refused, seen),
+        Job::Apply { db, .. } => merge(alloc, db, refused, seen),
         Job::Gen { .. } if refused.name == "FileExists" => {
             not_free(alloc, refused.values[0], &Seen::nothing())
         }
-        Job::Gen { .. } | Job::Run { .. } | Job::Apply { .. } => Ok(None),
+        Job::Gen { .. } | Job::Run { .. } => Ok(None),
     }
 }

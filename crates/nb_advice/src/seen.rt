@@ -24,6 +24,8 @@ pub enum There {
 pub struct Seen {
     /// The backup state that the header of the job's database tells.
     pub state: Option<u16>,
+    /// The GUID that it says is pending: that of the level file which is half merged into it, and zeros where none is.
+    pub pending: Option<[u8; 16]>,
     /// When the file of the job's database was written last, in seconds since the start of 1970. Nothing writes it between the begin of a
     /// backup and its end.
     pub written: Option<u64>,
@@ -35,6 +37,8 @@ pub struct Seen {
     pub length: Option<u64>,
     /// Which backups the history of the job's database has.
     pub levels: Option<Levels>,
+    /// Whether the level file of the job is the one that its standby is of already.
+    pub is_merged: bool,
 }
 
 impl Seen {
@@ -42,11 +46,13 @@ impl Seen {
     pub fn nothing() -> Seen {
         Seen {
             state: None,
+            pending: None,
             written: None,
             there: There::Unknown,
             has_delta: false,
             length: None,
             levels: None,
+            is_merged: false,
         }
     }
 }
@@ -78,6 +84,11 @@ fn ends_whole(first: &[u8; 64], length: u64, last: &[u8; 8]) -> bool {
         numbers % 8 == 0 && numbers / 8 <= count && count.div_ceil(16) <= numbers / 8
     };
     fits && number_at(last, 0) == u32::MAX
+}
+
+/// Whether the file with these first 64 bytes is the level file that a database with this header is of: their GUIDs are the same.
+pub fn is_level_of(first: &[u8; 64], header: &Header) -> bool {
+    first.starts_with(b"NBAK") && first[8..24] == header.guid[0..16]
 }
 
 impl There {

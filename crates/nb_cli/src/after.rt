@@ -25,6 +25,7 @@ usage: nehumiro run SCRIPT          runs the statements of a script
        nehumiro -B LEVEL DB FILE    backs it up into a new file: level 0 all of it, 1 to 9 what changed since the level below
        nehumiro -B GUID DB FILE     backs up what changed since the backup of that GUID
        nehumiro -R DB FILE..        restores a new database from a chain of backup files, that of level 0 first
+       nehumiro -I -R DB FILE       merges a level into a read-only standby, in place: the next one since its backup
        nehumiro -F FILE             makes a copy of a locked database a database of its own
        nehumiro gen N SCRIPT        writes the script of the number N to a new file, and runs it: for trials
 ";

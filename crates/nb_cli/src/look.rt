@@ -1,5 +1,5 @@
 // A look at files beside the run, for what is said of them: it takes no lock, changes nothing, and says nothing of what fails.
-use nb_advice::{Levels, There};
+use nb_advice::{Levels, There, is_level_of};
 use nb_host::Name;
 use nb_page::{Header, read_header};
 use std::alloc::Global;
@@ -80,6 +80,14 @@ impl<F: FileExt + Drop> Look<F> {
         match (self.first(), self.last()) {
             (Some(first), Some(last)) => There::of(&first, self.length, &last),
             _ => There::Unknown,
+        }
+    }
+
+    /// Whether it is the level file that a database with this header is of.
+    pub fn is_level_of(&self, header: &Header) -> bool {
+        match self.first() {
+            Some(first) => is_level_of(&first, header),
+            None => false,
         }
     }
 

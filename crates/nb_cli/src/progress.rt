@@ -73,8 +73,14 @@ pub fn progress_of(
             Counted::WrittenTo(db.copied()),
             copied(alloc, files)?,
         ),
+        Job::Apply { db, file } => (
+            "merging into",
+            db,
+            Counted::WrittenTo(db.copied()),
+            one(alloc, file)?,
+        ),
         Job::Unlock { db } => return merging(alloc, db, manner),
-        Job::Apply { .. } | Job::Lock { .. } | Job::LockWithSize { .. } | Job::Fixup { .. } => {
+        Job::Lock { .. } | Job::LockWithSize { .. } | Job::Fixup { .. } => {
             return Ok(None);
         }
     };

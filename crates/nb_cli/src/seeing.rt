@@ -68,6 +68,7 @@ where
     if let Some(found) = look_at(rt, db.as_str()) {
         if let Some(header) = found.header() {
             seen.state = Some(header.state);
+            seen.pending = Some(header.pending);
             seen.written = found.written;
         }
     }
@@ -92,6 +93,7 @@ where
     match refused.name {
         "NoHistory" | "NoGuid" => seen.levels = levels_of(alloc, rt, database_of(job)),
         "BadLevel" => seen.length = length_of(rt, refused.values[0]),
+        "ChainGuid" => seen.is_merged = is_merged(rt, job).unwrap_or(false),
         _ => {}
     }
     seen
@@ -102,6 +104,18 @@ where
     R::File: FileExt,
 {
     look_at(rt, db?.as_str())?.levels(alloc)
+}
+
+/// Whether the level file of a merge is the one that its standby is of.
+fn is_merged<R: Files>(rt: &R, job: &Job) -> Option<bool>
+where
+    R::File: FileExt,
+{
+    let Job::Apply { db, file } = job else {
+        return None;
+    };
+    let standby = look_at(rt, db.as_str())?.header()?;
+    Some(look_at(rt, file.as_str())?.is_level_of(&standby))
 }
 
 fn length_of<R: Files>(rt: &R, name: &str) -> Option<u64> {
