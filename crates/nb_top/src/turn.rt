@@ -22,12 +22,7 @@ use nb_session::Stop;
 use std::alloc::Global;
 
 /// Restores a chain of 1 to 10 backup files into a new database, and answers how many pages that has.
-fn restored<H: Host>(
-    alloc: Global,
-    host: &mut H,
-    db: &Name,
-    files: &[Name],
-) -> Result<Reply, Fault>
+fn restored<H: Host>(alloc: Global, host: &mut H, db: &Name, files: &[Name]) -> Result<Reply, Fault>
     requires some { 1 ≤ length files.now }
     requires few { length files.now ≤ 10 }
     ensures serves { (account : Account) → IsTrue H.tells → (restoring (H.world host.old).files db.now files.now).knows account
@@ -51,12 +46,7 @@ fn fixed<H: Host>(host: &mut H, db: &Name) -> Result<Reply, Fault>
 }
 
 /// Merges a level file into a standby, in place, and answers how many pages that has then.
-fn merged<H: Host>(
-    alloc: Global,
-    host: &mut H,
-    db: &Name,
-    file: &Name,
-) -> Result<Reply, Fault>
+fn merged<H: Host>(alloc: Global, host: &mut H, db: &Name, file: &Name) -> Result<Reply, Fault>
     ensures serves { IsTrue H.tells
         → Serves result (H.world host.old) (H.world host.new) (merging (H.world host.old).files db.now file.now) (apply_turn (H.world host.old).files db.now file.now) }
     ensures others { IsTrue H.tells → LeavesOthers (H.world host.old) (H.world host.new) (Only db.now) }
