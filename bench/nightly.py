@@ -10,7 +10,9 @@ import datetime
 import fcntl
 import os
 import random
+import shutil
 import signal
+import sys
 import subprocess
 import time
 
@@ -20,6 +22,7 @@ NIGHTLY = os.path.join(os.path.dirname(os.path.dirname(os.path.abspath(__file__)
 PAGE_SIZE, RAW = 4096, 12_000
 KEEP = 2
 KILLS = 12
+DELAY = 20_000  # microseconds, before each write of a night that is held: some 200 writes of a backup, so it lasts for seconds
 FIRST = datetime.date(2026, 11, 25)  # a Wednesday
 
 
@@ -32,8 +35,11 @@ class Place(Folder):
     def __enter__(self):
         super().__enter__()
         os.chmod(self.path, 0o755)
-        self.backups = self.file("backups")
+        self.backups, self.slow = self.file("backups"), self.file("slow")
         os.mkdir(self.backups)
+        with open(self.slow, "w", encoding="ascii") as file:
+            file.write(f"#!/bin/sh\nexec strace -D -qq -o /dev/null -e trace=pwrite64 -e inject=pwrite64:delay_enter={DELAY} '{self.program}' \"$@\"\n")
+        os.chmod(self.slow, 0o755)
         self.do(f"1: create database 'a.db' page_size {PAGE_SIZE} raw {RAW}", "1: create table t")
         return self
 
@@ -74,9 +80,9 @@ class Place(Folder):
         """The status of a night, and what cron would send."""
         return finished(self.begin(**options))
 
-    def begun(self, **options):
-        """A night whose backup is being written."""
-        running = self.begin(**options)
+    def begun(self):
+        """A night whose backup is being written: by a program that is slow, so that the night is met in the midst of it on any machine."""
+        running = self.begin(PROGRAM=self.slow)
         while running.poll() is None and not any(os.path.exists(name) and os.path.getsize(name) for name in self.backup()):
             time.sleep(0.001)
         return running
@@ -328,6 +334,8 @@ FOR_ROOT = (no_rights, full_disk)
 
 
 def main():
+    if not shutil.which("strace"):
+        sys.exit("strace is not installed: apt-get install strace")
     path = program()
     start = time.monotonic()
     failed = 0
