@@ -59,19 +59,25 @@ def edits_of(name):
     return sorted(f"{name}/{it}" for it in os.listdir(folder)) if os.path.isdir(folder) else []
 
 
-def try_crate(room, name):
-    """Tries the edits of one crate, and returns those of which it isn't known that the prover refuses them."""
-    began = time.time()
-    ran = subprocess.run(["rt", "must-fail", name], cwd=room, stdout=subprocess.PIPE, stderr=subprocess.STDOUT, text=True)
-    said = dict(VERDICT.findall(ran.stdout))
-    edits = edits_of(name)
+def show(name, said, edits):
+    """Says of a crate's edits how many were refused, and which weren't. Returns those of which it isn't known that the prover refuses them."""
     left = [it for it in edits if not said.get(it, "").startswith("refused")]
-    print(f"{name}: {len(edits) - len(left)} of {len(edits)} refused, {time.time() - began:.0f} s", flush=True)
+    print(f"{name}: {len(edits) - len(left)} of {len(edits)} refused")
     for edit in edits:
         if edit in left or "(only " in said[edit]:
-            print(f"  {edit}: {said.get(edit, 'not tried')}", flush=True)
+            print(f"  {edit}: {said.get(edit, 'not tried')}")
+    return left
+
+
+def try_crates(room, names):
+    """Tries the edits of these crates, as many side by side as rt finds room for."""
+    began = time.time()
+    ran = subprocess.run(["rt", "must-fail", *names], cwd=room, stdout=subprocess.PIPE, stderr=subprocess.STDOUT, text=True, errors="replace")
+    said = dict(VERDICT.findall(ran.stdout))
     if not said:
-        print(ran.stdout, flush=True)
+        print(ran.stdout)
+    left = [edit for name in names for edit in show(name, said, edits_of(name))]
+    print(f"{len(left)} not refused, {(time.time() - began) / 60:.0f} minutes")
     return left
 
 
@@ -81,10 +87,11 @@ def main(names):
     if unknown:
         sys.exit(f"no crate of that name has a folder wrong/: {' '.join(unknown)}")
     signal.signal(signal.SIGTERM, lambda *_: sys.exit(143))
+    names = names or every
+    print(f"{sum(len(edits_of(it)) for it in names)} edits of {len(names)} crates are tried; what is found is said at the end", flush=True)
     with tempfile.TemporaryDirectory(prefix="wrong-") as room:
         copy_crates(room)
-        left = [edit for name in names or every for edit in try_crate(room, name)]
-    print(f"{len(left)} not refused")
+        left = try_crates(room, names)
     return min(len(left), 255)
 
 
