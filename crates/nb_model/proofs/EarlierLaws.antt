@@ -3,7 +3,7 @@ use Rattle.std.proofs.Common.{◌≡◌, inl, inr, ℕ, zero, suc, ◌/◌, ◌%
 use Rattle.std.specs.Prelude.{Bool, true, false, Contains}
 use Rattle.std.proofs.lemmas.Bool.Decides.{eqb_tells}
 use Rattle.std.proofs.lemmas.List.Elements.{Contains-append_cases}
-use Rattle.nb_fields.specs.Places.{is_page_size, scn_place, entries_in}
+use Rattle.nb_fields.specs.Places.{scn_place, entries_in}
 use Rattle.nb_fields.specs.Payloads.{entry_of}
 use Rattle.nb_model.specs.Image.{Page, Image, page_at, first_page, image_size, image_scn, with_page}
 use Rattle.nb_model.specs.Account.{Base}
@@ -16,7 +16,7 @@ use Rattle.nb_model.specs.WellTrail.{IsSoundTrail}
 use Rattle.nb_model.proofs.HeaderLaws.{same-number}
 use Rattle.nb_model.proofs.SoundLaws.{with_page_length}
 use Rattle.nb_model.proofs.StrokeLaws.{with_page_same, with_page_other, with_page_front}
-use Rattle.nb_model.proofs.TrailLaws.{last_there, trail_base, settles_after, waits_after}
+use Rattle.nb_model.proofs.TrailLaws.{last_there, settles_after, waits_after}
 use Rattle.nb_model.proofs.MixtureLaws.{entry_same, IsSoundBefore, mixture_sound}
 use Rattle.nb_model.proofs.CoveredLaws.{steps_more, steps_before}
 

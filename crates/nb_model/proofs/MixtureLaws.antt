@@ -1,8 +1,8 @@
 -- Laws of mixtures: what they share with what was seen last, and that a mixture of sound images is sound.
-use Rattle.std.proofs.Common.{◌≡◌, ℕ, zero, suc, ◌/◌, ◌%◌, ◌<◌, ◌≤◌, List, [], ◌∷◌, length, take, drop, refl, sym, ap, subst, ◌∙◌, arith}
-use Rattle.std.specs.Prelude.{Bool, true, false, IsTrue, not, ◌==◌, ◌||◌, Contains}
+use Rattle.std.proofs.Common.{◌≡◌, ℕ, zero, suc, ◌/◌, ◌%◌, ◌<◌, List, [], ◌∷◌, length, take, drop, refl, sym, ap, subst, ◌∙◌, arith}
+use Rattle.std.specs.Prelude.{Bool, true, false, not, ◌==◌, ◌||◌, Contains}
 use Rattle.nb_fields.specs.Bytes.{is_zeros, number_in}
-use Rattle.nb_fields.specs.Places.{is_page_size, is_inventory_place, is_scn_place, inventory_place, scn_place, bits_in, entries_in}
+use Rattle.nb_fields.specs.Places.{is_inventory_place, is_scn_place, inventory_place, scn_place, bits_in, entries_in}
 use Rattle.nb_fields.specs.Payloads.{bit_of, entry_of}
 use Rattle.nb_fields.specs.Page.{kind_of, stamp_of}
 use Rattle.nb_fields.specs.Header.{state_of, size_of, scn_of, guid_of}
@@ -15,7 +15,7 @@ use Rattle.nb_model.specs.Stands.{IsRaised}
 use Rattle.nb_model.specs.Pagewise.{IsPagewise}
 use Rattle.nb_model.specs.Trail.{images, IsMixture}
 use Rattle.nb_model.specs.Earlier.{IsEarlier}
-use Rattle.nb_model.proofs.SoundLaws.{all_from, all_at, scn_page_there}
+use Rattle.nb_model.proofs.SoundLaws.{all_from, all_at}
 
 -- where bits and entries stand goes by the page size alone
 module _ (a b : Image) (size : image_size a ≡ image_size b) (p : ℕ) where

@@ -8,7 +8,6 @@ use Rattle.nb_model.specs.declared.reply.Reply.{Reply}
 use Rattle.nb_model.specs.declared.statement.Statement.{Statement}
 use Rattle.nb_model.specs.Account.{Ask, Base}
 use Rattle.nb_model.specs.Backups.{room_in, close_backup, close_copy}
-use Rattle.nb_model.specs.Built.{is_built}
 use Rattle.nb_model.specs.Chains.{backup_slot}
 use Rattle.nb_model.specs.Going.{HasRoom, IsNamed}
 use Rattle.nb_model.specs.Image.{Page, Image, image_size, image_state, image_scn, image_guid}
@@ -22,7 +21,6 @@ use Rattle.nb_model.specs.Turns.{first_turn, turn}
 use Rattle.nb_model.specs.Well.{is_on_pages}
 use Rattle.nb_model.proofs.ControlMay.{may_begin, may_end, may_finish}
 use Rattle.nb_model.proofs.ControlSound.{MayControl, control_sound, control_long, new_size, new_scn, new_state, new_header}
-use Rattle.nb_model.proofs.FinishLaws.{IsPlainTurn}
 use Rattle.nb_model.proofs.FitLaws.{IsWhole, AreFitting, Stays, whole_after, all_keep, fitting_stays}
 use Rattle.nb_model.proofs.NoRows.{HasNoRows}
 use Rattle.nb_model.proofs.PagesFit.{pages_fit}
@@ -33,7 +31,7 @@ use Rattle.nb_model.proofs.RoomLaws.{AnyPage, any_history, room_fits, room_there
 use Rattle.nb_model.proofs.SoundLaws.{header_stays, fields_stay}
 use Rattle.nb_model.proofs.GuidLaws.{AreSixteen, guids_append}
 use Rattle.nb_model.proofs.StrokeLaws.{base_after-append}
-use Rattle.nb_model.proofs.TurnCases.{MayStart, started, built_cases, begin_either, end_either, backup_either, since_either, copy_either}
+use Rattle.nb_model.proofs.TurnCases.{MayStart, started, statement_cases, begin_either, end_either, backup_either, since_either, copy_either}
 
 -- What strokes leave of a sound image: a sound one of the same page size, and no shorter.
 pub record StaysSound (old new : Base) : Type 0 where
@@ -190,20 +188,20 @@ module _ (s : Seen) (session : ℕ) (header : HasHeader s.base.image) (sound : I
   unfolding guids_in
   none_taken = refl
 
-  first_guids : (statement : Statement) → is_built statement ≡ true → TakesGuid s.given (first_turn s session statement)
+  first_guids : (statement : Statement) → TakesGuid s.given (first_turn s session statement)
   unfolding first_turn
-  first_guids = built_cases (λ x. TakesGuid s.given (first_turn s session x))
-      (λ x is on. inl (page_guids (first_turn s session x).strokes (pages_paged x on s session).pages))
+  first_guids = statement_cases (λ x. TakesGuid s.given (first_turn s session x))
+      (λ x on. inl (page_guids (first_turn s session x).strokes (pages_paged x on s session).pages))
       (begin_either (TakesGuid s.given) s (λ r. inl none_taken) (λ may. inr (one_guid (next_guid s.given) None, refl)))
       (end_either (TakesGuid s.given) s session (λ r. inl none_taken) (λ may. inl (ends_guids s session _)))
       (λ level name. backup_either (TakesGuid s.given) s session level name (λ r. inl none_taken) (λ ask is may. inr (started_guids name ask may, refl)))
       (λ guid name. since_either (TakesGuid s.given) s session guid name (λ r. inl none_taken) (λ ask is may. inr (started_guids name ask may, refl)))
       (λ name. copy_either (TakesGuid s.given) s session name (λ r. inl none_taken) (λ may. inl none_taken))
 
-  first_keeps : (statement : Statement) → is_built statement ≡ true → IsNamed (Begins statement) → AreSixteen (first_turn s session statement).strokes → KeepsSound s.base (first_turn s session statement).strokes
+  first_keeps : (statement : Statement) → IsNamed (Begins statement) → AreSixteen (first_turn s session statement).strokes → KeepsSound s.base (first_turn s session statement).strokes
   unfolding first_turn
-  first_keeps = built_cases (λ x. IsNamed (Begins x) → AreSixteen (first_turn s session x).strokes → KeepsSound s.base (first_turn s session x).strokes)
-      (λ x is on named sixteen. fitting_keeps HasNoRows (first_turn s session x).strokes s.base (pages_are x on named) header sound)
+  first_keeps = statement_cases (λ x. IsNamed (Begins x) → AreSixteen (first_turn s session x).strokes → KeepsSound s.base (first_turn s session x).strokes)
+      (λ x on named sixteen. fitting_keeps HasNoRows (first_turn s session x).strokes s.base (pages_are x on named) header sound)
       (λ named. begin_either Keeps s refused (λ may sixteen. (begin_keeps s.base (next_guid s.given) None header sound may.scn (first_sixteen _ (one_guid (next_guid s.given) None) sixteen)).0))
       (λ named. end_either Keeps s session refused (λ may sixteen. ends_by_keeps s session _ header sound))
       (λ level name named. backup_either Keeps s session level name refused (λ ask is. begins name ask))
@@ -236,27 +234,27 @@ HasItsPlace image (Ends reply) = Unit {0}
 HasItsPlace image Merges = Unit {0}
 HasItsPlace image (Finishes reply) = Unit {0}
 
--- A turn of a statement that can be asked keeps the image sound, where the GUIDs that it takes have 16 bytes.
-pub turn_sound : (u : Turn) → IsPlainTurn u → (session : ℕ) (now : Now) → HasHeader (base_now now).image → IsSoundImage (base_now now).image → HasItsPlace (base_now now).image u → AreSixteen (outcome session u now).strokes
+-- A turn keeps the image sound, where the GUIDs that it takes have 16 bytes.
+pub turn_sound : (u : Turn) → (session : ℕ) (now : Now) → HasHeader (base_now now).image → IsSoundImage (base_now now).image → HasItsPlace (base_now now).image u → AreSixteen (outcome session u now).strokes
     → StaysSound (base_now now) (base_after (base_now now) (outcome session u now).strokes)
 unfolding outcome turn close_copy
-turn_sound (Begins statement) plain session now header sound place sixteen = first_keeps (seen_now now) session header sound statement plain place sixteen
-turn_sound Copies plain session now header sound place sixteen = none_keeps (base_now now) header sound
-turn_sound (ClosesBackup backing) plain session now header sound place sixteen =
+turn_sound (Begins statement) session now header sound place sixteen = first_keeps (seen_now now) session header sound statement place sixteen
+turn_sound Copies session now header sound place sixteen = none_keeps (base_now now) header sound
+turn_sound (ClosesBackup backing) session now header sound place sixteen =
     fitting_keeps AnyPage (close_backup (seen_now now) backing).strokes (base_now now) (close_fits (seen_now now) backing header sound place) header sound
-turn_sound (ClosesCopy name) plain session now header sound place sixteen = none_keeps (base_now now) header sound
-turn_sound (Ends reply) plain session now header sound place sixteen = ends_by_keeps (seen_now now) session reply header sound
-turn_sound Merges plain session now header sound place sixteen = none_keeps (base_now now) header sound
-turn_sound (Finishes reply) plain session now header sound place sixteen = (finish_keeps (base_now now) header sound).0
+turn_sound (ClosesCopy name) session now header sound place sixteen = none_keeps (base_now now) header sound
+turn_sound (Ends reply) session now header sound place sixteen = ends_by_keeps (seen_now now) session reply header sound
+turn_sound Merges session now header sound place sixteen = none_keeps (base_now now) header sound
+turn_sound (Finishes reply) session now header sound place sixteen = (finish_keeps (base_now now) header sound).0
 
-pub turn_guids : (u : Turn) → IsPlainTurn u → (session : ℕ) (now : Now) → HasHeader (base_now now).image → IsSoundImage (base_now now).image → HasItsPlace (base_now now).image u
+pub turn_guids : (u : Turn) → (session : ℕ) (now : Now) → HasHeader (base_now now).image → IsSoundImage (base_now now).image → HasItsPlace (base_now now).image u
     → TakesGuid now.given (outcome session u now)
 unfolding outcome turn close_copy guids_in
-turn_guids (Begins statement) plain session now header sound place = first_guids (seen_now now) session header sound statement plain
-turn_guids Copies plain session now header sound place = inl refl
-turn_guids (ClosesBackup backing) plain session now header sound place =
+turn_guids (Begins statement) session now header sound place = first_guids (seen_now now) session header sound statement
+turn_guids Copies session now header sound place = inl refl
+turn_guids (ClosesBackup backing) session now header sound place =
     inl (no_guid AnyPage (close_backup (seen_now now) backing).strokes (base_now now) (close_fits (seen_now now) backing header sound place))
-turn_guids (ClosesCopy name) plain session now header sound place = inl refl
-turn_guids (Ends reply) plain session now header sound place = inl (ends_guids (seen_now now) session reply)
-turn_guids Merges plain session now header sound place = inl refl
-turn_guids (Finishes reply) plain session now header sound place = inl refl
+turn_guids (ClosesCopy name) session now header sound place = inl refl
+turn_guids (Ends reply) session now header sound place = inl (ends_guids (seen_now now) session reply)
+turn_guids Merges session now header sound place = inl refl
+turn_guids (Finishes reply) session now header sound place = inl refl

@@ -1,9 +1,8 @@
 -- Laws of the stalled state: a page write and a stop keep it that what is diverted is raised.
-use Rattle.std.proofs.Common.{◌≡◌, ◌≢◌, inl, inr, ℕ, zero, suc, ◌+◌, ◌<◌, ◌≤◌, List, ◌++◌, length, refl, sym, ap, subst, ◌∙◌, arith}
-use Rattle.std.specs.Prelude.{true, false, ◌==◌, Option, Some, None, IsTrue, max}
+use Rattle.std.proofs.Common.{◌≡◌, ◌≢◌, inl, inr, ℕ, zero, suc, ◌+◌, ◌<◌, ◌≤◌, List, length, refl, sym, ap, subst, ◌∙◌, arith}
+use Rattle.std.specs.Prelude.{true, false, ◌==◌, Option, Some, None, max}
 use Rattle.std.proofs.lemmas.Bool.{true≢false}
 use Rattle.std.proofs.lemmas.Bool.Decides.{eqb_tells}
-use Rattle.nb_fields.specs.Places.{is_page_size}
 use Rattle.nb_model.specs.Image.{Page, Image, page_at, first_page, image_size, image_state, image_scn, with_page}
 use Rattle.nb_model.specs.Account.{Base}
 use Rattle.nb_model.specs.Strokes.{page, merged_page, noted, on_base}

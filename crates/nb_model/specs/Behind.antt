@@ -1,7 +1,7 @@
 -- Files that are behind what is seen, and the way on which the pages that wait go out into them.
-use Rattle.std.specs.Prelude.{◌≡◌, ◌≢◌, ◌⊎◌, ℕ, ◌<◌, ◌≤◌, List, ◌++◌, length, Bool, true, false, Some, None}
+use Rattle.std.specs.Prelude.{◌≡◌, ◌⊎◌, ℕ, ◌<◌, List, ◌++◌, length, Bool, true, false, Some, None}
 use Rattle.nb_fields.specs.Places.{is_scn_place}
-use Rattle.nb_model.specs.Image.{Page, Image, page_at, first_page, image_size, image_state}
+use Rattle.nb_model.specs.Image.{page_at, first_page, image_size, image_state}
 use Rattle.nb_model.specs.Account.{Base}
 use Rattle.nb_model.specs.Owner.{entry_for}
 use Rattle.nb_model.specs.Trail.{Trail, bases_of, HasPage}
