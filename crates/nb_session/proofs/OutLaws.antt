@@ -75,6 +75,7 @@ module _ (old new : World) (before after : Held) (t : Trail) (now : Now) (ready 
       there = ready.there;
       named = named ∙ ready.named;
       running = ap (λ (h : Held). h.running) same ∙ ready.running;
+      cache = ap (λ (h : Held). h.cap) same ∙ ready.cache;
       known = λ m plain none. known m plain ∙ ready.known m plain none;
     }
 
