@@ -102,7 +102,7 @@ module _ {H : Type 0} (tells : Bool) (told : IsTrue tells) (world : H → World)
   abbrev order : List ℕ
   order = plan.schedule ++ rounds how_often
 
-  numbers : AllByRecursion IsSession order
+  pub numbers : AllByRecursion IsSession order
   numbers = numbers_fit plan.schedule how_often askable.order.each
 
   abbrev start : Scene Asker H Held
@@ -113,7 +113,7 @@ module _ {H : Type 0} (tells : Bool) (told : IsTrue tells) (world : H → World)
     pub shown : List ℕ
     pub holds : (t : Trail) (now : Now) (making : IsMaking now) → IsReady (world old) before t now → now.todo ≡ begun plan.sessions → Holds tells told world faults old before t how now order numbers making shown front s
 
-  begun_shown : HaveShown [] start
+  pub begun_shown : HaveShown [] start
   begun_shown = record {
     shown = [];
     holds = λ t now making ready begins.
@@ -121,7 +121,7 @@ module _ {H : Type 0} (tells : Bool) (told : IsTrue tells) (world : H → World)
         (λ session asker there. (first_todo how plan now session asker begins there, first_task how plan session asker there));
   }
 
-  ends : (after : Scene Asker H Held) (answer : Result (Unit {0}) Fault) → TakesTurns (sessions_kind tells world faults) order start answer after → EndsWith (sessions_kind tells world faults) HaveShown order answer after
+  pub ends : (after : Scene Asker H Held) (answer : Result (Unit {0}) Fault) → TakesTurns (sessions_kind tells world faults) order start answer after → EndsWith (sessions_kind tells world faults) HaveShown order answer after
   ends after answer turns =
       turns_hold (sessions_kind tells world faults) HaveShown
       (λ front session s far rests. record {

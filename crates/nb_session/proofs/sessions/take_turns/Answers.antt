@@ -1,8 +1,17 @@
 use Rattle.std.proofs.Common.{ap, []}
 use Rattle.nb_session.proofs.GiftLaws.{grows_none, grows_joined, foretold_still}
-use Rattle.nb_session.proofs.OutLaws.{whole_out, whole_stopped}
+use Rattle.nb_session.proofs.OutLaws.{whole_out, whole_passed, whole_stopped}
 use Rattle.nb_session.proofs.SceneStays.{script_out, script_stopped}
 use Rattle.nb_session.proofs.sessions.take_turns.Goals as goal
+
+pub returns-in_err-refused-clause-plays : goal.returns-in_err-refused-clause-plays
+returns-in_err-refused-clause-plays g c tells =
+    let played = c.in_err-refused.ensures.plays tells in (
+      played.0,
+      λ now t ready begins making foretold.
+          whole_passed (g.H.Host.world c.args.host.now) (g.H.Host.world c.play.new.host) c.args.engine.now c.play.new.engine t c.args.told now c.args.script.now.schedule c.from_residual.result c.from_residual.ensures.0
+          (played.1 now t ready begins making foretold),
+    )
 
 pub returns-in-Ok-clause-plays : goal.returns-in-Ok-clause-plays
 returns-in-Ok-clause-plays g c tells =
