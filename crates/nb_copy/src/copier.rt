@@ -127,6 +127,7 @@ fn begin<H: Host>(
     ensures level { IfOk result (λ begun. begun.level ≡ head.now.level) }
     ensures size { IfOk result (λ begun. begun.page_size ≡ head.now.page_size) }
     ensures page_size { engine.new.files.page_size ≡ engine.old.files.page_size }
+    ensures cap { engine.new.cap ≡ engine.old.cap }
     ensures running { OnOk result (engine.new.running ≡ Some session) }
     ensures cause { CountsDevice result (H.faults host.old) (H.faults host.new) }
 {
@@ -166,6 +167,7 @@ fn start_from<H: Host>(
     ensures its_level { IfOk result (λ copier. IsItsLevel since copier.backing.ask.level) }
     ensures size { IfOk result (λ copier. copier.page_size ≡ engine.old.files.page_size) }
     ensures page_size { engine.new.files.page_size ≡ engine.old.files.page_size }
+    ensures cap { engine.new.cap ≡ engine.old.cap }
     ensures running { OnOk result (engine.new.running ≡ Some session) }
     ensures cause { CountsDevice result (H.faults host.old) (H.faults host.new) }
 {
@@ -219,6 +221,7 @@ impl Copier {
         ensures level { IfOk result (λ copier. copier.backing.ask.level ≡ level) }
         ensures size { IfOk result (λ copier. copier.page_size ≡ engine.old.files.page_size) }
         ensures page_size { engine.new.files.page_size ≡ engine.old.files.page_size }
+        ensures cap { engine.new.cap ≡ engine.old.cap }
         ensures running { OnOk result (engine.new.running ≡ Some session) }
         ensures cause { CountsDevice result (H.faults host.old) (H.faults host.new) }
     {
@@ -252,6 +255,7 @@ impl Copier {
         ensures named { IfOk result (λ copier. copier.backing.name ≡ name.now) }
         ensures size { IfOk result (λ copier. copier.page_size ≡ engine.old.files.page_size) }
         ensures page_size { engine.new.files.page_size ≡ engine.old.files.page_size }
+        ensures cap { engine.new.cap ≡ engine.old.cap }
         ensures running { OnOk result (engine.new.running ≡ Some session) }
         ensures cause { CountsDevice result (H.faults host.old) (H.faults host.new) }
     {

@@ -29,6 +29,7 @@ impl Engine {
         ensures asks { IsTrue H.tells → (guid : List ℕ) × (length guid ≡ 16) × GaveAtMost (H.world host.old) (H.world host.new) guid }
         ensures stays { self.old.files.state ≡ 2 → self.new ≡ self.old }
         ensures page_size { self.new.files.page_size ≡ self.old.files.page_size }
+        ensures cap { self.new.cap ≡ self.old.cap }
         ensures cause { CountsDevice result (H.faults host.old) (H.faults host.new) }
     {
         if self.store.is_read_only() {
@@ -47,6 +48,7 @@ impl Engine {
         ensures stays { (other : ℕ) → self.old.running ≡ Some other → other ≢ session → self.new ≡ self.old }
         ensures merge { OnOk result ((self.new.files.state ≡ 2) × (self.new.running ≡ Some session) × (self.new.merged ≡ 0)) }
         ensures page_size { self.new.files.page_size ≡ self.old.files.page_size }
+        ensures cap { self.new.cap ≡ self.old.cap }
         ensures cause { CountsDevice result (H.faults host.old) (H.faults host.new) }
     {
         self.store.end(host, session)
@@ -58,6 +60,7 @@ impl Engine {
         ensures merges { (t : Trail) → IsTrue H.tells → IsOpen (H.world host.old) self.old t → HasNoZeros t.base.image → Merges result (H.world host.old) (H.world host.new) self.old self.new t }
         ensures goes { IfOk result (λ progress. GoesOn progress self.old self.new) }
         ensures page_size { self.new.files.page_size ≡ self.old.files.page_size }
+        ensures cap { self.new.cap ≡ self.old.cap }
         ensures cause { CountsDevice result (H.faults host.old) (H.faults host.new) }
         ensures not_refused { IfErr result IsNoRefusal }
     {

@@ -87,6 +87,7 @@ impl Store {
         ensures asks { IsTrue H.tells → (guid : List ℕ) × (length guid ≡ 16) × GaveAtMost (H.world host.old) (H.world host.new) guid }
         ensures stays { self.old.files.state ≡ 2 → self.new ≡ self.old }
         ensures page_size { self.new.files.page_size ≡ self.old.files.page_size }
+        ensures cap { self.new.cap ≡ self.old.cap }
         ensures cause { CountsDevice result (H.faults host.old) (H.faults host.new) }
     {
         self.check_begin()?;
@@ -106,6 +107,7 @@ impl Store {
         ensures running { self.new.running ≡ self.old.running }
         ensures name { name_of self.new ≡ name_of self.old }
         ensures page_size { self.new.files.page_size ≡ self.old.files.page_size }
+        ensures cap { self.new.cap ≡ self.old.cap }
         ensures cause { CountsFault result (H.faults host.old) (H.faults host.new) }
     {
         self.pair.begin(host, guid)?;
@@ -122,6 +124,7 @@ impl Store {
         ensures stays { (other : ℕ) → self.old.running ≡ Some other → other ≢ session → self.new ≡ self.old }
         ensures merge { OnOk result ((self.new.files.state ≡ 2) × (self.new.running ≡ Some session) × (self.new.merged ≡ 0)) }
         ensures page_size { self.new.files.page_size ≡ self.old.files.page_size }
+        ensures cap { self.new.cap ≡ self.old.cap }
         ensures cause { CountsDevice result (H.faults host.old) (H.faults host.new) }
     {
         self.check_end(session)?;
@@ -145,6 +148,7 @@ impl Store {
         ensures gave { GaveNothing (H.world host.old) (H.world host.new) }
         ensures name { name_of self.new ≡ name_of self.old }
         ensures page_size { self.new.files.page_size ≡ self.old.files.page_size }
+        ensures cap { self.new.cap ≡ self.old.cap }
         ensures cause { CountsFault result (H.faults host.old) (H.faults host.new) }
     {
         self.pair.end(host)?;
@@ -161,6 +165,7 @@ impl Store {
         ensures merges { (t : Trail) → IsTrue H.tells → IsOpen (H.world host.old) self.old t → HasNoZeros t.base.image → Merges result (H.world host.old) (H.world host.new) self.old self.new t }
         ensures goes { IfOk result (λ progress. GoesOn progress self.old self.new) }
         ensures page_size { self.new.files.page_size ≡ self.old.files.page_size }
+        ensures cap { self.new.cap ≡ self.old.cap }
         ensures cause { CountsDevice result (H.faults host.old) (H.faults host.new) }
         ensures not_refused { IfErr result IsNoRefusal }
     {
