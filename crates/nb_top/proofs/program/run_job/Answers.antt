@@ -36,7 +36,7 @@ returns-in-Backup-clause-runs g c tells = ((c.run_asking.ensures.runs tells).0, 
     let is = c.copied-name.ensures in
     subst (λ job. GoesTo c.run_asking.result old new (request_of old.files job) account given) (sym c.in-Backup.is)
     (subst (λ name. RunsTo c.run_asking.result old new (Ok (ToRun (plan_of c.in-Backup.db (Backup c.in-Backup.level name ∷ [])) Quietly)) account given) is
-    (c.run_asking.ensures.runs account given tells
+    ((c.run_asking.ensures.runs tells).1 account given
     (subst (λ name. Knows old.files account (Ok (ToRun (plan_of c.in-Backup.db (Backup c.in-Backup.level name ∷ [])) Quietly))) (sym is) (subst (λ job. KnowsAsked old.files account (request_of old.files job)) c.in-Backup.is knows)) may told)))
 
 pub returns-in-Backup-clause-grows : goal.returns-in-Backup-clause-grows
@@ -108,7 +108,7 @@ returns-in-BackupSince-clause-runs g c tells = ((c.run_asking-in-BackupSince.ens
     let is = c.copied-name-in-BackupSince.ensures in
     subst (λ job. GoesTo c.run_asking-in-BackupSince.result old new (request_of old.files job) account given) (sym c.in-BackupSince.is)
     (subst (λ name. RunsTo c.run_asking-in-BackupSince.result old new (Ok (ToRun (plan_of c.in-BackupSince.db (BackupOf c.in-BackupSince.guid name ∷ [])) Quietly)) account given) is
-    (c.run_asking-in-BackupSince.ensures.runs account given tells
+    ((c.run_asking-in-BackupSince.ensures.runs tells).1 account given
     (subst (λ name. Knows old.files account (Ok (ToRun (plan_of c.in-BackupSince.db (BackupOf c.in-BackupSince.guid name ∷ [])) Quietly))) (sym is)
     (subst (λ job. KnowsAsked old.files account (request_of old.files job)) c.in-BackupSince.is knows)) may told)))
 
