@@ -20,7 +20,7 @@ ghost use Rattle.nb_engine.specs.Stays.{StaysOpen};
 ghost use Rattle.nb_copy.specs.FileCopying.{file_count, file_next, file_written};
 ghost use Rattle.nb_copy.specs.Making.{IsMade};
 ghost use Rattle.nb_copy.specs.Reading.{asked_scn, page_reads};
-ghost use Rattle.nb_copy.specs.Starting.{StartsBackup, BeginsFor, IsBackingUp, KnowsFree, IsNineAtMost, IsItsLevel, ask_by, ask_in, earlier_cause, file_cause, turn_since};
+ghost use Rattle.nb_copy.specs.Starting.{StartsBackup, BeginsFor, IsBackingUp, IsNotMemory, KnowsFree, IsNineAtMost, IsItsLevel, ask_by, ask_in, earlier_cause, file_cause, turn_since};
 ghost use Rattle.nb_copy.specs.Closing.{BackupTurn, BackupCounts, Closes, GaveTimeAtMost, ReadsTwo};
 
 use crate::file_copy::FileCopy;
@@ -126,6 +126,7 @@ fn begin<H: Host>(
         → BeginsFor result (H.world host.old) (H.world host.new) engine.old engine.new t guid ask session head.now }
     ensures asks { IsTrue H.tells → (guid : List ℕ) × (length guid ≡ 16) × GaveAtMost (H.world host.old) (H.world host.new) guid }
     ensures stays_open { (t : Trail) → IsTrue H.tells → IsOpen (H.world host.old) engine.old t → StaysOpen result (H.world host.old) (H.world host.new) engine.old engine.new t NoNames }
+    ensures takes_none { IsNotMemory result }
     ensures level { IfOk result (λ begun. begun.level ≡ head.now.level) }
     ensures previous_scn { IfOk result (λ begun. begun.previous_scn ≡ head.now.previous_scn) }
     ensures size { IfOk result (λ begun. begun.page_size ≡ head.now.page_size) }
@@ -164,7 +165,7 @@ fn start_from<H: Host>(
     ensures stays_open { (t : Trail) → IsTrue H.tells → IsOpen (H.world host.old) engine.old t → (name.now ≡ delta_name engine.old.files.name → ⊥)
         → StaysOpen result (H.world host.old) (H.world host.new) engine.old engine.new t (Only name.now) }
     ensures made_first { (t : Trail) → IsTrue H.tells → IsOpen (H.world host.old) engine.old t → (name.now ≡ delta_name engine.old.files.name → ⊥)
-        → (GaveNothing (H.world host.old) (H.world host.new) × Goes engine.old engine.new) ⊎ IsMade (H.world host.new) name.now }
+        → (GaveNothing (H.world host.old) (H.world host.new) × Goes engine.old engine.new) ⊎ (IsMade (H.world host.new) name.now × IsNotMemory result) }
     ensures free { IsTrue H.tells → OnOk result (is_free_name (H.world host.old).files name.now ≡ true) }
     ensures named { IfOk result (λ copier. copier.backing.name ≡ name.now) }
     ensures its_level { IfOk result (λ copier. IsItsLevel since copier.backing.ask.level) }
@@ -216,9 +217,9 @@ impl Copier {
         ensures stays_open { (t : Trail) → IsTrue H.tells → IsOpen (H.world host.old) engine.old t → (name.now ≡ delta_name engine.old.files.name → ⊥)
             → StaysOpen result (H.world host.old) (H.world host.new) engine.old engine.new t (Only name.now) }
 
-        // And however it ends, no GUID was taken and the state stays, or the file was made.
+        // And however it ends, no GUID was taken and the state stays, or the file was made; the former where memory is short.
         ensures made_first { (t : Trail) → IsTrue H.tells → IsOpen (H.world host.old) engine.old t → (name.now ≡ delta_name engine.old.files.name → ⊥)
-            → (GaveNothing (H.world host.old) (H.world host.new) × Goes engine.old engine.new) ⊎ IsMade (H.world host.new) name.now }
+            → (GaveNothing (H.world host.old) (H.world host.new) × Goes engine.old engine.new) ⊎ (IsMade (H.world host.new) name.now × IsNotMemory result) }
         ensures free { IsTrue H.tells → OnOk result (is_free_name (H.world host.old).files name.now ≡ true) }
         ensures named { IfOk result (λ copier. copier.backing.name ≡ name.now) }
         ensures level { IfOk result (λ copier. copier.backing.ask.level ≡ level) }
@@ -251,9 +252,9 @@ impl Copier {
         ensures stays_open { (t : Trail) → IsTrue H.tells → IsOpen (H.world host.old) engine.old t → (name.now ≡ delta_name engine.old.files.name → ⊥)
             → StaysOpen result (H.world host.old) (H.world host.new) engine.old engine.new t (Only name.now) }
 
-        // And however it ends, no GUID was taken and the state stays, or the file was made.
+        // And however it ends, no GUID was taken and the state stays, or the file was made; the former where memory is short.
         ensures made_first { (t : Trail) → IsTrue H.tells → IsOpen (H.world host.old) engine.old t → (name.now ≡ delta_name engine.old.files.name → ⊥)
-            → (GaveNothing (H.world host.old) (H.world host.new) × Goes engine.old engine.new) ⊎ IsMade (H.world host.new) name.now }
+            → (GaveNothing (H.world host.old) (H.world host.new) × Goes engine.old engine.new) ⊎ (IsMade (H.world host.new) name.now × IsNotMemory result) }
         ensures free { IsTrue H.tells → OnOk result (is_free_name (H.world host.old).files name.now ≡ true) }
         ensures named { IfOk result (λ copier. copier.backing.name ≡ name.now) }
         ensures size { IfOk result (λ copier. copier.page_size ≡ engine.old.files.page_size) }
