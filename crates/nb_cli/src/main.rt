@@ -6,7 +6,7 @@
 //! run ended early. For that it looks at files by itself (`look`), without a lock, and changes nothing.
 #![tactic(auto)]
 
-ghost use Rattle.std.specs.Prelude.{◌≡◌, ◌≢◌, ◌⊎◌, None, Ok, map, string_bytes, IsTrue, IfOk, IfErr};
+ghost use Rattle.std.specs.Prelude.{◌≡◌, ◌≢◌, ◌⊎◌, None, Ok, map, string_bytes, IsTrue, IfOk, IfErr, ℕ, List};
 ghost use Rattle.std.specs.Process.{exit_status};
 ghost use Rattle.std.specs.IoError.{error_kind};
 ghost use Rattle.nb_host.specs.Causes.{Rose};
@@ -60,9 +60,9 @@ fn status_of<H: Host>(alloc: Global, words: &io::Result<Vec<String>>, host: &mut
     // Words that were read are those of the run.
     ensures usage { result ≡ Status.Usage → IfOk words.now (λ words. job_of (map string_bytes words.items) ≡ None) }
     ensures no_job { IfOk words.now (λ words. job_of (map string_bytes words.items) ≡ None → result ≢ Status.Done × result ≢ Status.Refused) }
-    ensures performs { IfOk words.now (λ words. (account : Account) (given : Given) → IsTrue H.tells → KnowsAsked (H.world host.old).files account (request_asked (H.world host.old).files (map string_bytes words.items))
-        → MayBeGiven given → Foretells given (H.world host.old) (H.world host.new)
-        → Performs result (H.world host.old) (H.world host.new) (request_asked (H.world host.old).files (map string_bytes words.items)) account given) }
+    ensures performs { IfOk words.now (λ words. IsTrue H.tells → (shown : List ℕ) × ((account : Account) (given : Given) → KnowsAsked (H.world host.old).files account (request_asked (H.world host.old).files (map string_bytes words.items))
+        → MayBeGiven given → Foretells given shown (H.world host.old) (H.world host.new)
+        → Performs result (H.world host.old) (H.world host.new) (request_asked (H.world host.old).files (map string_bytes words.items)) account given)) }
     ensures grows { IfOk words.now (λ words. (account : Account) → IsTrue H.tells → KnowsAsked (H.world host.old).files account (request_asked (H.world host.old).files (map string_bytes words.items)) → Grows (H.world host.old) (H.world host.new)) }
     ensures touches { IfOk words.now (λ words. IsTrue H.tells → IsWholeAsked (H.world host.old).files (request_asked (H.world host.old).files (map string_bytes words.items))
         → TouchesOnly (Ok result) (H.world host.old) (H.world host.new) (OfAsked (H.world host.old).files (request_asked (H.world host.old).files (map string_bytes words.items)))) }

@@ -1,5 +1,6 @@
 // A backup begins and ends, and what was changed meanwhile is merged.
 ghost use Rattle.std.specs.Prelude.{◌≡◌, ◌≢◌, ℕ, List, length, IsTrue, IfErr, IfOk, OnOk, Option, Some};
+ghost use Rattle.nb_host.specs.declared.faults.Fault.TheVariants.{Memory};
 ghost use Rattle.nb_change.specs.Counts.{CountsDevice};
 ghost use Rattle.nb_model.specs.Account.{Ask};
 ghost use Rattle.nb_model.specs.Outcomes.{Seen, next_guid};
@@ -29,7 +30,9 @@ impl Engine {
         ensures asks { IsTrue H.tells → (guid : List ℕ) × (length guid ≡ 16) × GaveAtMost (H.world host.old) (H.world host.new) guid }
         ensures stays { self.old.files.state ≡ 2 → self.new ≡ self.old }
         ensures page_size { self.new.files.page_size ≡ self.old.files.page_size }
+        ensures cap { self.new.cap ≡ self.old.cap }
         ensures cause { CountsDevice result (H.faults host.old) (H.faults host.new) }
+        ensures takes_none { IfErr result (λ fault. fault ≢ Memory) }
     {
         if self.store.is_read_only() {
             return Err(Fault::Refused(Refusal::Access { found: 1 }));
@@ -47,6 +50,7 @@ impl Engine {
         ensures stays { (other : ℕ) → self.old.running ≡ Some other → other ≢ session → self.new ≡ self.old }
         ensures merge { OnOk result ((self.new.files.state ≡ 2) × (self.new.running ≡ Some session) × (self.new.merged ≡ 0)) }
         ensures page_size { self.new.files.page_size ≡ self.old.files.page_size }
+        ensures cap { self.new.cap ≡ self.old.cap }
         ensures cause { CountsDevice result (H.faults host.old) (H.faults host.new) }
     {
         self.store.end(host, session)
@@ -58,6 +62,7 @@ impl Engine {
         ensures merges { (t : Trail) → IsTrue H.tells → IsOpen (H.world host.old) self.old t → HasNoZeros t.base.image → Merges result (H.world host.old) (H.world host.new) self.old self.new t }
         ensures goes { IfOk result (λ progress. GoesOn progress self.old self.new) }
         ensures page_size { self.new.files.page_size ≡ self.old.files.page_size }
+        ensures cap { self.new.cap ≡ self.old.cap }
         ensures cause { CountsDevice result (H.faults host.old) (H.faults host.new) }
         ensures not_refused { IfErr result IsNoRefusal }
     {

@@ -8,7 +8,7 @@ use Rattle.nb_model.specs.declared.statement.Statement.{Statement}
 use Rattle.nb_model.specs.Generated.{ended, generated, lines_from}
 use Rattle.nb_script.specs.Words.{Bytes, after, number_at, within, named, name_at}
 use Rattle.nb_script.specs.Lines.{lines_of, numbered, left}
-use Rattle.nb_script.specs.FirstLine.{cache_at, page_size_at, sizes_at, create_at, database_at, first_spelled, first_at}
+use Rattle.nb_script.specs.FirstLine.{cache_at, page_size_at, sizes_at, create_at, database_at, first_at}
 use Rattle.nb_script.specs.Statements.{session_line, statement_at}
 use Rattle.nb_script.specs.Scripts.{Plan, Numbered, started, with_statement, or_bad, with_lines, order_in, with_order, of_lines, script_of}
 use Rattle.nb_gen.specs.Texts.{IsScriptText, generated_first}
@@ -33,7 +33,7 @@ unfolding lines_of numbered
 first_left rest = refl
 
 first_read : first_at first_line ≡ Some (1, generated_first)
-unfolding first_at first_spelled session_line database_at create_at sizes_at page_size_at cache_at name_at named after within number_at
+unfolding first_at session_line database_at create_at sizes_at page_size_at cache_at name_at named after within number_at
 first_read = refl
 
 err_ok : (refusal : Refusal) (plan : Plan) → ◌≡◌ {A = Result Plan Refusal} (Err refusal) (Ok plan) → ⊥

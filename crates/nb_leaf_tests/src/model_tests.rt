@@ -1,5 +1,5 @@
 use nb_host::Name;
-use nb_model::{NameList, RowList, Statement, TableName, Text, are_schedules_built, is_built};
+use nb_model::{NameList, RowList, TableName, Text};
 use std::alloc::Global;
 
 fn a_text(alloc: Global) -> usize {
@@ -51,25 +51,7 @@ fn are_names() -> [bool; 4] {
     ]
 }
 
-/// Whether each of these is done today.
-fn are_built() -> [bool; 5] {
-    [
-        is_built(&Statement::Read { page: 0 }),
-        is_built(&Statement::Free { page: 5 }),
-        is_built(&Statement::EndBackup),
-        is_built(&Statement::ShowPages),
-        is_built(&Statement::ShowCache),
-    ]
-}
-
 #[test]
-fn names_of_tables_and_statements(rt: HostRuntime) {
-    assert_eq!(rt;
-        (are_names(), are_built(), are_schedules_built()),
-        (
-            [true, false, false, false],
-            [true, true, true, true, false],
-            true
-        )
-    );
+fn names_of_tables(rt: HostRuntime) {
+    assert_eq!(rt; are_names(), [true, false, false, false]);
 }

@@ -1,33 +1,22 @@
--- The turns of statements that can be asked today come to an end: what a turn leaves to do weighs less than it, or there are fewer turns.
+-- Turns come to an end: what a turn leaves to do weighs less than it, or there are fewer turns.
 use Rattle.std.proofs.Common.{◌≡◌, inl, inr, ⊎_elim, ◌⊎◌, ℕ, zero, suc, ◌+◌, ◌-◌, ◌<◌, ◌≤◌, List, [], ◌∷◌, ◌++◌, length, replicate, get_or, set, refl, sym, ap, subst, ◌∙◌, arith, length-append}
 use Rattle.std.specs.Prelude.{true}
 use Rattle.std.specs.List.{AllByRecursion, sum_by}
-use Rattle.std.proofs.lemmas.List.{get_or_past, length-set, get_or-set_same, get_or-set_other}
+use Rattle.std.proofs.lemmas.List.{get_or_past, length-set}
 use Rattle.std.proofs.lemmas.List.Sums.{sum_by-set}
-use Rattle.std.proofs.lemmas.Bool.Decides.{leb_tells, eqb_tells}
+use Rattle.std.proofs.lemmas.Bool.Decides.{leb_tells}
 use Rattle.nb_model.specs.declared.reply.Reply.{Reply}
 use Rattle.nb_model.specs.declared.statement.Statement.{Statement}
 use Rattle.nb_model.specs.declared.statement.Statement.TheVariants.{BeginBackup, EndBackup, Backup, BackupSince, CopyTo}
 use Rattle.nb_model.specs.Account.{Ask}
 use Rattle.nb_model.specs.Backups.{room_in, backup_turn, since_turn, copy_turn, close_backup, close_copy}
-use Rattle.nb_model.specs.Built.{is_built}
 use Rattle.nb_model.specs.Outcomes.{Turn, Begins, Copies, ClosesBackup, ClosesCopy, Ends, Merges, Finishes, Seen, Outcome}
 use Rattle.nb_model.specs.Pages.{begin_turn, end_turn, ends_by}
 use Rattle.nb_model.specs.Turns.{first_turn, turn}
 use Rattle.nb_model.specs.Run.{Now, Played, outcome, stands_then, take_turn, one_turn, play, rounds, all_sessions, AreFinished}
 use Rattle.nb_model.specs.Well.{is_on_pages}
 use Rattle.nb_model.proofs.RunLaws.{play-append, nothing_taken}
-use Rattle.nb_model.proofs.TurnCases.{started, built_cases, begin_either, end_either, backup_either, since_either, copy_either, pages_once}
-
--- a turn of a statement that can be asked today
-abbrev pub IsPlainTurn : Turn → Type 0
-IsPlainTurn (Begins statement) = is_built statement ≡ true
-IsPlainTurn Copies = Unit {0}
-IsPlainTurn (ClosesBackup backing) = Unit {0}
-IsPlainTurn (ClosesCopy name) = Unit {0}
-IsPlainTurn (Ends reply) = Unit {0}
-IsPlainTurn Merges = Unit {0}
-IsPlainTurn (Finishes reply) = Unit {0}
+use Rattle.nb_model.proofs.TurnCases.{started, statement_cases, begin_either, end_either, backup_either, since_either, copy_either, pages_once}
 
 -- A turn weighs more than all that it leaves to do in its place, or leaves nothing.
 abbrev pub weight_of : Turn → ℕ
@@ -47,36 +36,31 @@ weight_append : (xs ys : List Turn) → weight_in (xs ++ ys) ≡ weight_in xs + 
 weight_append [] ys = omega arith
 weight_append (x ∷ xs) ys = omega (arith, weight_append xs ys)
 
-pub record Leaves (t : Turn) (ts : List Turn) : Type 0 where
-  pub plain : AllByRecursion IsPlainTurn ts
-  pub less : (weight_in ts < weight_of t) ⊎ ((weight_of t ≡ 0) × (ts ≡ []))
+abbrev pub Leaves : Turn → List Turn → Type 0
+Leaves t ts = (weight_in ts < weight_of t) ⊎ ((weight_of t ≡ 0) × (ts ≡ []))
 
 -- nothing is left behind a statement
 none_left : (statement : Statement) → Leaves (Begins statement) []
-none_left statement = record { plain = tt; less = inl (omega arith) }
+none_left statement = inl (omega arith)
 
 -- so many turns that weigh nothing, and then one more
-leaves_many : (t each last : Turn) (n : ℕ) → IsPlainTurn each → weight_of each ≡ 0 → IsPlainTurn last → weight_of last < weight_of t → Leaves t (replicate n each ++ last ∷ [])
-leaves_many t each last n plain none ends low = record { plain = all n; less = inl (omega (arith, low, weight n)) }
+leaves_many : (t each last : Turn) (n : ℕ) → weight_of each ≡ 0 → weight_of last < weight_of t → Leaves t (replicate n each ++ last ∷ [])
+leaves_many t each last n none low = inl (omega (arith, low, weight n))
   where
-    all : (n : ℕ) → AllByRecursion IsPlainTurn (replicate n each ++ last ∷ [])
-    all zero = (ends, tt)
-    all (suc n) = (plain, all n)
-
     weight : (n : ℕ) → weight_in (replicate n each ++ last ∷ []) ≡ weight_of last
     weight zero = omega arith
     weight (suc n) = omega (arith, none, weight n)
 
 merging_left : (t : Turn) (s : Seen) (session : ℕ) (reply : Reply) → 1 ≤ weight_of t → Leaves t (ends_by s session reply).next
 unfolding ends_by
-merging_left t s session reply some = leaves_many t Merges (Finishes reply) (length s.base.diverted) tt refl tt some
+merging_left t s session reply some = leaves_many t Merges (Finishes reply) (length s.base.diverted) refl some
 
-first_leaves : (statement : Statement) → is_built statement ≡ true → (s : Seen) (session : ℕ) → Leaves (Begins statement) (first_turn s session statement).next
+first_leaves : (statement : Statement) → (s : Seen) (session : ℕ) → Leaves (Begins statement) (first_turn s session statement).next
 unfolding first_turn
-first_leaves statement built s session = built_cases (λ x. Leaves (Begins x) (first_turn s session x).next) pages begins ends backs sinces copies statement built
+first_leaves statement s session = statement_cases (λ x. Leaves (Begins x) (first_turn s session x).next) pages begins ends backs sinces copies statement
   where
-    pages : (x : Statement) → is_built x ≡ true → is_on_pages x ≡ true → Leaves (Begins x) (first_turn s session x).next
-    pages x is on = subst (Leaves (Begins x)) (sym (pages_once x is on s session).next) (none_left x)
+    pages : (x : Statement) → is_on_pages x ≡ true → Leaves (Begins x) (first_turn s session x).next
+    pages x on = subst (Leaves (Begins x)) (sym (pages_once x on s session).next) (none_left x)
 
     begins : Leaves (Begins BeginBackup) (begin_turn s).next
     begins = begin_either (λ o. Leaves (Begins BeginBackup) o.next) s (λ r. none_left BeginBackup) (λ may. none_left BeginBackup)
@@ -85,7 +69,7 @@ first_leaves statement built s session = built_cases (λ x. Leaves (Begins x) (f
     ends = end_either (λ o. Leaves (Begins EndBackup) o.next) s session (λ r. none_left EndBackup) (λ may. merging_left (Begins EndBackup) s session _ (omega arith))
 
     started_left : (x : Statement) (name : List ℕ) (ask : Ask) → Leaves (Begins x) (started s session name ask).next
-    started_left x name ask = leaves_many (Begins x) Copies _ (length (room_in s.base.image).draft.image) tt refl tt (omega arith)
+    started_left x name ask = leaves_many (Begins x) Copies _ (length (room_in s.base.image).draft.image) refl (omega arith)
 
     backs : (level : ℕ) (name : List ℕ) → Leaves (Begins (Backup level name)) (backup_turn s session level name).next
     backs level name = backup_either (λ o. Leaves (Begins (Backup level name)) o.next) s session level name (λ r. none_left (Backup level name)) (λ ask is may. started_left (Backup level name) name ask)
@@ -95,21 +79,17 @@ first_leaves statement built s session = built_cases (λ x. Leaves (Begins x) (f
 
     copies : (name : List ℕ) → Leaves (Begins (CopyTo name)) (copy_turn s session name).next
     copies name = copy_either (λ o. Leaves (Begins (CopyTo name)) o.next) s session name (λ r. none_left (CopyTo name))
-        (λ may. leaves_many (Begins (CopyTo name)) Copies (ClosesCopy name) (length s.base.frozen) tt refl tt (omega arith))
+        (λ may. leaves_many (Begins (CopyTo name)) Copies (ClosesCopy name) (length s.base.frozen) refl (omega arith))
 
-pub turn_leaves : (t : Turn) → IsPlainTurn t → (session : ℕ) (now : Now) → Leaves t (outcome session t now).next
+pub turn_leaves : (t : Turn) → (session : ℕ) (now : Now) → Leaves t (outcome session t now).next
 unfolding outcome turn close_backup close_copy
-turn_leaves (Begins statement) plain session now = first_leaves statement plain _ session
-turn_leaves Copies plain session now = record { plain = tt; less = inr (refl, refl) }
-turn_leaves (ClosesBackup backing) plain session now = record { plain = (tt, tt); less = inl (omega arith) }
-turn_leaves (ClosesCopy name) plain session now = record { plain = tt; less = inr (refl, refl) }
-turn_leaves (Ends reply) plain session now = merging_left (Ends reply) _ session reply (omega arith)
-turn_leaves Merges plain session now = record { plain = tt; less = inr (refl, refl) }
-turn_leaves (Finishes reply) plain session now = record { plain = tt; less = inr (refl, refl) }
-
--- all turns that are to come are such
-abbrev pub ArePlain : Now → Type 0
-ArePlain now = (i : ℕ) → AllByRecursion IsPlainTurn (get_or now.todo i [])
+turn_leaves (Begins statement) session now = first_leaves statement _ session
+turn_leaves Copies session now = inr (refl, refl)
+turn_leaves (ClosesBackup backing) session now = inl (omega arith)
+turn_leaves (ClosesCopy name) session now = inr (refl, refl)
+turn_leaves (Ends reply) session now = merging_left (Ends reply) _ session reply (omega arith)
+turn_leaves Merges session now = inr (refl, refl)
+turn_leaves (Finishes reply) session now = inr (refl, refl)
 
 -- what all turns that are still to come weigh, and how many they are
 abbrev pub weight_left : Now → ℕ
@@ -141,22 +121,16 @@ no_more_then a b c (inl x) (inr y) = inl (omega (arith, x, y.0))
 no_more_then a b c (inr x) (inl y) = inl (omega (arith, x.0, y))
 no_more_then a b c (inr x) (inr y) = inr (omega (arith, x.0, y.0), omega (arith, x.1, y.1))
 
--- What one turn leaves: less is to come, all of it such, and there are as many sessions.
+-- What one turn leaves: less is to come, and there are as many sessions.
 record Steps (after before : Now) : Type 0 where
   less : IsLess after before
-  plain : ArePlain after
   same : length after.todo ≡ length before.todo
 
 pub record Keeps (after before : Now) : Type 0 where
   pub no_more : IsNoMore after before
-  pub plain : ArePlain after
   pub same : length after.todo ≡ length before.todo
 
-plain_append : (xs ys : List Turn) → AllByRecursion IsPlainTurn xs → AllByRecursion IsPlainTurn ys → AllByRecursion IsPlainTurn (xs ++ ys)
-plain_append [] ys a b = b
-plain_append (x ∷ xs) ys a b = (a.0, plain_append xs ys a.1 b)
-
-module _ (session : ℕ) (t : Turn) (rest : List Turn) (now : Now) (is : get_or now.todo (session - 1) [] ≡ t ∷ rest) (plain : ArePlain now) where
+module _ (session : ℕ) (t : Turn) (rest : List Turn) (now : Now) (is : get_or now.todo (session - 1) [] ≡ t ∷ rest) where
   abbrev o : Outcome
   o = outcome session t now
 
@@ -166,9 +140,6 @@ module _ (session : ℕ) (t : Turn) (rest : List Turn) (now : Now) (is : get_or 
   todo_is : then.todo ≡ set now.todo (session - 1) (o.next ++ rest)
   unfolding stands_then
   todo_is = refl
-
-  here : AllByRecursion IsPlainTurn (t ∷ rest)
-  here = subst (AllByRecursion IsPlainTurn) is (plain (session - 1))
 
   inside : session - 1 < length now.todo
   inside = elim (leb_tells (length now.todo) (session - 1)) [
@@ -180,7 +151,7 @@ module _ (session : ℕ) (t : Turn) (rest : List Turn) (now : Now) (is : get_or 
       none_some e = absurd (let long = ap length e in omega arith)
 
   left : Leaves t o.next
-  left = turn_leaves t here.0 session now
+  left = turn_leaves t session now
 
   weight_then : weight_left then + weight_in (t ∷ rest) ≡ weight_left now + (weight_in o.next + weight_in rest)
   weight_then =
@@ -192,57 +163,49 @@ module _ (session : ℕ) (t : Turn) (rest : List Turn) (now : Now) (is : get_or 
       let sum = sum_by-set length now.todo (session - 1) (o.next ++ rest) [] inside in
       omega (arith, sum, ap (sum_by length) todo_is, ap length is, length-append o.next rest, ap length none)
 
-  plain_then : ArePlain then
-  plain_then i = subst (λ (todo : List (List Turn)). AllByRecursion IsPlainTurn (get_or todo i [])) (sym todo_is) (elim (eqb_tells i (session - 1)) [
-    | inl w ↦ subst (λ (k : ℕ). AllByRecursion IsPlainTurn (get_or (set now.todo (session - 1) (o.next ++ rest)) k [])) (sym w.1)
-        (subst (AllByRecursion IsPlainTurn) (sym (get_or-set_same now.todo (session - 1) (o.next ++ rest) [] inside)) (plain_append o.next rest left.plain here.1))
-    | inr w ↦ subst (AllByRecursion IsPlainTurn) (sym (get_or-set_other now.todo (session - 1) i (o.next ++ rest) [] w.1)) (plain i)
-  ])
-
   taken_steps : Steps (take_turn session (t ∷ rest) now).1 now
   unfolding take_turn
   taken_steps = record {
-    less = ⊎_elim (λ lighter. inl (omega (arith, lighter, weight_then))) (λ last. inr (omega (arith, last.0, ap weight_in last.1, weight_then), omega (arith, turns_then last.1))) left.less;
-    plain = plain_then;
+    less = ⊎_elim (λ lighter. inl (omega (arith, lighter, weight_then))) (λ last. inr (omega (arith, last.0, ap weight_in last.1, weight_then), omega (arith, turns_then last.1))) left;
     same = ap length todo_is ∙ length-set now.todo (session - 1) (o.next ++ rest);
   }
 
 -- one number of the order: its session had finished and nothing is done, or less is to come
-one_tells : (session : ℕ) (now : Now) → ArePlain now → ((get_or now.todo (session - 1) [] ≡ []) × (one_turn session now ≡ ([], now))) ⊎ Steps (one_turn session now).1 now
+one_tells : (session : ℕ) (now : Now) → ((get_or now.todo (session - 1) [] ≡ []) × (one_turn session now ≡ ([], now))) ⊎ Steps (one_turn session now).1 now
 unfolding one_turn
-one_tells session now plain = by (get_or now.todo (session - 1) []) refl
+one_tells session now = by (get_or now.todo (session - 1) []) refl
   where
     by : (ts : List Turn) → get_or now.todo (session - 1) [] ≡ ts
         → ((get_or now.todo (session - 1) [] ≡ []) × (take_turn session (get_or now.todo (session - 1) []) now ≡ ([], now))) ⊎ Steps (take_turn session (get_or now.todo (session - 1) []) now).1 now
     by [] is = inl (is, ap (λ (ts : List Turn). take_turn session ts now) is ∙ nothing_taken session now)
-    by (t ∷ rest) is = inr (subst (λ (ts : List Turn). Steps (take_turn session ts now).1 now) (sym is) (taken_steps session t rest now is plain))
+    by (t ∷ rest) is = inr (subst (λ (ts : List Turn). Steps (take_turn session ts now).1 now) (sym is) (taken_steps session t rest now is))
 
-keeps_still : (now : Now) → ArePlain now → Keeps now now
-keeps_still now plain = record { no_more = inr (refl, omega arith); plain = plain; same = refl }
+keeps_still : (now : Now) → Keeps now now
+keeps_still now = record { no_more = inr (refl, omega arith); same = refl }
 
-pub one_keeps : (session : ℕ) (now : Now) → ArePlain now → Keeps (one_turn session now).1 now
-one_keeps session now plain = elim (one_tells session now plain) [
-  | inl idle ↦ subst (λ (p : Played). Keeps p.1 now) (sym idle.1) (keeps_still now plain)
-  | inr steps ↦ record { no_more = less_is (one_turn session now).1 now steps.less; plain = steps.plain; same = steps.same }
+pub one_keeps : (session : ℕ) (now : Now) → Keeps (one_turn session now).1 now
+one_keeps session now = elim (one_tells session now) [
+  | inl idle ↦ subst (λ (p : Played). Keeps p.1 now) (sym idle.1) (keeps_still now)
+  | inr steps ↦ record { no_more = less_is (one_turn session now).1 now steps.less; same = steps.same }
 ]
 
 -- turns in an order leave no more to come
-play_keeps : (order : List ℕ) (now : Now) → ArePlain now → Keeps (play order now).1 now
+play_keeps : (order : List ℕ) (now : Now) → Keeps (play order now).1 now
 unfolding play
-play_keeps [] now plain = keeps_still now plain
-play_keeps (x ∷ xs) now plain =
-    let one : Keeps (one_turn x now).1 now = one_keeps x now plain in
-    let rest : Keeps (play xs (one_turn x now).1).1 (one_turn x now).1 = play_keeps xs (one_turn x now).1 one.plain in
-    record { no_more = no_more_then (play xs (one_turn x now).1).1 (one_turn x now).1 now rest.no_more one.no_more; plain = rest.plain; same = rest.same ∙ one.same }
+play_keeps [] now = keeps_still now
+play_keeps (x ∷ xs) now =
+    let one : Keeps (one_turn x now).1 now = one_keeps x now in
+    let rest : Keeps (play xs (one_turn x now).1).1 (one_turn x now).1 = play_keeps xs (one_turn x now).1 in
+    record { no_more = no_more_then (play xs (one_turn x now).1).1 (one_turn x now).1 now rest.no_more one.no_more; same = rest.same ∙ one.same }
 
 -- and less, unless each of their sessions had finished
-play_tells : (order : List ℕ) (now : Now) → ArePlain now → AllByRecursion (λ (x : ℕ). get_or now.todo (x - 1) [] ≡ []) order ⊎ IsLess (play order now).1 now
+play_tells : (order : List ℕ) (now : Now) → AllByRecursion (λ (x : ℕ). get_or now.todo (x - 1) [] ≡ []) order ⊎ IsLess (play order now).1 now
 unfolding play
-play_tells [] now plain = inl tt
-play_tells (x ∷ xs) now plain = elim (one_tells x now plain) [
+play_tells [] now = inl tt
+play_tells (x ∷ xs) now = elim (one_tells x now) [
   | inl idle ↦
-      ⊎_elim (λ all. inl (idle.0, all)) (λ less. inr (subst (λ (p : Played). IsLess (play xs p.1).1 now) (sym idle.1) less)) (play_tells xs now plain)
-  | inr steps ↦ inr (less_more (play xs (one_turn x now).1).1 (one_turn x now).1 now (play_keeps xs (one_turn x now).1 steps.plain).no_more steps.less)
+      ⊎_elim (λ all. inl (idle.0, all)) (λ less. inr (subst (λ (p : Played). IsLess (play xs p.1).1 now) (sym idle.1) less)) (play_tells xs now)
+  | inr steps ↦ inr (less_more (play xs (one_turn x now).1).1 (one_turn x now).1 now (play_keeps xs (one_turn x now).1).no_more steps.less)
 ]
 
 -- the sessions from one on
@@ -284,14 +247,14 @@ no_round now is = record { count = 0; finished = is }
 
 -- where few enough are to come, rounds end
 abbrev EndsWithin : (weight turns : ℕ) → Type 0
-EndsWithin weight turns = (now : Now) → ArePlain now → length now.todo ≤ 16 → weight_left now ≤ weight → turns_left now ≤ turns → HasRounds now
+EndsWithin weight turns = (now : Now) → length now.todo ≤ 16 → weight_left now ≤ weight → turns_left now ≤ turns → HasRounds now
 
-module _ (now : Now) (plain : ArePlain now) (few : length now.todo ≤ 16) where
+module _ (now : Now) (few : length now.todo ≤ 16) where
   abbrev next : Now
   next = (play all_sessions now).1
 
   round_keeps : Keeps next now
-  round_keeps = play_keeps all_sessions now plain
+  round_keeps = play_keeps all_sessions now
 
   idle_ends : AllByRecursion (λ (x : ℕ). get_or now.todo (x - 1) [] ≡ []) all_sessions → HasRounds now
   idle_ends all = no_round now (all_finished now.todo (λ i low. let same : 0 + i ≡ i = omega arith in subst (λ (k : ℕ). get_or now.todo k [] ≡ []) same (finished_from 16 0 now all i (omega (arith, low, few)))))
@@ -301,18 +264,18 @@ module _ (now : Now) (plain : ArePlain now) (few : length now.todo ≤ 16) where
 
 -- they weigh less behind each round in which a statement begins or goes on
 within : (weight : ℕ) → ((lighter : ℕ) → lighter < weight → (turns : ℕ) → EndsWithin lighter turns) → (turns : ℕ) → EndsWithin weight turns
-within weight before zero now plain few s l = elim (play_tells all_sessions now plain) [
-  | inl all ↦ idle_ends now plain few all
+within weight before zero now few s l = elim (play_tells all_sessions now) [
+  | inl all ↦ idle_ends now few all
   | inr less ↦ round_more now (elim less [
-    | inl a ↦ before (weight_left (next now plain few)) (omega (arith, a, s)) (turns_left (next now plain few)) (next now plain few) (round_keeps now plain few).plain (fewer now plain few) (omega arith) (omega arith)
+    | inl a ↦ before (weight_left (next now few)) (omega (arith, a, s)) (turns_left (next now few)) (next now few) (fewer now few) (omega arith) (omega arith)
     | inr b ↦ absurd (omega (arith, b.1, l))
   ])
 ]
-within weight before (suc turns) now plain few s l = elim (play_tells all_sessions now plain) [
-  | inl all ↦ idle_ends now plain few all
+within weight before (suc turns) now few s l = elim (play_tells all_sessions now) [
+  | inl all ↦ idle_ends now few all
   | inr less ↦ round_more now (elim less [
-    | inl a ↦ before (weight_left (next now plain few)) (omega (arith, a, s)) (turns_left (next now plain few)) (next now plain few) (round_keeps now plain few).plain (fewer now plain few) (omega arith) (omega arith)
-    | inr b ↦ within weight before turns (next now plain few) (round_keeps now plain few).plain (fewer now plain few) (omega (arith, b.0, s)) (omega (arith, b.1, l))
+    | inl a ↦ before (weight_left (next now few)) (omega (arith, a, s)) (turns_left (next now few)) (next now few) (fewer now few) (omega arith) (omega arith)
+    | inr b ↦ within weight before turns (next now few) (fewer now few) (omega (arith, b.0, s)) (omega (arith, b.1, l))
   ])
 ]
 
@@ -321,11 +284,11 @@ below zero weight low turns = absurd (omega arith)
 below (suc bound) weight low turns = within weight (λ lighter less. below bound lighter (omega (arith, less, low))) turns
 
 -- Behind any order of turns, rounds bring all that is to come to its end.
-pub rounds_end : (now : Now) → ArePlain now → length now.todo ≤ 16 → HasRounds now
-rounds_end now plain few = below (suc (weight_left now)) (weight_left now) (omega arith) (turns_left now) now plain few (omega arith) (omega arith)
+pub rounds_end : (now : Now) → length now.todo ≤ 16 → HasRounds now
+rounds_end now few = below (suc (weight_left now)) (weight_left now) (omega arith) (turns_left now) now few (omega arith) (omega arith)
 
-pub order_ends : (order : List ℕ) (now : Now) → ArePlain now → length now.todo ≤ 16 → (n : ℕ) × AreFinished (play (order ++ rounds n) now).1.todo
-order_ends order now plain few =
-    let kept : Keeps (play order now).1 now = play_keeps order now plain in
-    let end : HasRounds (play order now).1 = rounds_end (play order now).1 kept.plain (omega (arith, few, kept.same)) in
+pub order_ends : (order : List ℕ) (now : Now) → length now.todo ≤ 16 → (n : ℕ) × AreFinished (play (order ++ rounds n) now).1.todo
+order_ends order now few =
+    let kept : Keeps (play order now).1 now = play_keeps order now in
+    let end : HasRounds (play order now).1 = rounds_end (play order now).1 (omega (arith, few, kept.same)) in
     (end.count, subst (λ (p : Played). AreFinished p.1.todo) (sym (play-append order (rounds end.count) now)) end.finished)

@@ -13,9 +13,8 @@ use Rattle.nb_model.specs.declared.reply.Reply.{Reply}
 use Rattle.nb_model.specs.declared.statement.Statement.{Statement}
 use Rattle.nb_model.specs.Account.{Base, Account, Ask}
 use Rattle.nb_model.specs.Backups.{room_in, close_backup, close_copy}
-use Rattle.nb_model.specs.Built.{is_built}
 use Rattle.nb_model.specs.Causes.{is_free_entry, runs_other}
-use Rattle.nb_model.specs.Going.{IsBeginning, AreBeginnings, AreMerging, IsNamed, AreNamed, HasRoom, Runs, IsAt, waits, backs_up, copies, ends as ending, merges, IsGoing, IsMaking}
+use Rattle.nb_model.specs.Going.{AreBeginnings, AreMerging, IsNamed, AreNamed, HasRoom, Runs, IsAt, waits, backs_up, copies, ends as ending, merges, IsGoing, IsMaking}
 use Rattle.nb_model.specs.Image.{Page, Image, first_page, image_state}
 use Rattle.nb_model.specs.Outcomes.{Turn, Begins, Copies, ClosesBackup, ClosesCopy, Ends, Merges, Finishes, Backing, Seen, Outcome, Given, next_guid, passes}
 use Rattle.nb_model.specs.Pages.{ends_by, end_strokes}
@@ -24,7 +23,6 @@ use Rattle.nb_model.specs.Sound.{HasHeader, IsSoundImage}
 use Rattle.nb_model.specs.Strokes.{Stroke, begin, ends, on_base, base_after}
 use Rattle.nb_model.specs.Turns.{first_turn, turn}
 use Rattle.nb_model.specs.Well.{is_on_pages}
-use Rattle.nb_model.proofs.FinishLaws.{IsPlainTurn, ArePlain}
 use Rattle.nb_model.proofs.FitLaws.{AreFitting, Stays, fitting_stays}
 use Rattle.nb_model.proofs.OpeningLaws.{after_others}
 use Rattle.nb_model.proofs.NoRows.{HasNoRows}
@@ -33,7 +31,7 @@ use Rattle.nb_model.proofs.PutSound.{header_whole}
 use Rattle.nb_model.proofs.RoomLaws.{AnyPage, room_with}
 use Rattle.nb_model.proofs.RunLaws.{turn_stands}
 use Rattle.nb_model.proofs.SoundTurns.{StaysSound, fitting_keeps, begin_keeps, ends_keep, finish_keeps, IsStarted, start_keeps, HasPlace, close_fits, seen_now}
-use Rattle.nb_model.proofs.TurnCases.{MayBegin, MayEnd, MayStart, MayCopy, refused, started, copied, IsOnce, refused_once, built_cases, begin_either, end_either, its_own, backup_either, since_either, copy_either, pages_once}
+use Rattle.nb_model.proofs.TurnCases.{MayBegin, MayEnd, MayStart, MayCopy, refused, started, copied, IsOnce, refused_once, left_by, left_guids, statement_cases, begin_either, end_either, its_own, backup_either, since_either, copy_either, pages_once}
 use Rattle.nb_model.proofs.TurnCases as cases
 use Rattle.nb_model.proofs.UnseenLaws.{free_unseen}
 
@@ -154,16 +152,16 @@ module _ (session : ℕ) (now : Now) (going : IsGoing now) where
       others = λ other number off some runs. let both = others other number off runs in record { running = both.0; state = stays.state; frozen = stays.frozen; made = both.1 };
     }
 
-    once_step : IsOnce s o → AreBeginnings rest → IsStep now session o rest
-    once_step once all = fitting_step (ap (λ (g : Given). g.guids) once.given) (waits (subst (λ (ts : List Turn). AreBeginnings (ts ++ rest)) (sym once.next) all)) (λ other number off runs. (once.running, once.made))
+    once_step : (left : Given) → left.guids ≡ s.given.guids → IsOnce s left o → AreBeginnings rest → IsStep now session o rest
+    once_step left same once all = fitting_step (ap (λ (g : Given). g.guids) once.given ∙ same) (waits (subst (λ (ts : List Turn). AreBeginnings (ts ++ rest)) (sym once.next) all)) (λ other number off runs. (once.running, once.made))
 
   -- It is refused.
   refused_step : (rest : List Turn) → AreBeginnings rest → (r : Refusal) → IsStep now session (refused s r) rest
-  refused_step rest all r = once_step rest (refused s r) AnyPage tt (refused_once s r) all
+  refused_step rest all r = once_step rest (refused s r) AnyPage tt s.given refl (refused_once s r) all
 
-  pages_step : (rest : List Turn) (statement : Statement) → is_built statement ≡ true → is_on_pages statement ≡ true → IsNamed (Begins statement) → AreBeginnings rest → IsStep now session (first_turn s session statement) rest
-  pages_step rest statement is on named all =
-      once_step rest (first_turn s session statement) HasNoRows (pages_fit statement on named s session going.header going.sound) (pages_once statement is on s session) all
+  pages_step : (rest : List Turn) (statement : Statement) → is_on_pages statement ≡ true → IsNamed (Begins statement) → AreBeginnings rest → IsStep now session (first_turn s session statement) rest
+  pages_step rest statement on named all =
+      once_step rest (first_turn s session statement) HasNoRows (pages_fit statement on named s session going.header going.sound) (left_by statement s.given) (left_guids statement s.given) (pages_once statement on s session) all
 
   -- no copy and no merge is under way in the normal state
   none_runs : image_state b.image ≡ 0 → (other number : ℕ) → 1 ≤ number → Runs now other number → ⊥
@@ -232,10 +230,10 @@ module _ (session : ℕ) (now : Now) (going : IsGoing now) where
       none_some : (by : ℕ) → None ≡ Some by → ⊥
       none_some by e = cc
 
-  pub first_step : (rest : List Turn) → AreBeginnings rest → (statement : Statement) → is_built statement ≡ true → IsNamed (Begins statement) → IsStep now session (first_turn s session statement) rest
+  pub first_step : (rest : List Turn) → AreBeginnings rest → (statement : Statement) → IsNamed (Begins statement) → IsStep now session (first_turn s session statement) rest
   unfolding first_turn
-  first_step rest all = built_cases (λ x. IsNamed (Begins x) → IsStep now session (first_turn s session x) rest)
-      (λ x is on named. pages_step rest x is on named all)
+  first_step rest all = statement_cases (λ x. IsNamed (Begins x) → IsStep now session (first_turn s session x) rest)
+      (λ x on named. pages_step rest x on named all)
       (λ named. begin_either Step s (refused_step rest all) (begun_step rest all))
       (λ named. end_either Step s session (refused_step rest all) (λ may. ended_step rest all _ may.other (alone may)))
       (λ level name named. backup_either Step s session level name (refused_step rest all) (λ ask is. started_step rest all name ask))
@@ -319,7 +317,7 @@ module _ (session : ℕ) (now : Now) (going : IsGoing now) where
 
   beginning_step : (u : Turn) (rest : List Turn) → AreBeginnings (u ∷ rest) → AllByRecursion IsNamed (u ∷ rest) → Steps u rest
   unfolding outcome turn
-  beginning_step (Begins statement) rest all named = first_step session now going rest all.1 statement all.0 named.0
+  beginning_step (Begins statement) rest all named = first_step session now going rest all.1 statement named.0
   beginning_step other rest all named = absurd all.0
 
   copying_step : (rest : List Turn) → Runs now (session - 1) 1 → IsAt (stands_then session rest (passes (seen_now now)) now) (session - 1) rest → Steps Copies rest
@@ -448,33 +446,9 @@ module _ (session : ℕ) (now : Now) (named : AreNamed now) (going : IsGoing now
   pub going_turn : IsGoing (one_turn session now).1
   going_turn = one_cases (λ p. IsGoing p.1) session now going (λ u rest is. going_then session now going u rest is (outcome session u now) (next_step u rest is))
 
--- What is to come are turns of statements that can be asked.
-all_plain : (ts : List Turn) → AreBeginnings ts → AllByRecursion IsPlainTurn ts
-all_plain [] all = tt
-all_plain (t ∷ ts) all = (one t all.0, all_plain ts all.1)
-  where
-    one : (t : Turn) → IsBeginning t → IsPlainTurn t
-    one (Begins statement) h = h
-    one other h = absurd h
-
 many : (P : Turn → Type 0) (n : ℕ) (t : Turn) (ts : List Turn) → P t → AllByRecursion P ts → AllByRecursion P (replicate n t ++ ts)
 many P zero t ts h all = all
 many P (suc n) t ts h all = (h, many P n t ts h all)
-
-merging_plain : (ts : List Turn) → AreMerging ts → AllByRecursion IsPlainTurn ts
-merging_plain (Merges ∷ ts) turns = (tt, merging_plain ts turns)
-merging_plain (Finishes reply ∷ ts) turns = (tt, all_plain ts turns)
-merging_plain other turns = absurd turns
-
-at_plain : (now : Now) (place : ℕ) (ts : List Turn) → IsAt now place ts → AllByRecursion IsPlainTurn ts
-at_plain now place ts (waits all) = all_plain ts all
-at_plain now place ts (backs_up left backing tail e all runs room free) = subst (AllByRecursion IsPlainTurn) (sym e) (many IsPlainTurn left Copies (ClosesBackup backing ∷ tail) tt (tt, all_plain tail all))
-at_plain now place ts (copies left name tail e all runs free) = subst (AllByRecursion IsPlainTurn) (sym e) (many IsPlainTurn left Copies (ClosesCopy name ∷ tail) tt (tt, all_plain tail all))
-at_plain now place ts (ending reply tail e all runs) = subst (AllByRecursion IsPlainTurn) (sym e) (tt, all_plain tail all)
-at_plain now place ts (merges turns runs) = merging_plain ts turns
-
-pub going_plain : (now : Now) → IsGoing now → ArePlain now
-going_plain now going place = at_plain now place (get_or now.todo place []) (going.each place)
 
 -- The files that are still to be made have names.
 module _ (session : ℕ) (s : Seen) (sixteen : length (next_guid s.given) ≡ 16) where
@@ -488,25 +462,25 @@ module _ (session : ℕ) (s : Seen) (sixteen : length (next_guid s.given) ≡ 16
   started_named : (name : List ℕ) (ask : Ask) → is_name name ≡ true → Names (started s session name ask)
   started_named name ask named = many IsNamed (length (room_in s.base.image).draft.image) Copies _ tt ((named, sixteen), tt)
 
-  first_named : (statement : Statement) → is_built statement ≡ true → IsNamed (Begins statement) → Names (first_turn s session statement)
+  first_named : (statement : Statement) → IsNamed (Begins statement) → Names (first_turn s session statement)
   unfolding first_turn
-  first_named = built_cases (λ x. IsNamed (Begins x) → Names (first_turn s session x))
-      (λ x is on named. subst (AllByRecursion IsNamed) (sym (pages_once x is on s session).next) tt)
+  first_named = statement_cases (λ x. IsNamed (Begins x) → Names (first_turn s session x))
+      (λ x on named. subst (AllByRecursion IsNamed) (sym (pages_once x on s session).next) tt)
       (λ named. begin_either Names s (λ r. tt) (λ may. tt))
       (λ named. end_either Names s session (λ r. tt) (λ may. merging_named _))
       (λ level name named. backup_either Names s session level name (λ r. tt) (λ ask is may. started_named name ask named))
       (λ guid name named. since_either Names s session guid name (λ r. tt) (λ ask is may. started_named name ask named))
       (λ name named. copy_either Names s session name (λ r. tt) (λ may. many IsNamed (length s.base.frozen) Copies (ClosesCopy name ∷ []) tt (named, tt)))
 
-  next_named : (u : Turn) → IsPlainTurn u → IsNamed u → Names (turn s session u)
+  next_named : (u : Turn) → IsNamed u → Names (turn s session u)
   unfolding turn close_backup close_copy
-  next_named (Begins statement) plain named = first_named statement plain named
-  next_named (Ends reply) plain named = merging_named reply
-  next_named Copies plain named = tt
-  next_named (ClosesBackup backing) plain named = (tt, tt)
-  next_named (ClosesCopy name) plain named = tt
-  next_named Merges plain named = tt
-  next_named (Finishes reply) plain named = tt
+  next_named (Begins statement) named = first_named statement named
+  next_named (Ends reply) named = merging_named reply
+  next_named Copies named = tt
+  next_named (ClosesBackup backing) named = (tt, tt)
+  next_named (ClosesCopy name) named = tt
+  next_named Merges named = tt
+  next_named (Finishes reply) named = tt
 
 named_append : (xs ys : List Turn) → AllByRecursion IsNamed xs → AllByRecursion IsNamed ys → AllByRecursion IsNamed (xs ++ ys)
 named_append [] ys a b = b
@@ -518,12 +492,11 @@ named_turn session now named going = one_cases (λ p. AreNamed p.1) session now 
     let step : IsStep now session (outcome session u now) rest = next_step session now named going u rest is in
     let o : Outcome = outcome session u now in
     let here : AllByRecursion IsNamed (u ∷ rest) = subst (AllByRecursion IsNamed) is (named (session - 1)) in
-    let plain : AllByRecursion IsPlainTurn (u ∷ rest) = subst (AllByRecursion IsPlainTurn) is (going_plain now going (session - 1)) in
     let after : Now = stands_then session rest o now in
     elim (eqb_tells place (session - 1)) [
       | inl w ↦ subst (λ (p : ℕ). AllByRecursion IsNamed (get_or after.todo p [])) (sym w.1)
           (subst (AllByRecursion IsNamed) (sym (own_todo session now u rest is o))
-          (named_append o.next rest (next_named session (seen_now now) (next_sixteen now.given going.sixteen) u plain.0 here.0) here.1))
+          (named_append o.next rest (next_named session (seen_now now) (next_sixteen now.given going.sixteen) u here.0) here.1))
       | inr w ↦ subst (AllByRecursion IsNamed) (sym (other_todo session now u rest is o place w.1)) (named place)
     ])
 
@@ -593,15 +566,19 @@ all_begin : (P : Turn → Type 0) (statements : List Statement) → AllByRecursi
 all_begin P [] h = tt
 all_begin P (x ∷ xs) h = (h.0, all_begin P xs h.1)
 
-pub begun_going : (now : Now) (sessions : List (List Statement)) → now.todo ≡ begun sessions → ((place : ℕ) → AllByRecursion (λ (x : Statement). is_built x ≡ true) (slice_index_or sessions place []))
-    → HasHeader (base_now now).image → IsSoundImage (base_now now).image → image_state (base_now now).image ≤ 2
+-- whatever they are
+all_beginnings : (statements : List Statement) → AreBeginnings (map Begins statements)
+all_beginnings [] = tt
+all_beginnings (x ∷ xs) = (tt, all_beginnings xs)
+
+pub begun_going : (now : Now) (sessions : List (List Statement)) → now.todo ≡ begun sessions → HasHeader (base_now now).image → IsSoundImage (base_now now).image → image_state (base_now now).image ≤ 2
     → (image_state (base_now now).image ≡ 1 → is_header (first_page (base_now now).frozen) ≡ true) → AllByRecursion (λ (guid : List ℕ). length guid ≡ 16) now.given.guids → IsGoing now
-begun_going now sessions is built header sound state frozen sixteen = record {
+begun_going now sessions is header sound state frozen sixteen = record {
   header = header;
   sound = sound;
   state = state;
   frozen = frozen;
-  each = λ place. waits (subst AreBeginnings (sym (begun_at now sessions is place)) (all_begin IsBeginning (get_or sessions place []) (built place)));
+  each = λ place. waits (subst AreBeginnings (sym (begun_at now sessions is place)) (all_beginnings (get_or sessions place [])));
   sixteen = sixteen;
 }
 

@@ -1,7 +1,6 @@
 -- The files that turns make: each was to be made before, under a name that was free, and each but once.
 use Rattle.std.proofs.Common.{◌≡◌, ◌≢◌, inl, inr, ⊎_elim, ◌⊎◌, ℕ, zero, suc, ◌-◌, List, [], ◌∷◌, ◌++◌, take, replicate, get_or, refl, sym, ap, subst, ◌∙◌, arith, append_assoc}
 use Rattle.std.specs.Prelude.{Bool, Option, Some, None, true, false, ◌==◌, Contains}
-use Rattle.std.specs.List.{AllByRecursion}
 use Rattle.std.proofs.lemmas.Bool.{true≢false, and_parts, false_from_ne_true}
 use Rattle.std.proofs.lemmas.Bool.Decides.{eqb_tells}
 use Rattle.std.proofs.lemmas.List.{append-nil}
@@ -12,7 +11,6 @@ use Rattle.nb_model.specs.declared.reply.Reply.{Reply}
 use Rattle.nb_model.specs.declared.statement.Statement.{Statement}
 use Rattle.nb_model.specs.Account.{Base, Plain, IsBase}
 use Rattle.nb_model.specs.Backups.{close_backup, close_copy}
-use Rattle.nb_model.specs.Built.{is_built}
 use Rattle.nb_model.specs.Causes.{is_free_entry}
 use Rattle.nb_model.specs.Going.{AreBeginnings, AreMerging, AreNamed, Runs, IsAt, waits, backs_up, copies, ends as ending, merges, IsGoing, IsMaking}
 use Rattle.nb_model.specs.Image.{Image, Numbered, first_page, image_state}
@@ -23,9 +21,8 @@ use Rattle.nb_model.specs.Pages.{ends_by}
 use Rattle.nb_model.specs.Run.{Now, Event, Played, base_now, with_made, account_after, outcome, stands_then, one_turn, play, event_of, files_made, AreFinished}
 use Rattle.nb_model.specs.Strokes.{base_in, base_after}
 use Rattle.nb_model.specs.Turns.{first_turn, turn}
-use Rattle.nb_model.proofs.FinishLaws.{IsPlainTurn}
 use Rattle.nb_model.proofs.FreeLaws.{free_cases}
-use Rattle.nb_model.proofs.GoingLaws.{IsUndisturbed, one_runs, one_cases, own_in_use, own_todo, then_base, going_plain, going_turn, named_turn, making_turn, others_stay, none_made}
+use Rattle.nb_model.proofs.GoingLaws.{IsUndisturbed, one_runs, one_cases, own_in_use, own_todo, then_base, going_turn, named_turn, making_turn, others_stay, none_made}
 use Rattle.nb_model.proofs.HeaderLaws.{first_byte, same-header, same-number}
 use Rattle.nb_model.proofs.OpenedLaws.{joined_front}
 use Rattle.nb_model.proofs.OpeningLaws.{in_use}
@@ -33,7 +30,7 @@ use Rattle.nb_model.proofs.RunLaws.{entry_same}
 use Rattle.nb_model.proofs.SoundLaws.{header_kind}
 use Rattle.nb_model.proofs.SoundTurns.{seen_now}
 use Rattle.nb_model.proofs.StandsLaws.{names_tell, entry_other}
-use Rattle.nb_model.proofs.TurnCases.{built_cases, begin_either, end_either, backup_either, since_either, copy_either, pages_once}
+use Rattle.nb_model.proofs.TurnCases.{begin_either, end_either, backup_either, since_either, copy_either, pages_once, statement_cases}
 
 -- one element
 one_held : (f g : MadeFile) → Contains (f ∷ []) g → f ≡ g
@@ -189,16 +186,16 @@ made_append (x ∷ xs) ys = by x.made (made_append xs ys)
     by None rest = rest
     by (Some file) rest = ap (λ (fs : List MadeFile). file ∷ fs) rest
 
-first_makes : (statement : Statement) → is_built statement ≡ true → (s : Seen) (session : ℕ) → (first_turn s session statement).made ≡ None
+first_makes : (statement : Statement) → (s : Seen) (session : ℕ) → (first_turn s session statement).made ≡ None
 unfolding first_turn ends_by
-first_makes statement built s session = built_cases (λ x. (first_turn s session x).made ≡ None)
-    (λ x is on. (pages_once x is on s session).made)
+first_makes statement s session = statement_cases (λ x. (first_turn s session x).made ≡ None)
+    (λ x on. (pages_once x on s session).made)
     (begin_either None_made s (λ r. refl) (λ may. refl))
     (end_either None_made s session (λ r. refl) (λ may. refl))
     (λ level name. backup_either None_made s session level name (λ r. refl) (λ ask is may. refl))
     (λ guid name. since_either None_made s session guid name (λ r. refl) (λ ask is may. refl))
     (λ name. copy_either None_made s session name (λ r. refl) (λ may. refl))
-    statement built
+    statement
   where
     None_made : Outcome → Type 0
     None_made o = o.made ≡ None
@@ -208,15 +205,15 @@ abbrev pub of_made : Option MadeFile → List MadeFile
 of_made None = []
 of_made (Some file) = file ∷ []
 
-pub turn_makes : (u : Turn) → IsPlainTurn u → (session : ℕ) (now : Now) → of_made (outcome session u now).made ≡ making (base_now now).frozen (u ∷ [])
+pub turn_makes : (u : Turn) → (session : ℕ) (now : Now) → of_made (outcome session u now).made ≡ making (base_now now).frozen (u ∷ [])
 unfolding outcome turn making close_backup close_copy ends_by
-turn_makes (Begins statement) plain session now = ap of_made (first_makes statement plain (seen_now now) session)
-turn_makes Copies plain session now = refl
-turn_makes (ClosesBackup backing) plain session now = refl
-turn_makes (ClosesCopy name) plain session now = refl
-turn_makes (Ends reply) plain session now = refl
-turn_makes Merges plain session now = refl
-turn_makes (Finishes reply) plain session now = refl
+turn_makes (Begins statement) session now = ap of_made (first_makes statement (seen_now now) session)
+turn_makes Copies session now = refl
+turn_makes (ClosesBackup backing) session now = refl
+turn_makes (ClosesCopy name) session now = refl
+turn_makes (Ends reply) session now = refl
+turn_makes Merges session now = refl
+turn_makes (Finishes reply) session now = refl
 
 pub event_makes : (session : ℕ) (u : Turn) (o : Outcome) → files_made (event_of session u o ∷ []) ≡ of_made o.made
 unfolding files_made
@@ -308,7 +305,7 @@ module _ (session : ℕ) (now : Now) (going : IsGoing now) (u : Turn) (rest : Li
   at = subst (IsAt now (session - 1)) is (going.each (session - 1))
 
   made_is : of_made o.made ≡ making frozen_then (u ∷ [])
-  made_is = turn_makes u (subst (AllByRecursion IsPlainTurn) is (going_plain now going (session - 1))).0 session now
+  made_is = turn_makes u session now
 
   own_held : (f : MadeFile) → Contains (making frozen_then (u ∷ [])) f → Contains (making frozen_then (u ∷ rest)) f
   own_held f held = held_as (making frozen_then (u ∷ []) ++ making frozen_then rest) (making frozen_then (u ∷ rest)) f (sym (making_first frozen_then u rest)) (Contains-append_left (making frozen_then (u ∷ [])) (making frozen_then rest) f held)

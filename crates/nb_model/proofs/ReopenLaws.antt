@@ -17,7 +17,7 @@ use Rattle.nb_model.proofs.RunLaws.{base_in_base}
 use Rattle.nb_model.proofs.OpeningLaws.{after_here, after_others, after_kept}
 
 -- What opening a database leaves: nothing is changed, and sessions may take their turns.
-pub record IsReopened (account : Account) (given : Given) (sessions : List (List Statement)) (session : ℕ) (name : List ℕ) (b : Base) (o : Opening) : Type 0 where
+pub record IsReopened (account : Account) (given : Given) (sessions : List (List Statement)) (session : ℕ) (name : List ℕ) (cache : ℕ) (b : Base) (o : Opening) : Type 0 where
   pub event : o.event ≡ record { session = session; strokes = []; reply = Some (Opened (length b.image) (image_state b.image)); made = None; syncs = true }
   pub here : o.account.entry name ≡ IsBase b
   pub others : (n : List ℕ) → n ≢ name → o.account.entry n ≡ account.entry n
@@ -27,6 +27,7 @@ pub record IsReopened (account : Account) (given : Given) (sessions : List (List
   pub base : base_now now ≡ b
   pub name_is : now.name ≡ name
   pub account_is : now.account ≡ o.account
+  pub cache_is : now.cache ≡ cache
   pub running : now.running ≡ None
   pub given_is : now.given ≡ given
   pub todo : now.todo ≡ begun sessions
@@ -41,7 +42,7 @@ no_record b = refl
 
 -- opening a database
 pub reopened : (account : Account) (given : Given) (sessions : List (List Statement)) (session : ℕ) (name : List ℕ) (cache : ℕ) (b : Base) → account.entry name ≡ IsBase b
-    → IsReopened account given sessions session name b (opening account given sessions session (OpenDb name cache))
+    → IsReopened account given sessions session name cache b (opening account given sessions session (OpenDb name cache))
 unfolding opening done_opening not_opened
 reopened account given sessions session name cache b there =
     let old : Base = base_in (account.entry name) in
@@ -60,6 +61,7 @@ reopened account given sessions session name cache b there =
       base = ap base_in here ∙ base_in_base b;
       name_is = refl;
       account_is = sym (ap (λ (o : Opening). o.account) whole);
+      cache_is = refl;
       running = refl;
       given_is = refl;
       todo = refl;

@@ -9,7 +9,6 @@ use Rattle.nb_model.specs.declared.reply.Reply.{Reply}
 use Rattle.nb_model.specs.declared.statement.Statement.{Statement}
 use Rattle.nb_model.specs.Account.{Ask, Kept, Base}
 use Rattle.nb_model.specs.Backups.{room_in, close_backup, close_copy}
-use Rattle.nb_model.specs.Built.{is_built}
 use Rattle.nb_model.specs.Causes.{runs_other}
 use Rattle.nb_model.specs.Going.{AreBeginnings, AreMerging, IsNamed, AreNamed, HasRoom, Runs, IsAt, waits, backs_up, copies, ends as ending, merges, IsGoing}
 use Rattle.nb_model.specs.Image.{image_state, image_scn}
@@ -30,7 +29,7 @@ use Rattle.nb_model.proofs.OutputLaws.{strokes_one}
 use Rattle.nb_model.proofs.SoundTurns.{HasPlace}
 use Rattle.nb_model.proofs.SteadyLaws.{WellAlong, KeepsAlong, kept_along, pages_along, begin_along, ends_along, finish_along, settling_along, along_append, along_last, kept_append}
 use Rattle.nb_model.proofs.StepsLaws.{steps_one, steps_append, steps_seen, after_steps_append}
-use Rattle.nb_model.proofs.TurnCases.{MayBegin, MayEnd, MayStart, MayCopy, IsFrom, refused, started, copied, built_cases, begin_either, end_either, its_own, backup_either, since_either, copy_either, pages_once}
+use Rattle.nb_model.proofs.TurnCases.{MayBegin, MayEnd, MayStart, MayCopy, IsFrom, refused, started, copied, statement_cases, begin_either, end_either, its_own, backup_either, since_either, copy_either, pages_once}
 use Rattle.nb_model.proofs.TurnCases as cases
 
 -- the backup that a turn closes is recorded
@@ -120,13 +119,13 @@ module _ (kept : List Kept) (t : Trail) (now : Now) (session : ℕ) (base : t.ba
     refused_turn : (r : Refusal) → Does (refused s r)
     refused_turn r = no_stroke rest (waits_then t kept)
 
-    pages_turn : (statement : Statement) → is_built statement ≡ true → is_on_pages statement ≡ true → IsNamed (Begins statement) → Does (first_turn s session statement)
-    pages_turn statement is on named =
+    pages_turn : (statement : Statement) → is_on_pages statement ≡ true → IsNamed (Begins statement) → Does (first_turn s session statement)
+    pages_turn statement on named =
         let strokes : List Stroke = (first_turn s session statement).strokes in
         let keeps : KeepsAlong kept t (made strokes) = pages_along kept statement on named s session t refl w in
         record {
           along = keeps.along;
-          own = subst (λ (ts : List Turn). AreRecorded (kept_along kept t (made strokes)) (after_steps t (made strokes)) (ts ++ rest)) (sym (pages_once statement is on s session).next)
+          own = subst (λ (ts : List Turn). AreRecorded (kept_along kept t (made strokes)) (after_steps t (made strokes)) (ts ++ rest)) (sym (pages_once statement on s session).next)
               (waits_then (after_steps t (made strokes)) (kept_along kept t (made strokes)));
           others = λ place b off runs. recorded_on kept t (made strokes) keeps b (λ bytes of_history held.
               subst (λ (x : Base). IsHeld b.page bytes x.image) (sym (made_base t strokes))
@@ -175,9 +174,9 @@ module _ (kept : List Kept) (t : Trail) (now : Now) (session : ℕ) (base : t.ba
     alone_by : MayEnd s session → (place : ℕ) → place ≢ session - 1 → Runs now place 1 → ⊥
     alone_by may place off runs = off (sym runs.its ∙ ap (λ (x : ℕ). x - 1) (its_own runs.by session (sym (ap (λ (r : Option ℕ). runs_other r session) runs.running) ∙ may.alone)))
 
-    statement_turn : (statement : Statement) → is_built statement ≡ true → IsNamed (Begins statement) → Does (first_turn s session statement)
+    statement_turn : (statement : Statement) → IsNamed (Begins statement) → Does (first_turn s session statement)
     unfolding first_turn
-    statement_turn = built_cases (λ x. IsNamed (Begins x) → Does (first_turn s session x)) pages_turn (λ named. begin_either Does s refused_turn begun_turn) (λ named. end_either Does s session refused_turn (λ may. ended_turn _ may.other (alone_by may)))
+    statement_turn = statement_cases (λ x. IsNamed (Begins x) → Does (first_turn s session x)) pages_turn (λ named. begin_either Does s refused_turn begun_turn) (λ named. end_either Does s session refused_turn (λ may. ended_turn _ may.other (alone_by may)))
         (λ level name named. backup_either Does s session level name refused_turn (started_turn name)) (λ guid name named. since_either Does s session guid name refused_turn (started_turn name)) (λ name named. copy_either Does s session name refused_turn (copied_turn name))
 
   -- the further turns of a backup, a copy or a merge of this session
@@ -206,7 +205,7 @@ module _ (kept : List Kept) (t : Trail) (now : Now) (session : ℕ) (base : t.ba
 
   beginning_turn : (u : Turn) (rest : List Turn) → AreBeginnings (u ∷ rest) → AllByRecursion IsNamed (u ∷ rest) → Turns u rest
   unfolding turn
-  beginning_turn (Begins statement) rest all named = statement_turn rest all.1 statement all.0 named.0
+  beginning_turn (Begins statement) rest all named = statement_turn rest all.1 statement named.0
   beginning_turn other rest all named = absurd all.0
 
   copying_turn : (rest : List Turn) → AreRecorded kept t rest → Turns Copies rest

@@ -1,23 +1,21 @@
 -- Rounds of an order, and what statements answer: never the refusal of a call that is none.
 use Rattle.std.proofs.Common.{◌≡◌, ◌≢◌, ℕ, zero, suc, ◌+◌, ◌-◌, List, [], ◌∷◌, ◌++◌, length, max, refl, sym, ap, ◌∙◌, arith, append_assoc}
 use Rattle.nb_fields.specs.Header.{is_header, size_of}
-use Rattle.std.specs.Prelude.{Bool, Option, Some, None, Result, Ok, Err, true, false, nat_lt, not, min, ◌/◌, ◌%◌, ◌==◌, ◌||◌, if◌then◌else◌, IsTrue}
+use Rattle.std.specs.Prelude.{Bool, Option, Some, None, Result, Ok, Err, true, false, nat_lt, not, min, ◌/◌, ◌%◌, ◌==◌, ◌||◌, if◌then◌else◌}
 use Rattle.std.specs.List.{AllByRecursion, slice_index_or}
-use Rattle.std.proofs.lemmas.Bool.{true≢false}
 use Rattle.nb_host.specs.declared.refusals.Refusal.{Refusal}
 use Rattle.nb_host.specs.declared.refusals.Refusal.TheVariants.{Usage, NotDatabase}
 use Rattle.nb_model.specs.declared.reply.Reply.{Reply}
 use Rattle.nb_model.specs.declared.reply.Reply.TheVariants.{Done, Refused}
 use Rattle.nb_model.specs.declared.statement.Statement.{Statement}
-use Rattle.nb_model.specs.declared.statement.Statement.TheVariants.{CreateDb, OpenDb, PageNew, Write, Read, Free, BeginBackup, EndBackup, Backup, BackupSince, CopyTo, CreateTable, DropTable, Insert, Update, Delete, Get, Scan, Forced, Access as SetAccess, Sync, ShowHeader, ShowPages, ShowImage}
+use Rattle.nb_model.specs.declared.statement.Statement.TheVariants.{CreateDb, OpenDb, PageNew, Write, Read, Free, BeginBackup, EndBackup, Backup, BackupSince, CopyTo, CreateTable, DropTable, Insert, Update, Delete, Get, Scan, Forced, Access as SetAccess, Sync, ShowHeader, ShowPages, ShowImage, ShowCache}
 use Rattle.nb_model.specs.Account.{Ask}
 use Rattle.nb_model.specs.Image.{Image}
 use Rattle.nb_model.specs.Forms.{Draft}
-use Rattle.nb_model.specs.Built.{is_built}
 use Rattle.nb_model.specs.Causes.{Cause, first_cause, when, read_only, not_raw, not_database, lowest_broken, not_of_form, no_room, runs_other, runs_any, broken_at}
 use Rattle.nb_model.specs.Chains.{Chain, History, Slot, Spot, pages_of}
 use Rattle.nb_model.specs.Outcomes.{Turn, Seen, Outcome, unless, changes}
-use Rattle.nb_model.specs.Pages.{new_turn, write_turn, read_turn, free_turn, begin_turn, end_turn, ends_by, forced_turn, access_turn, header_turn, image_turn}
+use Rattle.nb_model.specs.Pages.{new_turn, write_turn, read_turn, free_turn, begin_turn, end_turn, ends_by, forced_turn, access_turn, header_turn, image_turn, cache_turn}
 use Rattle.nb_model.specs.Tables.{with_spot, in_table, in_row, create_turn, drop_turn, insert_turn, update_turn, delete_turn, get_turn, scan_turn}
 use Rattle.nb_model.specs.Backups.{room_in, starts, backup_turn, since_turn, copy_turn, all_needed, pages_turn}
 use Rattle.nb_model.specs.Turns.{first_turn}
@@ -238,33 +236,33 @@ pub scan_never_usage : (s : Seen) (session : ℕ) (table : List ℕ) → (first_
 unfolding first_turn scan_turn
 scan_never_usage s session table = table_other s _ table _ _ none_other none_other (λ spot chain e. cc)
 
-pub built_never_usage : (statement : Statement) → IsTrue (is_built statement) → (s : Seen) (session : ℕ) → (first_turn s session statement).reply ≢ Some (Refused Usage)
-unfolding first_turn header_turn image_turn
-built_never_usage (CreateDb name size raw cache) h = λ s session e. cc
-built_never_usage (OpenDb name cache) h = λ s session e. cc
-built_never_usage PageNew h = λ s session. new_never_usage s session
-built_never_usage (Free p) h = λ s session. free_never_usage s session p
-built_never_usage (Write p text) h = λ s session. write_never_usage s session p text
-built_never_usage (Read p) h = λ s session. read_never_usage s session p
-built_never_usage BeginBackup h = λ s session. begin_never_usage s session
-built_never_usage EndBackup h = λ s session. end_never_usage s session
-built_never_usage (Backup level name) h = λ s session. backup_never_usage s session level name
-built_never_usage (BackupSince guid name) h = λ s session. since_never_usage s session guid name
-built_never_usage (CopyTo name) h = λ s session. copy_never_usage s session name
-built_never_usage (Forced on) h = λ s session. forced_never_usage s session on
-built_never_usage (SetAccess closed) h = λ s session. access_never_usage s session closed
-built_never_usage Sync h = λ s session e. cc
-built_never_usage ShowHeader h = λ s session e. cc
-built_never_usage ShowPages h = λ s session. pages_never_usage s session
-built_never_usage ShowImage h = λ s session e. cc
-built_never_usage (CreateTable table) h = λ s session. create_never_usage s session table
-built_never_usage (DropTable table) h = λ s session. drop_never_usage s session table
-built_never_usage (Insert table key text) h = λ s session. insert_never_usage s session table key text
-built_never_usage (Update table key text) h = λ s session. update_never_usage s session table key text
-built_never_usage (Delete table key) h = λ s session. delete_never_usage s session table key
-built_never_usage (Get table key) h = λ s session. get_never_usage s session table key
-built_never_usage (Scan table) h = λ s session. scan_never_usage s session table
-built_never_usage other h = absurd (true≢false (sym h))
+pub never_usage : (statement : Statement) → (s : Seen) (session : ℕ) → (first_turn s session statement).reply ≢ Some (Refused Usage)
+unfolding first_turn header_turn image_turn cache_turn
+never_usage (CreateDb name size raw cache) = λ s session e. cc
+never_usage (OpenDb name cache) = λ s session e. cc
+never_usage PageNew = λ s session. new_never_usage s session
+never_usage (Free p) = λ s session. free_never_usage s session p
+never_usage (Write p text) = λ s session. write_never_usage s session p text
+never_usage (Read p) = λ s session. read_never_usage s session p
+never_usage BeginBackup = λ s session. begin_never_usage s session
+never_usage EndBackup = λ s session. end_never_usage s session
+never_usage (Backup level name) = λ s session. backup_never_usage s session level name
+never_usage (BackupSince guid name) = λ s session. since_never_usage s session guid name
+never_usage (CopyTo name) = λ s session. copy_never_usage s session name
+never_usage (Forced on) = λ s session. forced_never_usage s session on
+never_usage (SetAccess closed) = λ s session. access_never_usage s session closed
+never_usage Sync = λ s session e. cc
+never_usage ShowHeader = λ s session e. cc
+never_usage ShowPages = λ s session. pages_never_usage s session
+never_usage ShowImage = λ s session e. cc
+never_usage (CreateTable table) = λ s session. create_never_usage s session table
+never_usage (DropTable table) = λ s session. drop_never_usage s session table
+never_usage (Insert table key text) = λ s session. insert_never_usage s session table key text
+never_usage (Update table key text) = λ s session. update_never_usage s session table key text
+never_usage (Delete table key) = λ s session. delete_never_usage s session table key
+never_usage (Get table key) = λ s session. get_never_usage s session table key
+never_usage (Scan table) = λ s session. scan_never_usage s session table
+never_usage ShowCache = λ s session e. cc
 
 -- the reply is a refusal
 abbrev pub is_refusal : Reply → Bool

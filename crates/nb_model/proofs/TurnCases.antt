@@ -8,54 +8,34 @@ use Rattle.nb_host.specs.declared.refusals.Refusal.TheVariants.{WrongState, NoHi
 use Rattle.nb_model.specs.declared.reply.Reply.{Reply}
 use Rattle.nb_model.specs.declared.reply.Reply.TheVariants.{Scn, Refused}
 use Rattle.nb_model.specs.declared.statement.Statement.{Statement}
-use Rattle.nb_model.specs.declared.statement.Statement.TheVariants.{CreateDb, OpenDb, PageNew, Write, Read, Free, BeginBackup, EndBackup, Backup, BackupSince, CopyTo, CreateTable, DropTable, Insert, Update, Delete, Get, Scan, Forced, Access as SetAccess, Sync, ShowHeader, ShowPages, ShowImage}
+use Rattle.nb_model.specs.declared.statement.Statement.TheVariants.{CreateDb, OpenDb, PageNew, Write, Read, Free, BeginBackup, EndBackup, Backup, BackupSince, CopyTo, CreateTable, DropTable, Insert, Update, Delete, Get, Scan, Forced, Access as SetAccess, Sync, ShowHeader, ShowPages, ShowImage, ShowCache}
 use Rattle.nb_model.specs.Account.{Ask}
 use Rattle.nb_host.specs.Names.{same_name}
-use Rattle.nb_model.specs.Backups.{room_in, ask_of, level_behind, starts, backup_turn, since_turn, copy_turn, pages_turn}
-use Rattle.nb_model.specs.Built.{is_built}
+use Rattle.nb_model.specs.Backups.{room_in, ask_of, level_behind, starts, backup_turn, since_turn, copy_turn, close_backup, close_copy, pages_turn}
 use Rattle.nb_model.specs.Causes.{Cause, first_cause, when, read_only, not_state, no_scn, not_free, is_free_entry, runs_other, runs_any, broken_at, not_of_form, no_room}
 use Rattle.nb_model.specs.Chains.{Chain, History, Slot, Spot, pages_of, backup_spot, level_in, guid_in}
 use Rattle.nb_model.specs.Forms.{Draft}
 use Rattle.nb_model.specs.Image.{Image, image_state, image_scn, is_read_only}
-use Rattle.nb_model.specs.Outcomes.{Copies, ClosesBackup, ClosesCopy, Seen, Outcome, next_guid, without_guid, says, unless, changes}
-use Rattle.nb_model.specs.Pages.{new_turn, write_turn, read_turn, free_turn, begin_turn, end_turn, ends_by, end_scn, forced_turn, access_turn, header_turn, image_turn}
+use Rattle.nb_model.specs.Outcomes.{Turn, Begins, Copies, ClosesBackup, ClosesCopy, Ends, Merges, Finishes, Seen, Given, Outcome, next_guid, without_guid, without_hold, says, unless, changes}
+use Rattle.nb_model.specs.Pages.{new_turn, write_turn, read_turn, free_turn, begin_turn, end_turn, ends_by, end_scn, forced_turn, access_turn, header_turn, image_turn, cache_turn}
 use Rattle.nb_model.specs.Strokes.{begin}
 use Rattle.nb_model.specs.Tables.{with_spot, in_table, in_row, create_turn, drop_turn, insert_turn, update_turn, delete_turn, get_turn, scan_turn}
-use Rattle.nb_model.specs.Turns.{first_turn}
+use Rattle.nb_model.specs.Turns.{first_turn, turn}
 use Rattle.nb_model.specs.Well.{is_on_pages}
 use Rattle.nb_model.proofs.PutSound.{no_first, not_when}
 
 false_true : false ≡ true → ⊥
 false_true h = cc
 
--- The statements that can be asked: those on pages, and five that begin and end backups and copies.
-pub built_cases : (P : Statement → Type 0) → ((statement : Statement) → is_built statement ≡ true → is_on_pages statement ≡ true → P statement) → P BeginBackup → P EndBackup
-    → ((level : ℕ) (name : List ℕ) → P (Backup level name)) → ((guid name : List ℕ) → P (BackupSince guid name)) → ((name : List ℕ) → P (CopyTo name)) → (statement : Statement) → is_built statement ≡ true → P statement
-built_cases P pages begins ends backs sinces copies (CreateDb name size raw cache) built = pages (CreateDb name size raw cache) built refl
-built_cases P pages begins ends backs sinces copies (OpenDb name cache) built = pages (OpenDb name cache) built refl
-built_cases P pages begins ends backs sinces copies PageNew built = pages PageNew built refl
-built_cases P pages begins ends backs sinces copies (Write p text) built = pages (Write p text) built refl
-built_cases P pages begins ends backs sinces copies (Read p) built = pages (Read p) built refl
-built_cases P pages begins ends backs sinces copies (Free p) built = pages (Free p) built refl
-built_cases P pages begins ends backs sinces copies BeginBackup built = begins
-built_cases P pages begins ends backs sinces copies EndBackup built = ends
-built_cases P pages begins ends backs sinces copies (Backup level name) built = backs level name
-built_cases P pages begins ends backs sinces copies (BackupSince guid name) built = sinces guid name
-built_cases P pages begins ends backs sinces copies (CopyTo name) built = copies name
-built_cases P pages begins ends backs sinces copies (CreateTable table) built = pages (CreateTable table) built refl
-built_cases P pages begins ends backs sinces copies (DropTable table) built = pages (DropTable table) built refl
-built_cases P pages begins ends backs sinces copies (Insert table key text) built = pages (Insert table key text) built refl
-built_cases P pages begins ends backs sinces copies (Update table key text) built = pages (Update table key text) built refl
-built_cases P pages begins ends backs sinces copies (Delete table key) built = pages (Delete table key) built refl
-built_cases P pages begins ends backs sinces copies (Get table key) built = pages (Get table key) built refl
-built_cases P pages begins ends backs sinces copies (Scan table) built = pages (Scan table) built refl
-built_cases P pages begins ends backs sinces copies (Forced on) built = pages (Forced on) built refl
-built_cases P pages begins ends backs sinces copies (SetAccess closed) built = pages (SetAccess closed) built refl
-built_cases P pages begins ends backs sinces copies Sync built = pages Sync built refl
-built_cases P pages begins ends backs sinces copies ShowHeader built = pages ShowHeader built refl
-built_cases P pages begins ends backs sinces copies ShowPages built = pages ShowPages built refl
-built_cases P pages begins ends backs sinces copies ShowImage built = pages ShowImage built refl
-built_cases P pages begins ends backs sinces copies other built = absurd (false_true built)
+-- A statement is one on pages, or one of the five that begin and end backups and copies.
+pub statement_cases : (P : Statement → Type 0) → ((statement : Statement) → is_on_pages statement ≡ true → P statement) → P BeginBackup → P EndBackup
+    → ((level : ℕ) (name : List ℕ) → P (Backup level name)) → ((guid name : List ℕ) → P (BackupSince guid name)) → ((name : List ℕ) → P (CopyTo name)) → (statement : Statement) → P statement
+statement_cases P pages begins ends backs sinces copies BeginBackup = begins
+statement_cases P pages begins ends backs sinces copies EndBackup = ends
+statement_cases P pages begins ends backs sinces copies (Backup level name) = backs level name
+statement_cases P pages begins ends backs sinces copies (BackupSince guid name) = sinces guid name
+statement_cases P pages begins ends backs sinces copies (CopyTo name) = copies name
+statement_cases P pages begins ends backs sinces copies other = pages other refl
 
 -- it is refused
 abbrev pub refused : Seen → Refusal → Outcome
@@ -253,64 +233,103 @@ unfolding copy_turn
 copy_either P s session name denied done =
     unless_either P s (first_cause (not_state 1 s.base.image ∷ runs_any s.running ∷ not_free name (s.entry name) ∷ [])) (copied s session name) denied (λ none. done (copy_facts s name none))
 
--- A statement on pages does all that it does in one turn, and runs nothing.
-pub record IsOnce (s : Seen) (o : Outcome) : Type 0 where
+-- what is still to be given behind a statement on pages: `show cache` takes a number of pages that are held
+abbrev pub left_by : Statement → Given → Given
+left_by ShowCache given = without_hold given
+left_by other given = given
+
+-- it takes no GUID
+pub left_guids : (statement : Statement) (given : Given) → (left_by statement given).guids ≡ given.guids
+left_guids ShowCache given = refl
+left_guids other given = refl
+
+-- A statement on pages does all that it does in one turn, and runs nothing. This is still to be given then.
+pub record IsOnce (s : Seen) (left : Given) (o : Outcome) : Type 0 where
   pub next : o.next ≡ []
   pub running : o.running ≡ s.running
   pub made : o.made ≡ None
-  pub given : o.given ≡ s.given
+  pub given : o.given ≡ left
 
-pub refused_once : (s : Seen) (r : Refusal) → IsOnce s (refused s r)
+pub refused_once : (s : Seen) (r : Refusal) → IsOnce s s.given (refused s r)
 refused_once s r = record { next = refl; running = refl; made = refl; given = refl }
 
-unless_once : (s : Seen) (c : Cause) (o : Outcome) → IsOnce s o → IsOnce s (unless s c o)
-unless_once s c o h = unless_either (IsOnce s) s c o (refused_once s) (λ none. h)
+unless_once : (s : Seen) (c : Cause) (o : Outcome) → IsOnce s s.given o → IsOnce s s.given (unless s c o)
+unless_once s c o h = unless_either (IsOnce s s.given) s c o (refused_once s) (λ none. h)
 
-changes_once : (s : Seen) (cs : List Cause) (d : Draft) (reply : Reply) → IsOnce s (changes s cs d reply)
+changes_once : (s : Seen) (cs : List Cause) (d : Draft) (reply : Reply) → IsOnce s s.given (changes s cs d reply)
 unfolding changes
 changes_once s cs d reply = unless_once s _ _ (record { next = refl; running = refl; made = refl; given = refl })
 
 -- so does one on tables
-spot_once : (s : Seen) (o : Option Spot) (r : Refusal) (go : Spot → Outcome) → ((spot : Spot) → IsOnce s (go spot)) → IsOnce s (with_spot s o r go)
+spot_once : (s : Seen) (o : Option Spot) (r : Refusal) (go : Spot → Outcome) → ((spot : Spot) → IsOnce s s.given (go spot)) → IsOnce s s.given (with_spot s o r go)
 unfolding with_spot
 spot_once s None r go h = refused_once s r
 spot_once s (Some spot) r go h = h spot
 
-table_once : (s : Seen) (before : Cause) (table : List ℕ) (behind : Cause) (go : Spot → Chain → Outcome) → ((spot : Spot) (chain : Chain) → IsOnce s (go spot chain)) → IsOnce s (in_table s before table behind go)
+table_once : (s : Seen) (before : Cause) (table : List ℕ) (behind : Cause) (go : Spot → Chain → Outcome) → ((spot : Spot) (chain : Chain) → IsOnce s s.given (go spot chain)) → IsOnce s s.given (in_table s before table behind go)
 unfolding in_table
 table_once s before table behind go h = unless_once s _ _ (spot_once s _ _ _ (λ spot. unless_once s _ _ (h spot _)))
 
-row_once : (s : Seen) (chain : Chain) (key : ℕ) (bytes : Slot) → IsOnce s (in_row s chain key bytes)
+row_once : (s : Seen) (chain : Chain) (key : ℕ) (bytes : Slot) → IsOnce s s.given (in_row s chain key bytes)
 unfolding in_row
 row_once s chain key bytes = spot_once s _ _ _ (λ row. changes_once s _ _ _)
 
-says_once : (s : Seen) (reply : Reply) → IsOnce s (says s reply [])
+says_once : (s : Seen) (reply : Reply) → IsOnce s s.given (says s reply [])
 says_once s reply = record { next = refl; running = refl; made = refl; given = refl }
 
-pub pages_once : (statement : Statement) → is_built statement ≡ true → is_on_pages statement ≡ true → (s : Seen) (session : ℕ) → IsOnce s (first_turn s session statement)
-unfolding first_turn new_turn write_turn read_turn free_turn forced_turn access_turn header_turn pages_turn image_turn create_turn drop_turn insert_turn update_turn delete_turn get_turn scan_turn
-pages_once (CreateDb name size raw cache) is on s session = record { next = refl; running = refl; made = refl; given = refl }
-pages_once (OpenDb name cache) is on s session = record { next = refl; running = refl; made = refl; given = refl }
-pages_once PageNew is on s session = changes_once s _ _ _
-pages_once (Write p text) is on s session = changes_once s _ _ _
-pages_once (Read p) is on s session = unless_once s _ _ (record { next = refl; running = refl; made = refl; given = refl })
-pages_once (Free p) is on s session = changes_once s _ _ _
-pages_once (Forced forced) is on s session = unless_once s _ _ (record { next = refl; running = refl; made = refl; given = refl })
-pages_once (SetAccess closed) is on s session = unless_once s _ _ (record { next = refl; running = refl; made = refl; given = refl })
-pages_once Sync is on s session = record { next = refl; running = refl; made = refl; given = refl }
-pages_once ShowHeader is on s session = record { next = refl; running = refl; made = refl; given = refl }
-pages_once ShowPages is on s session = unless_once s _ _ (record { next = refl; running = refl; made = refl; given = refl })
-pages_once ShowImage is on s session = record { next = refl; running = refl; made = refl; given = refl }
-pages_once BeginBackup is on s session = absurd (false_true on)
-pages_once EndBackup is on s session = absurd (false_true on)
-pages_once (Backup level name) is on s session = absurd (false_true on)
-pages_once (BackupSince guid name) is on s session = absurd (false_true on)
-pages_once (CopyTo name) is on s session = absurd (false_true on)
-pages_once (CreateTable table) is on s session = changes_once s _ _ _
-pages_once (DropTable table) is on s session = table_once s _ table _ _ (λ spot chain. changes_once s _ _ _)
-pages_once (Insert table key text) is on s session = table_once s _ table _ _ (λ spot chain. changes_once s _ _ _)
-pages_once (Update table key text) is on s session = table_once s _ table _ _ (λ spot chain. row_once s chain key _)
-pages_once (Delete table key) is on s session = table_once s _ table _ _ (λ spot chain. row_once s chain key _)
-pages_once (Get table key) is on s session = table_once s _ table _ _ (λ spot chain. spot_once s _ _ _ (λ row. says_once s _))
-pages_once (Scan table) is on s session = table_once s _ table _ _ (λ spot chain. says_once s _)
-pages_once other is on s session = absurd (false_true is)
+pub pages_once : (statement : Statement) → is_on_pages statement ≡ true → (s : Seen) (session : ℕ) → IsOnce s (left_by statement s.given) (first_turn s session statement)
+unfolding first_turn new_turn write_turn read_turn free_turn forced_turn access_turn header_turn pages_turn image_turn cache_turn create_turn drop_turn insert_turn update_turn delete_turn get_turn scan_turn
+pages_once (CreateDb name size raw cache) on s session = record { next = refl; running = refl; made = refl; given = refl }
+pages_once (OpenDb name cache) on s session = record { next = refl; running = refl; made = refl; given = refl }
+pages_once PageNew on s session = changes_once s _ _ _
+pages_once (Write p text) on s session = changes_once s _ _ _
+pages_once (Read p) on s session = unless_once s _ _ (record { next = refl; running = refl; made = refl; given = refl })
+pages_once (Free p) on s session = changes_once s _ _ _
+pages_once (Forced forced) on s session = unless_once s _ _ (record { next = refl; running = refl; made = refl; given = refl })
+pages_once (SetAccess closed) on s session = unless_once s _ _ (record { next = refl; running = refl; made = refl; given = refl })
+pages_once Sync on s session = record { next = refl; running = refl; made = refl; given = refl }
+pages_once ShowHeader on s session = record { next = refl; running = refl; made = refl; given = refl }
+pages_once ShowPages on s session = unless_once s _ _ (record { next = refl; running = refl; made = refl; given = refl })
+pages_once ShowImage on s session = record { next = refl; running = refl; made = refl; given = refl }
+pages_once ShowCache on s session = record { next = refl; running = refl; made = refl; given = refl }
+pages_once BeginBackup on s session = absurd (false_true on)
+pages_once EndBackup on s session = absurd (false_true on)
+pages_once (Backup level name) on s session = absurd (false_true on)
+pages_once (BackupSince guid name) on s session = absurd (false_true on)
+pages_once (CopyTo name) on s session = absurd (false_true on)
+pages_once (CreateTable table) on s session = changes_once s _ _ _
+pages_once (DropTable table) on s session = table_once s _ table _ _ (λ spot chain. changes_once s _ _ _)
+pages_once (Insert table key text) on s session = table_once s _ table _ _ (λ spot chain. changes_once s _ _ _)
+pages_once (Update table key text) on s session = table_once s _ table _ _ (λ spot chain. row_once s chain key _)
+pages_once (Delete table key) on s session = table_once s _ table _ _ (λ spot chain. row_once s chain key _)
+pages_once (Get table key) on s session = table_once s _ table _ _ (λ spot chain. spot_once s _ _ _ (λ row. says_once s _))
+pages_once (Scan table) on s session = table_once s _ table _ _ (λ spot chain. says_once s _)
+
+-- The first turn of a statement leaves these numbers to be given.
+pub first_holds : (s : Seen) (session : ℕ) (statement : Statement) → (first_turn s session statement).given.holds ≡ (left_by statement s.given).holds
+unfolding first_turn ends_by
+first_holds s session = statement_cases (λ x. (first_turn s session x).given.holds ≡ (left_by x s.given).holds)
+    (λ x on. ap (λ (g : Given). g.holds) (pages_once x on s session).given)
+    (begin_either Same s (λ r. refl) (λ may. refl))
+    (end_either Same s session (λ r. refl) (λ may. refl))
+    (λ level name. backup_either Same s session level name (λ r. refl) (λ ask is may. refl))
+    (λ guid name. since_either Same s session guid name (λ r. refl) (λ ask is may. refl))
+    (λ name. copy_either Same s session name (λ r. refl) (λ may. refl))
+  where
+    Same : Outcome → Type 0
+    Same o = o.given.holds ≡ s.given.holds
+
+-- and so each turn: `show cache` takes one, and no other takes any
+abbrev pub left_behind : Turn → Given → Given
+left_behind (Begins statement) given = left_by statement given
+left_behind other given = given
+
+pub turn_holds : (s : Seen) (session : ℕ) (t : Turn) → (turn s session t).given.holds ≡ (left_behind t s.given).holds
+unfolding turn ends_by close_backup close_copy
+turn_holds s session (Begins statement) = first_holds s session statement
+turn_holds s session Copies = refl
+turn_holds s session (ClosesBackup backing) = refl
+turn_holds s session (ClosesCopy name) = refl
+turn_holds s session (Ends reply) = refl
+turn_holds s session Merges = refl
+turn_holds s session (Finishes reply) = refl

@@ -6,7 +6,6 @@ use Rattle.nb_fields.specs.Header.{is_header}
 use Rattle.nb_host.specs.Names.{is_name}
 use Rattle.nb_model.specs.declared.reply.Reply.{Reply}
 use Rattle.nb_model.specs.declared.statement.Statement.TheVariants.{Backup, BackupSince, CopyTo, CreateTable}
-use Rattle.nb_model.specs.Built.{is_built}
 use Rattle.nb_model.specs.Image.{Image, first_page, image_size, image_state}
 use Rattle.nb_model.specs.TableNames.{is_table_name}
 use Rattle.nb_model.specs.Causes.{is_free_entry}
@@ -14,9 +13,9 @@ use Rattle.nb_model.specs.Outcomes.{Turn, Begins, Copies, ClosesBackup, ClosesCo
 use Rattle.nb_model.specs.Run.{Now, base_now}
 use Rattle.nb_model.specs.Sound.{HasHeader, IsSoundImage}
 
--- the turn begins a statement that can be asked today
+-- the turn begins a statement
 abbrev pub IsBeginning : Turn → Type 0
-IsBeginning (Begins statement) = is_built statement ≡ true
+IsBeginning (Begins statement) = Unit {0}
 IsBeginning Copies = ⊥
 IsBeginning (ClosesBackup backing) = ⊥
 IsBeginning (ClosesCopy name) = ⊥

@@ -1,5 +1,4 @@
 pub mod TableNames
-pub mod Built
 pub mod Lines
 pub mod Image
 pub mod Account

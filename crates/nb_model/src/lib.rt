@@ -9,7 +9,6 @@
 //! say, and `worked` computes examples.
 #![tactic(auto)]
 
-mod built;
 mod job;
 pub mod laws;
 mod reply;
@@ -21,7 +20,6 @@ mod text;
 pub mod waiting_laws;
 pub mod worked;
 
-pub use built::{are_schedules_built, is_built};
 pub use job::{Job, NameList};
 pub use reply::Reply;
 pub use rows::RowList;

@@ -7,12 +7,11 @@ use Rattle.std.proofs.lemmas.Bool.{ltb-true}
 use Rattle.std.proofs.lemmas.List.{length-set}
 use Rattle.nb_host.specs.declared.refusals.Refusal.{Refusal}
 use Rattle.nb_host.specs.declared.refusals.Refusal.TheVariants.{ScriptLong}
-use Rattle.nb_model.specs.Built.{is_built}
 use Rattle.nb_model.specs.declared.statement.Statement.{Statement}
 use Rattle.nb_model.specs.declared.statement.Statement.TheVariants.{CreateDb, OpenDb, PageNew, Write, Read, Free, BeginBackup, EndBackup, Backup, BackupSince, CopyTo, CreateTable, DropTable, Insert, Update, Delete, Get, Scan, Forced, Access, Sync, ShowHeader, ShowPages, ShowImage, ShowCache}
 use Rattle.nb_script.specs.Words.{Bytes, after, session_at}
-use Rattle.nb_script.specs.Statements.{built, statement_at, spelled_at, session_line, command_at}
-use Rattle.nb_script.specs.FirstLine.{first_at, first_spelled, database_at}
+use Rattle.nb_script.specs.Statements.{statement_at, session_line, command_at}
+use Rattle.nb_script.specs.FirstLine.{first_at, database_at}
 use Rattle.nb_script.specs.Scripts.{Plan, Numbered, started, statements_of, with_statement, or_bad, with_lines, order_in, with_order, of_lines, script_of, IsAnswer}
 use Rattle.nb_script.specs.Lines.{lines_of, left}
 use Rattle.nb_script.specs.Fits.{Fits, FitsAsked, FitsFirst, FitsOrder, IsSession}
@@ -28,13 +27,13 @@ session_fits : (line : Bytes) → If (λ (x : ℕ × Bytes). (1 ≤ x.0) × (x.0
 unfolding session_line
 session_fits line = follows (session_at line) _ (within_fits 1 16 line) (λ session range. follows (after (codes ": ") session.1) _ (any _) (λ rest _. just _ range))
 
-spelled_fits : (line : Bytes) → If (IsLine Fits) (spelled_at line)
-unfolding spelled_at
-spelled_fits line = follows (session_line line) _ (session_fits line) (λ session range. follows (command_at session.1) _ (command_fits session.1) (λ statement fits. just _ (range.0, range.1, fits)))
+statement_fits : (line : Bytes) → If (IsLine Fits) (statement_at line)
+unfolding statement_at
+statement_fits line = follows (session_line line) _ (session_fits line) (λ session range. follows (command_at session.1) _ (command_fits session.1) (λ statement fits. just _ (range.0, range.1, fits)))
 
-first_spelled_fits : (line : Bytes) → If (IsLine FitsFirst) (first_spelled line)
-unfolding first_spelled
-first_spelled_fits line = follows (session_line line) _ (session_fits line) (λ session range. follows (database_at session.1) _ (database_fits session.1) (λ statement fits. just _ (range.0, range.1, fits)))
+first_fits : (line : Bytes) → If (IsLine FitsFirst) (first_at line)
+unfolding first_at
+first_fits line = follows (session_line line) _ (session_fits line) (λ session range. follows (database_at session.1) _ (database_fits session.1) (λ statement fits. just _ (range.0, range.1, fits)))
 
 -- no further statement names a database
 opens_none : (s : Statement) → Fits s → IsTrue (not (opens s))
@@ -92,18 +91,16 @@ opens_one ShowPages fits = absurd fits
 opens_one ShowImage fits = absurd fits
 opens_one ShowCache fits = absurd fits
 
--- a line that is built has a statement that the program can do
-built_is : (P Q : Statement → Type 0) (o : Option (ℕ × Statement)) → If (IsLine P) o → ((s : Statement) → P s → IsTrue (is_built s) → Q s) → If (IsLine Q) (built o)
-built_is P Q None has next = nothing
-built_is P Q (Some line) has next = tested (Some line) (is_built line.1) (λ can. let is = has.holds line refl in just line (is.0, is.1, next line.1 is.2 can))
+-- what is said of the statement of a line, said otherwise
+line_is : (P Q : Statement → Type 0) (o : Option (ℕ × Statement)) → If (IsLine P) o → ((s : Statement) → P s → Q s) → If (IsLine Q) o
+line_is P Q None has next = nothing
+line_is P Q (Some line) has next = let is = has.holds line refl in just line (is.0, is.1, next line.1 is.2)
 
 further_line : (line : Bytes) → If (IsLine IsFurtherLine) (statement_at line)
-unfolding statement_at
-further_line line = built_is Fits IsFurtherLine (spelled_at line) (spelled_fits line) (λ s fits can. record { is_built = can; opens_none = opens_none s fits; fits = fits })
+further_line line = line_is Fits IsFurtherLine (statement_at line) (statement_fits line) (λ s fits. record { opens_none = opens_none s fits; fits = fits })
 
 first_line : (line : Bytes) → If (IsLine IsFirst) (first_at line)
-unfolding first_at
-first_line line = built_is FitsFirst IsFirst (first_spelled line) (first_spelled_fits line) (λ s fits can. record { is_built = can; opens = opens_one s fits; fits = fits })
+first_line line = line_is FitsFirst IsFirst (first_at line) (first_fits line) (λ s fits. record { opens = opens_one s fits; fits = fits })
 
 -- each list of statements asks only further ones
 abbrev pub AllFurther : List (List Statement) → Type 0
@@ -221,7 +218,7 @@ line_asks (BackupSince guid name) fits = absurd fits
 line_asks other fits = fits
 
 line_further : (s : Statement) → IsFurtherLine s → IsFurther s
-line_further s is = record { is_built = is.is_built; opens_none = is.opens_none; fits = line_asks s is.fits }
+line_further s is = record { opens_none = is.opens_none; fits = line_asks s is.fits }
 
 lines_further : (statements : List Statement) → AllByRecursion IsFurtherLine statements → AllByRecursion IsFurther statements
 lines_further [] all = tt

@@ -1,5 +1,5 @@
 -- The first line of a script is read as its first statement.
-use Rattle.std.proofs.Common.{◌≡◌, ℕ, ◌≤◌, ◌==◌, true, [], ◌++◌, length, Some, None, if◌then◌else◌, codes, refl, ap, sym, ◌∙◌, inl, inr, append_assoc, arith}
+use Rattle.std.proofs.Common.{◌≡◌, ℕ, ◌≤◌, ◌==◌, true, [], ◌++◌, length, Option, Some, None, if◌then◌else◌, codes, refl, ap, sym, ◌∙◌, inl, inr, append_assoc, arith}
 use Rattle.std.specs.Fmt.{decimal}
 use Rattle.std.proofs.lemmas.Bool.{cond-true, cond-false, ne_eqb, or_cases, eqb-true}
 use Rattle.std.proofs.lemmas.List.{append-nil}
@@ -7,8 +7,8 @@ use Rattle.nb_host.specs.Files.{is_page_size}
 use Rattle.nb_model.specs.declared.statement.Statement.{Statement}
 use Rattle.nb_model.specs.declared.statement.Statement.TheVariants.{CreateDb, OpenDb, PageNew, Write, Read, Free, BeginBackup, EndBackup, Backup, BackupSince, CopyTo, CreateTable, DropTable, Insert, Update, Delete, Get, Scan, Forced, Access, Sync, ShowHeader, ShowPages, ShowImage, ShowCache}
 use Rattle.nb_script.specs.Words.{Bytes, ◌>>=◌, after, within, name_at, alone}
-use Rattle.nb_script.specs.Statements.{built}
-use Rattle.nb_script.specs.FirstLine.{cache_at, page_size_at, sizes_at, create_at, open_at, database_at, first_spelled, first_at}
+use Rattle.nb_script.specs.Statements.{session_line}
+use Rattle.nb_script.specs.FirstLine.{cache_at, page_size_at, sizes_at, create_at, open_at, database_at, first_at}
 use Rattle.nb_script.specs.Spelling.{quoted, cache_text, sizes_text, command_text, line_text}
 use Rattle.nb_script.specs.Fits.{FitsFirst, IsBase}
 use Rattle.nb_script.proofs.WordLaws.{within_again, name_again}
@@ -101,9 +101,19 @@ database_again ShowPages h = absurd h
 database_again ShowImage h = absurd h
 database_again ShowCache h = absurd h
 
-pub first_again : (session : ℕ) (s : Statement) → 1 ≤ session → session ≤ 16 → FitsFirst s → first_at (line_text session s) ≡ built (Some (session, s))
-unfolding first_at first_spelled line_text
+-- a first line that names no session is none
+pub no_first_session : (line : Bytes) → None ≡ session_line line → None ≡ first_at line
+unfolding first_at
+no_first_session line none = ap (λ o. o >>= (λ (x : ℕ × Bytes). database_at x.1 >>= (λ (k : Statement). Some (x.0, k)))) none
+
+-- of any other it is what stands behind the session
+pub its_first : (line : Bytes) (session : ℕ) (rest : Bytes) (read : Option Statement) → Some (session, rest) ≡ session_line line → read ≡ database_at rest → (read >>= (λ (k : Statement). Some (session, k))) ≡ first_at line
+unfolding first_at
+its_first line session rest read first second =
+    ap (λ o. o >>= (λ (k : Statement). Some (session, k))) second ∙ ap (λ o. o >>= (λ (x : ℕ × Bytes). database_at x.1 >>= (λ (k : Statement). Some (x.0, k)))) first
+
+pub first_again : (session : ℕ) (s : Statement) → 1 ≤ session → session ≤ 16 → FitsFirst s → first_at (line_text session s) ≡ Some (session, s)
+unfolding first_at line_text
 first_again session s low high fits =
-    ap built
-    (ap (λ o. o >>= (λ (x : ℕ × Bytes). database_at x.1 >>= (λ (k : Statement). Some (x.0, k)))) (session_again session (command_text s) low high)
-    ∙ ap (λ o. o >>= (λ (k : Statement). Some (session, k))) (database_again s fits))
+    ap (λ o. o >>= (λ (x : ℕ × Bytes). database_at x.1 >>= (λ (k : Statement). Some (x.0, k)))) (session_again session (command_text s) low high)
+    ∙ ap (λ o. o >>= (λ (k : Statement). Some (session, k))) (database_again s fits)

@@ -11,7 +11,7 @@ use Rattle.nb_model.specs.TableNames.{is_table_name, is_table_byte}
 use Rattle.nb_script.specs.Words.{Bytes, ◌>>=◌, after, digit_count, is_plain, value_of, number_at, within, page_at, is_text_byte, closed, text_at, name_len, is_given, named, name_at, table_at, alone}
 use Rattle.nb_script.specs.Statements.{or_next, or_else, command_at, without_text, fixed, of_page, of_file, of_table, of_row, scan_at, backup_at, last_page, last_name, last_table, row_at, last_row, row_text, page_text}
 use Rattle.nb_model.specs.Seeds.{seeded, stepped, session_of}
-use Rattle.nb_script.specs.Order.{spaced_session, sessions_at, seed_at, order_spelled, order_at}
+use Rattle.nb_script.specs.Order.{spaced_session, sessions_at, seed_at, order_at}
 use Rattle.nb_script.specs.FirstLine.{database_at, create_at, open_at, page_size_at, sizes_at, cache_at}
 use Rattle.nb_script.specs.Fits.{Fits, FitsFirst, FitsOrder, IsSession, IsText, IsFile, IsTable}
 
@@ -250,7 +250,7 @@ each_seeded (suc count) x = ((omega arith, omega arith), each_seeded count (step
 
 -- the order of turns of a line
 pub order_fits : (line : Bytes) → If FitsOrder (order_at line)
-unfolding order_at order_spelled
+unfolding order_at
 order_fits line = by_word (after (codes "schedule") line)
   where
     by_word : (word : Option Bytes) → If FitsOrder (elim word [ Some rest ↦ sessions_at 4096 rest | None ↦ option_map (seeded 4096) (after (codes "seed ") line >>= seed_at) ])

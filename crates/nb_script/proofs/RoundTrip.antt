@@ -6,13 +6,12 @@ use Rattle.std.specs.List.{list_all, AllByRecursion}
 use Rattle.std.specs.Cmp.Lexicographic.{pointwise}
 use Rattle.std.proofs.lemmas.Bool.{and_parts, cond-true, cond-false, lt-ltb, ne_eqb, eq-eqb}
 use Rattle.std.proofs.lemmas.List.{append-nil, set_at, get_or_at}
-use Rattle.nb_model.specs.Built.{is_built}
 use Rattle.nb_model.specs.declared.statement.Statement.{Statement}
 use Rattle.nb_model.specs.Seeds.{seeded}
 use Rattle.nb_script.specs.Words.{Bytes, ◌>>=◌, after, is_digit, digit_count}
 use Rattle.nb_script.specs.Statements.{statement_at}
 use Rattle.nb_script.specs.FirstLine.{first_at}
-use Rattle.nb_script.specs.Order.{spaced_session, sessions_at, seed_at, order_spelled, order_at}
+use Rattle.nb_script.specs.Order.{spaced_session, sessions_at, seed_at, order_at}
 use Rattle.nb_script.specs.Lines.{lines_of, onto_first, numbered, is_skipped, left}
 use Rattle.nb_script.specs.Scripts.{Plan, Numbered, with_statement, with_lines, order_in, script_of}
 use Rattle.nb_script.specs.Spelling.{line_text, spaced_sessions, schedule_text, statements_text, sessions_text, script_text}
@@ -57,7 +56,7 @@ order_behind line (Some rest) = sessions_at 4096 rest
 order_behind line None = option_map (seeded 4096) (after (codes "seed ") line >>= seed_at)
 
 digit_orders_none : (digits rest : Bytes) → 0 < length digits → list_all is_digit digits ≡ true → order_at (digits ++ rest) ≡ None
-unfolding order_at order_spelled
+unfolding order_at
 digit_orders_none [] rest some all = absurd (omega arith)
 digit_orders_none (d ∷ digits) rest some all =
     let is = (and_parts (is_digit d) (list_all is_digit digits) all).0 in
@@ -80,10 +79,10 @@ module _ (session : ℕ) (s : Statement) (small : session ≤ 16) where
 
 -- the line of a statement is read as it
 further_read : (session : ℕ) (s : Statement) → IsSession session → IsFurtherLine s → statement_at (line_text session s) ≡ Some (session, s)
-further_read session s range is = statement_again session s range.0 range.1 is.fits ∙ cond-true (is_built s) _ _ is.is_built
+further_read session s range is = statement_again session s range.0 range.1 is.fits
 
 first_read : (session : ℕ) (s : Statement) → IsSession session → IsFirst s → first_at (line_text session s) ≡ Some (session, s)
-first_read session s range is = first_again session s range.0 range.1 is.fits ∙ cond-true (is_built s) _ _ is.is_built
+first_read session s range is = first_again session s range.0 range.1 is.fits
 
 -- the lines of a session's statements
 abbrev statement_lines : ℕ → List Statement → List Bytes
@@ -174,7 +173,7 @@ sessions_again (suc most) session (next ∷ others) few range all =
     ∙ cond-false (length (spaced_sessions (next ∷ others)) == 0) _ _ (ne_eqb (length (spaced_sessions (next ∷ others))) 0 (λ e. absurd (omega (arith, e)))) ∙ ap (option_map (λ more. session ∷ more)) (sessions_again most next others (omega arith) all.0 all.1)
 
 order_again : (session : ℕ) (others : List ℕ) → FitsOrder (session ∷ others) → order_at (codes "schedule" ++ spaced_sessions (session ∷ others)) ≡ Some (session ∷ others)
-unfolding order_at order_spelled after
+unfolding order_at after
 order_again session others is = sessions_again 4096 session others (omega (arith, is.few)) is.each.0 is.each.1
 
 -- the order that a line gives, and the lines behind

@@ -1,11 +1,11 @@
 -- The line of a statement is read as that statement.
-use Rattle.std.proofs.Common.{◌≡◌, ℕ, ◌^◌, ◌<◌, ◌≤◌, ◌==◌, true, false, [], ◌++◌, length, Some, None, if◌then◌else◌, codes, refl, ap, sym, ◌∙◌, append_assoc, arith}
+use Rattle.std.proofs.Common.{◌≡◌, ℕ, ◌^◌, ◌<◌, ◌≤◌, ◌==◌, true, false, [], ◌++◌, length, Option, Some, None, if◌then◌else◌, codes, refl, ap, sym, ◌∙◌, append_assoc, arith}
 use Rattle.std.specs.Fmt.{decimal}
 use Rattle.std.proofs.lemmas.List.{append-nil}
 use Rattle.nb_model.specs.declared.statement.Statement.{Statement}
 use Rattle.nb_model.specs.declared.statement.Statement.TheVariants.{CreateDb, OpenDb, PageNew, Write, Read, Free, BeginBackup, EndBackup, Backup, BackupSince, CopyTo, CreateTable, DropTable, Insert, Update, Delete, Get, Scan, Forced, Access, Sync, ShowHeader, ShowPages, ShowImage, ShowCache}
 use Rattle.nb_script.specs.Words.{Bytes, ◌>>=◌, after, number_at, page_at, text_at, table_at, alone, digit_count}
-use Rattle.nb_script.specs.Statements.{last_page, page_text, last_name, backup_at, last_table, row_at, last_row, row_text, fixed, of_page, of_file, of_table, scan_at, of_row, without_text, command_at, session_line, spelled_at, built, statement_at}
+use Rattle.nb_script.specs.Statements.{last_page, page_text, last_name, backup_at, last_table, row_at, last_row, row_text, fixed, of_page, of_file, of_table, scan_at, of_row, without_text, command_at, session_line, statement_at}
 use Rattle.nb_script.specs.Spelling.{quoted, row_text_of, command_text, line_text}
 use Rattle.nb_script.specs.Fits.{Fits, IsText, IsFile, IsTable}
 use Rattle.nb_script.proofs.WordLaws.{number_again, within_again, text_again, name_again, table_again}
@@ -93,9 +93,19 @@ unfolding session_line after
 session_again session rest low high =
     ap (λ o. o >>= (λ (s : ℕ × Bytes). after (codes ": ") s.1 >>= (λ (r : Bytes). Some (s.0, r)))) (within_again 1 16 session (codes ": " ++ rest) (omega arith) low high refl)
 
-pub statement_again : (session : ℕ) (s : Statement) → 1 ≤ session → session ≤ 16 → Fits s → statement_at (line_text session s) ≡ built (Some (session, s))
-unfolding statement_at spelled_at line_text
+-- a line that names no session is none of a statement
+pub no_session : (line : Bytes) → None ≡ session_line line → None ≡ statement_at line
+unfolding statement_at
+no_session line none = ap (λ o. o >>= (λ (x : ℕ × Bytes). command_at x.1 >>= (λ (k : Statement). Some (x.0, k)))) none
+
+-- of any other it is what stands behind the session
+pub its_statement : (line : Bytes) (session : ℕ) (rest : Bytes) (read : Option Statement) → Some (session, rest) ≡ session_line line → read ≡ command_at rest → (read >>= (λ (k : Statement). Some (session, k))) ≡ statement_at line
+unfolding statement_at
+its_statement line session rest read first second =
+    ap (λ o. o >>= (λ (k : Statement). Some (session, k))) second ∙ ap (λ o. o >>= (λ (x : ℕ × Bytes). command_at x.1 >>= (λ (k : Statement). Some (x.0, k)))) first
+
+pub statement_again : (session : ℕ) (s : Statement) → 1 ≤ session → session ≤ 16 → Fits s → statement_at (line_text session s) ≡ Some (session, s)
+unfolding statement_at line_text
 statement_again session s low high fits =
-    ap built
-    (ap (λ o. o >>= (λ (x : ℕ × Bytes). command_at x.1 >>= (λ (k : Statement). Some (x.0, k)))) (session_again session (command_text s) low high)
-    ∙ ap (λ o. o >>= (λ (k : Statement). Some (session, k))) (command_again s fits))
+    ap (λ o. o >>= (λ (x : ℕ × Bytes). command_at x.1 >>= (λ (k : Statement). Some (x.0, k)))) (session_again session (command_text s) low high)
+    ∙ ap (λ o. o >>= (λ (k : Statement). Some (session, k))) (command_again s fits)

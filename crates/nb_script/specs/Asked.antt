@@ -1,7 +1,6 @@
 -- What a script that was read asks.
 use Rattle.std.specs.Prelude.{◌≡◌, ℕ, ◌+◌, ◌<◌, Bool, true, false, not, IsTrue, List, [], ◌∷◌, length}
 use Rattle.std.specs.List.{AllByRecursion}
-use Rattle.nb_model.specs.Built.{is_built}
 use Rattle.nb_model.specs.declared.statement.Statement.{Statement}
 use Rattle.nb_model.specs.declared.statement.Statement.TheVariants.{CreateDb, OpenDb}
 use Rattle.nb_script.specs.Fits.{Fits, FitsAsked, FitsFirst, FitsOrder, IsSession}
@@ -11,21 +10,18 @@ use Rattle.nb_script.specs.Scripts.{Plan, statements_of}
 abbrev pub opens : Statement → Bool
 opens statement = elim statement [ CreateDb name page_size raw cache ↦ true | OpenDb name cache ↦ true | _ ↦ false ]
 
--- a first statement that can be asked today
+-- a first statement that can be asked
 pub record IsFirst (statement : Statement) : Type 0 where
-  pub is_built : IsTrue (is_built statement)
   pub opens : IsTrue (opens statement)
   pub fits : FitsFirst statement
 
--- a further statement that can be asked today
+-- a further statement that can be asked
 pub record IsFurther (statement : Statement) : Type 0 where
-  pub is_built : IsTrue (is_built statement)
   pub opens_none : IsTrue (not (opens statement))
   pub fits : FitsAsked statement
 
 -- so by a line
 pub record IsFurtherLine (statement : Statement) : Type 0 where
-  pub is_built : IsTrue (is_built statement)
   pub opens_none : IsTrue (not (opens statement))
   pub fits : Fits statement
 
@@ -43,7 +39,7 @@ pub record IsScriptOf (IsSuch : Statement → Type 0) (script : Plan) : Type 0 w
   pub few : statement_count script.sessions < 10000
   pub further : (session : ℕ) → AllByRecursion IsSuch (statements_of script session)
 
--- a script that can be asked today
+-- a script that can be asked
 abbrev pub IsAskable : Plan → Type 0
 IsAskable script = IsScriptOf IsFurther script
 

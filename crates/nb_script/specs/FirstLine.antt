@@ -4,7 +4,7 @@ use Rattle.nb_host.specs.Files.{is_page_size}
 use Rattle.nb_model.specs.declared.statement.Statement.{Statement}
 use Rattle.nb_model.specs.declared.statement.Statement.TheVariants.{CreateDb, OpenDb}
 use Rattle.nb_script.specs.Words.{Bytes, ◌>>=◌, after, within, name_at, alone}
-use Rattle.nb_script.specs.Statements.{or_next, session_line, built}
+use Rattle.nb_script.specs.Statements.{or_next, session_line}
 
 -- ` cache C` or nothing, to the end of the line; nothing means 64
 unfoldable pub cache_at : Bytes → Option ℕ
@@ -47,12 +47,8 @@ database_at bytes =
     (after (codes "open ") bytes >>= open_at)
 
 -- the session and the statement that a line spells
-unfoldable pub first_spelled : Bytes → Option (ℕ × Statement)
-first_spelled line = do
+unfoldable pub first_at : Bytes → Option (ℕ × Statement)
+first_at line = do
   session ← session_line line
   statement ← database_at session.1
   Some (session.0, statement)
-
--- the first line of a script
-unfoldable pub first_at : Bytes → Option (ℕ × Statement)
-first_at line = built (first_spelled line)

@@ -1,6 +1,5 @@
 -- The order of turns: a line `schedule ..` or `seed ..`.
 use Rattle.std.specs.Prelude.{ℕ, zero, suc, ◌==◌, List, [], ◌∷◌, length, Option, Some, None, if◌then◌else◌, option_map, codes}
-use Rattle.nb_model.specs.Built.{are_schedules_built}
 use Rattle.nb_model.specs.Seeds.{seeded}
 use Rattle.nb_script.specs.Words.{Bytes, ◌>>=◌, after, number_at, session_at, alone}
 
@@ -19,13 +18,9 @@ sessions_at (suc most) bytes = do
 unfoldable pub seed_at : Bytes → Option ℕ
 seed_at bytes = number_at bytes >>= alone
 
--- the order that a line spells
-unfoldable pub order_spelled : Bytes → Option (List ℕ)
-order_spelled line = elim (after (codes "schedule") line) [
+-- the order that a line gives
+unfoldable pub order_at : Bytes → Option (List ℕ)
+order_at line = elim (after (codes "schedule") line) [
   | Some rest ↦ sessions_at 4096 rest
   | None ↦ option_map (seeded 4096) (after (codes "seed ") line >>= seed_at)
 ]
-
--- the line of an order, where the program can follow one today
-unfoldable pub order_at : Bytes → Option (List ℕ)
-order_at line = if are_schedules_built then order_spelled line else None

@@ -3,7 +3,6 @@ use Rattle.std.specs.Prelude.{ℕ, ◌==◌, true, false, length, Option, Some, 
 use Rattle.std.specs.Str.{bytes_eq}
 use Rattle.nb_model.specs.declared.statement.Statement.{Statement}
 use Rattle.nb_model.specs.declared.statement.Statement.TheVariants.{PageNew, Write, Read, Free, BeginBackup, EndBackup, Backup, CopyTo, CreateTable, DropTable, Insert, Update, Delete, Get, Scan, Forced, Access, Sync, ShowHeader, ShowPages, ShowImage, ShowCache}
-use Rattle.nb_model.specs.Built.{is_built}
 use Rattle.nb_script.specs.Words.{Bytes, ◌>>=◌, after, number_at, within, session_at, page_at, text_at, name_at, table_at, alone}
 
 -- what a word's rest gives, where the line begins with that word; otherwise what is next
@@ -130,18 +129,9 @@ session_line line = do
   rest ← after (codes ": ") session.1
   Some (session.0, rest)
 
--- the session and the statement that a line spells
-unfoldable pub spelled_at : Bytes → Option (ℕ × Statement)
-spelled_at line = do
+-- the session and the statement of a line
+unfoldable pub statement_at : Bytes → Option (ℕ × Statement)
+statement_at line = do
   session ← session_line line
   statement ← command_at session.1
   Some (session.0, statement)
-
--- those that the program can do today
-abbrev pub built : Option (ℕ × Statement) → Option (ℕ × Statement)
-built None = None
-built (Some line) = if is_built line.1 then Some line else None
-
--- the line of a statement
-unfoldable pub statement_at : Bytes → Option (ℕ × Statement)
-statement_at line = built (spelled_at line)

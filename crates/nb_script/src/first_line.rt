@@ -1,11 +1,10 @@
 ghost use Rattle.std.specs.Prelude.{◌≡◌, ℕ, ◌≤◌, option_map, IfSome, Some};
 ghost use Rattle.nb_model.specs.declared.statement.Statement.{Statement};
 ghost use Rattle.nb_script.specs.Fits.{FitsFirst};
-ghost use Rattle.nb_script.specs.Statements.{built};
 ghost use Rattle.nb_script.specs.Spelling.{line_text};
-ghost use Rattle.nb_script.specs.FirstLine.{cache_at, page_size_at, sizes_at, create_at, open_at, database_at, first_spelled, first_at};
+ghost use Rattle.nb_script.specs.FirstLine.{cache_at, page_size_at, sizes_at, create_at, open_at, database_at, first_at};
 
-use crate::statements::{built, session_line};
+use crate::statements::session_line;
 use crate::words::{after, name, within};
 use nb_host::MOST_BASE_NAME;
 use nb_model::Statement;
@@ -88,23 +87,14 @@ fn database(bytes: &[u8]) -> Option<Statement>
     open(rest)
 }
 
-/// The session and the statement that a first line spells, whether it is built or not.
-#[tactic(auto, unfolding(crate::specs::FirstLine::first_spelled))]
-fn spelled(line: &[u8]) -> Option<(u32, Statement)>
-    ensures exact { result ≡ first_spelled line.now }
+/// The session and the statement of the first line.
+#[tactic(auto, unfolding(crate::specs::FirstLine::first_at))]
+pub(crate) fn first_statement(line: &[u8]) -> Option<(u32, Statement)>
+    ensures exact { result ≡ first_at line.now }
+    ensures again { (asks : ℕ) (asked : Statement) → 1 ≤ asks → asks ≤ 16 → FitsFirst asked → line.now ≡ line_text asks asked → result ≡ Some (asks, asked) }
     ensures session { IfSome result (λ x. (1 ≤ x.0) × (x.0 ≤ 16)) }
 {
     let (session, rest) = session_line(line)?;
     let statement = database(rest)?;
     Some((session, statement))
-}
-
-/// The session and the statement of the first line.
-#[tactic(auto, unfolding(crate::specs::FirstLine::first_at))]
-pub(crate) fn first_statement(line: &[u8]) -> Option<(u32, Statement)>
-    ensures exact { result ≡ first_at line.now }
-    ensures again { (asks : ℕ) (asked : Statement) → 1 ≤ asks → asks ≤ 16 → FitsFirst asked → line.now ≡ line_text asks asked → result ≡ built (Some (asks, asked)) }
-    ensures session { IfSome result (λ x. (1 ≤ x.0) × (x.0 ≤ 16)) }
-{
-    built(spelled(line))
 }

@@ -1,11 +1,10 @@
 ghost use Rattle.std.specs.Prelude.{◌≡◌, option_map, IfOk, IfErr};
 ghost use Rattle.nb_host.specs.declared.faults.Fault.TheVariants.{Memory};
 ghost use Rattle.nb_model.specs.Seeds.{stepped, session_of, seeded};
-ghost use Rattle.nb_script.specs.Order.{spaced_session, sessions_at, seed_at, order_spelled, order_at};
+ghost use Rattle.nb_script.specs.Order.{spaced_session, sessions_at, seed_at, order_at};
 
 use crate::words::{after, number, within};
 use nb_host::Fault;
-use nb_model::are_schedules_built;
 use std::alloc::Global;
 
 /// How many sessions the order of turns names at most, and how many a seed means.
@@ -78,10 +77,10 @@ fn seed(bytes: &[u8]) -> Option<u64>
     if rest.is_empty() { Some(seed) } else { None }
 }
 
-/// The order that a line spells, whether it is built or not.
-#[tactic(auto, unfolding(crate::specs::Order::order_spelled))]
-fn spelled(alloc: Global, line: &[u8]) -> Result<Option<Vec<u32>>, Fault>
-    ensures ok { IfOk result (λ read. option_map (λ sessions. sessions.items) read ≡ order_spelled line.now) }
+/// The order of turns that a line gives.
+#[tactic(auto, unfolding(crate::specs::Order::order_at))]
+pub(crate) fn order(alloc: Global, line: &[u8]) -> Result<Option<Vec<u32>>, Fault>
+    ensures ok { IfOk result (λ read. option_map (λ sessions. sessions.items) read ≡ order_at line.now) }
     ensures only_memory { IfErr result (λ fault. fault ≡ Memory) }
 {
     if let Some(rest) = after(line, b"schedule") {
@@ -95,16 +94,4 @@ fn spelled(alloc: Global, line: &[u8]) -> Result<Option<Vec<u32>>, Fault>
     };
     let sessions = seeded(alloc, MOST_TURNS, seed)?;
     Ok(Some(sessions))
-}
-
-/// The order of turns that a line gives.
-#[tactic(auto, unfolding(crate::specs::Order::order_at))]
-pub(crate) fn order(alloc: Global, line: &[u8]) -> Result<Option<Vec<u32>>, Fault>
-    ensures ok { IfOk result (λ read. option_map (λ sessions. sessions.items) read ≡ order_at line.now) }
-    ensures only_memory { IfErr result (λ fault. fault ≡ Memory) }
-{
-    if !are_schedules_built() {
-        return Ok(None);
-    }
-    spelled(alloc, line)
 }

@@ -4,11 +4,11 @@ ghost use Rattle.nb_model.specs.declared.statement.Statement.{Statement};
 ghost use Rattle.nb_script.specs.Fits.{Fits};
 ghost use Rattle.nb_script.specs.Spelling.{line_text};
 ghost use Rattle.nb_script.specs.Words.{page_at};
-ghost use Rattle.nb_script.specs.Statements.{last_page, page_text, last_name, backup_at, last_table, row_at, last_row, row_text, fixed, of_page, of_file, of_table, scan_at, of_row, without_text, built, command_at, session_line, spelled_at, statement_at};
+ghost use Rattle.nb_script.specs.Statements.{last_page, page_text, last_name, backup_at, last_table, row_at, last_row, row_text, fixed, of_page, of_file, of_table, scan_at, of_row, without_text, command_at, session_line, statement_at};
 
 use crate::words::{after, name, number, table, text, within};
 use nb_host::{Fault, MOST_NAME, Name};
-use nb_model::{Statement, TableName, Text, is_built};
+use nb_model::{Statement, TableName, Text};
 use std::alloc::Global;
 
 fn page(bytes: &[u8]) -> Option<(u32, &[u8])>
@@ -255,10 +255,11 @@ pub(crate) fn session_line(line: &[u8]) -> Option<(u32, &[u8])>
     Some((session, rest))
 }
 
-/// The session and the statement that a line spells, whether it is built or not.
-#[tactic(auto, unfolding(crate::specs::Statements::spelled_at))]
-fn spelled(alloc: Global, line: &[u8]) -> Result<Option<(u32, Statement)>, Fault>
-    ensures ok { IfOk result (λ read. read ≡ spelled_at line.now) }
+/// The session and the statement of a line.
+#[tactic(auto, unfolding(crate::specs::Statements::statement_at))]
+pub(crate) fn statement(alloc: Global, line: &[u8]) -> Result<Option<(u32, Statement)>, Fault>
+    ensures ok { IfOk result (λ read. read ≡ statement_at line.now) }
+    ensures again { (asks : ℕ) (asked : Statement) → 1 ≤ asks → asks ≤ 16 → Fits asked → line.now ≡ line_text asks asked → IfOk result (λ read. read ≡ Some (asks, asked)) }
     ensures session { IfOk result (λ read. IfSome read (λ x. (1 ≤ x.0) × (x.0 ≤ 16))) }
     ensures only_memory { IfErr result (λ fault. fault ≡ Memory) }
 {
@@ -269,29 +270,4 @@ fn spelled(alloc: Global, line: &[u8]) -> Result<Option<(u32, Statement)>, Fault
         Some(statement) => Ok(Some((session, statement))),
         None => Ok(None),
     }
-}
-
-/// What is read of a line, where the program can do it today.
-pub(crate) fn built(read: Option<(u32, Statement)>) -> Option<(u32, Statement)>
-    ensures exact { result ≡ built read }
-    ensures same { IfSome result (λ line. read ≡ Some line) }
-{
-    let (session, statement) = read?;
-    if is_built(&statement) {
-        Some((session, statement))
-    } else {
-        None
-    }
-}
-
-/// The session and the statement of a line.
-#[tactic(auto, unfolding(crate::specs::Statements::statement_at))]
-pub(crate) fn statement(alloc: Global, line: &[u8]) -> Result<Option<(u32, Statement)>, Fault>
-    ensures ok { IfOk result (λ read. read ≡ statement_at line.now) }
-    ensures again { (asks : ℕ) (asked : Statement) → 1 ≤ asks → asks ≤ 16 → Fits asked → line.now ≡ line_text asks asked → IfOk result (λ read. read ≡ built (Some (asks, asked))) }
-    ensures session { IfOk result (λ read. IfSome read (λ x. (1 ≤ x.0) × (x.0 ≤ 16))) }
-    ensures only_memory { IfErr result (λ fault. fault ≡ Memory) }
-{
-    let read = spelled(alloc, line)?;
-    Ok(built(read))
 }

@@ -5,6 +5,7 @@ use Rattle.std.specs.List.{slice_index_or}
 use Rattle.std.proofs.lemmas.Bool.{true≢false}
 use Rattle.std.proofs.lemmas.List.{append-nil, append_cancel_left}
 use Rattle.nb_host.specs.World.{World}
+use Rattle.nb_host.specs.Moments.{IsTimely}
 use Rattle.nb_host.specs.declared.faults.Fault.{Fault}
 use Rattle.nb_host.specs.declared.faults.Fault.TheVariants.{Refused, Device, Memory}
 use Rattle.nb_page.specs.Quiet.{Quiet}
@@ -12,33 +13,33 @@ use Rattle.nb_change.specs.Changes.{Changes, Reached}
 use Rattle.nb_change.specs.Gave.{GaveNothing}
 use Rattle.nb_change.proofs.ChangesLaws.{weakened}
 use Rattle.nb_model.specs.declared.reply.Reply.{Reply}
-use Rattle.nb_model.specs.declared.reply.Reply.TheVariants.{Done}
+use Rattle.nb_model.specs.declared.reply.Reply.TheVariants.{Done, CacheShown}
 use Rattle.nb_model.specs.declared.statement.Statement.{Statement}
-use Rattle.nb_model.specs.declared.statement.Statement.TheVariants.{BeginBackup, Sync}
-use Rattle.nb_model.specs.Built.{is_built}
+use Rattle.nb_model.specs.declared.statement.Statement.TheVariants.{BeginBackup, Sync, ShowCache}
 use Rattle.nb_model.specs.Gifts.{Foretells, WasGiven}
 use Rattle.nb_model.specs.Making.{MadeFile}
-use Rattle.nb_model.specs.Outcomes.{Turn, Begins, Seen, Given, Outcome, next_guid, says}
-use Rattle.nb_model.specs.Pages.{begin_turn}
+use Rattle.nb_model.specs.Outcomes.{Turn, Begins, Seen, Given, Outcome, next_guid, next_hold, without_hold, says}
+use Rattle.nb_model.specs.Pages.{begin_turn, cache_turn}
 use Rattle.nb_model.specs.Run.{Now, Event, base_now, outcome, event_of, is_sync, files_made}
 use Rattle.nb_model.specs.Steps.{Step, steps_in, after_steps, made, settles}
 use Rattle.nb_model.specs.Strokes.{Stroke}
 use Rattle.nb_model.specs.Trail.{Trail, StandsIn, settled, after_stroke}
 use Rattle.nb_model.specs.Turns.{first_turn}
 use Rattle.nb_model.specs.Well.{is_on_pages}
-use Rattle.nb_model.proofs.TurnCases.{IsOnce, pages_once}
+use Rattle.nb_model.proofs.TurnCases.{IsOnce, left_by, pages_once}
 use Rattle.nb_model.proofs.StepsLaws.{steps_plain, after_settling}
 use Rattle.nb_base.specs.Open.{OfFiles}
 use Rattle.nb_base.specs.Takes.{Strikes, after_strokes}
 use Rattle.nb_state.specs.Open.{Held, IsOpen, but_pages, name_of}
 use Rattle.nb_state.specs.Does.{WhereEnded, WhereRefused, Answers, Does}
 use Rattle.nb_state.specs.Turns.{GaveAtMost}
-use Rattle.nb_state.proofs.MakesLaws.{where_ended}
+use Rattle.nb_state.proofs.MakesLaws.{where_ended, none_yet}
+use Rattle.nb_state.proofs.TurnLaws.{no_call}
 use Rattle.nb_engine.specs.Replies.{scn_is}
 use Rattle.nb_engine.specs.Turns.{SaysNone, DoesBegin}
-use Rattle.nb_session.specs.Acts.{Says, Grows, Touched, TurnLeft, AreKept, Acts, MayAct}
+use Rattle.nb_session.specs.Acts.{Says, Grows, shown_by, Touched, TurnLeft, AreKept, Acts, MayAct}
 use Rattle.nb_session.specs.Ready.{IsReady}
-use Rattle.nb_session.specs.Replies.{only_tells, has_only_told, only_told}
+use Rattle.nb_session.specs.Replies.{some_said, only_tells, has_only_told, only_told}
 use Rattle.nb_session.proofs.EventLaws.{strokes_are_steps, told_reply, unsaid}
 use Rattle.nb_session.proofs.GiftLaws.{given_nothing, grows_none}
 use Rattle.nb_session.proofs.KeepLaws.{begin_gives, begin_refused, begin_running, begin_made}
@@ -84,9 +85,9 @@ ended_map (Err Memory) f is = tt
 -- The answer of one call, said of another.
 module _ {T S : Type 0} (reply : T → Option Reply) (other : S → Option Reply) (old new : World) (a b : Held) (t : Trail) (now : Now) (session : ℕ) (turn : Turn) (files : List MadeFile) where
   by_fault : (fault : Fault) → Acts reply (Err fault) old new a b t now session turn files → Acts other (Err fault) old new a b t now session turn files
-  by_fault (Refused refusal) acts = record { says = acts.says; left = acts.left; opened = acts.opened; running = acts.running; given = acts.given; kept = acts.kept; unchanged = acts.unchanged; name = acts.name }
-  by_fault Device acts = record { says = acts.says; left = acts.left; opened = acts.opened; running = acts.running; given = acts.given; kept = acts.kept; unchanged = acts.unchanged; name = acts.name }
-  by_fault Memory acts = record { says = acts.says; left = acts.left; opened = acts.opened; running = acts.running; given = acts.given; kept = acts.kept; unchanged = acts.unchanged; name = acts.name }
+  by_fault (Refused refusal) acts = record { says = acts.says; left = acts.left; opened = acts.opened; running = acts.running; given = acts.given; kept = acts.kept; unchanged = acts.unchanged; name = acts.name; cap = acts.cap }
+  by_fault Device acts = record { says = acts.says; left = acts.left; opened = acts.opened; running = acts.running; given = acts.given; kept = acts.kept; unchanged = acts.unchanged; name = acts.name; cap = acts.cap }
+  by_fault Memory acts = record { says = acts.says; left = acts.left; opened = acts.opened; running = acts.running; given = acts.given; kept = acts.kept; unchanged = acts.unchanged; name = acts.name; cap = acts.cap }
 
   -- it is passed on at the exit of a `?`
   pub may_passed : (fault : Fault) (result : Result S Fault) → IsErr result × IsErrAnd result (λ e. e ≡ fault) → MayAct reply (Err fault) old new a b t now session turn files → MayAct other result old new a b t now session turn files
@@ -100,14 +101,14 @@ module _ {T S : Type 0} (reply : T → Option Reply) (other : S → Option Reply
   may_then_memory value fault (Err e) memory is may =
       subst (λ (f : Fault). MayAct other (Err f) old new a b t now session turn files) (sym (is.1 ∙ memory)) (record {
         grows = may.grows;
-        acts = λ told. let acts = may.acts told in record { says = tt; left = acts.left; opened = tt; running = tt; given = tt; kept = tt; unchanged = tt; name = acts.name };
+        acts = λ told. let acts = may.acts told in record { says = tt; left = acts.left; opened = tt; running = tt; given = tt; kept = tt; unchanged = tt; name = acts.name; cap = acts.cap };
       })
 
   -- the same value, said otherwise
   pub may_value : (value : T) (said : S) → reply value ≡ other said → MayAct reply (Ok value) old new a b t now session turn files → MayAct other (Ok said) old new a b t now session turn files
   may_value value said same may = record {
     grows = may.grows;
-    acts = λ told. let acts = may.acts told in record { says = acts.says ∙ same; left = acts.left; opened = acts.opened; running = acts.running; given = acts.given; kept = acts.kept; unchanged = acts.unchanged; name = acts.name };
+    acts = λ told. let acts = may.acts told in record { says = acts.says ∙ same; left = acts.left; opened = acts.opened; running = acts.running; given = acts.given; kept = acts.kept; unchanged = acts.unchanged; name = acts.name; cap = acts.cap };
   }
 
 -- the trail behind a turn that waits for nothing
@@ -138,13 +139,13 @@ unsaid_unchanged (Err Memory) old new e said quiet = tt
 
 -- A statement on pages, by what the engine does of its turn.
 pub does_acts : {T : Type 0} (reply : T → Reply) (result : Result T Fault) (old new : World) (a b : Held) (t : Trail) (now : Now) (session : ℕ) (statement it : Statement) → statement ≡ it → is_sync (Begins it) ≡ false → is_on_pages it ≡ true
-    → is_built statement ≡ true → (o : Outcome) → o ≡ first_turn (seen_now now) session it → IsReady old a t now → ((value : T) → only_tells (reply value) ≡ true → new.files ≡ old.files) → Does reply result old new a b t o
+    → left_by it now.given ≡ now.given → (o : Outcome) → o ≡ first_turn (seen_now now) session it → IsReady old a t now → ((value : T) → only_tells (reply value) ≡ true → new.files ≡ old.files) → Does reply result old new a b t o
     → MayAct (some_by reply) result old new a b t now session (Begins statement) []
-does_acts reply result old new a b t now session statement it is plain on built o turn_is ready telling does =
+does_acts reply result old new a b t now session statement it is plain on none o turn_is ready telling does =
     let this : Outcome = outcome session (Begins statement) now in
     let first : this ≡ first_turn (seen_now now) session statement = outcome_is session statement now in
     let same : o ≡ this = turn_is ∙ ap (first_turn (seen_now now) session) (sym is) ∙ sym first in
-    let once : IsOnce (seen_now now) (first_turn (seen_now now) session statement) = pages_once statement built (ap is_on_pages is ∙ on) (seen_now now) session in
+    let once : IsOnce (seen_now now) (left_by statement now.given) (first_turn (seen_now now) session statement) = pages_once statement (ap is_on_pages is ∙ on) (seen_now now) session in
     let event : Event = event_of session (Begins statement) this in
     record {
       grows = grows_none old new does.makes.gave;
@@ -154,10 +155,11 @@ does_acts reply result old new a b t now session statement it is plain on built 
         opened = ended_map result (subst (IsOpen new b) (trail_plain t event (ap (λ (x : Statement). is_sync (Begins x)) is ∙ plain)))
             (subst (λ (x : Outcome). WhereEnded result (IsOpen new b (after_strokes t x.strokes))) same does.makes.opened);
         running = where_ended result _ (does.makes.goes.running ∙ ready.running ∙ sym (ap (λ (x : Outcome). x.running) first ∙ once.running));
-        given = where_ended result _ (given_nothing old new now.given this.given does.makes.gave (ap (λ (x : Outcome). x.given) first ∙ once.given));
+        given = where_ended result _ (given_nothing old new now.given this.given does.makes.gave (ap (λ (x : Outcome). x.given) first ∙ once.given ∙ ap (λ (x : Statement). left_by x now.given) is ∙ none));
         kept = where_ended result _ (kept_none new event (ap (λ (x : Outcome). x.made) first ∙ once.made));
         unchanged = tells_unchanged reply result old new event (subst (λ (x : Outcome). Says (some_by reply) result x.reply) same (as_says reply result o.reply does.answer)) does.refused telling;
         name = does.makes.goes.name;
+        cap = does.makes.goes.cap;
       };
     }
 
@@ -190,13 +192,14 @@ module _ (old new : World) (a b : Held) (t : Trail) (now : Now) (session : ℕ) 
       kept = kept_none new (event_of session (Begins statement) (outcome session (Begins statement) now)) (ap (λ (x : Outcome). x.made) sync_turn);
       unchanged = λ told. absurd (true≢false (sym (told_reply (event_of session (Begins statement) (outcome session (Begins statement) now)) told) ∙ ap (λ (x : Outcome). has_only_told x.reply) sync_turn));
       name = ap (λ (h : Held). name_of h) same;
+      cap = ap (λ (h : Held). h.cap) same;
     };
   }
 
   pub sync_failed : {T : Type 0} (reply : T → Option Reply) → MayAct reply (Err Device) old new a b t now session (Begins statement) []
   sync_failed reply = record {
     grows = grows_none old new gave;
-    acts = λ told. record { says = tt; left = sync_left; opened = tt; running = tt; given = tt; kept = tt; unchanged = tt; name = ap (λ (h : Held). name_of h) same };
+    acts = λ told. record { says = tt; left = sync_left; opened = tt; running = tt; given = tt; kept = tt; unchanged = tt; name = ap (λ (h : Held). name_of h) same; cap = ap (λ (h : Held). h.cap) same };
   }
 
 -- A value that was given, where the first of these were, is the next one of them.
@@ -215,7 +218,7 @@ grows_at_most old new guid sixteen (inl none) times = grows_none old new (record
 grows_at_most old new guid sixteen (inr gave) times = record { ids = guid ∷ []; clock = []; gave = record { guids = gave; times = times ∙ sym (append-nil old.times) }; sixteen = (sixteen, tt) }
 
 -- `alter database begin backup`
-module _ (result : Result ℕ Fault) (old new : World) (a b : Held) (t : Trail) (now : Now) (session : ℕ) (statement : Statement) (is : statement ≡ BeginBackup) (ready : IsReady old a t now) (guid : List ℕ) (sixteen : length guid ≡ 16) (asked : GaveAtMost old new guid)
+module _ (result : Result ℕ Fault) (old new : World) (a b : Held) (t : Trail) (now : Now) (session : ℕ) (statement : Statement) (is : statement ≡ BeginBackup) (ready : IsReady old a t now) (cap : b.cap ≡ a.cap) (guid : List ℕ) (sixteen : length guid ≡ 16) (asked : GaveAtMost old new guid)
     (begins : (s : Seen) → t.base ≡ s.base → GaveAtMost old new (next_guid s.given) → DoesBegin result old new a b t (next_guid s.given) (begin_turn s)) where
   abbrev this : Outcome
   this = outcome session (Begins statement) now
@@ -227,7 +230,7 @@ module _ (result : Result ℕ Fault) (old new : World) (a b : Held) (t : Trail) 
   begin_times : new.times ≡ old.times
   begin_times = (begins (record { base = base_now now; cache = now.cache; running = now.running; entry = now.account.entry; given = record { guids = guid ∷ []; times = []; holds = [] } }) ready.base asked).times
 
-  begin_given : (r : Result ℕ Fault) → DoesBegin r old new a b t (next_guid now.given) (begin_turn (seen_now now)) → Foretells now.given old new → WhereEnded r (WasGiven old new now.given (begin_turn (seen_now now)).given)
+  begin_given : (r : Result ℕ Fault) → DoesBegin r old new a b t (next_guid now.given) (begin_turn (seen_now now)) → Foretells now.given (shown_by (Begins statement) a) old new → WhereEnded r (WasGiven old new now.given (begin_turn (seen_now now)).given)
   begin_given (Ok scn) does told =
       subst (λ (left : Given). WasGiven old new now.given left) (sym (begin_gives (seen_now now) scn does.answer)) (record {
         ids = next_guid now.given ∷ [];
@@ -258,5 +261,48 @@ module _ (result : Result ℕ Fault) (old new : World) (a b : Held) (t : Trail) 
           unchanged = tells_unchanged scn_is result old new (event_of session (Begins statement) this) (subst (λ (x : Outcome). Says (some_by scn_is) result x.reply) same (as_says scn_is result (begin_turn (seen_now now)).reply does.answer)) (and_quiet (b ≡ a) (Quiet old new) result does.refused)
               (λ value tells. absurd (true≢false (sym tells)));
           name = does.name;
+          cap = cap;
         };
+  }
+
+-- `show cache`: it makes no call, and shows how many pages may be in memory, and how many are.
+module _ (w : World) (held : Held) (t : Trail) (now : Now) (session : ℕ) (statement : Statement) (is : statement ≡ ShowCache) (timely : IsTimely w) (ready : IsReady w held t now) where
+  cache_is : outcome session (Begins statement) now ≡ cache_turn (seen_now now)
+  unfolding first_turn
+  cache_is = outcome_is session statement now ∙ ap (first_turn (seen_now now) session) is
+
+  abbrev cache_shown : Outcome
+  cache_shown = record { strokes = []; reply = Some (CacheShown now.cache (next_hold now.given)); next = []; running = now.running; made = None; given = without_hold now.given }
+
+  shows : outcome session (Begins statement) now ≡ cache_shown
+  unfolding cache_turn
+  shows = cache_is
+
+  first_number : Foretells now.given (shown_by (Begins statement) held) w w → next_hold now.given ≡ length held.pages
+  first_number told = ap (λ (xs : List ℕ). slice_index_or xs 0 0) (told.holds_first ∙ ap (λ (x : Statement). shown_by (Begins x) held ++ told.later_shown) is)
+
+  still : GaveNothing w w
+  still = record { guids = refl; times = refl }
+
+  pub cache_acts : (reply : Reply) → reply ≡ CacheShown held.cap (length held.pages) → MayAct some_said (Ok reply) w w held held t now session (Begins statement) []
+  cache_acts reply answered = record {
+    grows = grows_none w w still;
+    acts = λ told. record {
+      says = ap (λ (x : Outcome). x.reply) shows ∙ ap (λ (n : ℕ). Some (CacheShown n (next_hold now.given))) (sym ready.cache) ∙ ap (λ (n : ℕ). Some (CacheShown held.cap n)) (first_number told) ∙ ap Some (sym answered);
+      left = strikes_left w w (name_of held) t _ (none_yet w w held t _ (no_call w timely) ready.opened);
+      opened = subst (IsOpen w held) (ap (after_strokes t) (sym (ap (λ (x : Outcome). x.strokes) shows)) ∙ trail_plain t (event_of session (Begins statement) (outcome session (Begins statement) now)) (ap (λ (x : Statement). is_sync (Begins x)) is)) ready.opened;
+      running = ready.running ∙ sym (ap (λ (x : Outcome). x.running) shows);
+      given = subst (λ (g : Given). WasGiven w w now.given g) (sym (ap (λ (x : Outcome). x.given) shows)) (record {
+        ids = [];
+        clock = [];
+        guids = sym (append-nil w.guids);
+        guids_first = refl;
+        times = sym (append-nil w.times);
+        times_first = refl;
+      });
+      kept = kept_none w (event_of session (Begins statement) (outcome session (Begins statement) now)) (ap (λ (x : Outcome). x.made) shows);
+      unchanged = λ told. refl;
+      name = refl;
+      cap = refl;
+    };
   }

@@ -49,7 +49,7 @@ use Rattle.nb_copy.specs.Starting.{Backed, IsBackingUp, IsStarted, OfStart, Star
 use Rattle.nb_copy.proofs.BlankLaws.{blank_empty, blank_free}
 use Rattle.nb_copy.specs.Closing.{OfBackup, GaveTimeAtMost, CloseLeft, CopiesOn, CloseDone, BackupTurn, BackupCounts}
 use Rattle.nb_session.specs.declared.task.Task.TheVariants.{Backup, End}
-use Rattle.nb_session.specs.Acts.{Says, Grows, Touched, TurnLeft, Acts, MayAct}
+use Rattle.nb_session.specs.Acts.{Says, Grows, shown_by, Touched, TurnLeft, Acts, MayAct}
 use Rattle.nb_script.specs.Fits.{FitsAsked}
 use Rattle.nb_session.specs.Askers.{IsBackup, file_asked, copy_first, copy_rest}
 use Rattle.nb_session.specs.Ready.{IsReady, IsApart}
@@ -223,10 +223,10 @@ module _ (old new : World) (a b : Held) (t : Trail) (now : Now) (session : ℕ) 
     times_are : new.times ≡ old.times
     times_are = (starts (record { guids = guid ∷ []; times = []; holds = [] }) given_one).times
 
-    pub starts_told : Foretells now.given old new → StartsBackup result old new a b t (file_asked x) (next_guid now.given) begins
+    pub starts_told : Foretells now.given (shown_by (Begins x) a) old new → StartsBackup result old new a b t (file_asked x) (next_guid now.given) begins
     starts_told told = starts now.given (most_given (replicate 16 0) old.guids new.guids now.given.guids told.ids told.later_ids told.guids told.guids_first guid given_one)
 
-    start_given : (r : Result Backed Fault) → StartsBackup r old new a b t (file_asked x) (next_guid now.given) begins → Foretells now.given old new → WhereEnded r (WasGiven old new now.given begins.given)
+    start_given : (r : Result Backed Fault) → StartsBackup r old new a b t (file_asked x) (next_guid now.given) begins → Foretells now.given (shown_by (Begins x) a) old new → WhereEnded r (WasGiven old new now.given begins.given)
     start_given (Ok copier) does told =
         subst (λ (left : Given). WasGiven old new now.given left) (sym (has_begun (seen_now now) session x asks does.says).given) (record {
           ids = next_guid now.given ∷ [];
@@ -240,8 +240,8 @@ module _ (old new : World) (a b : Held) (t : Trail) (now : Now) (session : ℕ) 
     start_given (Err Device) does told = tt
     start_given (Err Memory) does told = tt
 
-    pub start_acts : length guid ≡ 16 → MayAct (λ copier. None) result old new a b t now session (Begins x) begun
-    start_acts sixteen = record {
+    pub start_acts : length guid ≡ 16 → b.cap ≡ a.cap → MayAct (λ copier. None) result old new a b t now session (Begins x) begun
+    start_acts sixteen cap = record {
       grows = grows_at_most old new guid sixteen given_one times_are;
       acts = λ told.
           let does = starts_told told in
@@ -254,6 +254,7 @@ module _ (old new : World) (a b : Held) (t : Trail) (now : Now) (session : ℕ) 
             kept = where_ended result _ (kept_none new event (sym (ap (λ (o : Outcome). o.made) same) ∙ start_made (seen_now now) session x asks));
             unchanged = unsaid_unchanged result old new event (subst (λ (o : Outcome). Says (λ copier. None) result o.reply) same (says_none result begins.reply does.says)) does.refused;
             name = does.name;
+            cap = cap;
           };
     }
 
@@ -364,8 +365,8 @@ module _ (old new : World) (a b : Held) (t : Trail) (now : Now) (session : ℕ) 
     failed : (fault : Fault) → IsNoRefusal fault → (u : Turn) → Changes old new (Touched (name_of a) files) (TurnLeft old (name_of a) t (outcome session u now).strokes files)
         → Acts {T = Progress} (λ progress. None) (Err fault) old new a b t now session u files
     failed (Refused refusal) none u left = absurd none
-    failed Device none u left = record { says = tt; left = left; opened = tt; running = tt; given = tt; kept = tt; unchanged = tt; name = goes.name }
-    failed Memory none u left = record { says = tt; left = left; opened = tt; running = tt; given = tt; kept = tt; unchanged = tt; name = goes.name }
+    failed Device none u left = record { says = tt; left = left; opened = tt; running = tt; given = tt; kept = tt; unchanged = tt; name = goes.name; cap = goes.cap }
+    failed Memory none u left = record { says = tt; left = left; opened = tt; running = tt; given = tt; kept = tt; unchanged = tt; name = goes.name; cap = goes.cap }
 
     -- a page is copied
     copied : CopiesOn old new a b copier later t → Changes old new (Touched (name_of a) files) (TurnLeft old (name_of a) t (outcome session Copies now).strokes files)
@@ -381,10 +382,11 @@ module _ (old new : World) (a b : Held) (t : Trail) (now : Now) (session : ℕ) 
           kept = kept_none new (event_of session Copies (outcome session Copies now)) (ap (λ (x : Outcome). x.made) o);
           unchanged = λ told. absurd (unsaid (event_of session Copies (outcome session Copies now)) (ap (λ (x : Outcome). x.reply) o) told);
           name = goes.name;
+          cap = goes.cap;
         }
 
     -- the file is whole, and the row is written
-    closed : Foretells now.given old new → CloseDone old new a b copier later t (next_time now.given) (close_backup (seen_now now) copier.backing).strokes → new.guids ≡ old.guids
+    closed : Foretells now.given [] old new → CloseDone old new a b copier later t (next_time now.given) (close_backup (seen_now now) copier.backing).strokes → new.guids ≡ old.guids
         → Changes old new (Touched (name_of a) files) (TurnLeft old (name_of a) t (outcome session last now).strokes files) → Acts (λ (progress : Progress). None) (Ok Finished) old new a b t now session last files
     closed told does guids left =
         let o = close_is session copier.backing now in
@@ -405,14 +407,15 @@ module _ (old new : World) (a b : Held) (t : Trail) (now : Now) (session : ℕ) 
               (ap (λ (x : Outcome). x.made) o ∙ close_made (seen_now now) copier.backing ∙ ap (λ (bytes : List ℕ). Some (name, bytes)) (sym whole_is)) (kept_one new name whole does.kept);
           unchanged = λ told. absurd (unsaid (event_of session last (outcome session last now)) (ap (λ (x : Outcome). x.reply) o ∙ close_reply (seen_now now) copier.backing) told);
           name = goes.name;
+          cap = goes.cap;
         }
 
-    acts_by : Foretells now.given old new → (result : Result Progress Fault) (left : ℕ) → left ≡ rest → BackupCounts result copier later → Does result → Acts (λ progress. None) result old new a b t now session (copy_first left last) files
-    acts_by told (Ok More) zero none counts does = absurd (omega (arith, none, counts.0))
-    acts_by told (Ok More) (suc left) some counts does = copied does.answer (turn_left (Ok More) (suc left) some does)
-    acts_by told (Ok Finished) zero none counts does = closed told does.answer does.guids (turn_left (Ok Finished) zero none does)
-    acts_by told (Ok Finished) (suc left) some counts does = absurd (omega (arith, some, counts.0))
-    acts_by told (Err fault) left is counts does = failed fault does.sure (copy_first left last) (turn_left (Err fault) left is does)
+    acts_by : (result : Result Progress Fault) (left : ℕ) → left ≡ rest → Foretells now.given (shown_by (copy_first left last) a) old new → BackupCounts result copier later → Does result → Acts (λ progress. None) result old new a b t now session (copy_first left last) files
+    acts_by (Ok More) zero none told counts does = absurd (omega (arith, none, counts.0))
+    acts_by (Ok More) (suc left) some told counts does = copied does.answer (turn_left (Ok More) (suc left) some does)
+    acts_by (Ok Finished) zero none told counts does = closed told does.answer does.guids (turn_left (Ok Finished) zero none does)
+    acts_by (Ok Finished) (suc left) some told counts does = absurd (omega (arith, some, counts.0))
+    acts_by (Err fault) left is told counts does = failed fault does.sure (copy_first left last) (turn_left (Err fault) left is does)
 
     -- where one time was given, or none
     module _ (result : Result Progress Fault) (turns : (given : Given) → GaveTimeAtMost old new (next_time given) → BackupTurn result old new a b copier later t (next_time given) (close_backup (seen_with now given) copier.backing).strokes)
@@ -427,11 +430,11 @@ module _ (old new : World) (a b : Held) (t : Trail) (now : Now) (session : ℕ) 
           by (inl nothing) = grows_none old new (record { guids = turn_once.guids; times = nothing })
           by (inr gave) = record { ids = []; clock = time ∷ []; gave = record { guids = turn_once.guids ∙ sym (append-nil old.guids); times = gave }; sixteen = tt }
 
-      pub turn_told : Foretells now.given old new → Does result
+      pub turn_told : Foretells now.given (shown_by (copy_first rest last) a) old new → Does result
       turn_told told = turns now.given (most_given 0 old.times new.times now.given.times told.clock told.later_clock told.times told.times_first time asked)
 
       pub turn_acts : BackupCounts result copier later → MayAct (λ progress. None) result old new a b t now session (copy_first rest last) files
-      turn_acts counts = record { grows = turn_grows; acts = λ told. acts_by told result rest refl counts (turn_told told) }
+      turn_acts counts = record { grows = turn_grows; acts = λ told. acts_by result rest refl told counts (turn_told told) }
 
       -- it isn't refused
       pub turn_sure : IfErr result IsNoRefusal

@@ -59,6 +59,10 @@ use Rattle.nb_session.proofs.WayLaws.{copy_turns, copying_at}
 pub name_kept : (a b : Held) → b ≡ a → name_of b ≡ name_of a
 name_kept a b same = ap (λ (h : Held). name_of h) same
 
+-- and how many pages may be in memory
+pub cap_kept : (a b : Held) → b ≡ a → b.cap ≡ a.cap
+cap_kept a b same = ap (λ (h : Held). h.cap) same
+
 -- the session that ran runs no more
 pub stopped_is : (a b d : Held) (session : ℕ) → b ≡ a → a.running ≡ Some session → (b.running ≡ Some session → d ≡ record b { running = None }) → d ≡ record a { running = None }
 stopped_is a b d session same runs stops = stops (ap (λ (h : Held). h.running) same ∙ runs) ∙ ap (λ (h : Held). record h { running = None }) same
@@ -146,8 +150,8 @@ module _ (old new : World) (a b : Held) (t : Trail) (now : Now) (session : ℕ) 
   trail_is : t ≡ after_steps t (steps_in event)
   trail_is = sym (ap (after_strokes t) (sym (ap (λ (o : Outcome). o.strokes) (begin_is session name now)) ∙ begin_strokes (seen_now now) session name)) ∙ trail_plain t event refl
 
-  pub begin_acts : (result : Result Copying Fault) → StartsCopy result old new a b t name begins → MayAct (λ copy. None) result old new a b t now session (Begins (CopyTo name)) []
-  begin_acts result starts =
+  pub begin_acts : (result : Result Copying Fault) → b.cap ≡ a.cap → StartsCopy result old new a b t name begins → MayAct (λ copy. None) result old new a b t now session (Begins (CopyTo name)) []
+  begin_acts result cap starts =
       let same = begin_is session name now in
       record {
         grows = grows_none old new (gave_none old new starts.quiet);
@@ -160,6 +164,7 @@ module _ (old new : World) (a b : Held) (t : Trail) (now : Now) (session : ℕ) 
           kept = where_ended result _ (kept_none new event (sym (ap (λ (o : Outcome). o.made) same) ∙ begin_made (seen_now now) session name));
           unchanged = where_ended result _ (λ told. starts.quiet.still.files);
           name = named;
+          cap = cap;
         };
       }
 
@@ -289,6 +294,7 @@ module _ (old mid : World) (a b : Held) (t : Trail) (now : Now) (session : ℕ) 
         kept = tt;
         unchanged = tt;
         name = ap (λ (h : Held). name_of h) same;
+        cap = ap (λ (h : Held). h.cap) same;
       };
     }
 
@@ -309,6 +315,7 @@ module _ (old mid : World) (a b : Held) (t : Trail) (now : Now) (session : ℕ) 
             kept = kept_none mid (event_of session Copies (outcome session Copies now)) (ap (λ (x : Outcome). x.made) o);
             unchanged = λ told. absurd (unsaid (event_of session Copies (outcome session Copies now)) (ap (λ (x : Outcome). x.reply) o) told);
             name = ap (λ (h : Held). name_of h) same;
+            cap = ap (λ (h : Held). h.cap) same;
           };
         }
 
@@ -330,6 +337,7 @@ module _ (old mid : World) (a b : Held) (t : Trail) (now : Now) (session : ℕ) 
                 (kept_one mid copy.name whole kept);
             unchanged = λ told. absurd (true≢false (sym (ap has_only_told (sym (ap (λ (x : Outcome). x.reply) o ∙ close_reply (seen_now now) copy.name)) ∙ told_reply (event_of session last (outcome session last now)) told)));
             name = ap (λ (h : Held). name_of h) same;
+            cap = ap (λ (h : Held). h.cap) same;
           };
         }
 

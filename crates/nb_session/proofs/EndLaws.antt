@@ -5,7 +5,6 @@ use Rattle.nb_model.specs.Going.{IsGoing}
 use Rattle.nb_model.specs.Outcomes.{Begins}
 use Rattle.nb_model.specs.Run.{Now, play, rounds, all_sessions, begun, AreFinished}
 use Rattle.nb_model.proofs.FinishLaws.{order_ends}
-use Rattle.nb_model.proofs.GoingLaws.{going_plain}
 use Rattle.nb_script.specs.Asked.{IsAskable}
 use Rattle.nb_script.specs.Scripts.{Plan}
 
@@ -29,7 +28,7 @@ pub record HasEnd (schedule : List ℕ) (now : Now) (front : ℕ) : Type 0 where
 
 pub turns_end : (plan : Plan) → IsAskable plan → (now : Now) → IsGoing now → now.todo ≡ begun plan.sessions → (front : ℕ) → HasEnd plan.schedule now front
 turns_end plan askable now going todo front =
-    let end = order_ends (plan.schedule ++ rounds front) now (going_plain now going) (begun_length plan askable now todo) in
+    let end = order_ends (plan.schedule ++ rounds front) now (begun_length plan askable now todo) in
     let same : plan.schedule ++ rounds (front + end.0) ≡ (plan.schedule ++ rounds front) ++ rounds end.0 =
     ap (λ (xs : List ℕ). plan.schedule ++ xs) (sym (rounds_joined front end.0)) ∙ sym (append_assoc plan.schedule (rounds front) (rounds end.0)) in
     record {

@@ -200,7 +200,7 @@ module _ (old mid new : World) (e0 e1 : Held) (t : Trail) (now : Now) (session :
       ready_at : (w : World) → IsStill mid w → IsReady w e1 (after_steps t (steps_of (event ∷ []))) one.1
       ready_at w still =
           subst (λ (x : Trail). IsReady w e1 x one.1) trail_is
-          (ready_then old w e0 e1 t now session u tail more ready place (still_open mid w e1 (after_steps t (steps_in event)) still opened_mid) acts.name (ended result has acts.running) (kept_still mid w (files_made (event_of session u here ∷ [])) still kept_turn)
+          (ready_then old w e0 e1 t now session u tail more ready place (still_open mid w e1 (after_steps t (steps_in event)) still opened_mid) acts.name acts.cap (ended result has acts.running) (kept_still mid w (files_made (event_of session u here ∷ [])) still kept_turn)
           (λ m other. ap (λ (f : Files). f m) still.files ∙ acts.left.others_read m other) marks.apart makes)
 
       -- it has nothing to say

@@ -1,5 +1,5 @@
 -- What the outside gave in runs of calls, one after another.
-use Rattle.std.proofs.Common.{◌≡◌, ℕ, List, [], ◌++◌, length, sym, ap, ◌∙◌, append_assoc}
+use Rattle.std.proofs.Common.{◌≡◌, ℕ, List, [], ◌++◌, length, sym, ap, subst, ◌∙◌, append_assoc}
 use Rattle.std.proofs.lemmas.List.{append-nil, append_cancel_left}
 use Rattle.nb_host.specs.World.{World}
 use Rattle.nb_change.specs.Gave.{GaveNothing}
@@ -15,31 +15,35 @@ whole_is old mid new xs first second all one two =
     append_cancel_left old xs (first ++ second) (sym all ∙ two ∙ ap (λ l. l ++ second) one ∙ append_assoc old first second)
 
 -- what is foretold of the whole is foretold of its first part
-pub foretold_first : (old mid new : World) (given : Given) → Grows old mid → Grows mid new → Foretells given old new → Foretells given old mid
-foretold_first old mid new given first second told = record {
+pub foretold_first : (old mid new : World) (given : Given) (xs ys : List ℕ) → Grows old mid → Grows mid new → Foretells given (xs ++ ys) old new → Foretells given xs old mid
+foretold_first old mid new given xs ys first second told = record {
   ids = first.ids;
   later_ids = second.ids ++ told.later_ids;
   clock = first.clock;
   later_clock = second.clock ++ told.later_clock;
+  later_shown = ys ++ told.later_shown;
   guids = first.gave.guids;
   guids_first = told.guids_first ∙ ap (λ l. l ++ told.later_ids) (whole_is old.guids mid.guids new.guids told.ids first.ids second.ids told.guids first.gave.guids second.gave.guids) ∙ append_assoc first.ids second.ids told.later_ids;
   times = first.gave.times;
   times_first = told.times_first ∙ ap (λ l. l ++ told.later_clock) (whole_is old.times mid.times new.times told.clock first.clock second.clock told.times first.gave.times second.gave.times) ∙ append_assoc first.clock second.clock told.later_clock;
+  holds_first = told.holds_first ∙ append_assoc xs ys told.later_shown;
 }
 
 -- and of its second, of what is left then
-pub foretold_then : (old mid new : World) (given left : Given) → WasGiven old mid given left → Grows mid new → Foretells given old new → Foretells left mid new
-foretold_then old mid new given left first second told = record {
+pub foretold_then : (old mid new : World) (given left : Given) (xs ys : List ℕ) → WasGiven old mid given left → given.holds ≡ xs ++ left.holds → Grows mid new → Foretells given (xs ++ ys) old new → Foretells left ys mid new
+foretold_then old mid new given left xs ys first before second told = record {
   ids = second.ids;
   later_ids = told.later_ids;
   clock = second.clock;
   later_clock = told.later_clock;
+  later_shown = told.later_shown;
   guids = second.gave.guids;
   guids_first = append_cancel_left first.ids left.guids (second.ids ++ told.later_ids)
       (sym first.guids_first ∙ told.guids_first ∙ ap (λ l. l ++ told.later_ids) (whole_is old.guids mid.guids new.guids told.ids first.ids second.ids told.guids first.guids second.gave.guids) ∙ append_assoc first.ids second.ids told.later_ids);
   times = second.gave.times;
   times_first = append_cancel_left first.clock left.times (second.clock ++ told.later_clock)
       (sym first.times_first ∙ told.times_first ∙ ap (λ l. l ++ told.later_clock) (whole_is old.times mid.times new.times told.clock first.clock second.clock told.times first.times second.gave.times) ∙ append_assoc first.clock second.clock told.later_clock);
+  holds_first = append_cancel_left xs left.holds (ys ++ told.later_shown) (sym before ∙ told.holds_first ∙ append_assoc xs ys told.later_shown);
 }
 
 -- what was given in both parts was given in the whole
@@ -76,18 +80,21 @@ grows_joined old mid new first second = record {
 }
 
 -- what was given is foretold by itself
-pub foretold_itself : (old new : World) (holds : List ℕ) (grows : Grows old new) → Foretells (record { guids = grows.ids; times = grows.clock; holds = holds }) old new
-foretold_itself old new holds grows = record {
+pub foretold_itself : (old new : World) (shown : List ℕ) (grows : Grows old new) → Foretells (record { guids = grows.ids; times = grows.clock; holds = shown }) shown old new
+foretold_itself old new shown grows = record {
   ids = grows.ids;
   later_ids = [];
   clock = grows.clock;
   later_clock = [];
+  later_shown = [];
   guids = grows.gave.guids;
   guids_first = sym (append-nil grows.ids);
   times = grows.gave.times;
   times_first = sym (append-nil grows.clock);
+  holds_first = sym (append-nil shown);
 }
 
 -- nothing more was given
-pub foretold_still : (old mid new : World) (given : Given) → Grows old mid → GaveNothing mid new → Foretells given old new → Foretells given old mid
-foretold_still old mid new given grows gave told = foretold_first old mid new given grows (grows_none mid new gave) told
+pub foretold_still : (old mid new : World) (given : Given) (shown : List ℕ) → Grows old mid → GaveNothing mid new → Foretells given shown old new → Foretells given shown old mid
+foretold_still old mid new given shown grows gave told =
+    foretold_first old mid new given shown [] grows (grows_none mid new gave) (subst (λ (xs : List ℕ). Foretells given xs old new) (sym (append-nil shown)) told)

@@ -8,15 +8,13 @@ use Rattle.nb_model.specs.Image.{image_scn}
 use Rattle.nb_model.specs.Outcomes.{Seen, without_guid}
 use Rattle.nb_model.specs.Pages.{begin_turn}
 use Rattle.nb_model.proofs.TodoLaws.{IsSingle, begin_single}
-use Rattle.nb_model.proofs.TurnCases.{built_cases, pages_once, begin_either}
-use Rattle.nb_script.specs.Asked.{IsFurther}
+use Rattle.nb_model.proofs.TurnCases.{statement_cases, pages_once, begin_either}
 use Rattle.nb_session.specs.Askers.{IsOneTurn}
 
 -- such a statement leaves nothing to do
-pub further_single : (statement : Statement) → IsFurther statement → IsOneTurn statement → IsSingle statement
-further_single statement is =
-    built_cases (λ x. IsOneTurn x → IsSingle x) (λ x built on once s session. (pages_once x built on s session).next) (λ once. begin_single) (λ once. absurd once) (λ level name once. absurd once) (λ guid name once. absurd once) (λ name once. absurd once)
-    statement is.is_built
+pub one_single : (statement : Statement) → IsOneTurn statement → IsSingle statement
+one_single =
+    statement_cases (λ x. IsOneTurn x → IsSingle x) (λ x on once s session. (pages_once x on s session).next) (λ once. begin_single) (λ once. absurd once) (λ level name once. absurd once) (λ guid name once. absurd once) (λ name once. absurd once)
 
 -- What is given for the begin of a backup: a GUID, unless it is refused.
 module _ (s : Seen) where

@@ -146,8 +146,8 @@ module _ (old new : World) (a b : Held) (t : Trail) (now : Now) (session : ℕ) 
   turn_of = end_turn (seen_now now) session
 
   -- the first turn of `alter database end backup`
-  pub end_acts : (result : Result ℕ Fault) → DoesEnd result old new a b t (end_scn t.base.image) turn_of → MayAct (λ scn. None) result old new a b t now session (Begins EndBackup) []
-  end_acts result does =
+  pub end_acts : (result : Result ℕ Fault) → b.cap ≡ a.cap → DoesEnd result old new a b t (end_scn t.base.image) turn_of → MayAct (λ scn. None) result old new a b t now session (Begins EndBackup) []
+  end_acts result cap does =
       let same = end_is session now in
       record {
         grows = grows_none old new does.gave;
@@ -161,6 +161,7 @@ module _ (old new : World) (a b : Held) (t : Trail) (now : Now) (session : ℕ) 
           kept = where_ended result _ (kept_none new (event_of session (Begins EndBackup) (outcome session (Begins EndBackup) now)) (sym (ap (λ (x : Outcome). x.made) same) ∙ end_made (seen_now now) session));
           unchanged = unsaid_unchanged result old new (event_of session (Begins EndBackup) (outcome session (Begins EndBackup) now)) (subst (λ (x : Outcome). Says (λ scn. None) result x.reply) same (says_none result turn_of.reply does.says)) (and_quiet (b ≡ a) (Quiet old new) result does.refused);
           name = does.name;
+          cap = cap;
         };
       }
 
@@ -222,8 +223,8 @@ module _ (old new : World) (a b : Held) (t : Trail) (now : Now) (session : ℕ) 
     reply_is : turn_of.reply ≡ this.reply
     reply_is = quiet ∙ sym (ap (λ (x : Outcome). x.reply) (ends_is session reply now) ∙ ends_reply (seen_now now) session reply)
 
-    pub ends_acts : (result : Result ℕ Fault) → DoesEnd result old new a b t (end_scn t.base.image) turn_of → MayAct (λ scn. None) result old new a b t now session (Ends reply) []
-    ends_acts result does = record {
+    pub ends_acts : (result : Result ℕ Fault) → b.cap ≡ a.cap → DoesEnd result old new a b t (end_scn t.base.image) turn_of → MayAct (λ scn. None) result old new a b t now session (Ends reply) []
+    ends_acts result cap does = record {
       grows = grows_none old new does.gave;
       acts = λ told. record {
         says = subst (Says (λ scn. None) result) reply_is (says_none result turn_of.reply does.says);
@@ -234,6 +235,7 @@ module _ (old new : World) (a b : Held) (t : Trail) (now : Now) (session : ℕ) 
         kept = where_ended result _ (kept_none new (event_of session (Ends reply) this) (ap (λ (x : Outcome). x.made) (ends_is session reply now) ∙ ends_made (seen_now now) session reply));
         unchanged = unsaid_unchanged result old new (event_of session (Ends reply) this) (subst (Says (λ scn. None) result) reply_is (says_none result turn_of.reply does.says)) (and_quiet (b ≡ a) (Quiet old new) result does.refused);
         name = does.name;
+        cap = cap;
       };
     }
 
@@ -261,15 +263,15 @@ merge_said reply More = None
 merge_said reply Finished = Some reply
 
 -- A further turn of a merge.
-module _ (old new : World) (a b : Held) (t : Trail) (now : Now) (session : ℕ) (reply : Reply) (ready : IsReady old a t now) where
+module _ (old new : World) (a b : Held) (t : Trail) (now : Now) (session : ℕ) (reply : Reply) (ready : IsReady old a t now) (cap : b.cap ≡ a.cap) where
   diverted : (left : ℕ) → IsMerging session left a → length t.base.diverted ≡ a.merged + left
   diverted left merging = sym (ap length ready.opened.files.agrees.entries) ∙ merging.rest
 
   -- it fails
   failed : (u : Turn) (ss : List Stroke) (fault : Fault) → IsNoRefusal fault → (outcome session u now).strokes ≡ ss → Strikes old new (name_of a) t ss → name_of b ≡ name_of a → Acts (merge_said reply) (Err fault) old new a b t now session u []
   failed u ss (Refused refusal) none is struck name = absurd none
-  failed u ss Device none is struck name = record { says = tt; left = strikes_left old new (name_of a) t _ (subst (Strikes old new (name_of a) t) (sym is) struck); opened = tt; running = tt; given = tt; kept = tt; unchanged = tt; name = name }
-  failed u ss Memory none is struck name = record { says = tt; left = strikes_left old new (name_of a) t _ (subst (Strikes old new (name_of a) t) (sym is) struck); opened = tt; running = tt; given = tt; kept = tt; unchanged = tt; name = name }
+  failed u ss Device none is struck name = record { says = tt; left = strikes_left old new (name_of a) t _ (subst (Strikes old new (name_of a) t) (sym is) struck); opened = tt; running = tt; given = tt; kept = tt; unchanged = tt; name = name; cap = cap }
+  failed u ss Memory none is struck name = record { says = tt; left = strikes_left old new (name_of a) t _ (subst (Strikes old new (name_of a) t) (sym is) struck); opened = tt; running = tt; given = tt; kept = tt; unchanged = tt; name = name; cap = cap }
 
   finishes : (result : Result Progress Fault) → IfErr result IsNoRefusal → IsMerging session 0 a → Merges result old new a b t → Acts (merge_said reply) result old new a b t now session (Finishes reply) []
   finishes (Ok More) none merging merges = absurd (omega (arith, diverted 0 merging, merges.on.0))
@@ -284,6 +286,7 @@ module _ (old new : World) (a b : Held) (t : Trail) (now : Now) (session : ℕ) 
         kept = kept_none new (event_of session (Finishes reply) (outcome session (Finishes reply) now)) (ap (λ (x : Outcome). x.made) o);
         unchanged = λ told. absurd (true≢false (sym (ap (λ (x : Outcome). only_told (event_of session (Finishes reply) x)) (sym o) ∙ told)));
         name = merges.name;
+        cap = cap;
       }
   finishes (Err fault) none merging merges = failed (Finishes reply) (finish ∷ []) fault none (ap (λ (x : Outcome). x.strokes) (finish_is session reply now)) merges.left merges.name
 
@@ -302,6 +305,7 @@ module _ (old new : World) (a b : Held) (t : Trail) (now : Now) (session : ℕ) 
         kept = kept_none new (event_of session MergesOne (outcome session MergesOne now)) (ap (λ (x : Outcome). x.made) o);
         unchanged = λ told. absurd (unsaid (event_of session MergesOne (outcome session MergesOne now)) (ap (λ (x : Outcome). x.reply) o) told);
         name = merges.name;
+        cap = cap;
       }
   merges_one (Ok Finished) none left merging merges = absurd (omega (arith, diverted (suc left) merging, merges.on.0))
   merges_one (Err fault) none left merging merges = failed MergesOne [] fault none (ap (λ (x : Outcome). x.strokes) (merge_is session now)) (merges.more (one_left left merging)) merges.name

@@ -11,7 +11,6 @@ use Rattle.nb_model.specs.declared.reply.Reply.{Reply}
 use Rattle.nb_model.specs.declared.statement.Statement.{Statement}
 use Rattle.nb_model.specs.declared.statement.Statement.TheVariants.{Backup, BackupSince, CopyTo}
 use Rattle.nb_model.specs.Backups.{room_in, close_backup, close_copy}
-use Rattle.nb_model.specs.Built.{is_built}
 use Rattle.nb_model.specs.Going.{AreNamed, IsGoing}
 use Rattle.nb_model.specs.Image.{Image}
 use Rattle.nb_model.specs.Making.{MadeFile, making}
@@ -19,10 +18,9 @@ use Rattle.nb_model.specs.Outcomes.{Turn, Begins, Copies, ClosesBackup, ClosesCo
 use Rattle.nb_model.specs.Pages.{ends_by}
 use Rattle.nb_model.specs.Run.{Now, base_now, outcome, stands_then, one_turn, play, files_made, begun}
 use Rattle.nb_model.specs.Turns.{first_turn, turn}
-use Rattle.nb_model.proofs.FinishLaws.{IsPlainTurn}
-use Rattle.nb_model.proofs.GoingLaws.{one_cases, own_todo, other_todo, going_plain, going_turn, named_turn}
+use Rattle.nb_model.proofs.GoingLaws.{one_cases, own_todo, other_todo, going_turn, named_turn}
 use Rattle.nb_model.proofs.MakingLaws.{made_append, made_among}
-use Rattle.nb_model.proofs.TurnCases.{built_cases, begin_either, end_either, backup_either, since_either, copy_either, pages_once}
+use Rattle.nb_model.proofs.TurnCases.{statement_cases, begin_either, end_either, backup_either, since_either, copy_either, pages_once}
 use Rattle.nb_script.specs.Asked.{IsFurther, IsAskable}
 use Rattle.nb_script.specs.Fits.{FitsAsked, IsFile}
 use Rattle.nb_script.specs.Scripts.{Plan}
@@ -61,35 +59,34 @@ module _ (P : List ℕ → Type 0) where
     unfolding ends_by
     merging_names reply = many (length s.base.diverted) Merges (Finishes reply) tt tt
 
-    first_names : (statement : Statement) → is_built statement ≡ true → HasName P (Begins statement) → Leaves (first_turn s session statement)
+    first_names : (statement : Statement) → HasName P (Begins statement) → Leaves (first_turn s session statement)
     unfolding first_turn
-    first_names = built_cases (λ x. HasName P (Begins x) → Leaves (first_turn s session x))
-        (λ x is on named. subst Named (sym (pages_once x is on s session).next) tt)
+    first_names = statement_cases (λ x. HasName P (Begins x) → Leaves (first_turn s session x))
+        (λ x on named. subst Named (sym (pages_once x on s session).next) tt)
         (λ named. begin_either Leaves s (λ r. tt) (λ may. tt))
         (λ named. end_either Leaves s session (λ r. tt) (λ may. merging_names _))
         (λ level name named. backup_either Leaves s session level name (λ r. tt) (λ ask is may. many (length (room_in s.base.image).draft.image) Copies _ tt named))
         (λ guid name named. since_either Leaves s session guid name (λ r. tt) (λ ask is may. many (length (room_in s.base.image).draft.image) Copies _ tt named))
         (λ name named. copy_either Leaves s session name (λ r. tt) (λ may. many (length s.base.frozen) Copies (ClosesCopy name) tt named))
 
-    next_names : (u : Turn) → IsPlainTurn u → HasName P u → Leaves (turn s session u)
+    next_names : (u : Turn) → HasName P u → Leaves (turn s session u)
     unfolding turn close_backup close_copy
-    next_names (Begins statement) plain named = first_names statement plain named
-    next_names (Ends reply) plain named = merging_names reply
-    next_names Copies plain named = tt
-    next_names (ClosesBackup b) plain named = (tt, tt)
-    next_names (ClosesCopy name) plain named = tt
-    next_names Merges plain named = tt
-    next_names (Finishes reply) plain named = tt
+    next_names (Begins statement) named = first_names statement named
+    next_names (Ends reply) named = merging_names reply
+    next_names Copies named = tt
+    next_names (ClosesBackup b) named = (tt, tt)
+    next_names (ClosesCopy name) named = tt
+    next_names Merges named = tt
+    next_names (Finishes reply) named = tt
 
   one_names : (session : ℕ) (now : Now) → IsGoing now → HaveNames P now → HaveNames P (one_turn session now).1
   unfolding outcome
   one_names session now going named = one_cases (λ p. HaveNames P p.1) session now named (λ u rest is place.
       let o : Outcome = outcome session u now in
       let here : Named (u ∷ rest) = subst Named is (named (session - 1)) in
-      let plain : AllByRecursion IsPlainTurn (u ∷ rest) = subst (AllByRecursion IsPlainTurn) is (going_plain now going (session - 1)) in
       elim (eqb_tells place (session - 1)) [
         | inl w ↦ subst (λ (p : ℕ). Named (get_or (stands_then session rest o now).todo p [])) (sym w.1)
-            (subst Named (sym (own_todo session now u rest is o)) (all_append (HasName P) o.next rest (next_names session _ u plain.0 here.0) here.1))
+            (subst Named (sym (own_todo session now u rest is o)) (all_append (HasName P) o.next rest (next_names session _ u here.0) here.1))
         | inr w ↦ subst Named (sym (other_todo session now u rest is o place w.1)) (named place)
       ])
 

@@ -1,21 +1,25 @@
 -- What stands behind one number more of an order, and what is made then.
-use Rattle.std.proofs.Common.{◌≡◌, ◌≢◌, ℕ, ◌-◌, List, [], ◌∷◌, ◌++◌, length, get_or, refl, sym, ap, subst, ◌∙◌, get_or-set_other, length-set}
+use Rattle.std.proofs.Common.{◌≡◌, ◌≢◌, ℕ, ◌-◌, List, [], ◌∷◌, ◌++◌, length, drop, get_or, refl, sym, ap, subst, ◌∙◌, get_or-set_other, length-set}
 use Rattle.std.specs.Prelude.{Contains}
 use Rattle.std.specs.List.{slice_index_or}
 use Rattle.std.proofs.lemmas.Bool.{true≢false}
 use Rattle.std.proofs.lemmas.List.{append-nil}
+use Rattle.nb_model.specs.declared.statement.Statement.TheVariants.{ShowCache}
 use Rattle.nb_model.specs.Going.{IsAt, waits, backs_up, copies, ends, merges, IsMaking}
 use Rattle.nb_model.specs.Making.{MadeFile, making_by, under_way, AreAmong, IsNoneOf, NamesOnce}
-use Rattle.nb_model.specs.Outcomes.{Turn, Given}
+use Rattle.nb_model.specs.Outcomes.{Turn, Begins, Given}
 use Rattle.nb_model.specs.Run.{Event, Now, Played, outcome, stands_then, take_turn, one_turn, play, files_made, AreFinished}
 use Rattle.nb_model.proofs.GoingLaws.{making_play}
 use Rattle.nb_model.proofs.MakingLaws.{finished_none, free_turn, under_among, under_play, made_among, played_used, names_once}
 use Rattle.nb_model.proofs.RunLaws.{play-append}
-use Rattle.nb_session.specs.Acts.{AreSixteen}
-use Rattle.nb_session.specs.Steps.{begun_first, touching_by}
+use Rattle.nb_model.proofs.TurnCases.{turn_holds}
+use Rattle.nb_state.specs.Open.{Held}
+use Rattle.nb_session.specs.Acts.{AreSixteen, shown_by}
+use Rattle.nb_session.specs.Steps.{begun_first, shown_first, touching_by}
 use Rattle.nb_session.proofs.MadeLaws.{none_among, among_left, among_right, both_among, once_fewer, made_second, made_ahead, made_both}
 use Rattle.nb_session.proofs.PlayLaws.{behind}
 use Rattle.nb_session.proofs.TouchingLaws.{touching_among}
+use Rattle.nb_session.proofs.TurnLaws.{seen_now}
 
 -- a turn leaves to the other sessions what they have to do
 pub keeps_todo : (session i : ℕ) (now : Now) → i ≢ session - 1 → get_or (one_turn session now).1.todo i [] ≡ get_or now.todo i []
@@ -124,3 +128,18 @@ play_ahead front rest now making =
 pub finished_among : (events : List Event) (now : Now) → AreFinished now.todo → AreAmong (files_made events ++ under_way now) (files_made events)
 finished_among events now finished =
     both_among (files_made events) (under_way now) (files_made events) (λ file there. there) (subst (λ (files : List MadeFile). AreAmong files (files_made events)) (sym (finished_none now finished)) (none_among (files_made events)))
+
+-- A turn takes just the numbers that it shows.
+module _ (session : ℕ) (now : Now) (held : Held) (later : List ℕ) where
+  holds_then : (t : Turn) → now.given.holds ≡ shown_by t held ++ later → (outcome session t now).given.holds ≡ later
+  unfolding outcome
+  holds_then (Begins ShowCache) first = turn_holds (seen_now now) session (Begins ShowCache) ∙ ap (drop 1) first
+  holds_then t first = turn_holds (seen_now now) session t ∙ first
+
+  pub holds_left : (todo : List Turn) → slice_index_or now.todo (session - 1) [] ≡ todo → now.given.holds ≡ shown_first todo held ++ later → (one_turn session now).1.given.holds ≡ later
+  unfolding one_turn take_turn stands_then
+  holds_left todo here first = ap (λ (ts : List Turn). (take_turn session ts now).1.given.holds) here ∙ by todo first
+    where
+      by : (ts : List Turn) → now.given.holds ≡ shown_first ts held ++ later → (take_turn session ts now).1.given.holds ≡ later
+      by [] none = none
+      by (t ∷ rest) some = holds_then t some

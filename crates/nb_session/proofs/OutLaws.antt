@@ -1,7 +1,7 @@
 -- What waits is written out behind the turns.
 use Rattle.std.proofs.Common.{◌≡◌, inl, inr, ℕ, List, [], ◌++◌, Bool, true, false, refl, sym, ap, subst, ◌∙◌, arith}
 use Rattle.std.proofs.lemmas.Bool.{true≢false}
-use Rattle.std.specs.Prelude.{Contains, Result, Ok, Err, ◌||◌}
+use Rattle.std.specs.Prelude.{Contains, Result, Ok, Err, IsErr, ◌||◌}
 use Rattle.std.proofs.lemmas.List.{append-nil}
 use Rattle.nb_change.proofs.NameLaws.{decide}
 use Rattle.nb_host.specs.Names.{is_delta}
@@ -75,6 +75,7 @@ module _ (old new : World) (before after : Held) (t : Trail) (now : Now) (ready 
       there = ready.there;
       named = named ∙ ready.named;
       running = ap (λ (h : Held). h.running) same ∙ ready.running;
+      cache = ap (λ (h : Held). h.cap) same ∙ ready.cache;
       known = λ m plain none. known m plain ∙ ready.known m plain none;
     }
 
@@ -116,6 +117,19 @@ module _ (old mid new : World) (e0 e1 e2 : Held) (t : Trail) (now : Now) (p : Pl
   then_failed e out = no_turn (Err e) (plays_failed old mid new e0 e1 e2 t now p ([], p.1) made [] once_more has no_more a e first out)
 
 -- and behind all turns of a script
+-- what stood at a failure stands where it is passed on
+pub whole_passed : (old new : World) (before after : Held) (t : Trail) (told : Told) (now : Now) (schedule : List ℕ) {e : Stop} (result : Result Bool Stop) → IsErr result → PlaysWhole (Err e) old new before after t told now schedule
+    → PlaysWhole result old new before after t told now schedule
+whole_passed old new before after t told now schedule (Ok refused) is w = absurd (no_err is)
+  where
+    no_err : IsErr {T = Bool} {E = Stop} (Ok refused) → ⊥
+    no_err h = cc
+whole_passed old new before after t told now schedule (Err f) is w = record {
+  how_often = w.how_often;
+  plays = record { stops = w.plays.stops; left = w.plays.left; apart = w.plays.apart; others = w.plays.others; others_read = w.plays.others_read; name = w.plays.name; done = tt };
+  finished = w.finished;
+}
+
 module _ (old mid new : World) (e0 e1 e2 : Held) (t : Trail) (told : Told) (now : Now) (schedule : List ℕ) (making : IsMaking now) (a : Bool) (first : PlaysWhole (Ok a) old mid e0 e1 t told now schedule) (same : but_pages e2 ≡ but_pages e1)
     (gave : GaveNothing mid new) where
   abbrev order : List ℕ

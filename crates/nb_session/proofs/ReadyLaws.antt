@@ -136,6 +136,10 @@ module _ (session : ℕ) (rest : List Turn) (o : Outcome) (now : Now) where
   unfolding stands_then
   name_then = refl
 
+  cache_then : then.cache ≡ now.cache
+  unfolding stands_then
+  cache_then = refl
+
   running_then : then.running ≡ o.running
   unfolding stands_then
   running_then = refl
@@ -158,7 +162,7 @@ module _ (old w : World) (e0 e1 : Held) (t : Trail) (now : Now) (session : ℕ) 
   abbrev seen : Trail
   seen = after_steps t (steps_in event)
 
-  module _ (opened : IsOpen w e1 seen) (same : name_of e1 ≡ name_of e0) (runs : e1.running ≡ o.running) (kept : AreKept w (files_made (event ∷ [])))
+  module _ (opened : IsOpen w e1 seen) (same : name_of e1 ≡ name_of e0) (cap : e1.cap ≡ e0.cap) (runs : e1.running ≡ o.running) (kept : AreKept w (files_made (event ∷ [])))
       (read : (m : List ℕ) → Other (Touched (name_of e0) made) m → w.files m ≡ old.files m)
       (apart : (name bytes : List ℕ) → Contains made (name, bytes) → IsApart e0 name) (makes : IsMaking now) where
     one_is : one_turn session now ≡ (event ∷ [], later)
@@ -222,5 +226,6 @@ module _ (old w : World) (e0 e1 : Held) (t : Trail) (now : Now) (session : ℕ) 
       there = ap later.account.entry (name_then session (tail ++ more) o now) ∙ own_then session (tail ++ more) o now ∙ ap IsBase (sym base_later);
       named = same ∙ ready.named ∙ sym (name_then session (tail ++ more) o now);
       running = runs ∙ sym (running_then session (tail ++ more) o now);
+      cache = cap ∙ ready.cache ∙ sym (cache_then session (tail ++ more) o now);
       known = known_then;
     }

@@ -26,13 +26,13 @@ use Rattle.nb_session.specs.declared.told.Told.{Told}
 use Rattle.nb_session.specs.Acts.{AreSixteen, Grows}
 use Rattle.nb_session.specs.Askers.{Asker, task_todo, task_left, todo_of, HasTodo, left_of, IsFit, any_refused}
 use Rattle.nb_session.specs.Ready.{IsReady, TaskGoes}
-use Rattle.nb_session.specs.Steps.{as_played, touching_by, Steps, TakesNext}
+use Rattle.nb_session.specs.Steps.{as_played, shown_next, touching_by, Steps, TakesNext}
 use Rattle.nb_session.specs.Stops.{Plays}
 use Rattle.nb_session.specs.Told.{told_turns}
 use Rattle.nb_session.proofs.GiftLaws.{foretold_first, foretold_then, foretold_itself, grows_none, grows_joined}
 use Rattle.nb_session.proofs.GoesLaws.{goes_on}
 use Rattle.nb_session.proofs.MadeLaws.{none_among}
-use Rattle.nb_session.proofs.NextLaws.{keeps_todo, play_more, giving, making_giving, next_once, next_others, next_among, next_has}
+use Rattle.nb_session.proofs.NextLaws.{keeps_todo, play_more, giving, making_giving, next_once, next_others, next_among, next_has, holds_left}
 use Rattle.nb_session.proofs.PlayLaws.{behind, trail_after, no_made, plays_none, plays_then}
 use Rattle.nb_session.proofs.ToldLaws.{told_nothing, told_append, told_among, told_others}
 
@@ -94,25 +94,26 @@ module _ {H : Type 0} (tells : Bool) (told : IsTrue tells) (world : H → World)
   from given = giving now given
 
   -- The turns so far were taken. Each session has still to do what stands for it, and goes on from where it is. Of the files that were made
-  -- since all that are whole are among these, and those of copies that are under way may be.
-  pub record IsSoFar (front : List ℕ) (s : Scene Asker H Held) (given : Given) : Type 0 where
+  -- since all that are whole are among these, and those of copies that are under way may be. Of the numbers that were given these were shown.
+  pub record IsSoFar (shown front : List ℕ) (s : Scene Asker H Held) (given : Given) : Type 0 where
     pub made : List MadeFile
     pub plays : Plays (Ok (any_refused s.agents)) (world old) (world s.host) before s.shared t (from given) (told_turns how (play front (from given))) made
     pub among : AreAmong made (files_made (play front (from given)).0 ++ under_way (play front (from given)).1)
     pub has : AreAmong (files_made (play front (from given)).0) made
+    pub left : given.holds ≡ shown ++ (play front (from given)).1.given.holds
     pub todo : (session : ℕ) (asker : Asker) → agent_of s.agents session ≡ Some asker → HasTodo asker (play front (from given)).1
     pub goes : (session : ℕ) (asker : Asker) → agent_of s.agents session ≡ Some asker → TaskGoes asker.number (world s.host) s.shared (base_now (play front (from given)).1).frozen asker.task
 
-  -- It is so whatever of it the outside gave.
-  pub record HoldsAt (front : List ℕ) (s : Scene Asker H Held) : Type 0 where
+  -- It is so whatever of it the outside gave, where these numbers were shown.
+  pub record HoldsAt (shown front : List ℕ) (s : Scene Asker H Held) : Type 0 where
     pub grown : Grows (world old) (world s.host)
     pub sixteen : length s.agents ≡ 16
     pub placed : (session : ℕ) (asker : Asker) → agent_of s.agents session ≡ Some asker → asker.number ≡ session
     pub telling : (session : ℕ) (asker : Asker) → agent_of s.agents session ≡ Some asker → asker.told ≡ how
-    pub so_far : (given : Given) → AreSixteen given.guids → Foretells given (world old) (world s.host) → IsSoFar front s given
+    pub so_far : (given : Given) → AreSixteen given.guids → Foretells given shown (world old) (world s.host) → IsSoFar shown front s given
 
-  abbrev pub Holds : List ℕ → Scene Asker H Held → Type 0
-  Holds front s = (rest : List ℕ) → front ++ rest ≡ order → HoldsAt front s
+  abbrev pub Holds : (shown front : List ℕ) → Scene Asker H Held → Type 0
+  Holds shown front s = (rest : List ℕ) → front ++ rest ≡ order → HoldsAt shown front s
 
   -- the order goes on behind one number more
   one_more : (front rest : List ℕ) (session : ℕ) → (front ++ session ∷ []) ++ rest ≡ order → front ++ (session ∷ rest) ≡ order
@@ -122,9 +123,9 @@ module _ {H : Type 0} (tells : Bool) (told : IsTrue tells) (world : H → World)
   is_session front rest session is = at_place IsSession front rest session (subst (AllByRecursion IsSession) (sym is) numbers)
 
   -- a session that has finished does nothing
-  idle_then : (front : List ℕ) (session : ℕ) (s : Scene Asker H Held) (given : Given) → one_turn session (play front (from given)).1 ≡ ([], (play front (from given)).1)
-      → IsSoFar front s given → IsSoFar (front ++ session ∷ []) s given
-  idle_then front session s given idle far =
+  idle_then : (shown front : List ℕ) (session : ℕ) (s : Scene Asker H Held) (given : Given) → one_turn session (play front (from given)).1 ≡ ([], (play front (from given)).1)
+      → IsSoFar shown front s given → IsSoFar shown (front ++ session ∷ []) s given
+  idle_then shown front session s given idle far =
       let p : Played = play front (from given) in
       let same : play (front ++ session ∷ []) (from given) ≡ p =
       play_more front session (from given) ∙ ap (λ (q : Played). (p.0 ++ q.0, q.1)) idle ∙ ap (λ (es : List Event). (es, p.1)) (append-nil p.0) in
@@ -133,12 +134,13 @@ module _ {H : Type 0} (tells : Bool) (told : IsTrue tells) (world : H → World)
         plays = subst (λ (q : Played). Plays (Ok (any_refused s.agents)) (world old) (world s.host) before s.shared t (from given) (told_turns how q) far.made) (sym same) far.plays;
         among = subst (λ (q : Played). AreAmong far.made (files_made q.0 ++ under_way q.1)) (sym same) far.among;
         has = subst (λ (q : Played). AreAmong (files_made q.0) far.made) (sym same) far.has;
+        left = subst (λ (q : Played). given.holds ≡ shown ++ q.1.given.holds) (sym same) far.left;
         todo = λ n asker there. subst (λ (q : Played). HasTodo asker q.1) (sym same) (far.todo n asker there);
         goes = λ n asker there. subst (λ (q : Played). TaskGoes asker.number (world s.host) s.shared (base_now q.1).frozen asker.task) (sym same) (far.goes n asker there);
       }
 
-  pub rests_hold : (front : List ℕ) (session : ℕ) (s : Scene Asker H Held) → Holds front s → Rests left_of s.agents session → Holds (front ++ session ∷ []) s
-  rests_hold front session s holds rests rest is =
+  pub rests_hold : (shown front : List ℕ) (session : ℕ) (s : Scene Asker H Held) → Holds shown front s → Rests left_of s.agents session → Holds shown (front ++ session ∷ []) s
+  rests_hold shown front session s holds rests rest is =
       let on = one_more front rest session is in
       let here = holds (session ∷ rest) on in
       let number = is_session front rest session on in
@@ -151,20 +153,24 @@ module _ {H : Type 0} (tells : Bool) (told : IsTrue tells) (world : H → World)
         so_far = λ given sixteen foretold.
             let far = here.so_far given sixteen foretold in
             let todo : List (List Turn) = (play front (from given)).1.todo in
-            idle_then front session s given
+            idle_then shown front session s given
             (one_turn_idle session (play front (from given)).1
             (ap (λ (n : ℕ). slice_index_or todo (n - 1) []) (sym (here.placed session one.0 one.1)) ∙ far.todo session one.0 one.1 ∙ done_todo one.0 (rests one.0 one.1))) far;
       }
 
   -- a turn
-  module _ (front rest : List ℕ) (session : ℕ) (s s' : Scene Asker H Held) (is : front ++ (session ∷ rest) ≡ order) (here : HoldsAt front s) (number : IsSession session) (asker moved : Asker)
+  module _ (shown front rest : List ℕ) (session : ℕ) (s s' : Scene Asker H Held) (is : front ++ (session ∷ rest) ≡ order) (here : HoldsAt shown front s) (number : IsSession session) (asker moved : Asker)
       (there : agent_of s.agents session ≡ Some asker) (agents : s'.agents ≡ slice_set s.agents (session - 1) moved) (same : moved.number ≡ asker.number) where
     mine : asker.number ≡ session
     mine = here.placed session asker there
 
+    -- what it shows
+    abbrev next : List ℕ
+    next = shown_next asker s.shared
+
     module _ (answer : Result (Unit {0}) Fault) (made : Steps tells answer (world s.host) (world s'.host) (faults s.host) (faults s'.host) s.shared s'.shared asker moved) where
       -- what it did, where this was given so far
-      pub took : (given : Given) → AreSixteen given.guids → Foretells given (world old) (world s.host)
+      pub took : (given : Given) → AreSixteen given.guids → Foretells given shown (world old) (world s.host)
           → TakesNext made.refused answer (world s.host) (world s'.host) s.shared s'.shared (trail_after t (told_turns how (play front (from given)))) (play front (from given)).1 asker moved
       took given sixteen foretold =
           let far = here.so_far given sixteen foretold in
@@ -173,17 +179,18 @@ module _ {H : Type 0} (tells : Bool) (told : IsTrue tells) (world : H → World)
           (subst (λ (b : Base). TaskGoes asker.number (world s.host) s.shared b.frozen asker.task) (sym ready.base) (far.goes session asker there))
 
       pub turn_grows : Grows (world s.host) (world s'.host)
-      turn_grows = (took (record { guids = here.grown.ids; times = here.grown.clock; holds = [] }) here.grown.sixteen (foretold_itself (world old) (world s.host) [] here.grown)).grows
+      turn_grows = (took (record { guids = here.grown.ids; times = here.grown.clock; holds = shown }) here.grown.sixteen (foretold_itself (world old) (world s.host) shown here.grown)).grows
 
       -- what is foretold of the turn
-      told_first : (given : Given) → Foretells given (world old) (world s'.host) → Foretells given (world old) (world s.host)
-      told_first given foretold = foretold_first (world old) (world s.host) (world s'.host) given here.grown turn_grows foretold
+      told_first : (given : Given) → Foretells given (shown ++ next) (world old) (world s'.host) → Foretells given shown (world old) (world s.host)
+      told_first given foretold = foretold_first (world old) (world s.host) (world s'.host) given shown next here.grown turn_grows foretold
 
-      told_then : (given : Given) → AreSixteen given.guids → Foretells given (world old) (world s'.host) → Foretells (play front (from given)).1.given (world s.host) (world s'.host)
+      told_then : (given : Given) → AreSixteen given.guids → Foretells given (shown ++ next) (world old) (world s'.host) → Foretells (play front (from given)).1.given next (world s.host) (world s'.host)
       told_then given sixteen foretold =
-          foretold_then (world old) (world s.host) (world s'.host) given (play front (from given)).1.given (here.so_far given sixteen (told_first given foretold)).plays.done.given turn_grows foretold
+          let far = here.so_far given sixteen (told_first given foretold) in
+          foretold_then (world old) (world s.host) (world s'.host) given (play front (from given)).1.given shown next far.plays.done.given far.left turn_grows foretold
 
-      pub turn_plays : (given : Given) → AreSixteen given.guids → Foretells given (world old) (world s'.host)
+      pub turn_plays : (given : Given) → AreSixteen given.guids → Foretells given (shown ++ next) (world old) (world s'.host)
           → Plays (as_played (λ done. made.refused) answer) (world s.host) (world s'.host) s.shared s'.shared (trail_after t (told_turns how (play front (from given)))) (play front (from given)).1
           (told_turns how (one_turn session (play front (from given)).1)) (touching_by session (play front (from given)).1)
       turn_plays given sixteen foretold =
@@ -194,11 +201,11 @@ module _ {H : Type 0} (tells : Bool) (told : IsTrue tells) (world : H → World)
           ((took given sixteen (told_first given foretold)).plays (told_then given sixteen foretold)))
 
     module _ (made : Steps tells (Ok tt) (world s.host) (world s'.host) (faults s.host) (faults s'.host) s.shared s'.shared asker moved)
-        (placed : (n : ℕ) (a : Asker) → agent_of s'.agents n ≡ Some a → a.number ≡ n) (given : Given) (sixteen : AreSixteen given.guids) (foretold : Foretells given (world old) (world s'.host)) where
+        (placed : (n : ℕ) (a : Asker) → agent_of s'.agents n ≡ Some a → a.number ≡ n) (given : Given) (sixteen : AreSixteen given.guids) (foretold : Foretells given (shown ++ next) (world old) (world s'.host)) where
       abbrev p : Played
       p = play front (from given)
 
-      far : IsSoFar front s given
+      far : IsSoFar shown front s given
       far = here.so_far given sixteen (told_first (Ok tt) made given foretold)
 
       next_is : TakesNext made.refused (Ok tt) (world s.host) (world s'.host) s.shared s'.shared (trail_after t (told_turns how p)) p.1 asker moved
@@ -228,7 +235,14 @@ module _ {H : Type 0} (tells : Bool) (told : IsTrue tells) (world : H → World)
           (λ n a at off. goes_on session a off how made.refused (world s.host) (world s'.host) s.shared s'.shared (trail_after t (told_turns how p)) p.1 far.plays.done.ready (making_play front (from given) (making_giving now given sixteen making))
           (far.todo n a at) (turn_plays (Ok tt) made given sixteen foretold) a.task refl (far.goes n a at))
 
-      turn_far : IsSoFar (front ++ session ∷ []) s' given
+      -- of the numbers that were left it took what it shows
+      left_then : given.holds ≡ (shown ++ next) ++ (one_turn session p.1).1.given.holds
+      left_then =
+          let told_of = told_then (Ok tt) made given sixteen foretold in
+          let rest = holds_left session p.1 s.shared told_of.later_shown (todo_of asker) (subst (λ (k : ℕ). slice_index_or p.1.todo (k - 1) [] ≡ todo_of asker) mine (far.todo session asker there)) told_of.holds_first in
+          far.left ∙ ap (λ (xs : List ℕ). shown ++ xs) (told_of.holds_first ∙ ap (λ (xs : List ℕ). next ++ xs) (sym rest)) ∙ sym (append_assoc shown next (one_turn session p.1).1.given.holds)
+
+      turn_far : IsSoFar (shown ++ next) (front ++ session ∷ []) s' given
       turn_far =
           let n : Now = from given in
           let given_making : IsMaking n = making_giving now given sixteen making in
@@ -247,6 +261,7 @@ module _ {H : Type 0} (tells : Bool) (told : IsTrue tells) (world : H → World)
                 (any_refused s.agents) made.refused far.plays (turn_plays (Ok tt) made given sixteen foretold))));
             among = subst (λ (r : Played). AreAmong files (files_made r.0 ++ under_way r.1)) (sym more) (next_among n given_making front session far.made far.among);
             has = subst (λ (r : Played). AreAmong (files_made r.0) files) (sym more) (next_has n given_making front session far.made far.among far.has);
+            left = subst (λ (r : Played). given.holds ≡ (shown ++ next) ++ r.1.given.holds) (sym more) left_then;
             todo = λ k a at. subst (λ (r : Played). HasTodo a r.1) (sym more) (todo_then k a at);
             goes = λ k a at. subst (λ (r : Played). TaskGoes a.number (world s'.host) s'.shared (base_now r.1).frozen a.task) (sym more) (goes_then k a at);
           }
@@ -258,7 +273,7 @@ module _ {H : Type 0} (tells : Bool) (told : IsTrue tells) (world : H → World)
     ]
 
     turn_holds : (made : Steps tells (Ok tt) (world s.host) (world s'.host) (faults s.host) (faults s'.host) s.shared s'.shared asker moved) → ((n : ℕ) (a : Asker) → agent_of s'.agents n ≡ Some a → a.number ≡ n)
-        → HoldsAt (front ++ session ∷ []) s'
+        → HoldsAt (shown ++ next) (front ++ session ∷ []) s'
     turn_holds made placed = record {
       grown = grows_joined (world old) (world s.host) (world s'.host) here.grown (turn_grows (Ok tt) made);
       sixteen = ap length agents ∙ length-set s.agents (session - 1) moved ∙ here.sixteen;
@@ -267,15 +282,16 @@ module _ {H : Type 0} (tells : Bool) (told : IsTrue tells) (world : H → World)
       so_far = λ given sixteen foretold. turn_far made placed given sixteen foretold;
     }
 
-  pub moves_hold : (front : List ℕ) (session : ℕ) (s s' : Scene Asker H Held) → Holds front s → Moves (sessions_kind tells world faults) session s (Ok tt) s' → Holds (front ++ session ∷ []) s'
-  moves_hold front session s s' holds move rest is =
+  pub moves_hold : (shown front : List ℕ) (session : ℕ) (s s' : Scene Asker H Held) → Holds shown front s → (move : Moves (sessions_kind tells world faults) session s (Ok tt) s')
+      → Holds (shown ++ shown_next move.agent s.shared) (front ++ session ∷ []) s'
+  moves_hold shown front session s s' holds move rest is =
       let on = one_more front rest session is in
-      turn_holds front rest session s s' on (holds (session ∷ rest) on) (is_session front rest session on) move.agent move.moved move.there move.agents move.same_session move.made (λ n a at. move.still_ready.placed n a at)
+      turn_holds shown front rest session s s' on (holds (session ∷ rest) on) (is_session front rest session on) move.agent move.moved move.there move.agents move.same_session move.made (λ n a at. move.still_ready.placed n a at)
 
   -- before the first turn nothing is under way
   pub none_hold : (agents : List Asker) → IsTimely (world old) → IsReady (world old) before t now → length agents ≡ 16 → any_refused agents ≡ false
       → ((session : ℕ) (asker : Asker) → agent_of agents session ≡ Some asker → asker.number ≡ session) → ((session : ℕ) (asker : Asker) → agent_of agents session ≡ Some asker → asker.told ≡ how)
-      → ((session : ℕ) (asker : Asker) → agent_of agents session ≡ Some asker → HasTodo asker now × (asker.task ≡ None)) → Holds [] (scene agents old before)
+      → ((session : ℕ) (asker : Asker) → agent_of agents session ≡ Some asker → HasTodo asker now × (asker.task ≡ None)) → Holds [] [] (scene agents old before)
   unfolding play
   none_hold agents timely ready sixteen none placed telling fresh rest is = record {
     grown = grows_none (world old) (world old) (record { guids = refl; times = refl });
@@ -286,9 +302,10 @@ module _ {H : Type 0} (tells : Bool) (told : IsTrue tells) (world : H → World)
       made = [];
       plays = subst (λ (r : Bool). Plays (Ok r) (world old) (world old) before before t (from given) (told_turns how ([], from given)) []) (sym none)
           (subst (λ (es : List Event). Plays (Ok false) (world old) (world old) before before t (from given) (es, from given) []) (sym (told_nothing how))
-          (plays_none (world old) before t (from given) timely (record { opened = ready.opened; base = ready.base; there = ready.there; named = ready.named; running = ready.running; known = ready.known })));
+          (plays_none (world old) before t (from given) timely (record { opened = ready.opened; base = ready.base; there = ready.there; named = ready.named; running = ready.running; cache = ready.cache; known = ready.known })));
       among = none_among (files_made [] ++ under_way (from given));
       has = λ file there. absurd (no_made 0 file.0 file.1 there);
+      left = refl;
       todo = λ session asker there. (fresh session asker there).0;
       goes = λ session asker there. subst (TaskGoes asker.number (world old) before (base_now (from given)).frozen) (sym (fresh session asker there).1) tt;
     };

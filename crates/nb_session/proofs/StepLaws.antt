@@ -12,6 +12,7 @@ use Rattle.nb_change.specs.Counts.{CountsDevice}
 use Rattle.nb_base.specs.Takes.{IsNoRefusal}
 use Rattle.nb_model.specs.declared.statement.Statement.{Statement}
 use Rattle.nb_model.specs.Account.{Base}
+use Rattle.nb_model.specs.Gifts.{Foretells}
 use Rattle.nb_model.specs.Going.{IsMaking}
 use Rattle.nb_model.specs.Making.{MadeFile, making, making_by}
 use Rattle.nb_model.specs.Outcomes.{Turn, Begins}
@@ -27,7 +28,8 @@ use Rattle.nb_session.specs.declared.task.Left.TheVariants.{Same, Other}
 use Rattle.nb_session.specs.declared.task.Taken.{Taken}
 use Rattle.nb_session.specs.Askers.{Asker, task_first, task_rest, task_todo, task_left, left_of, left_refused, left_task, todo_of, HasTodo, KeepsOthers}
 use Rattle.nb_session.specs.Ready.{IsReady, TaskGoes}
-use Rattle.nb_session.specs.Steps.{as_played, begun_in, begun_first, touching, touching_by, GoesFurther, Turns, TakesNext, Steps}
+use Rattle.nb_session.specs.Acts.{shown_by}
+use Rattle.nb_session.specs.Steps.{as_played, shown_first, shown_next, begun_in, begun_first, touching, touching_by, GoesFurther, Turns, TakesNext, Steps}
 use Rattle.nb_session.specs.MadeNames.{AnyAsks, Asks, MayMake, TaskMakes}
 use Rattle.nb_session.specs.StillOpen.{AskerStays, AskerTurnStays, IsAllowed, IsStillOpen, TaskStays, TurnStays}
 use Rattle.nb_session.proofs.AskerStays.{asker_failed, asker_taken}
@@ -77,19 +79,23 @@ module _ {T : Type 0} (refused : T → Bool) (task : T → Option Task) (old new
       subst (λ (p : Played). Plays result old new a b t now (told_turns asker.told p) (touching_by asker.number now)) (sym one_is)
       (subst (Plays result old new a b t now (told_turns asker.told (take_turn asker.number (turn ∷ (tail ++ more)) now))) (sym touching_is) plays)
 
+  -- what was foretold of the session was of the turn
+  told_turn : Foretells now.given (shown_next asker a) old new → Foretells now.given (shown_by turn a) old new
+  told_turn = subst (λ (ts : List Turn). Foretells now.given (shown_first ts a) old new) here
+
   -- the turn was taken
   takes_turn : (value : T) (noted : Bool) → moved ≡ record { number = asker.number; told = asker.told; statements = rest; task = task value; refused = noted }
       → Turns asker.told refused task (Ok value) old new a b t now asker.number turn tail more → TakesNext (refused value) (Ok tt) old new a b t now asker moved
   takes_turn value noted same turns = record {
     grows = turns.grows;
-    plays = λ told. plays_one (Ok (refused value)) (turns.plays told);
+    plays = λ told. plays_one (Ok (refused value)) (turns.plays (told_turn told));
     todo = λ told.
         ap (λ (x : Asker). slice_index_or (one_turn asker.number now).1.todo (x.number - 1) []) same
         ∙ ap (λ (p : Played). slice_index_or p.1.todo (asker.number - 1) []) one_is ∙ taken_todo asker.number now turn (tail ++ more) (has ∙ here)
-        ∙ sym (append_assoc (outcome asker.number turn now).next tail more) ∙ ap (λ (ts : List Turn). ts ++ more) (turns.behind told).next ∙ sym (ap todo_of same);
+        ∙ sym (append_assoc (outcome asker.number turn now).next tail more) ∙ ap (λ (ts : List Turn). ts ++ more) (turns.behind (told_turn told)).next ∙ sym (ap todo_of same);
     goes = λ told.
         subst (λ (x : Asker). TaskGoes asker.number new b (base_now (one_turn asker.number now).1).frozen x.task) (sym same)
-        (subst (λ (base : Base). TaskGoes asker.number new b base.frozen (task value)) (sym (ap (λ (p : Played). base_now p.1) one_is ∙ taken_base asker.number now turn (tail ++ more))) (turns.behind told).goes);
+        (subst (λ (base : Base). TaskGoes asker.number new b base.frozen (task value)) (sym (ap (λ (p : Played). base_now p.1) one_is ∙ taken_base asker.number now turn (tail ++ more))) (turns.behind (told_turn told)).goes);
   }
 
   -- it ended early
@@ -100,7 +106,7 @@ module _ {T : Type 0} (refused : T → Bool) (task : T → Option Task) (old new
     grows = turns.grows;
     plays = λ told. subst (λ (f : Fault). Plays (as_played {T = Unit {0}} (λ done. which) (Err f)) old new a b t now (told_turns asker.told (one_turn asker.number now)) (touching_by asker.number now)) (sym is.1)
         (plays_err {S = Unit {0}} refused (λ done. which) fault old new a b t now (told_turns asker.told (one_turn asker.number now)) (touching_by asker.number now)
-        (plays_one (as_played refused (Err fault)) (turns.plays told)));
+        (plays_one (as_played refused (Err fault)) (turns.plays (told_turn told))));
     todo = λ told. tt;
     goes = λ told. tt;
   }

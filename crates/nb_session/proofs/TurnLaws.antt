@@ -11,7 +11,6 @@ use Rattle.nb_model.specs.declared.reply.Reply.{Reply}
 use Rattle.nb_model.specs.declared.reply.Reply.TheVariants.{Refused as RefusedBy}
 use Rattle.nb_model.specs.declared.statement.Statement.{Statement}
 use Rattle.nb_change.specs.Counts.{CountsDevice}
-use Rattle.nb_model.specs.Built.{is_built}
 use Rattle.nb_model.specs.Gifts.{Foretells}
 use Rattle.nb_model.specs.Going.{IsMaking}
 use Rattle.nb_model.specs.Lines.{line_text}
@@ -21,7 +20,7 @@ use Rattle.nb_model.specs.Output.{status_after}
 use Rattle.nb_model.specs.Run.{Now, Played, base_now, outcome, take_turn}
 use Rattle.nb_model.specs.Trail.{Trail}
 use Rattle.nb_model.specs.Turns.{first_turn, turn}
-use Rattle.nb_model.proofs.TodoLaws.{IsSingle, built_never_usage, status_plain}
+use Rattle.nb_model.proofs.TodoLaws.{IsSingle, never_usage, status_plain}
 use Rattle.nb_base.specs.Takes.{IsNoRefusal}
 use Rattle.nb_state.specs.Open.{Held}
 use Rattle.nb_change.proofs.ResultLaws.{passed_on}
@@ -31,7 +30,7 @@ use Rattle.nb_session.specs.declared.task.Left.{Left}
 use Rattle.nb_session.specs.declared.task.Task.{Task}
 use Rattle.nb_session.specs.declared.task.Taken.{Taken}
 use Rattle.nb_session.specs.declared.told.Told.{Told}
-use Rattle.nb_session.specs.Acts.{Says, Grows, Acts, MayAct}
+use Rattle.nb_session.specs.Acts.{Says, Grows, shown_by, Acts, MayAct}
 use Rattle.nb_session.specs.Ready.{IsReady}
 use Rattle.nb_session.specs.Replies.{HasEnded, is_refusal}
 use Rattle.nb_session.specs.Says.{SaysLine}
@@ -62,10 +61,10 @@ module _ {T S : Type 0} (how : Told) (reply : T → Option Reply) (result : Resu
   abbrev played : Played
   played = told_turns how (take_turn session (u ∷ (tail ++ more)) now)
 
-  acting : Foretells now.given old mid → Acts reply result old mid e0 e1 t now session u (touching session u tail now)
+  acting : Foretells now.given (shown_by u e0) old mid → Acts reply result old mid e0 e1 t now session u (touching session u tail now)
   acting told = subst (Acts reply result old mid e0 e1 t now session u) files_are (may.acts told)
 
-  marks : Foretells now.given old mid → Marks old mid e0 (touching session u tail now)
+  marks : Foretells now.given (shown_by u e0) old mid → Marks old mid e0 (touching session u tail now)
   marks told = subst (Marks old mid e0) files_are (mark (may.acts told))
 
   -- it failed before it was to say anything
@@ -78,7 +77,7 @@ module _ {T S : Type 0} (how : Told) (reply : T → Option Reply) (result : Resu
 
   -- it has nothing to say
   pub turns_quiet : (value : S) → HasEnded result → refused value ≡ false → IsReady old e0 t now → ((said : Option Reply) → Says reply result said → said ≡ None)
-      → (Foretells now.given old mid → IsBehind mid e1 session u tail now (task value)) → Turns how refused task (Ok value) old mid e0 e1 t now session u tail more
+      → (Foretells now.given (shown_by u e0) old mid → IsBehind mid e1 session u tail now (task value)) → Turns how refused task (Ok value) old mid e0 e1 t now session u tail more
   turns_quiet value has not_refused ready quiet behind = record {
     grows = may.grows;
     plays = λ told.
@@ -89,8 +88,8 @@ module _ {T S : Type 0} (how : Told) (reply : T → Option Reply) (result : Resu
   }
 
   module _ (has : HasEnded result) (r : Reply) (is_said : (said : Option Reply) → Says reply result said → said ≡ Some r) {V E : Type 0} (line_said : Result V E) (says : SaysLine line_said mid new (told_line session (told_reply how (Some r)))) (ready : IsReady old e0 t now) where
-    before : Foretells now.given old new → Foretells now.given old mid
-    before told = foretold_still old mid new now.given may.grows says.gave told
+    before : Foretells now.given (shown_by u e0) old new → Foretells now.given (shown_by u e0) old mid
+    before told = foretold_still old mid new now.given (shown_by u e0) may.grows says.gave told
 
     grown : Grows old new
     grown = grows_joined old mid new may.grows (grows_none mid new says.gave)
@@ -108,7 +107,7 @@ module _ {T S : Type 0} (how : Told) (reply : T → Option Reply) (result : Resu
 
     -- it was
     pub turns_said : (value : S) → new.said ≡ mid.said ++ told_line session (told_reply how (Some r)) → ((outcome session u now).reply ≡ Some r → status_after r ≡ (if refused value then 1 else 0))
-        → (Foretells now.given old mid → IsBehind new e1 session u tail now (task value)) → Turns how refused task (Ok value) old new e0 e1 t now session u tail more
+        → (Foretells now.given (shown_by u e0) old mid → IsBehind new e1 session u tail now (task value)) → Turns how refused task (Ok value) old new e0 e1 t now session u tail more
     turns_said value said status behind = record {
       grows = grown;
       plays = λ told.
@@ -140,9 +139,9 @@ unfolding outcome turn
 outcome_is session statement now = refl
 
 -- the status behind a statement is 1 where it was refused
-pub status_told : (session : ℕ) (statement : Statement) (now : Now) (r : Reply) → IsTrue (is_built statement) → (outcome session (Begins statement) now).reply ≡ Some r → status_after r ≡ (if is_refusal r then 1 else 0)
-status_told session statement now r can is =
-    status_plain r (λ usage. built_never_usage statement can (seen_now now) session (sym (ap (λ o. o.reply) (outcome_is session statement now)) ∙ is ∙ ap Some usage))
+pub status_told : (session : ℕ) (statement : Statement) (now : Now) (r : Reply) → (outcome session (Begins statement) now).reply ≡ Some r → status_after r ≡ (if is_refusal r then 1 else 0)
+status_told session statement now r is =
+    status_plain r (λ usage. never_usage statement (seen_now now) session (sym (ap (λ o. o.reply) (outcome_is session statement now)) ∙ is ∙ ap Some usage))
 
 -- behind a reply that is no refusal it is 0
 pub status_none : (r : Reply) → is_refusal r ≡ false → status_after r ≡ 0
@@ -161,7 +160,7 @@ module _ {T : Type 0} (how : Told) (reply : T → Option Reply) (refusal : Refus
     (files : List MadeFile) (files_are : files ≡ touching session u tail now) (makes : IsMaking now) (place : slice_index_or now.todo (session - 1) [] ≡ u ∷ (tail ++ more))
     (may : MayAct reply (Err (Refused refusal)) old mid e0 e1 t now session u files) (mark : Acts reply (Err (Refused refusal)) old mid e0 e1 t now session u files → Marks old mid e0 files) (ready : IsReady old e0 t now) where
   pub turns_refused : (answer : Result Taken Fault) → SaysLine answer mid new (line_text session (RefusedBy refusal)) → IfOk answer (λ taken. taken ≡ record { task = None; refused = true })
-      → ((outcome session u now).reply ≡ Some (RefusedBy refusal) → status_after (RefusedBy refusal) ≡ 1) → (Foretells now.given old mid → IsBehind new e1 session u tail now None)
+      → ((outcome session u now).reply ≡ Some (RefusedBy refusal) → status_after (RefusedBy refusal) ≡ 1) → (Foretells now.given (shown_by u e0) old mid → IsBehind new e1 session u tail now None)
       → Turns how (λ taken. taken.refused) (λ taken. taken.task) answer old new e0 e1 t now session u tail more
   turns_refused (Ok taken) says is status behind =
       turns_said how reply (Err (Refused refusal)) (λ (x : Taken). x.refused) (λ (x : Taken). x.task) old mid new e0 e1 t now session u tail more files files_are makes place may mark tt (RefusedBy refusal) (λ said s. s) (Ok taken)

@@ -35,7 +35,7 @@ use Rattle.nb_session.specs.Acts.{Grows}
 use Rattle.nb_session.specs.Askers.{Asker, HasTodo, left_of, IsFit, any_refused, fresh_asker, first_askers}
 use Rattle.nb_session.specs.Ready.{IsReady}
 use Rattle.nb_session.specs.Stops.{Plays}
-use Rattle.nb_session.specs.Steps.{as_played, touching_by}
+use Rattle.nb_session.specs.Steps.{as_played, shown_next, touching_by}
 use Rattle.nb_session.specs.Todo.{PlaysWhole}
 use Rattle.nb_session.specs.Told.{told_events, told_turns}
 use Rattle.nb_session.proofs.AllLaws.{all_append}
@@ -98,124 +98,144 @@ made_apart w held t now ready making plain order n bytes there (inl own) =
     (free_play order now making.named making.going (n, bytes) (among_left (files_made (play order now).0) (under_way (play order now).1) (n, bytes) there)))
 made_apart w held t now ready making plain order n bytes there (inr delta) = no_main (name_of held) n (made_named (λ name. is_delta name ≡ false) order now making.named making.going plain (n, bytes) there) (sym delta)
 
-module _ {H : Type 0} (tells : Bool) (told : IsTrue tells) (world : H → World) (faults : H → ℕ) (old : H) (before : Held) (t : Trail) (how : Told) (now : Now) (plan : Plan) (askable : IsAskable plan) (how_often : ℕ)
-    (making : IsMaking now) (timely : IsTimely (world old)) (ready : IsReady (world old) before t now) (begins : now.todo ≡ begun plan.sessions) where
+module _ {H : Type 0} (tells : Bool) (told : IsTrue tells) (world : H → World) (faults : H → ℕ) (old : H) (before : Held) (how : Told) (plan : Plan) (askable : IsAskable plan) (how_often : ℕ) (timely : IsTimely (world old)) where
   abbrev order : List ℕ
   order = plan.schedule ++ rounds how_often
 
-  numbers : AllByRecursion IsSession order
+  pub numbers : AllByRecursion IsSession order
   numbers = numbers_fit plan.schedule how_often askable.order.each
 
   abbrev start : Scene Asker H Held
   start = scene (first_askers how plan) old before
 
-  begun_holds : Holds tells told world faults old before t how now order numbers making [] start
-  begun_holds = none_hold tells told world faults old before t how now order numbers making (first_askers how plan) timely ready refl refl (first_number how plan) (first_told how plan)
-      (λ session asker there. (first_todo how plan now session asker begins there, first_task how plan session asker there))
+  -- Some numbers of pages were shown so far, and with these the turns are those of whatever stood before.
+  pub record HaveShown (front : List ℕ) (s : Scene Asker H Held) : Type 0 where
+    pub shown : List ℕ
+    pub holds : (t : Trail) (now : Now) (making : IsMaking now) → IsReady (world old) before t now → now.todo ≡ begun plan.sessions → Holds tells told world faults old before t how now order numbers making shown front s
 
-  ends : (after : Scene Asker H Held) (answer : Result (Unit {0}) Fault) → TakesTurns (sessions_kind tells world faults) order start answer after
-      → EndsWith (sessions_kind tells world faults) (Holds tells told world faults old before t how now order numbers making) order answer after
+  pub begun_shown : HaveShown [] start
+  begun_shown = record {
+    shown = [];
+    holds = λ t now making ready begins.
+        none_hold tells told world faults old before t how now order numbers making (first_askers how plan) timely ready refl refl (first_number how plan) (first_told how plan)
+        (λ session asker there. (first_todo how plan now session asker begins there, first_task how plan session asker there));
+  }
+
+  pub ends : (after : Scene Asker H Held) (answer : Result (Unit {0}) Fault) → TakesTurns (sessions_kind tells world faults) order start answer after → EndsWith (sessions_kind tells world faults) HaveShown order answer after
   ends after answer turns =
-      turns_hold (sessions_kind tells world faults) (Holds tells told world faults old before t how now order numbers making)
-      (λ front session s holds rests. rests_hold tells told world faults old before t how now order numbers making front session s holds rests)
-      (λ front session s s' holds move. moves_hold tells told world faults old before t how now order numbers making front session s s' holds move)
-      order start after answer begun_holds turns
+      turns_hold (sessions_kind tells world faults) HaveShown
+      (λ front session s far rests. record {
+        shown = far.shown;
+        holds = λ t now making ready begins. rests_hold tells told world faults old before t how now order numbers making far.shown front session s (far.holds t now making ready begins) rests;
+      })
+      (λ front session s s' far move. record {
+        shown = far.shown ++ shown_next move.agent s.shared;
+        holds = λ t now making ready begins. moves_hold tells told world faults old before t how now order numbers making far.shown front session s s' (far.holds t now making ready begins) move;
+      })
+      order start after answer begun_shown turns
 
-  todo_length : length (play order now).1.todo ≡ 16
-  todo_length = play_length order now ∙ ap length begins ∙ length-map plan.sessions (map Begins) ∙ askable.sixteen
+  -- the numbers that all turns showed
+  abbrev pub whole_shown : (answer : Result (Unit {0}) Fault) (after : Scene Asker H Held) → TakesTurns (sessions_kind tells world faults) order start answer after → List ℕ
+  whole_shown (Ok done) after turns = (ends after (Ok tt) turns).shown
+  whole_shown (Err fault) after turns = (ends after (Err fault) turns).holds.shown ++ shown_next (ends after (Err fault) turns).move.agent (ends after (Err fault) turns).last.shared
 
-  -- once all have finished what was made is whole
-  made_whole : (result : Result Bool Stop) (new : World) (held : Held) (xs : List ℕ) (made : List MadeFile) → AreFinished (play xs now).1.todo → AreAmong made (files_made (play xs now).0 ++ under_way (play xs now).1)
-      → Plays result (world old) new before held t now (told_turns how (play xs now)) made → Plays result (world old) new before held t now (told_turns how (play xs now)) (files_made (play xs now).0)
-  made_whole result new held xs made finished among =
-      plays_wider result (world old) new before held t now (told_turns how (play xs now)) made (files_made (play xs now).0) (λ file there. finished_among (play xs now).0 (play xs now).1 finished file (among file there))
-      (made_once xs now making) (made_apart (world old) before t now ready making (begun_plain plan askable now begins) xs)
+  module _ (t : Trail) (now : Now) (making : IsMaking now) (ready : IsReady (world old) before t now) (begins : now.todo ≡ begun plan.sessions) where
+    todo_length : length (play order now).1.todo ≡ 16
+    todo_length = play_length order now ∙ ap length begins ∙ length-map plan.sessions (map Begins) ∙ askable.sixteen
 
-  -- to their end
-  pub whole_played : (after : Scene Asker H Held) → TakesTurns (sessions_kind tells world faults) order start (Ok tt) after → AllDone left_of after.agents → Foretells now.given (world old) (world after.host)
-      → PlaysWhole (Ok (any_refused after.agents)) (world old) (world after.host) before after.shared t how now plan.schedule
-  whole_played after turns done foretold =
-      let here = ends after (Ok tt) turns [] (append-nil order) in
-      let far = here.so_far now.given making.going.sixteen foretold in
-      let finished : AreFinished (play order now).1.todo = all_finished (play order now).1.todo (λ i. elim (cases_lt i 16) [
-        | inl low ↦ (
-            let one = agent_some after.agents (i + 1) (omega arith) (omega (arith, low, here.sixteen)) in
-            let place : one.0.number - 1 ≡ i = omega (arith, here.placed (i + 1) one.0 one.1) in
-            ap (λ (k : ℕ). get_or (play order now).1.todo k []) (sym place) ∙ far.todo (i + 1) one.0 one.1 ∙ done_todo one.0 (done (i + 1) one.0 one.1))
-        | inr high ↦ get_or_past (play order now).1.todo i [] (omega (arith, high, todo_length))
-      ]) in
-      record {
-        how_often = how_often;
-        plays = made_whole (Ok (any_refused after.agents)) (world after.host) after.shared order far.made finished far.among far.plays;
-        finished = finished;
-      }
+    -- once all have finished what was made is whole
+    made_whole : (result : Result Bool Stop) (new : World) (held : Held) (xs : List ℕ) (made : List MadeFile) → AreFinished (play xs now).1.todo → AreAmong made (files_made (play xs now).0 ++ under_way (play xs now).1)
+        → Plays result (world old) new before held t now (told_turns how (play xs now)) made → Plays result (world old) new before held t now (told_turns how (play xs now)) (files_made (play xs now).0)
+    made_whole result new held xs made finished among =
+        plays_wider result (world old) new before held t now (told_turns how (play xs now)) made (files_made (play xs now).0) (λ file there. finished_among (play xs now).0 (play xs now).1 finished file (among file there))
+        (made_once xs now making) (made_apart (world old) before t now ready making (begun_plain plan askable now begins) xs)
 
-  -- A turn ended early, and these would have come behind it.
-  failed : (front rest whole : List ℕ) (session : ℕ) (mid new : World) (e1 e2 : Held) (r : Bool) (e : Stop) (made : List MadeFile) → whole ≡ front ++ (session ∷ rest)
-      → AreAmong made (files_made (play front now).0 ++ under_way (play front now).1) → AreAmong (files_made (play front now).0) made → Plays (Ok r) (world old) mid before e1 t now (told_turns how (play front now)) made
-      → Plays (Err e) mid new e1 e2 (trail_after t (told_turns how (play front now))) (play front now).1 (told_turns how (one_turn session (play front now).1)) (touching_by session (play front now).1)
-      → Plays (Err e) (world old) new before e2 t now (told_turns how (play whole now)) (made ++ touching_by session (play front now).1)
-  failed front rest whole session mid new e1 e2 r e made is among has first second =
-      let p : Played = play front now in
-      let two : Played = play (front ++ session ∷ []) now in
-      let files : List MadeFile = made ++ touching_by session p.1 in
-      let more : two ≡ behind p (one_turn session p.1) = play_more front session now in
-      let both = plays_failed (world old) mid new before e1 e2 t now (told_turns how p) (told_turns how (one_turn session p.1)) made (touching_by session p.1) (next_once now making front session made among)
-      (told_among how p.0 made has) (told_others how p.0 (touching_by session p.1) (next_others now making front session)) r e first second in
-      let joined = subst (λ (es : List Event). Plays (Err e) (world old) new before e2 t now (es, (one_turn session p.1).1) files) (sym (told_append how p.0 (one_turn session p.1).0)) both in
-      let cut = plays_cut (world old) new before e2 t now (told_turns how two) (told_events how (play rest two.1).0) (play rest two.1).1 files e
-      (subst (λ (q : Played). Plays (Err e) (world old) new before e2 t now (told_turns how q) files) (sym more) joined) in
-      subst (λ (q : Played). Plays (Err e) (world old) new before e2 t now (told_turns how q) files)
-      (sym (play-append (front ++ session ∷ []) rest now) ∙ ap (λ (xs : List ℕ). play xs now) (append_assoc front (session ∷ []) rest ∙ sym is))
-      (subst (λ (es : List Event). Plays (Err e) (world old) new before e2 t now (es, (play rest two.1).1) files) (sym (told_append how two.0 (play rest two.1).0)) cut)
-
-  -- where one turn ended early
-  module _ (after : Scene Asker H Held) (fault : Fault) (turns : TakesTurns (sessions_kind tells world faults) order start (Err fault) after) where
-    abbrev e : FailsBehind (sessions_kind tells world faults) (Holds tells told world faults old before t how now order numbers making) order fault after
-    e = ends after (Err fault) turns
-
-    before_it : HoldsAt tells told world faults old before t how now order numbers making e.front e.last
-    before_it = e.holds (e.session ∷ e.rest) (sym e.is)
-
-    number : IsSession e.session
-    number = at_place IsSession e.front e.rest e.session (subst (AllByRecursion IsSession) e.is numbers)
-
-    last_grows : Grows (world e.last.host) (world after.host)
-    last_grows =
-        turn_grows tells told world faults old before t how now order numbers making e.front e.rest e.session e.last after (sym e.is) before_it number e.move.agent e.move.moved e.move.there e.move.agents e.move.same_session (Err fault) e.move.made
-
-    all_grow : Grows (world old) (world after.host)
-    all_grow = grows_joined (world old) (world e.last.host) (world after.host) before_it.grown last_grows
-
-    -- or until one ended early
-    pub whole_failed : (stop : Stop) → ((refused : Unit {0} → Bool) → as_played refused (Err fault) ≡ Err stop) → Foretells now.given (world old) (world after.host)
-        → PlaysWhole (Err stop) (world old) (world after.host) before after.shared t how now plan.schedule
-    whole_failed stop same foretold =
-        let end = turns_end plan askable now making.going begins how_often in
-        let whole : List ℕ = plan.schedule ++ rounds end.how_often in
-        let is : whole ≡ e.front ++ (e.session ∷ (e.rest ++ end.more)) = end.is ∙ ap (λ (xs : List ℕ). xs ++ end.more) e.is ∙ append_assoc e.front (e.session ∷ e.rest) end.more in
-        let plays = turn_plays tells told world faults old before t how now order numbers making e.front e.rest e.session e.last after (sym e.is) before_it number e.move.agent e.move.moved e.move.there e.move.agents e.move.same_session
-        (Err fault) e.move.made now.given making.going.sixteen foretold in
-        let far = before_it.so_far now.given making.going.sixteen (foretold_first (world old) (world e.last.host) (world after.host) now.given before_it.grown last_grows foretold) in
-        let p : Played = play e.front now in
-        let files : List MadeFile = far.made ++ touching_by e.session p.1 in
-        let among : AreAmong files (files_made (play whole now).0 ++ under_way (play whole now).1) =
-        λ file there.
-        subst (λ (xs : List ℕ). Contains (files_made (play xs now).0 ++ under_way (play xs now).1) file) (append_assoc e.front (e.session ∷ []) (e.rest ++ end.more) ∙ sym is)
-        (play_ahead (e.front ++ e.session ∷ []) (e.rest ++ end.more) now making file
-        (subst (λ (q : Played). Contains (files_made q.0 ++ under_way q.1) file) (sym (play_more e.front e.session now)) (next_among now making e.front e.session far.made far.among file there))) in
+    -- to their end
+    pub whole_played : (after : Scene Asker H Held) (turns : TakesTurns (sessions_kind tells world faults) order start (Ok tt) after) → AllDone left_of after.agents
+        → Foretells now.given (whole_shown (Ok tt) after turns) (world old) (world after.host)
+        → PlaysWhole (Ok (any_refused after.agents)) (world old) (world after.host) before after.shared t how now plan.schedule
+    whole_played after turns done foretold =
+        let here = (ends after (Ok tt) turns).holds t now making ready begins [] (append-nil order) in
+        let far = here.so_far now.given making.going.sixteen foretold in
+        let finished : AreFinished (play order now).1.todo = all_finished (play order now).1.todo (λ i. elim (cases_lt i 16) [
+          | inl low ↦ (
+              let one = agent_some after.agents (i + 1) (omega arith) (omega (arith, low, here.sixteen)) in
+              let place : one.0.number - 1 ≡ i = omega (arith, here.placed (i + 1) one.0 one.1) in
+              ap (λ (k : ℕ). get_or (play order now).1.todo k []) (sym place) ∙ far.todo (i + 1) one.0 one.1 ∙ done_todo one.0 (done (i + 1) one.0 one.1))
+          | inr high ↦ get_or_past (play order now).1.todo i [] (omega (arith, high, todo_length))
+        ]) in
         record {
-          how_often = end.how_often;
-          plays = made_whole (Err stop) (world after.host) after.shared whole files end.finished among
-              (failed e.front (e.rest ++ end.more) whole e.session (world e.last.host) (world after.host) e.last.shared after.shared _ stop far.made is far.among far.has far.plays
-              (subst (λ (r : Result Bool Stop). Plays r (world e.last.host) (world after.host) e.last.shared after.shared (trail_after t (told_turns how p)) p.1 (told_turns how (one_turn e.session p.1)) (touching_by e.session p.1)) (same (λ done. e.move.made.refused)) plays));
-          finished = end.finished;
+          how_often = how_often;
+          plays = made_whole (Ok (any_refused after.agents)) (world after.host) after.shared order far.made finished far.among far.plays;
+          finished = finished;
         }
 
-  -- what was given meanwhile
-  pub whole_grows : (answer : Result (Unit {0}) Fault) (after : Scene Asker H Held) → TakesTurns (sessions_kind tells world faults) order start answer after → Grows (world old) (world after.host)
-  whole_grows (Ok done) after turns = (ends after (Ok tt) turns [] (append-nil order)).grown
-  whole_grows (Err fault) after turns = all_grow after fault turns
+    -- A turn ended early, and these would have come behind it.
+    failed : (front rest whole : List ℕ) (session : ℕ) (mid new : World) (e1 e2 : Held) (r : Bool) (e : Stop) (made : List MadeFile) → whole ≡ front ++ (session ∷ rest)
+        → AreAmong made (files_made (play front now).0 ++ under_way (play front now).1) → AreAmong (files_made (play front now).0) made → Plays (Ok r) (world old) mid before e1 t now (told_turns how (play front now)) made
+        → Plays (Err e) mid new e1 e2 (trail_after t (told_turns how (play front now))) (play front now).1 (told_turns how (one_turn session (play front now).1)) (touching_by session (play front now).1)
+        → Plays (Err e) (world old) new before e2 t now (told_turns how (play whole now)) (made ++ touching_by session (play front now).1)
+    failed front rest whole session mid new e1 e2 r e made is among has first second =
+        let p : Played = play front now in
+        let two : Played = play (front ++ session ∷ []) now in
+        let files : List MadeFile = made ++ touching_by session p.1 in
+        let more : two ≡ behind p (one_turn session p.1) = play_more front session now in
+        let both = plays_failed (world old) mid new before e1 e2 t now (told_turns how p) (told_turns how (one_turn session p.1)) made (touching_by session p.1) (next_once now making front session made among)
+        (told_among how p.0 made has) (told_others how p.0 (touching_by session p.1) (next_others now making front session)) r e first second in
+        let joined = subst (λ (es : List Event). Plays (Err e) (world old) new before e2 t now (es, (one_turn session p.1).1) files) (sym (told_append how p.0 (one_turn session p.1).0)) both in
+        let cut = plays_cut (world old) new before e2 t now (told_turns how two) (told_events how (play rest two.1).0) (play rest two.1).1 files e
+        (subst (λ (q : Played). Plays (Err e) (world old) new before e2 t now (told_turns how q) files) (sym more) joined) in
+        subst (λ (q : Played). Plays (Err e) (world old) new before e2 t now (told_turns how q) files)
+        (sym (play-append (front ++ session ∷ []) rest now) ∙ ap (λ (xs : List ℕ). play xs now) (append_assoc front (session ∷ []) rest ∙ sym is))
+        (subst (λ (es : List Event). Plays (Err e) (world old) new before e2 t now (es, (play rest two.1).1) files) (sym (told_append how two.0 (play rest two.1).0)) cut)
+
+    -- where one turn ended early
+    module _ (after : Scene Asker H Held) (fault : Fault) (turns : TakesTurns (sessions_kind tells world faults) order start (Err fault) after) where
+      abbrev e : FailsBehind (sessions_kind tells world faults) HaveShown order fault after
+      e = ends after (Err fault) turns
+
+      before_it : HoldsAt tells told world faults old before t how now order numbers making e.holds.shown e.front e.last
+      before_it = e.holds.holds t now making ready begins (e.session ∷ e.rest) (sym e.is)
+
+      number : IsSession e.session
+      number = at_place IsSession e.front e.rest e.session (subst (AllByRecursion IsSession) e.is numbers)
+
+      last_grows : Grows (world e.last.host) (world after.host)
+      last_grows =
+          turn_grows tells told world faults old before t how now order numbers making e.holds.shown e.front e.rest e.session e.last after (sym e.is) before_it number e.move.agent e.move.moved e.move.there e.move.agents e.move.same_session (Err fault) e.move.made
+
+      all_grow : Grows (world old) (world after.host)
+      all_grow = grows_joined (world old) (world e.last.host) (world after.host) before_it.grown last_grows
+
+      -- or until one ended early
+      pub whole_failed : (stop : Stop) → ((refused : Unit {0} → Bool) → as_played refused (Err fault) ≡ Err stop) → Foretells now.given (whole_shown (Err fault) after turns) (world old) (world after.host)
+          → PlaysWhole (Err stop) (world old) (world after.host) before after.shared t how now plan.schedule
+      whole_failed stop same foretold =
+          let end = turns_end plan askable now making.going begins how_often in
+          let whole : List ℕ = plan.schedule ++ rounds end.how_often in
+          let is : whole ≡ e.front ++ (e.session ∷ (e.rest ++ end.more)) = end.is ∙ ap (λ (xs : List ℕ). xs ++ end.more) e.is ∙ append_assoc e.front (e.session ∷ e.rest) end.more in
+          let plays = turn_plays tells told world faults old before t how now order numbers making e.holds.shown e.front e.rest e.session e.last after (sym e.is) before_it number e.move.agent e.move.moved e.move.there e.move.agents e.move.same_session
+          (Err fault) e.move.made now.given making.going.sixteen foretold in
+          let far = before_it.so_far now.given making.going.sixteen (foretold_first (world old) (world e.last.host) (world after.host) now.given e.holds.shown (shown_next e.move.agent e.last.shared) before_it.grown last_grows foretold) in
+          let p : Played = play e.front now in
+          let files : List MadeFile = far.made ++ touching_by e.session p.1 in
+          let among : AreAmong files (files_made (play whole now).0 ++ under_way (play whole now).1) =
+          λ file there.
+          subst (λ (xs : List ℕ). Contains (files_made (play xs now).0 ++ under_way (play xs now).1) file) (append_assoc e.front (e.session ∷ []) (e.rest ++ end.more) ∙ sym is)
+          (play_ahead (e.front ++ e.session ∷ []) (e.rest ++ end.more) now making file
+          (subst (λ (q : Played). Contains (files_made q.0 ++ under_way q.1) file) (sym (play_more e.front e.session now)) (next_among now making e.front e.session far.made far.among file there))) in
+          record {
+            how_often = end.how_often;
+            plays = made_whole (Err stop) (world after.host) after.shared whole files end.finished among
+                (failed e.front (e.rest ++ end.more) whole e.session (world e.last.host) (world after.host) e.last.shared after.shared _ stop far.made is far.among far.has far.plays
+                (subst (λ (r : Result Bool Stop). Plays r (world e.last.host) (world after.host) e.last.shared after.shared (trail_after t (told_turns how p)) p.1 (told_turns how (one_turn e.session p.1)) (touching_by e.session p.1)) (same (λ done. e.move.made.refused)) plays));
+            finished = end.finished;
+          }
+
+    -- what was given meanwhile
+    pub whole_grows : (answer : Result (Unit {0}) Fault) (after : Scene Asker H Held) → TakesTurns (sessions_kind tells world faults) order start answer after → Grows (world old) (world after.host)
+    whole_grows (Ok done) after turns = ((ends after (Ok tt) turns).holds t now making ready begins [] (append-nil order)).grown
+    whole_grows (Err fault) after turns = all_grow after fault turns
 
 -- the same turns, of the sessions as they stand there
 pub turns_as : {H : Type 0} (tells : Bool) (world : H → World) (faults : H → ℕ) (schedule other : List ℕ) (agents others : List Asker) (n : ℕ) (host : H) (held : Held) (answer said : Result (Unit {0}) Fault) (after : Scene Asker H Held)

@@ -9,9 +9,10 @@ use Rattle.nb_change.specs.Changes.{Names, Changes, Reached, Remade}
 use Rattle.nb_change.specs.Gave.{Gave}
 use Rattle.nb_model.specs.declared.reply.Reply.{Reply}
 use Rattle.nb_model.specs.declared.reply.Reply.TheVariants.{Refused as RefusedBy}
+use Rattle.nb_model.specs.declared.statement.Statement.TheVariants.{ShowCache}
 use Rattle.nb_model.specs.Gifts.{Foretells, WasGiven}
 use Rattle.nb_model.specs.Making.{MadeFile}
-use Rattle.nb_model.specs.Outcomes.{Turn}
+use Rattle.nb_model.specs.Outcomes.{Turn, Begins}
 use Rattle.nb_model.specs.Run.{Now, outcome, event_of, files_made}
 use Rattle.nb_model.specs.Steps.{steps_in, after_steps}
 use Rattle.nb_model.specs.Strokes.{Stroke}
@@ -40,6 +41,11 @@ pub record Grows (old new : World) : Type 0 where
   pub gave : Gave old new ids clock
   pub sixteen : AreSixteen ids
 
+-- the numbers that a turn shows: `show cache` how many pages are in memory then, and no other turn any
+abbrev pub shown_by : Turn → Held → List ℕ
+shown_by (Begins ShowCache) held = length held.pages ∷ []
+shown_by other held = []
+
 -- the database's two files, and files that are made
 abbrev pub Touched : (name : List ℕ) → List MadeFile → Names
 Touched name made m = OfFiles name m ⊎ ((bytes : List ℕ) × Contains made (m, bytes))
@@ -58,7 +64,8 @@ pub record TurnLeft (old : World) (name : List ℕ) (t : Trail) (strokes : List 
   pub each : MadeLeft old made files
 
 -- The strokes of a turn are made in order, and what it is to say is answered. Once it has ended with a value or a refusal the database is
--- open behind its steps, the file that the turn made whole is kept for good, and where it only tells something no file has changed.
+-- open behind its steps, the file that the turn made whole is kept for good, and where it only tells something no file has changed. As many
+-- pages may be in memory as before.
 pub record Acts {T : Type 0} (reply : T → Option Reply) (result : Result T Fault) (old new : World) (before after : Held) (t : Trail) (now : Now) (session : ℕ) (turn : Turn) (made : List MadeFile) : Type 0 where
   pub says : Says reply result (outcome session turn now).reply
   pub left : Changes old new (Touched (name_of before) made) (TurnLeft old (name_of before) t (outcome session turn now).strokes made)
@@ -68,8 +75,9 @@ pub record Acts {T : Type 0} (reply : T → Option Reply) (result : Result T Fau
   pub kept : WhereEnded result (AreKept new (files_made (event_of session turn (outcome session turn now) ∷ [])))
   pub unchanged : WhereEnded result (only_told (event_of session turn (outcome session turn now)) ≡ true → new.files ≡ old.files)
   pub name : name_of after ≡ name_of before
+  pub cap : after.cap ≡ before.cap
 
--- It does so where the outside gives what it may give.
+-- It does so where the outside gives what it may give, and the number that is shown is the next one.
 pub record MayAct {T : Type 0} (reply : T → Option Reply) (result : Result T Fault) (old new : World) (before after : Held) (t : Trail) (now : Now) (session : ℕ) (turn : Turn) (made : List MadeFile) : Type 0 where
   pub grows : Grows old new
-  pub acts : Foretells now.given old new → Acts reply result old new before after t now session turn made
+  pub acts : Foretells now.given (shown_by turn before) old new → Acts reply result old new before after t now session turn made

@@ -15,13 +15,14 @@ use Rattle.nb_state.specs.Open.{Held, IsOpen, name_of}
 use Rattle.nb_session.specs.declared.task.Task.{Task}
 use Rattle.nb_session.specs.declared.task.Task.TheVariants.{Backup, Copy, End, Merge}
 
--- The database is open under its name. Of each other name, but those of files in the making, the account knows whether it is free.
+-- The database is open under its name, with so many pages in memory at most. Of each other name, but those of files in the making, the account knows whether it is free.
 pub record IsReady (w : World) (held : Held) (t : Trail) (now : Now) : Type 0 where
   pub opened : IsOpen w held t
   pub base : t.base ≡ base_now now
   pub there : now.account.entry now.name ≡ IsBase (base_now now)
   pub named : name_of held ≡ now.name
   pub running : held.running ≡ now.running
+  pub cache : held.cap ≡ now.cache
   pub known : (m : List ℕ) → is_delta m ≡ false → IsNoneOf (under_way now) m → is_free_name w.files m ≡ is_free_entry (now.account.entry m)
 
 -- the name isn't that of the database, nor that of a difference file

@@ -17,11 +17,11 @@ use Rattle.nb_base.specs.Takes.{IsNoRefusal}
 use Rattle.nb_state.specs.Open.{Held}
 use Rattle.nb_session.specs.declared.stop.Stop.{Stop}
 use Rattle.nb_session.specs.declared.stop.Stop.TheVariants.{Device as DeviceStop, Memory as MemoryStop}
-use Rattle.nb_session.specs.Acts.{Grows}
+use Rattle.nb_session.specs.Acts.{Grows, shown_by}
 use Rattle.nb_session.specs.declared.task.Left.{Left}
 use Rattle.nb_session.specs.declared.task.Task.{Task}
 use Rattle.nb_session.specs.declared.told.Told.{Told}
-use Rattle.nb_session.specs.Askers.{Asker, HasTodo, KeepsOthers, left_refused, left_task, task_first, task_rest, task_todo}
+use Rattle.nb_session.specs.Askers.{Asker, HasTodo, KeepsOthers, left_refused, left_task, task_first, task_rest, task_todo, todo_of}
 use Rattle.nb_session.specs.Ready.{IsReady, TaskGoes}
 use Rattle.nb_session.specs.StillOpen.{AskerStays, AskerTurnStays, IsStillOpen}
 use Rattle.nb_session.specs.Stops.{Plays}
@@ -56,6 +56,14 @@ begun_first session (turn ∷ rest) now = begun_in session turn now
 abbrev pub touching_by : (session : ℕ) → Now → List MadeFile
 touching_by session now = begun_first session (slice_index_or now.todo (session - 1) []) now ++ making_by session now
 
+-- the numbers that the next turn of a session shows
+abbrev pub shown_first : List Turn → Held → List ℕ
+shown_first [] held = []
+shown_first (turn ∷ rest) held = shown_by turn held
+
+abbrev pub shown_next : Asker → Held → List ℕ
+shown_next asker held = shown_first (todo_of asker) held
+
 -- What a turn leaves of its statement, where `tail` stood behind it: what is under way then, and that it goes on from where it is.
 pub record IsBehind (w : World) (held : Held) (session : ℕ) (turn : Turn) (tail : List Turn) (now : Now) (task : Option Task) : Type 0 where
   pub next : (outcome session turn now).next ++ tail ≡ task_todo task
@@ -65,9 +73,9 @@ pub record IsBehind (w : World) (held : Held) (session : ℕ) (turn : Turn) (tai
 -- what its session has behind that.
 pub record Turns {T : Type 0} (told : Told) (refused : T → Bool) (task : T → Option Task) (result : Result T Fault) (old new : World) (before after : Held) (t : Trail) (now : Now) (session : ℕ) (turn : Turn) (tail more : List Turn) : Type 0 where
   pub grows : Grows old new
-  pub plays : Foretells now.given old new
+  pub plays : Foretells now.given (shown_by turn before) old new
       → Plays (as_played refused result) old new before after t now (told_turns told (take_turn session (turn ∷ (tail ++ more)) now)) (touching session turn tail now)
-  pub behind : Foretells now.given old new → IfOk result (λ value. IsBehind new after session turn tail now (task value))
+  pub behind : Foretells now.given (shown_by turn before) old new → IfOk result (λ value. IsBehind new after session turn tail now (task value))
 
 -- What is under way took its next turn, where the session has that to do and it goes on from where it is. It is `now_task` then, where it goes on.
 abbrev pub GoesFurther : (told : Told) (task now_task : Option Task) (result : Result Left Fault) (old new : World) (before after : Held) (t : Trail) (now : Now) (session : ℕ) (more : List Turn) → Type 0
@@ -79,9 +87,9 @@ GoesFurther told (Some task) now_task result old new before after t now session 
 -- The next turn of a session was taken, what it has to do then is left, and what is under way of it goes on.
 pub record TakesNext (refused : Bool) (result : Result (Unit {0}) Fault) (old new : World) (before after : Held) (t : Trail) (now : Now) (asker moved : Asker) : Type 0 where
   pub grows : Grows old new
-  pub plays : Foretells now.given old new → Plays (as_played (λ done. refused) result) old new before after t now (told_turns asker.told (one_turn asker.number now)) (touching_by asker.number now)
-  pub todo : Foretells now.given old new → OnOk result (HasTodo moved (one_turn asker.number now).1)
-  pub goes : Foretells now.given old new → OnOk result (TaskGoes asker.number new after (base_now (one_turn asker.number now).1).frozen moved.task)
+  pub plays : Foretells now.given (shown_next asker before) old new → Plays (as_played (λ done. refused) result) old new before after t now (told_turns asker.told (one_turn asker.number now)) (touching_by asker.number now)
+  pub todo : Foretells now.given (shown_next asker before) old new → OnOk result (HasTodo moved (one_turn asker.number now).1)
+  pub goes : Foretells now.given (shown_next asker before) old new → OnOk result (TaskGoes asker.number new after (base_now (one_turn asker.number now).1).frozen moved.task)
 
 -- One turn of a session on a database that is open. Whatever the host tells, other sessions have what they need, and the count of faults
 -- is as the answer says.

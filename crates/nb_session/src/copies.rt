@@ -53,6 +53,7 @@ fn stop_running(engine: &mut Engine, session: u32)
     ensures own { engine.old.running ≡ Some session → engine.new ≡ record engine.old { running = None } }
     ensures other { (other : ℕ) → engine.old.running ≡ Some other → other ≢ session → engine.new ≡ engine.old }
     ensures page_size { engine.new.files.page_size ≡ engine.old.files.page_size }
+    ensures cap { engine.new.cap ≡ engine.old.cap }
     ensures same { engine.new ≡ record engine.old { running = engine.new.running } }
 {
     if engine.store().running() == Some(session) {
@@ -81,6 +82,7 @@ fn start<H: Host>(
     ensures named { IfOk result (λ copier. copier.backing.name ≡ file_asked statement.now) }
     ensures size { IfOk result (λ copier. copier.page_size ≡ engine.old.files.page_size) }
     ensures page_size { engine.new.files.page_size ≡ engine.old.files.page_size }
+    ensures cap { engine.new.cap ≡ engine.old.cap }
     ensures cause { CountsDevice result (H.faults host.old) (H.faults host.new) }
 {
     match statement {

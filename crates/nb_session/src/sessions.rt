@@ -1,5 +1,5 @@
 // The sessions of a script take their turns.
-ghost use Rattle.std.specs.Prelude.{◌≡◌, IsTrue, IfOk};
+ghost use Rattle.std.specs.Prelude.{◌≡◌, ℕ, List, IsTrue, IfOk};
 ghost use Rattle.nb_model.specs.Gifts.{Foretells};
 ghost use Rattle.nb_model.specs.Going.{IsMaking};
 ghost use Rattle.nb_model.specs.Run.{Now, begun};
@@ -65,9 +65,9 @@ fn play<H: Host>(
     told: Told,
 ) -> Result<bool, Stop>
     requires askable { IsAskable script.now }
-    ensures plays { (now : Now) (t : Trail) → IsTrue H.tells → IsReady (H.world host.old) engine.old t now → now.todo ≡ begun script.now.sessions → IsMaking now
-        → Foretells now.given (H.world host.old) (H.world host.new)
-        → PlaysWhole result (H.world host.old) (H.world host.new) engine.old engine.new t told now script.now.schedule }
+    ensures plays { IsTrue H.tells → (shown : List ℕ) × ((now : Now) (t : Trail) → IsReady (H.world host.old) engine.old t now → now.todo ≡ begun script.now.sessions → IsMaking now
+        → Foretells now.given shown (H.world host.old) (H.world host.new)
+        → PlaysWhole result (H.world host.old) (H.world host.new) engine.old engine.new t told now script.now.schedule) }
     ensures stays_open { IsTrue H.tells → IsStillOpen (script_merges script.now) (H.world host.old) engine.old → ScriptStays result (H.world host.old) (H.world host.new) engine.old engine.new script.now }
     ensures grows { (now : Now) (t : Trail) → IsTrue H.tells → IsReady (H.world host.old) engine.old t now → now.todo ≡ begun script.now.sessions → IsMaking now
         → Grows (H.world host.old) (H.world host.new) }
@@ -84,7 +84,10 @@ fn play<H: Host>(
 }
 
 /// Plays a script on the open database, all but its first statement, to the end of every session, and says so much of it; then it writes
-/// out what waits. Answers whether a statement was refused. Where a call of the host fails or memory runs out, it ends at once.
+/// out what waits. Answers whether a statement was refused. Where a call of the host fails or memory runs out, no further turn is taken.
+///
+/// How many pages are in memory at a `show cache` isn't computed by the definitions: some numbers are shown, and with them the whole run is
+/// exact, whatever account it begins from.
 pub fn take_turns<H: Host>(
     alloc: Global,
     host: &mut H,
@@ -93,9 +96,9 @@ pub fn take_turns<H: Host>(
     told: Told,
 ) -> Result<bool, Stop>
     requires askable { IsAskable script.now }
-    ensures plays { (now : Now) (t : Trail) → IsTrue H.tells → IsReady (H.world host.old) engine.old t now → now.todo ≡ begun script.now.sessions → IsMaking now
-        → Foretells now.given (H.world host.old) (H.world host.new)
-        → PlaysWhole result (H.world host.old) (H.world host.new) engine.old engine.new t told now script.now.schedule }
+    ensures plays { IsTrue H.tells → (shown : List ℕ) × ((now : Now) (t : Trail) → IsReady (H.world host.old) engine.old t now → now.todo ≡ begun script.now.sessions → IsMaking now
+        → Foretells now.given shown (H.world host.old) (H.world host.new)
+        → PlaysWhole result (H.world host.old) (H.world host.new) engine.old engine.new t told now script.now.schedule) }
     ensures none_waits { IfOk result (λ refused. NoPageWaits engine.new) }
 
     // Whatever stands in the database, and with no account: no file but its two and those that the statements ask for is touched, and where a

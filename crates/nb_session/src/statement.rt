@@ -123,6 +123,10 @@ pub fn do_statement<H: Host>(
                 sha256,
             })
         }
+        Statement::ShowCache => Ok(Reply::CacheShown {
+            capacity: engine.capacity(),
+            held: engine.held(),
+        }),
         Statement::CreateTable { .. }
         | Statement::DropTable { .. }
         | Statement::Insert { .. }

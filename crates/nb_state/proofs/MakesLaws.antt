@@ -95,6 +95,7 @@ goes_on a b c first second = record {
   entries = λ merging. second.entries (first.state ∙ merging) ∙ first.entries merging;
   running = second.running ∙ first.running;
   merged = second.merged ∙ first.merged;
+  cap = second.cap ∙ first.cap;
 }
 
 pub goes_nowhere : (a b : Held) → but_pages b ≡ but_pages a → Goes a b
@@ -105,6 +106,7 @@ goes_nowhere a b same = record {
   entries = λ merging. ap (λ (h : Held). h.files.entries) same;
   running = ap (λ (h : Held). h.running) same;
   merged = ap (λ (h : Held). h.merged) same;
+  cap = ap (λ (h : Held). h.cap) same;
 }
 
 -- calls that change nothing have made no stroke yet

@@ -47,7 +47,8 @@ WhereRefused (Err Memory) P = Unit {0}
 abbrev pub unless_by : Cause → List Stroke → List Stroke
 unless_by cause strokes = elim cause [ Some refusal ↦ [] | None ↦ strokes ]
 
--- the name, the state, whose copy or merge runs, and how far the merge has come, are as they were; in the merge state no entry is added
+-- the name, the state, how many pages may be in memory, whose copy or merge runs, and how far the merge has come, are as they were; in the merge
+-- state no entry is added
 pub record Goes (before after : Held) : Type 0 where
   pub name : name_of after ≡ name_of before
   pub page_size : after.files.page_size ≡ before.files.page_size
@@ -55,6 +56,7 @@ pub record Goes (before after : Held) : Type 0 where
   pub entries : before.files.state ≡ 2 → after.files.entries ≡ before.files.entries
   pub running : after.running ≡ before.running
   pub merged : after.merged ≡ before.merged
+  pub cap : after.cap ≡ before.cap
 
 -- The call makes these strokes in order: at each moment a stop leaves what may be left of what was seen behind a front of them, and
 -- once the call has ended the database is open behind all of them, and its image goes on whole. It asks for no GUID and no time.

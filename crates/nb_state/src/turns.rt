@@ -1,6 +1,7 @@
 // The turns of a backup: begin, end, and the merge.
 ghost use Rattle.std.specs.Prelude.{◌≡◌, ◌≢◌, ◌<◌, ◌≤◌, ◌+◌, ℕ, List, [], ◌∷◌, length, IsTrue, IfErr, IfOk, OnOk, Option, Some};
 ghost use Rattle.nb_host.specs.Causes.{CountsFault};
+ghost use Rattle.nb_host.specs.declared.faults.Fault.TheVariants.{Memory};
 ghost use Rattle.nb_change.specs.Counts.{CountsDevice};
 ghost use Rattle.nb_change.specs.Gave.{GaveNothing};
 ghost use Rattle.nb_model.specs.Account.{Ask};
@@ -43,6 +44,7 @@ impl Store {
         ensures normal { OnOk result (self.now.files.state ≡ 0) }
         ensures scn { OnOk result (self.now.scn < 4294967294) }
         ensures cause { (faults : ℕ) → CountsDevice result faults faults }
+        ensures takes_none { IfErr result (λ fault. fault ≢ Memory) }
     {
         let state = self.pair.state();
         if case_of(state, Event::Begin) == Case::WrongState {
@@ -87,7 +89,9 @@ impl Store {
         ensures asks { IsTrue H.tells → (guid : List ℕ) × (length guid ≡ 16) × GaveAtMost (H.world host.old) (H.world host.new) guid }
         ensures stays { self.old.files.state ≡ 2 → self.new ≡ self.old }
         ensures page_size { self.new.files.page_size ≡ self.old.files.page_size }
+        ensures cap { self.new.cap ≡ self.old.cap }
         ensures cause { CountsDevice result (H.faults host.old) (H.faults host.new) }
+        ensures takes_none { IfErr result (λ fault. fault ≢ Memory) }
     {
         self.check_begin()?;
         let guid = host.guid()?;
@@ -106,6 +110,7 @@ impl Store {
         ensures running { self.new.running ≡ self.old.running }
         ensures name { name_of self.new ≡ name_of self.old }
         ensures page_size { self.new.files.page_size ≡ self.old.files.page_size }
+        ensures cap { self.new.cap ≡ self.old.cap }
         ensures cause { CountsFault result (H.faults host.old) (H.faults host.new) }
     {
         self.pair.begin(host, guid)?;
@@ -122,6 +127,7 @@ impl Store {
         ensures stays { (other : ℕ) → self.old.running ≡ Some other → other ≢ session → self.new ≡ self.old }
         ensures merge { OnOk result ((self.new.files.state ≡ 2) × (self.new.running ≡ Some session) × (self.new.merged ≡ 0)) }
         ensures page_size { self.new.files.page_size ≡ self.old.files.page_size }
+        ensures cap { self.new.cap ≡ self.old.cap }
         ensures cause { CountsDevice result (H.faults host.old) (H.faults host.new) }
     {
         self.check_end(session)?;
@@ -145,6 +151,7 @@ impl Store {
         ensures gave { GaveNothing (H.world host.old) (H.world host.new) }
         ensures name { name_of self.new ≡ name_of self.old }
         ensures page_size { self.new.files.page_size ≡ self.old.files.page_size }
+        ensures cap { self.new.cap ≡ self.old.cap }
         ensures cause { CountsFault result (H.faults host.old) (H.faults host.new) }
     {
         self.pair.end(host)?;
@@ -161,6 +168,7 @@ impl Store {
         ensures merges { (t : Trail) → IsTrue H.tells → IsOpen (H.world host.old) self.old t → HasNoZeros t.base.image → Merges result (H.world host.old) (H.world host.new) self.old self.new t }
         ensures goes { IfOk result (λ progress. GoesOn progress self.old self.new) }
         ensures page_size { self.new.files.page_size ≡ self.old.files.page_size }
+        ensures cap { self.new.cap ≡ self.old.cap }
         ensures cause { CountsDevice result (H.faults host.old) (H.faults host.new) }
         ensures not_refused { IfErr result IsNoRefusal }
     {

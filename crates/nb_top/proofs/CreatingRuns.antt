@@ -1,6 +1,6 @@
 -- A run whose first statement creates its database.
 use Rattle.std.proofs.Common.{◌≡◌, ◌≢◌, inl, inr, ⊎_elim, ℕ, List, [], ◌∷◌, ◌++◌, length, take, true, false, refl, sym, ap, subst, ◌∙◌, arith}
-use Rattle.std.specs.Prelude.{Bool, Some, Result, Ok, Err, Contains}
+use Rattle.std.specs.Prelude.{Bool, Some, Result, Ok, Err, Contains, IfOk}
 use Rattle.std.proofs.lemmas.Bool.{true≢false}
 use Rattle.std.proofs.lemmas.List.{append-nil, take-append-le, take_all}
 use Rattle.nb_fields.specs.Free.{is_free_file}
@@ -48,7 +48,7 @@ use Rattle.nb_script.specs.Scripts.{Plan}
 use Rattle.nb_session.specs.declared.stop.Stop.{Stop}
 use Rattle.nb_session.specs.Acts.{MadeLeft}
 use Rattle.nb_session.specs.Stops.{IsSaid}
-use Rattle.nb_top.specs.Performed.{KnowsNames, MayBeGiven, RunsTo, HasSmallScn, first_event, opened_reply, pages_first, refused_at, seen_after, target_of}
+use Rattle.nb_top.specs.Performed.{cache_asked, KnowsNames, MayBeGiven, RunsTo, HasSmallScn, first_event, opened_reply, pages_first, refused_at, seen_after, target_of}
 use Rattle.nb_top.specs.declared.telling.Telling.{Telling}
 use Rattle.nb_top.specs.Requests.{ToRun}
 use Rattle.nb_top.proofs.QuietRuns.{left_quietly}
@@ -209,7 +209,7 @@ module _ (old : World) (account : Account) (given : Given) (plan : Plan) (tellin
       by true is = first_fails old account given plan telling askable (first is) new e (inl (small is)) (λ n. left_quietly old new account _ _ quiet)
       by false is = taken_fails new e is quiet
 
-  module _ (may : MayBeGiven given) (mid : World) (result : Result Held Fault) (creates : Creates result old mid name image) where
+  module _ (may : MayBeGiven given) (mid : World) (result : Result Held Fault) (creates : Creates result old mid name image) (cap : IfOk result (λ held. held.cap ≡ cache_asked plan.first)) where
     creating : (free : is_free_entry (account.entry name) ≡ true) (n : ℕ) → AtEachMoment old mid (Left old account given plan telling askable (first free) n)
     creating free n = weaker old mid _ _ creates.left.moments (left_creating free may n)
 
@@ -246,7 +246,7 @@ module _ (old : World) (account : Account) (given : Given) (plan : Plan) (tellin
               first = one;
               says = ap Pages (sym (answer.opened.files.agrees.count ∙ fresh_length size raw)) ∙ ap (λ (s : Statement). opened_reply s held.files.count held.files.state) (sym first_is);
               counted = answer.opened.files.agrees.count ∙ fresh_length size raw ∙ ap (pages_first account) (sym first_is);
-              ready = first_ready old mid account name plain names one.now one.name_is (created_behind free) held answer.named (answer.nothing_runs ∙ sym one.running) (λ m other. creates.left.others_read m (λ e. other (inl e)))
+              ready = first_ready old mid account name plain names one.now one.name_is (created_behind free) held answer.named (answer.nothing_runs ∙ sym one.running) (subst (λ (r : Result Held Fault). IfOk r (λ h. h.cap ≡ cache_asked plan.first)) is cap ∙ sym one.cache_is) (λ m other. creates.left.others_read m (λ e. other (inl e)))
                   (subst (λ (b : Base). IsOpen mid held (settled b)) (sym base) answer.opened);
               making = making free may;
               named = answer.named;

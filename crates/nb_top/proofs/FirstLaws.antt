@@ -20,7 +20,7 @@ use Rattle.nb_model.proofs.OpeningLaws.{IsCreated, created, run_on}
 use Rattle.nb_model.proofs.ReopenLaws.{IsReopened, reopened}
 use Rattle.nb_script.specs.Scripts.{Plan}
 use Rattle.nb_session.specs.Replies.{is_refusal}
-use Rattle.nb_top.specs.Performed.{Target, first_event, target_named}
+use Rattle.nb_top.specs.Performed.{cache_asked, Target, first_event, target_named}
 use Rattle.nb_top.proofs.ToldLaws.{Ran}
 
 -- the turns behind it
@@ -39,6 +39,7 @@ pub record First (account : Account) (given : Given) (plan : Plan) : Type 0 wher
   pub name_is : now.name ≡ target.name
   pub todo : now.todo ≡ begun plan.sessions
   pub running : now.running ≡ None
+  pub cache_is : now.cache ≡ cache_asked plan.first
   pub given_is : now.given ≡ given
   -- behind it the database stands settled
   pub trail : after_steps (settled (base_in (account.entry target.name))) (steps_in (first_event plan.first_session strokes reply)) ≡ settled (base_now now)
@@ -85,6 +86,7 @@ module _ (account : Account) (given : Given) (plan : Plan) (name : List ℕ) whe
       name_is = new_one.name_is;
       todo = new_one.todo;
       running = new_one.running;
+      cache_is = new_one.cache_is ∙ sym (ap cache_asked first_is);
       given_is = new_one.given_is;
       trail = made_trail (base_in (account.entry name)) (fresh size raw) plan.first_session (Pages (fresh_count size raw)) ∙ ap settled (sym new_one.base);
       ran = created_ran;
@@ -101,7 +103,7 @@ module _ (account : Account) (given : Given) (plan : Plan) (name : List ℕ) whe
 
   -- opening the database that stands there
   module _ (cache : ℕ) (first_is : plan.first ≡ OpenDb name cache) (b : Base) (there : account.entry name ≡ IsBase b) where
-    abbrev again : IsReopened account given plan.sessions plan.first_session name b (opening account given plan.sessions plan.first_session (OpenDb name cache))
+    abbrev again : IsReopened account given plan.sessions plan.first_session name cache b (opening account given plan.sessions plan.first_session (OpenDb name cache))
     again = reopened account given plan.sessions plan.first_session name cache b there
 
     pub opened_ran : (n : ℕ) → AreFinished (turns plan again.now n).1.todo
@@ -124,6 +126,7 @@ module _ (account : Account) (given : Given) (plan : Plan) (name : List ℕ) whe
       name_is = again.name_is;
       todo = again.todo;
       running = again.running;
+      cache_is = again.cache_is ∙ sym (ap cache_asked first_is);
       given_is = again.given_is;
       trail = kept_trail (base_in (account.entry name)) plan.first_session (Opened (length b.image) (image_state b.image)) ∙ ap (λ e. settled (base_in e)) there ∙ ap settled (base_in_base b) ∙ ap settled (sym again.base);
       ran = opened_ran;

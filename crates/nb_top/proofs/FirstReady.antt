@@ -13,7 +13,6 @@ use Rattle.nb_page.specs.Free.{is_free_name}
 use Rattle.nb_model.specs.declared.statement.Statement.{Statement}
 use Rattle.nb_model.specs.declared.statement.Statement.TheVariants.{Backup, BackupSince, CopyTo, CreateTable}
 use Rattle.nb_model.specs.Account.{Base, IsBase, Account}
-use Rattle.nb_model.specs.Built.{is_built}
 use Rattle.nb_model.specs.Causes.{is_free_entry}
 use Rattle.nb_model.specs.Going.{IsNamed, IsMaking}
 use Rattle.nb_model.specs.Image.{Image, first_page, image_state}
@@ -87,7 +86,7 @@ known_behind old mid before name now plain names behind shows read m is = elim (
 
 -- What is open then stands ready.
 module _ (old mid : World) (before : Account) (name : List ℕ) (plain : is_delta name ≡ false) (names : KnowsNames old.files before) (now : Now) (name_is : now.name ≡ name) (behind : IsBehind before name now) (held : Held)
-    (named : name_of held ≡ name) (runs : held.running ≡ now.running) (read : (m : List ℕ) → Other (OfFiles name) m → mid.files m ≡ old.files m) (opened : IsOpen mid held (settled (base_now now))) where
+    (named : name_of held ≡ name) (runs : held.running ≡ now.running) (cap : held.cap ≡ now.cache) (read : (m : List ℕ) → Other (OfFiles name) m → mid.files m ≡ old.files m) (opened : IsOpen mid held (settled (base_now now))) where
   pub first_ready : IsReady mid held (settled (base_now now)) now
   first_ready = record {
     opened = opened;
@@ -95,6 +94,7 @@ module _ (old mid : World) (before : Account) (name : List ℕ) (plain : is_delt
     there = ap now.account.entry name_is ∙ behind.here;
     named = named ∙ sym name_is;
     running = runs;
+    cache = cap;
     known = λ m is none. known_behind old mid before name now plain names behind (subst (λ (n : List ℕ). ShowsIn n (base_now now) mid.files) named (shown_settled mid held (base_now now) opened)) read m is;
   }
 
@@ -124,7 +124,7 @@ module _ (plan : Plan) (askable : IsAskable plan) (now : Now) (todo : now.todo �
       → (image_state (base_now now).image ≡ 1 → (is_header (first_page (base_now now).frozen) ≡ true) × (image_state (base_now now).frozen ≡ 1)) → MayBeGiven now.given → IsMaking now
   begins_making header sound state frozen sixteen =
       begun_making now plan.sessions todo (each_further (λ s. IsNamed (Begins s)) named_further) (λ stalled. (frozen stalled).1)
-      (begun_going now plan.sessions todo (each_further (λ s. is_built s ≡ true) (λ s is. is.is_built)) header sound state (λ stalled. (frozen stalled).0) sixteen)
+      (begun_going now plan.sessions todo header sound state (λ stalled. (frozen stalled).0) sixteen)
 
   -- so on one that was opened
   pub opened_making : (w : World) (held : Held) → IsOpen w held (settled (base_now now)) → IsSoundImage (base_now now).image → MayBeGiven now.given → IsMaking now

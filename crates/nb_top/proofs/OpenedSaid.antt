@@ -55,6 +55,7 @@ ready_still old mid held now still ready = record {
   there = ready.there;
   named = ready.named;
   running = ready.running;
+  cache = ready.cache;
   known = λ m plain none. ap (λ (f : Files). is_free_name f m) still.files ∙ ready.known m plain none;
 }
 

@@ -30,8 +30,8 @@ pub quiet_gave : (old mid : World) → Quiet old mid → GaveNothing old mid
 quiet_gave old mid quiet = record { guids = quiet.guids; times = quiet.times }
 
 -- what is foretold is foretold behind calls that ask for nothing
-pub foretold_from : (old mid new : World) (given : Given) → GaveNothing old mid → Foretells given old new → Foretells given mid new
-foretold_from old mid new given none told = record {
+pub foretold_from : (old mid new : World) (given : Given) (shown : List ℕ) → GaveNothing old mid → Foretells given shown old new → Foretells given shown mid new
+foretold_from old mid new given shown none told = record {
   ids = told.ids;
   later_ids = told.later_ids;
   clock = told.clock;
@@ -40,6 +40,8 @@ foretold_from old mid new given none told = record {
   guids_first = told.guids_first;
   times = told.times ∙ ap (λ (l : List ℕ). l ++ told.clock) (sym none.times);
   times_first = told.times_first;
+  later_shown = told.later_shown;
+  holds_first = told.holds_first;
 }
 
 -- and what was given then was given in all

@@ -31,7 +31,7 @@ use Rattle.nb_script.specs.Asked.{IsAskable}
 use Rattle.nb_script.specs.Fits.{FitsFirst}
 use Rattle.nb_script.specs.Scripts.{Plan}
 use Rattle.nb_session.specs.declared.stop.Stop.{Stop}
-use Rattle.nb_top.specs.Performed.{KnowsNames, MayBeGiven, RunsTo, HoldsUnder, opened_reply, pages_first, refused_at}
+use Rattle.nb_top.specs.Performed.{cache_asked, KnowsNames, MayBeGiven, RunsTo, HoldsUnder, opened_reply, pages_first, refused_at}
 use Rattle.nb_top.specs.declared.telling.Telling.{Telling}
 use Rattle.nb_top.specs.Requests.{ToRun}
 use Rattle.nb_top.proofs.QuietRuns.{left_quietly, quiet_gave}
@@ -83,7 +83,7 @@ module _ (old : World) (account : Account) (given : Given) (plan : Plan) (tellin
       }
       by (Ok b) is = first_fails old account given plan telling askable (first_opened account given plan name cache first_is b (there b is)) new e (inr quiet) (λ n. left_quietly old new account _ _ quiet)
 
-  module _ (names : KnowsNames old.files account) (may : MayBeGiven given) (mid : World) (result : Result Held Fault) (attaches : Attaches result old mid name) (quiet : Quiet old mid) (scn : IfOk result (λ held. held.scn < 4294967296)) where
+  module _ (names : KnowsNames old.files account) (may : MayBeGiven given) (mid : World) (result : Result Held Fault) (attaches : Attaches result old mid name) (quiet : Quiet old mid) (scn : IfOk result (λ held. held.scn < 4294967296)) (cap : IfOk result (λ held. held.cap ≡ cache_asked plan.first)) where
     pub attaches_begins : Beginning old account given plan telling askable mid result
     unfolding first_opened
     attaches_begins = record { fails = λ e. open_fails mid e quiet; refused = is_refused; done = done }
@@ -109,7 +109,7 @@ module _ (old : World) (account : Account) (given : Given) (plan : Plan) (tellin
               says = ap (λ (n : ℕ). OpenedReply n (image_state b.image)) (sym answer.opened.files.agrees.count) ∙ ap (λ (n : ℕ). OpenedReply held.files.count n) (sym answer.opened.files.agrees.state)
                   ∙ ap (λ (s : Statement). opened_reply s held.files.count held.files.state) (sym first_is);
               counted = answer.opened.files.agrees.count ∙ sym (ap (λ (x : Base). length x.image) (ap base_in here ∙ base_in_base b)) ∙ ap (pages_first account) (sym first_is);
-              ready = first_ready old mid account name plain names one.now one.name_is (opened_behind b here) held answer.named (answer.nothing_runs ∙ sym one.running) read opened;
+              ready = first_ready old mid account name plain names one.now one.name_is (opened_behind b here) held answer.named (answer.nothing_runs ∙ sym one.running) (subst (λ (r : Result Held Fault). IfOk r (λ h. h.cap ≡ cache_asked plan.first)) is cap ∙ sym one.cache_is) read opened;
               making = opened_making plan askable one.now one.todo mid held opened (subst (λ (x : Base). IsSoundImage x.image) (sym base) (knows.sound b here)) (subst MayBeGiven (sym one.given_is) may);
               named = answer.named;
               small = λ e. subst (λ (x : Base). image_scn x.image < 4294967296) (sym (ap base_in here ∙ base_in_base b))

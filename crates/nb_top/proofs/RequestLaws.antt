@@ -176,7 +176,7 @@ base_given db is = swapped (is_name db) (nat_le (length db) 94) (not (is_delta d
 pub plan_askable : (db : List ℕ) (statements : List Statement) → is_database db ≡ true → AllByRecursion IsFurther statements → length statements ≤ 2 → IsAskable (plan_of db statements)
 plan_askable db statements is further short = record {
   asker = (omega arith, omega arith);
-  first = record { is_built = refl; opens = refl; fits = (base_given db is, omega arith, omega arith) };
+  first = record { opens = refl; fits = (base_given db is, omega arith, omega arith) };
   order = record { few = omega arith; each = tt };
   sixteen = refl;
   few = omega arith;
@@ -184,14 +184,14 @@ plan_askable db statements is further short = record {
 }
 
 pub begin_askable : (db : List ℕ) → is_database db ≡ true → IsAskable (plan_of db (BeginBackup ∷ []))
-begin_askable db is = plan_askable db (BeginBackup ∷ []) is (record { is_built = refl; opens_none = refl; fits = tt }, tt) (omega arith)
+begin_askable db is = plan_askable db (BeginBackup ∷ []) is (record { opens_none = refl; fits = tt }, tt) (omega arith)
 
 pub end_askable : (db : List ℕ) → is_database db ≡ true → IsAskable (plan_of db (EndBackup ∷ []))
-end_askable db is = plan_askable db (EndBackup ∷ []) is (record { is_built = refl; opens_none = refl; fits = tt }, tt) (omega arith)
+end_askable db is = plan_askable db (EndBackup ∷ []) is (record { opens_none = refl; fits = tt }, tt) (omega arith)
 
 pub stat_askable : (db : List ℕ) → is_database db ≡ true → IsAskable (plan_of db (ShowHeader ∷ ShowPages ∷ []))
 stat_askable db is =
-    plan_askable db (ShowHeader ∷ ShowPages ∷ []) is (record { is_built = refl; opens_none = refl; fits = tt }, (record { is_built = refl; opens_none = refl; fits = tt }, tt)) (omega arith)
+    plan_askable db (ShowHeader ∷ ShowPages ∷ []) is (record { opens_none = refl; fits = tt }, (record { opens_none = refl; fits = tt }, tt)) (omega arith)
 
 -- a name of a file has 100 bytes at most
 file_given : (name : List ℕ) → is_file name ≡ true → IsFile name
@@ -206,10 +206,10 @@ file_given name is =
     three false b d h k l = h
 
 pub backup_askable : (level : ℕ) (db file : List ℕ) → FitsJob (Backup level db file) → IsAskable (plan_of db (BackupTo level file ∷ []))
-backup_askable level db file fits = plan_askable db (BackupTo level file ∷ []) fits.1 (record { is_built = refl; opens_none = refl; fits = (fits.0, file_given file fits.2) }, tt) (omega arith)
+backup_askable level db file fits = plan_askable db (BackupTo level file ∷ []) fits.1 (record { opens_none = refl; fits = (fits.0, file_given file fits.2) }, tt) (omega arith)
 
 pub since_askable : (guid db file : List ℕ) → FitsJob (BackupSince guid db file) → IsAskable (plan_of db (BackupOf guid file ∷ []))
-since_askable guid db file fits = plan_askable db (BackupOf guid file ∷ []) fits.0 (record { is_built = refl; opens_none = refl; fits = file_given file fits.1 }, tt) (omega arith)
+since_askable guid db file fits = plan_askable db (BackupOf guid file ∷ []) fits.0 (record { opens_none = refl; fits = file_given file fits.1 }, tt) (omega arith)
 
 -- A script that a file spells can be asked.
 err_ok : (refusal : Refusal) (plan : Plan) → Err refusal ≡ Ok plan → ⊥

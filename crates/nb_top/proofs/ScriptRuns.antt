@@ -18,7 +18,7 @@ use Rattle.nb_script.specs.Asked.{IsFirst, IsAskable}
 use Rattle.nb_script.specs.Scripts.{Plan}
 use Rattle.nb_session.specs.declared.stop.Stop.{Stop}
 use Rattle.nb_top.specs.declared.status.Status.{Status}
-use Rattle.nb_top.specs.Performed.{RunsTo, Knows, KnowsOpened, MayBeGiven}
+use Rattle.nb_top.specs.Performed.{cache_asked, RunsTo, Knows, KnowsOpened, MayBeGiven}
 use Rattle.nb_top.specs.declared.telling.Telling.{Telling}
 use Rattle.nb_top.specs.Requests.{ToRun}
 use Rattle.nb_top.proofs.Beginnings.{Beginning}
@@ -82,9 +82,10 @@ module _ (old : World) (account : Account) (given : Given) (plan : Plan) (tellin
       → ((name : List ℕ) (cache : ℕ) → plan.first ≡ OpenDb name cache → Attaches result old mid name)
       → ((name : List ℕ) (cache : ℕ) → plan.first ≡ OpenDb name cache → Quiet old mid)
       → IfOk result (λ held. held.scn < 4294967296)
+      → IfOk result (λ held. held.cap ≡ cache_asked plan.first)
       → Beginning old account given plan telling askable mid result
-  script_begins may mid result creating attaching quiet scn = by (first_opens plan.first askable.first)
+  script_begins may mid result creating attaching quiet scn cap = by (first_opens plan.first askable.first)
     where
       by : Opens plan.first → Beginning old account given plan telling askable mid result
-      by (creates name size raw cache is) = creates_begins old account given plan telling askable name size raw cache is knows.0 may mid result (creating name size raw cache is)
-      by (opens name cache is) = attaches_begins old account given plan telling askable name cache is (knows_opened (OpenDb name cache) is) knows.0 may mid result (attaching name cache is) (quiet name cache is) scn
+      by (creates name size raw cache is) = creates_begins old account given plan telling askable name size raw cache is knows.0 may mid result (creating name size raw cache is) cap
+      by (opens name cache is) = attaches_begins old account given plan telling askable name cache is (knows_opened (OpenDb name cache) is) knows.0 may mid result (attaching name cache is) (quiet name cache is) scn cap

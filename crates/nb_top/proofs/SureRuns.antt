@@ -177,7 +177,7 @@ module _ (old : World) (account : Account) (given : Given) (plan : Plan) (askabl
     base_is : base_in (account.entry name) ≡ b
     base_is = ap base_in there.is ∙ base_in_base b
 
-    again : IsReopened account given plan.sessions plan.first_session name b p
+    again : IsReopened account given plan.sessions plan.first_session name cache b p
     again = reopened account given plan.sessions plan.first_session name cache b there.is
 
     opened_behind : IsWellBehind account name b runs.rest last

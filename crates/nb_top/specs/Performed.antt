@@ -73,6 +73,12 @@ refused_at session refusal = first_event session [] (Refused refusal) ∷ []
 abbrev pub refused_job : Refusal → List Event
 refused_job refusal = refused_at 0 refusal
 
+-- how many pages of the database may be in memory
+abbrev pub cache_asked : (first : Statement) → ℕ
+cache_asked (CreateDb name page_size raw cache) = cache
+cache_asked (OpenDb name cache) = cache
+cache_asked other = 0
+
 -- how many pages the database has as a run begins: those of a new one, or those of the one that is opened
 abbrev pub pages_first : (before : Account) → (first : Statement) → ℕ
 pages_first before (CreateDb name page_size raw cache) = fresh_count page_size raw

@@ -1,5 +1,5 @@
 // The script of a number is written to a file, and run.
-ghost use Rattle.std.specs.Prelude.{◌≡◌, ◌⊎◌, false, Ok, IsTrue, IfOk};
+ghost use Rattle.std.specs.Prelude.{◌≡◌, ◌⊎◌, false, Ok, IsTrue, IfOk, ℕ, List};
 ghost use Rattle.nb_host.specs.Names.{is_delta};
 ghost use Rattle.nb_model.specs.Account.{Account};
 ghost use Rattle.nb_model.specs.Gifts.{Foretells};
@@ -29,8 +29,8 @@ pub(crate) fn run_generated<H: Host>(
     name: &Name,
 ) -> Result<Status, Stop>
     requires { is_delta name.now ≡ false }
-    ensures runs { (account : Account) (given : Given) → IsTrue H.tells → Knows (H.world host.old).files account (Ok (ToGenerate number name.now)) → MayBeGiven given
-        → Foretells given (H.world host.old) (H.world host.new) → RunsTo result (H.world host.old) (H.world host.new) (Ok (ToGenerate number name.now)) account given }
+    ensures runs { IsTrue H.tells → (shown : List ℕ) × ((account : Account) (given : Given) → Knows (H.world host.old).files account (Ok (ToGenerate number name.now)) → MayBeGiven given
+        → Foretells given shown (H.world host.old) (H.world host.new) → RunsTo result (H.world host.old) (H.world host.new) (Ok (ToGenerate number name.now)) account given) }
     ensures grows { (account : Account) → IsTrue H.tells → Knows (H.world host.old).files account (Ok (ToGenerate number name.now)) → Grows (H.world host.old) (H.world host.new) }
     ensures touches { IsTrue H.tells → TouchesAsked result (H.world host.old) (H.world host.new) (Ok (ToGenerate number name.now)) }
     ensures done { IfOk result (λ status. (status ≡ Status.Done) ⊎ (status ≡ Status.Refused)) }

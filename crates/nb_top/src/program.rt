@@ -1,5 +1,5 @@
 // A job, from the words to the last reply.
-ghost use Rattle.std.specs.Prelude.{◌≡◌, ◌≢◌, ◌⊎◌, ◌↔◌, [], ◌∷◌, true, None, Ok, map, string_bytes, IsTrue, IfOk};
+ghost use Rattle.std.specs.Prelude.{◌≡◌, ◌≢◌, ◌⊎◌, ◌↔◌, [], ◌∷◌, true, None, Ok, map, string_bytes, IsTrue, IfOk, ℕ, List};
 ghost use Rattle.nb_host.specs.Causes.{Rose};
 ghost use Rattle.nb_host.specs.declared.refusals.Refusal.TheVariants.{Usage as UsageRefusal};
 ghost use Rattle.nb_change.specs.Gave.{GaveNothing};
@@ -33,8 +33,8 @@ use std::alloc::Global;
 
 /// Runs the script of that name.
 fn run_file<H: Host>(alloc: Global, host: &mut H, name: &Name) -> Result<Status, Stop>
-    ensures runs { (account : Account) (given : Given) → IsTrue H.tells → Knows (H.world host.old).files account (to_run (script_in name.now ((H.world host.old).files name.now)))
-        → MayBeGiven given → Foretells given (H.world host.old) (H.world host.new) → RunsTo result (H.world host.old) (H.world host.new) (to_run (script_in name.now ((H.world host.old).files name.now))) account given }
+    ensures runs { IsTrue H.tells → (shown : List ℕ) × ((account : Account) (given : Given) → Knows (H.world host.old).files account (to_run (script_in name.now ((H.world host.old).files name.now)))
+        → MayBeGiven given → Foretells given shown (H.world host.old) (H.world host.new) → RunsTo result (H.world host.old) (H.world host.new) (to_run (script_in name.now ((H.world host.old).files name.now))) account given) }
     ensures grows { (account : Account) → IsTrue H.tells → Knows (H.world host.old).files account (to_run (script_in name.now ((H.world host.old).files name.now))) → Grows (H.world host.old) (H.world host.new) }
     ensures touches { IsTrue H.tells → IsWholeToMerge (H.world host.old).files (to_run (script_in name.now ((H.world host.old).files name.now))) → TouchesAsked result (H.world host.old) (H.world host.new) (to_run (script_in name.now ((H.world host.old).files name.now))) }
     ensures done { IfOk result (λ status. (status ≡ Status.Done) ⊎ (status ≡ Status.Refused)) }
@@ -55,8 +55,8 @@ fn run_asking<H: Host>(
     telling: Telling,
 ) -> Result<Status, Stop>
     requires askable { IsAskable (plan_of db.now (statement ∷ [])) }
-    ensures runs { (account : Account) (given : Given) → IsTrue H.tells → Knows (H.world host.old).files account (Ok (ToRun (plan_of db.now (statement ∷ [])) telling)) → MayBeGiven given → Foretells given (H.world host.old) (H.world host.new)
-        → RunsTo result (H.world host.old) (H.world host.new) (Ok (ToRun (plan_of db.now (statement ∷ [])) telling)) account given }
+    ensures runs { IsTrue H.tells → (shown : List ℕ) × ((account : Account) (given : Given) → Knows (H.world host.old).files account (Ok (ToRun (plan_of db.now (statement ∷ [])) telling)) → MayBeGiven given → Foretells given shown (H.world host.old) (H.world host.new)
+        → RunsTo result (H.world host.old) (H.world host.new) (Ok (ToRun (plan_of db.now (statement ∷ [])) telling)) account given) }
     ensures grows { (account : Account) → IsTrue H.tells → Knows (H.world host.old).files account (Ok (ToRun (plan_of db.now (statement ∷ [])) telling)) → Grows (H.world host.old) (H.world host.new) }
     ensures touches { IsTrue H.tells → IsWholeToMerge (H.world host.old).files (Ok (ToRun (plan_of db.now (statement ∷ [])) telling)) → TouchesAsked result (H.world host.old) (H.world host.new) (Ok (ToRun (plan_of db.now (statement ∷ [])) telling)) }
     ensures done { IfOk result (λ status. (status ≡ Status.Done) ⊎ (status ≡ Status.Refused)) }
@@ -71,9 +71,9 @@ fn run_asking<H: Host>(
 /// Opens a database and shows its header and its pages. Of the opening it says only why it is refused.
 fn run_stat<H: Host>(alloc: Global, host: &mut H, db: &Name) -> Result<Status, Stop>
     requires askable { IsAskable (plan_of db.now (ShowHeader ∷ ShowPages ∷ [])) }
-    ensures runs { (account : Account) (given : Given) → IsTrue H.tells → Knows (H.world host.old).files account (Ok (ToRun (plan_of db.now (ShowHeader ∷ ShowPages ∷ [])) Telling.Quietly)) → MayBeGiven given
-        → Foretells given (H.world host.old) (H.world host.new)
-        → RunsTo result (H.world host.old) (H.world host.new) (Ok (ToRun (plan_of db.now (ShowHeader ∷ ShowPages ∷ [])) Telling.Quietly)) account given }
+    ensures runs { IsTrue H.tells → (shown : List ℕ) × ((account : Account) (given : Given) → Knows (H.world host.old).files account (Ok (ToRun (plan_of db.now (ShowHeader ∷ ShowPages ∷ [])) Telling.Quietly)) → MayBeGiven given
+        → Foretells given shown (H.world host.old) (H.world host.new)
+        → RunsTo result (H.world host.old) (H.world host.new) (Ok (ToRun (plan_of db.now (ShowHeader ∷ ShowPages ∷ [])) Telling.Quietly)) account given) }
     ensures grows { (account : Account) → IsTrue H.tells → Knows (H.world host.old).files account (Ok (ToRun (plan_of db.now (ShowHeader ∷ ShowPages ∷ [])) Telling.Quietly)) → Grows (H.world host.old) (H.world host.new) }
     ensures touches { IsTrue H.tells → IsWholeToMerge (H.world host.old).files (Ok (ToRun (plan_of db.now (ShowHeader ∷ ShowPages ∷ [])) Telling.Quietly)) → TouchesAsked result (H.world host.old) (H.world host.new) (Ok (ToRun (plan_of db.now (ShowHeader ∷ ShowPages ∷ [])) Telling.Quietly)) }
     ensures done { IfOk result (λ status. (status ≡ Status.Done) ⊎ (status ≡ Status.Refused)) }
@@ -88,8 +88,8 @@ fn run_stat<H: Host>(alloc: Global, host: &mut H, db: &Name) -> Result<Status, S
 /// Does a job.
 fn run_job<H: Host>(alloc: Global, host: &mut H, job: &Job) -> Result<Status, Stop>
     requires fits { FitsJob job.now }
-    ensures runs { (account : Account) (given : Given) → IsTrue H.tells → KnowsAsked (H.world host.old).files account (request_of (H.world host.old).files job.now)
-        → MayBeGiven given → Foretells given (H.world host.old) (H.world host.new) → GoesTo result (H.world host.old) (H.world host.new) (request_of (H.world host.old).files job.now) account given }
+    ensures runs { IsTrue H.tells → (shown : List ℕ) × ((account : Account) (given : Given) → KnowsAsked (H.world host.old).files account (request_of (H.world host.old).files job.now)
+        → MayBeGiven given → Foretells given shown (H.world host.old) (H.world host.new) → GoesTo result (H.world host.old) (H.world host.new) (request_of (H.world host.old).files job.now) account given) }
     ensures grows { (account : Account) → IsTrue H.tells → KnowsAsked (H.world host.old).files account (request_of (H.world host.old).files job.now) → Grows (H.world host.old) (H.world host.new) }
     ensures touches { IsTrue H.tells → IsWholeAsked (H.world host.old).files (request_of (H.world host.old).files job.now) → TouchesOnly result (H.world host.old) (H.world host.new) (OfAsked (H.world host.old).files (request_of (H.world host.old).files job.now)) }
     ensures done { IfOk result (λ status. (status ≡ Status.Done) ⊎ (status ≡ Status.Refused)) }
@@ -149,8 +149,8 @@ fn refuse_words<H: Host>(alloc: Global, host: &mut H) -> Result<Status, Stop>
 }
 
 fn do_job<H: Host>(alloc: Global, words: &[String], host: &mut H) -> Result<Status, Stop>
-    ensures runs { (account : Account) (given : Given) → IsTrue H.tells → KnowsAsked (H.world host.old).files account (request_asked (H.world host.old).files (map string_bytes words.now))
-        → MayBeGiven given → Foretells given (H.world host.old) (H.world host.new) → GoesTo result (H.world host.old) (H.world host.new) (request_asked (H.world host.old).files (map string_bytes words.now)) account given }
+    ensures runs { IsTrue H.tells → (shown : List ℕ) × ((account : Account) (given : Given) → KnowsAsked (H.world host.old).files account (request_asked (H.world host.old).files (map string_bytes words.now))
+        → MayBeGiven given → Foretells given shown (H.world host.old) (H.world host.new) → GoesTo result (H.world host.old) (H.world host.new) (request_asked (H.world host.old).files (map string_bytes words.now)) account given) }
     ensures grows { (account : Account) → IsTrue H.tells → KnowsAsked (H.world host.old).files account (request_asked (H.world host.old).files (map string_bytes words.now)) → Grows (H.world host.old) (H.world host.new) }
     ensures touches { IsTrue H.tells → IsWholeAsked (H.world host.old).files (request_asked (H.world host.old).files (map string_bytes words.now)) → TouchesOnly result (H.world host.old) (H.world host.new) (OfAsked (H.world host.old).files (request_asked (H.world host.old).files (map string_bytes words.now))) }
     ensures usage { IfOk result (λ status. (status ≡ Status.Usage) ↔ (job_of (map string_bytes words.now) ≡ None)) }
@@ -183,9 +183,9 @@ pub fn run<H: Host>(alloc: Global, words: &[String], host: &mut H) -> Status
     // turn is acknowledged, and other files as before. So do the files as they read where the run ended
     // early. Where the files stand for the account and the GUIDs are new, they stand for one with the records behind that front, and at
     // the end for the account after.
-    ensures performs { (account : Account) (given : Given) → IsTrue H.tells → KnowsAsked (H.world host.old).files account (request_asked (H.world host.old).files (map string_bytes words.now))
-        → MayBeGiven given → Foretells given (H.world host.old) (H.world host.new)
-        → Performs result (H.world host.old) (H.world host.new) (request_asked (H.world host.old).files (map string_bytes words.now)) account given }
+    ensures performs { IsTrue H.tells → (shown : List ℕ) × ((account : Account) (given : Given) → KnowsAsked (H.world host.old).files account (request_asked (H.world host.old).files (map string_bytes words.now))
+        → MayBeGiven given → Foretells given shown (H.world host.old) (H.world host.new)
+        → Performs result (H.world host.old) (H.world host.new) (request_asked (H.world host.old).files (map string_bytes words.now)) account given) }
     // There are such GUIDs and times.
     ensures grows { (account : Account) → IsTrue H.tells → KnowsAsked (H.world host.old).files account (request_asked (H.world host.old).files (map string_bytes words.now))
         → Grows (H.world host.old) (H.world host.new) }

@@ -25,7 +25,7 @@ ghost use Rattle.nb_session.specs.Ready.{IsReady};
 ghost use Rattle.nb_session.specs.Says.{SaysLine};
 ghost use Rattle.nb_session.specs.StillOpen.{IsStillOpen, ScriptStays, script_merges};
 ghost use Rattle.nb_session.specs.Told.{told_events};
-ghost use Rattle.nb_top.specs.Performed.{Knows, MayBeGiven, RunsTo, PlaysOpened, PlaysTold, first_event, is_all, opened_reply, told_first, told_later};
+ghost use Rattle.nb_top.specs.Performed.{Knows, MayBeGiven, RunsTo, PlaysOpened, PlaysTold, cache_asked, first_event, is_all, opened_reply, told_first, told_later};
 ghost use Rattle.nb_top.specs.Numbers.{number_of};
 ghost use Rattle.nb_top.specs.Requests.{ToRun};
 ghost use Rattle.nb_top.specs.Touched.{IsWholeToMerge, TouchesAsked};
@@ -94,6 +94,7 @@ fn open<H: Host>(alloc: Global, host: &mut H, first: &Statement) -> Result<Engin
     ensures attaches { (name : List ℕ) (cache : ℕ) → IsTrue H.tells → first.now ≡ OpenDb name cache → Attaches result (H.world host.old) (H.world host.new) name }
     ensures quiet { (name : List ℕ) (cache : ℕ) → first.now ≡ OpenDb name cache → Quiet (H.world host.old) (H.world host.new) }
     ensures scn { IfOk result (λ engine. engine.scn < 4294967296) }
+    ensures cap { IfOk result (λ engine. engine.cap ≡ cache_asked first.now) }
     ensures cause { CountsDevice result (H.faults host.old) (H.faults host.new) }
 {
     match first {
@@ -160,9 +161,9 @@ fn take_told<H: Host>(
     telling: Telling,
 ) -> Result<bool, Stop>
     requires askable { IsAskable script.now }
-    ensures plays { (now : Now) (t : Trail) → IsTrue H.tells → IsReady (H.world host.old) engine.old t now → now.todo ≡ begun script.now.sessions → IsMaking now
-        → Foretells now.given (H.world host.old) (H.world host.new)
-        → PlaysTold result (H.world host.old) (H.world host.new) engine.old engine.new t telling engine.old.files.count now script.now.schedule }
+    ensures plays { IsTrue H.tells → (shown : List ℕ) × ((now : Now) (t : Trail) → IsReady (H.world host.old) engine.old t now → now.todo ≡ begun script.now.sessions → IsMaking now
+        → Foretells now.given shown (H.world host.old) (H.world host.new)
+        → PlaysTold result (H.world host.old) (H.world host.new) engine.old engine.new t telling engine.old.files.count now script.now.schedule) }
     ensures none_waits { IfOk result (λ refused. NoPageWaits engine.new) }
     ensures stays_open { IsTrue H.tells → IsStillOpen (script_merges script.now) (H.world host.old) engine.old → ScriptStays result (H.world host.old) (H.world host.new) engine.old engine.new script.now }
     ensures grows { (now : Now) (t : Trail) → IsTrue H.tells → IsReady (H.world host.old) engine.old t now → now.todo ≡ begun script.now.sessions → IsMaking now
@@ -183,11 +184,11 @@ fn run_opened<H: Host>(
     telling: Telling,
 ) -> Result<bool, Stop>
     requires askable { IsAskable script.now }
-    ensures plays { (now : Now) (start : Base) (strokes : List Stroke) → IsTrue H.tells → IsReady (H.world host.old) engine.old (settled_trail (base_now now)) now → now.todo ≡ begun script.now.sessions
-        → IsMaking now → Foretells now.given (H.world host.old) (H.world host.new)
+    ensures plays { IsTrue H.tells → (shown : List ℕ) × ((now : Now) (start : Base) (strokes : List Stroke) → IsReady (H.world host.old) engine.old (settled_trail (base_now now)) now → now.todo ≡ begun script.now.sessions
+        → IsMaking now → Foretells now.given shown (H.world host.old) (H.world host.new)
         → after_steps (settled_trail start) (steps_in (first_event script.now.first_session strokes (opened_reply script.now.first engine.old.files.count engine.old.files.state))) ≡ settled_trail (base_now now)
         → PlaysOpened result (H.world host.old) (H.world host.new) engine.old engine.new start
-        (told_first telling (first_event script.now.first_session strokes (opened_reply script.now.first engine.old.files.count engine.old.files.state))) telling engine.old.files.count now script.now }
+        (told_first telling (first_event script.now.first_session strokes (opened_reply script.now.first engine.old.files.count engine.old.files.state))) telling engine.old.files.count now script.now) }
     ensures none_waits { IfOk result (λ refused. NoPageWaits engine.new) }
     ensures stays_open { IsTrue H.tells → IsStillOpen (script_merges script.now) (H.world host.old) engine.old → ScriptStays result (H.world host.old) (H.world host.new) engine.old engine.new script.now }
     ensures grows { (now : Now) → IsTrue H.tells → IsReady (H.world host.old) engine.old (settled_trail (base_now now)) now → now.todo ≡ begun script.now.sessions → IsMaking now
@@ -219,8 +220,8 @@ pub fn run_script<H: Host>(
     telling: Telling,
 ) -> Result<Status, Stop>
     requires askable { IsAskable script.now }
-    ensures runs { (account : Account) (given : Given) → IsTrue H.tells → Knows (H.world host.old).files account (Ok (ToRun script.now telling)) → MayBeGiven given → Foretells given (H.world host.old) (H.world host.new)
-        → RunsTo result (H.world host.old) (H.world host.new) (Ok (ToRun script.now telling)) account given }
+    ensures runs { IsTrue H.tells → (shown : List ℕ) × ((account : Account) (given : Given) → Knows (H.world host.old).files account (Ok (ToRun script.now telling)) → MayBeGiven given → Foretells given shown (H.world host.old) (H.world host.new)
+        → RunsTo result (H.world host.old) (H.world host.new) (Ok (ToRun script.now telling)) account given) }
     ensures grows { (account : Account) → IsTrue H.tells → Knows (H.world host.old).files account (Ok (ToRun script.now telling)) → Grows (H.world host.old) (H.world host.new) }
     ensures touches { IsTrue H.tells → IsWholeToMerge (H.world host.old).files (Ok (ToRun script.now telling)) → TouchesAsked result (H.world host.old) (H.world host.new) (Ok (ToRun script.now telling)) }
     ensures done { IfOk result (λ status. (status ≡ Status.Done) ⊎ (status ≡ Status.Refused)) }

@@ -5,7 +5,7 @@ use Rattle.nb_model.specs.Output.{status_after}
 use Rattle.nb_model.specs.Sound.{IsSoundImage}
 use Rattle.nb_session.specs.Replies.{some_said}
 use Rattle.nb_session.proofs.EventLaws.{marks_none}
-use Rattle.nb_session.proofs.KeepLaws.{further_single}
+use Rattle.nb_session.proofs.KeepLaws.{one_single}
 use Rattle.nb_session.proofs.TouchingLaws.{begins_touch, one_turn_plain}
 use Rattle.nb_session.proofs.TurnLaws.{turns_failed, turns_unsaid, turns_said, status_told, single_behind}
 use Rattle.nb_change.specs.Changes.{NoNames}
@@ -40,8 +40,8 @@ returns-clause-turn g c now t more tells ready makes here =
     (c.do_statement.ensures.turn now t c.args.session tells ready (λ by. sound)) (λ acts. marks_none old mid _)
     c.in_ok-reply.ensures.ended c.in_ok-reply.reply c.in_ok-reply.ensures.said c.tell.result (c.tell.ensures.line tells) ready
     c.is_refusal-refused.result (c.in_ok-tell.ensures.line tells).said
-    (λ is. subst (λ (b : Bool). status_after c.in_ok-reply.reply ≡ (if b then 1 else 0)) (sym c.is_refusal-refused.ensures) (status_told c.args.session c.args.statement.now now c.in_ok-reply.reply c.requires.asked.is_built is))
-    (λ told. single_behind new _ c.args.session c.args.statement.now now (further_single c.args.statement.now c.requires.asked c.requires.single))
+    (λ is. subst (λ (b : Bool). status_after c.in_ok-reply.reply ≡ (if b then 1 else 0)) (sym c.is_refusal-refused.ensures) (status_told c.args.session c.args.statement.now now c.in_ok-reply.reply is))
+    (λ told. single_behind new _ c.args.session c.args.statement.now now (one_single c.args.statement.now c.requires.single))
 
 pub returns-in_err-reply-clause-stays_open : goal.returns-in_err-reply-clause-stays_open
 returns-in_err-reply-clause-stays_open g c may_merge tells still =

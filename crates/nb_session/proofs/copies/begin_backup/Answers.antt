@@ -38,7 +38,7 @@ returns-in-Ok-clause-turn g c how now t more tells ready makes here =
     let asked = c.in-Ok.ensures.asks t tells ready.opened in
     let starts = λ (given : Given) (most : GaveAtMost old mid (next_guid given)). c.in-Ok.ensures.turn (seen_with now given) t tells ready.base ready.running ready.opened sound (knows_free old a t now (file_asked it) ready makes.going plain) (no_delta a (file_asked it) plain) most in
     turns_quiet how (λ copier. None) (Ok c.in-Ok.copier) (λ (taken : Taken). taken.refused) (λ (taken : Taken). taken.task) old mid mid a b t now session (Begins it) [] more (begun_in session (Begins it) now) (start_touch session it now) makes here
-    (start_acts old mid a b t now session it asks ready (Ok c.in-Ok.copier) starts asked.0 asked.2 asked.1) (marks_made (λ (copier : Backed). None) (Ok c.in-Ok.copier) old mid a b t now session (Begins it) (begun_in session (Begins it) now) (start_apart old mid a b t now session it asks ready plain) (λ m. g.met.H.Host.reads_left c.start.new.host tells m))
+    (start_acts old mid a b t now session it asks ready (Ok c.in-Ok.copier) starts asked.0 asked.2 asked.1 c.start.ensures.cap) (marks_made (λ (copier : Backed). None) (Ok c.in-Ok.copier) old mid a b t now session (Begins it) (begun_in session (Begins it) now) (start_apart old mid a b t now session it asks ready plain) (λ m. g.met.H.Host.reads_left c.start.new.host tells m))
     c.under_way.result tt (ap (λ (x : Taken). x.refused) c.under_way.ensures) ready (λ said is. is)
     (λ told. subst (λ (x : Taken). IsBehind mid b session (Begins it) [] now x.task) (sym c.under_way.ensures)
     (start_behind old mid a b t now session it asks ready c.in-Ok.copier (next_guid now.given) plain (starts_told old mid a b t now session it asks ready (Ok c.in-Ok.copier) starts asked.0 asked.2 told)))
@@ -61,8 +61,8 @@ returns-in-Err-Refused-clause-turn g c how now t more tells ready makes here =
     subst (λ (f : Fault). StartsBackup (Err f) old mid a b t (file_asked it) (next_guid given) (first_turn (seen_with now given) session it)) c.in-Err-Refused.field-0-is
     (c.in-Err-Refused.ensures.turn (seen_with now given) t tells ready.base ready.running ready.opened sound (knows_free old a t now (file_asked it) ready makes.going plain) (no_delta a (file_asked it) plain) most) in
     turns_refused how (λ copier. None) refusal old mid new a b t now session (Begins it) [] more (begun_in session (Begins it) now) (start_touch session it now) makes here
-    (start_acts old mid a b t now session it asks ready (Err (Refused refusal)) starts asked.0 asked.2 asked.1) (marks_made (λ (copier : Backed). None) (Err (Refused refusal)) old mid a b t now session (Begins it) (begun_in session (Begins it) now) (start_apart old mid a b t now session it asks ready plain) (λ m. g.met.H.Host.reads_left c.start.new.host tells m)) ready c.say_refused.result (c.say_refused.ensures.line tells) c.say_refused.ensures.taken
-    (λ is. status_told session it now (RefusedBy refusal) c.requires.asked.is_built is)
+    (start_acts old mid a b t now session it asks ready (Err (Refused refusal)) starts asked.0 asked.2 asked.1 c.start.ensures.cap) (marks_made (λ (copier : Backed). None) (Err (Refused refusal)) old mid a b t now session (Begins it) (begun_in session (Begins it) now) (start_apart old mid a b t now session it asks ready plain) (λ m. g.met.H.Host.reads_left c.start.new.host tells m)) ready c.say_refused.result (c.say_refused.ensures.line tells) c.say_refused.ensures.taken
+    (λ is. status_told session it now (RefusedBy refusal) is)
     (λ told. start_refused old mid a b t now session it asks ready refusal (next_guid now.given) (starts_told old mid a b t now session it asks ready (Err (Refused refusal)) starts asked.0 asked.2 told) new)
 
 pub returns-in-Err-Device-clause-turn : goal.returns-in-Err-Device-clause-turn
@@ -81,7 +81,7 @@ returns-in-Err-Device-clause-turn g c how now t more tells ready makes here =
     subst (λ (f : Fault). StartsBackup (Err f) old mid a b t (file_asked it) (next_guid given) (first_turn (seen_with now given) session it)) c.in-Err-Device.field-0-is
     (c.in-Err-Device.ensures.turn (seen_with now given) t tells ready.base ready.running ready.opened sound (knows_free old a t now (file_asked it) ready makes.going plain) (no_delta a (file_asked it) plain) most) in
     turns_failed how (λ copier. None) (Err Device) (λ (taken : Taken). taken.refused) (λ (taken : Taken). taken.task) old mid mid a b t now session (Begins it) [] more (begun_in session (Begins it) now) (start_touch session it now) makes here
-    (start_acts old mid a b t now session it asks ready (Err Device) starts asked.0 asked.2 asked.1) (marks_made (λ (copier : Backed). None) (Err Device) old mid a b t now session (Begins it) (begun_in session (Begins it) now) (start_apart old mid a b t now session it asks ready plain) (λ m. g.met.H.Host.reads_left c.start.new.host tells m)) (Err Device) refl
+    (start_acts old mid a b t now session it asks ready (Err Device) starts asked.0 asked.2 asked.1 c.start.ensures.cap) (marks_made (λ (copier : Backed). None) (Err Device) old mid a b t now session (Begins it) (begun_in session (Begins it) now) (start_apart old mid a b t now session it asks ready plain) (λ m. g.met.H.Host.reads_left c.start.new.host tells m)) (Err Device) refl
 
 pub returns-in-Err-Memory-clause-turn : goal.returns-in-Err-Memory-clause-turn
 returns-in-Err-Memory-clause-turn g c how now t more tells ready makes here =
@@ -99,7 +99,7 @@ returns-in-Err-Memory-clause-turn g c how now t more tells ready makes here =
     subst (λ (f : Fault). StartsBackup (Err f) old mid a b t (file_asked it) (next_guid given) (first_turn (seen_with now given) session it)) c.in-Err-Memory.field-0-is
     (c.in-Err-Memory.ensures.turn (seen_with now given) t tells ready.base ready.running ready.opened sound (knows_free old a t now (file_asked it) ready makes.going plain) (no_delta a (file_asked it) plain) most) in
     turns_failed how (λ copier. None) (Err Memory) (λ (taken : Taken). taken.refused) (λ (taken : Taken). taken.task) old mid mid a b t now session (Begins it) [] more (begun_in session (Begins it) now) (start_touch session it now) makes here
-    (start_acts old mid a b t now session it asks ready (Err Memory) starts asked.0 asked.2 asked.1) (marks_made (λ (copier : Backed). None) (Err Memory) old mid a b t now session (Begins it) (begun_in session (Begins it) now) (start_apart old mid a b t now session it asks ready plain) (λ m. g.met.H.Host.reads_left c.start.new.host tells m)) (Err Memory) refl
+    (start_acts old mid a b t now session it asks ready (Err Memory) starts asked.0 asked.2 asked.1 c.start.ensures.cap) (marks_made (λ (copier : Backed). None) (Err Memory) old mid a b t now session (Begins it) (begun_in session (Begins it) now) (start_apart old mid a b t now session it asks ready plain) (λ m. g.met.H.Host.reads_left c.start.new.host tells m)) (Err Memory) refl
 
 pub returns-in-Ok-clause-stays_open : goal.returns-in-Ok-clause-stays_open
 returns-in-Ok-clause-stays_open g c tells still =

@@ -28,7 +28,7 @@ returns-in-Ok-clause-turn g c how now t more tells ready makes here =
     let b = c.end.new.self in
     let does = c.in-Ok.ensures.turn (seen_now now) t tells ready.base ready.running ready.opened in
     turns_quiet how (λ scn. None) (Ok c.in-Ok.scn) (λ (taken : Taken). taken.refused) (λ (taken : Taken). taken.task) old mid mid a b t now c.args.session _ [] more [] (begins_touch c.args.session EndBackup now (λ asks. asks)) makes here
-    (end_acts old mid a b t now c.args.session ready (Ok c.in-Ok.scn) does) (λ acts. marks_none old mid a)
+    (end_acts old mid a b t now c.args.session ready (Ok c.in-Ok.scn) c.end.ensures.cap does) (λ acts. marks_none old mid a)
     c.merge_of.result tt (ap (λ (x : Taken). x.refused) c.merge_of.ensures) ready (λ said is. is)
     (λ told. subst (λ (x : Taken). IsBehind mid b c.args.session (Begins EndBackup) [] now x.task) (sym c.merge_of.ensures) (end_behind old mid a b t now c.args.session ready (length b.files.entries) refl c.in-Ok.scn does))
 
@@ -42,8 +42,8 @@ returns-in-Err-Refused-clause-turn g c how now t more tells ready makes here =
     let refusal = c.in-Err-Refused.refusal in
     let does = subst (λ (f : Fault). DoesEnd (Err f) old mid a b t (end_scn t.base.image) (end_turn (seen_now now) c.args.session)) c.in-Err-Refused.field-0-is (c.in-Err-Refused.ensures.turn (seen_now now) t tells ready.base ready.running ready.opened) in
     turns_refused how (λ scn. None) refusal old mid new a b t now c.args.session _ [] more [] (begins_touch c.args.session EndBackup now (λ asks. asks)) makes here
-    (end_acts old mid a b t now c.args.session ready (Err (Refused refusal)) does) (λ acts. marks_none old mid a) ready c.say_refused.result (c.say_refused.ensures.line tells) c.say_refused.ensures.taken
-    (λ is. status_told c.args.session EndBackup now (RefusedBy refusal) refl is) (λ told. end_refused old mid a b t now c.args.session ready refusal does new)
+    (end_acts old mid a b t now c.args.session ready (Err (Refused refusal)) c.end.ensures.cap does) (λ acts. marks_none old mid a) ready c.say_refused.result (c.say_refused.ensures.line tells) c.say_refused.ensures.taken
+    (λ is. status_told c.args.session EndBackup now (RefusedBy refusal) is) (λ told. end_refused old mid a b t now c.args.session ready refusal does new)
 
 pub returns-in-Err-Device-clause-turn : goal.returns-in-Err-Device-clause-turn
 returns-in-Err-Device-clause-turn g c how now t more tells ready makes here =
@@ -53,7 +53,7 @@ returns-in-Err-Device-clause-turn g c how now t more tells ready makes here =
     let b = c.end.new.self in
     let does = subst (λ (f : Fault). DoesEnd (Err f) old mid a b t (end_scn t.base.image) (end_turn (seen_now now) c.args.session)) c.in-Err-Device.field-0-is (c.in-Err-Device.ensures.turn (seen_now now) t tells ready.base ready.running ready.opened) in
     turns_failed how (λ scn. None) (Err Device) (λ (taken : Taken). taken.refused) (λ (taken : Taken). taken.task) old mid mid a b t now c.args.session _ [] more [] (begins_touch c.args.session EndBackup now (λ asks. asks)) makes here
-    (end_acts old mid a b t now c.args.session ready (Err Device) does) (λ acts. marks_none old mid a) (Err Device) refl
+    (end_acts old mid a b t now c.args.session ready (Err Device) c.end.ensures.cap does) (λ acts. marks_none old mid a) (Err Device) refl
 
 pub returns-in-Err-Memory-clause-turn : goal.returns-in-Err-Memory-clause-turn
 returns-in-Err-Memory-clause-turn g c how now t more tells ready makes here =
@@ -63,7 +63,7 @@ returns-in-Err-Memory-clause-turn g c how now t more tells ready makes here =
     let b = c.end.new.self in
     let does = subst (λ (f : Fault). DoesEnd (Err f) old mid a b t (end_scn t.base.image) (end_turn (seen_now now) c.args.session)) c.in-Err-Memory.field-0-is (c.in-Err-Memory.ensures.turn (seen_now now) t tells ready.base ready.running ready.opened) in
     turns_failed how (λ scn. None) (Err Memory) (λ (taken : Taken). taken.refused) (λ (taken : Taken). taken.task) old mid mid a b t now c.args.session _ [] more [] (begins_touch c.args.session EndBackup now (λ asks. asks)) makes here
-    (end_acts old mid a b t now c.args.session ready (Err Memory) does) (λ acts. marks_none old mid a) (Err Memory) refl
+    (end_acts old mid a b t now c.args.session ready (Err Memory) c.end.ensures.cap does) (λ acts. marks_none old mid a) (Err Memory) refl
 
 pub returns-in-Ok-clause-stays_open : goal.returns-in-Ok-clause-stays_open
 returns-in-Ok-clause-stays_open g c tells still =

@@ -32,7 +32,7 @@ returns-in-Ok-clause-turn g c how now t more tells ready makes here runs =
     let quiet = ends_quiet old a t now c.args.session ready makes.going c.args.reply.now more here runs in
     let does = c.in-Ok.ensures.turn (seen_now now) t tells ready.base ready.running ready.opened in
     turns_quiet how (λ scn. None) (Ok c.in-Ok.field-0) left_refused (left_task _) old mid mid a b t now c.args.session (Ends c.args.reply.now) [] more [] (ends_touch c.args.session c.args.reply.now now) makes here
-    (ends_acts old mid a b t now c.args.session ready c.args.reply.now quiet (Ok c.in-Ok.field-0) does) (λ acts. marks_none old mid a)
+    (ends_acts old mid a b t now c.args.session ready c.args.reply.now quiet (Ok c.in-Ok.field-0) c.end.ensures.cap does) (λ acts. marks_none old mid a)
     (Other c.merge_of.result) tt (ap (λ (x : Taken). x.refused) c.merge_of.ensures) ready (λ said is. is)
     (λ told. subst (λ (x : Taken). IsBehind mid b c.args.session (Ends c.args.reply.now) [] now x.task) (sym c.merge_of.ensures)
     (subst (λ (r : Reply). IsBehind mid b c.args.session (Ends c.args.reply.now) [] now (Some (Merge (record { left = length b.files.entries; reply = r })))) (sym c.replace-reply.ensures.value)
@@ -67,7 +67,7 @@ returns-in-Err-Device-clause-turn g c how now t more tells ready makes here runs
     let quiet = ends_quiet old a t now c.args.session ready makes.going c.args.reply.now more here runs in
     let does = subst (λ (f : Fault). DoesEnd (Err f) old mid a b t (end_scn t.base.image) (end_turn (seen_now now) c.args.session)) c.in-Err-Device.field-0-is (c.in-Err-Device.ensures.turn (seen_now now) t tells ready.base ready.running ready.opened) in
     turns_failed how (λ scn. None) (Err Device) left_refused (left_task _) old mid mid a b t now c.args.session (Ends c.args.reply.now) [] more [] (ends_touch c.args.session c.args.reply.now now) makes here
-    (ends_acts old mid a b t now c.args.session ready c.args.reply.now quiet (Err Device) does) (λ acts. marks_none old mid a) (Err Device) refl
+    (ends_acts old mid a b t now c.args.session ready c.args.reply.now quiet (Err Device) c.end.ensures.cap does) (λ acts. marks_none old mid a) (Err Device) refl
 
 pub returns-in-Err-Memory-clause-turn : goal.returns-in-Err-Memory-clause-turn
 returns-in-Err-Memory-clause-turn g c how now t more tells ready makes here runs =
@@ -78,7 +78,7 @@ returns-in-Err-Memory-clause-turn g c how now t more tells ready makes here runs
     let quiet = ends_quiet old a t now c.args.session ready makes.going c.args.reply.now more here runs in
     let does = subst (λ (f : Fault). DoesEnd (Err f) old mid a b t (end_scn t.base.image) (end_turn (seen_now now) c.args.session)) c.in-Err-Memory.field-0-is (c.in-Err-Memory.ensures.turn (seen_now now) t tells ready.base ready.running ready.opened) in
     turns_failed how (λ scn. None) (Err Memory) left_refused (left_task _) old mid mid a b t now c.args.session (Ends c.args.reply.now) [] more [] (ends_touch c.args.session c.args.reply.now now) makes here
-    (ends_acts old mid a b t now c.args.session ready c.args.reply.now quiet (Err Memory) does) (λ acts. marks_none old mid a) (Err Memory) refl
+    (ends_acts old mid a b t now c.args.session ready c.args.reply.now quiet (Err Memory) c.end.ensures.cap does) (λ acts. marks_none old mid a) (Err Memory) refl
 
 pub returns-in-Ok-clause-stays_open : goal.returns-in-Ok-clause-stays_open
 returns-in-Ok-clause-stays_open g c tells still =

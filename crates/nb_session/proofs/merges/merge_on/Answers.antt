@@ -29,7 +29,7 @@ returns-in_err-merge_turn-clause-turn g c now t more tells ready makes here =
     let m = c.args.merging.now in
     let zeros = subst (λ (x : Base). HasNoZeros x.image) (sym ready.base) makes.going.sound.sound.no_zeros in
     turns_failed c.args.told (merge_said m.reply) (Err c.in_err-merge_turn.field-0.0) left_refused (left_task _) old mid mid a b t now c.args.session _ _ more [] (merges_touch c.args.session m.left m.reply now) makes here
-    (merge_acts old mid a b t now c.args.session m.reply ready (Err c.in_err-merge_turn.field-0.0) c.in_err-merge_turn.ensures.not_refused m.left c.requires.fits.0 (c.in_err-merge_turn.ensures.merges t tells ready.opened zeros)) (λ acts. marks_none old mid a)
+    (merge_acts old mid a b t now c.args.session m.reply ready c.merge_turn.ensures.cap (Err c.in_err-merge_turn.field-0.0) c.in_err-merge_turn.ensures.not_refused m.left c.requires.fits.0 (c.in_err-merge_turn.ensures.merges t tells ready.opened zeros)) (λ acts. marks_none old mid a)
     c.from_residual.result c.from_residual.ensures.0
 
 pub returns-in-More-clause-turn : goal.returns-in-More-clause-turn
@@ -43,7 +43,7 @@ returns-in-More-clause-turn g c now t more tells ready makes here =
     let merges = subst (λ (p : Progress). Merges (Ok p) old mid a b t) c.in-More.is (c.in_ok-merge_turn.ensures.merges t tells ready.opened zeros) in
     let goes = subst (λ (p : Progress). GoesOn p a b) c.in-More.is c.in_ok-merge_turn.ensures.goes in
     turns_quiet c.args.told (merge_said m.reply) (Ok More) left_refused (left_task _) old mid mid a b t now c.args.session _ _ more [] (merges_touch c.args.session m.left m.reply now) makes here
-    (merge_acts old mid a b t now c.args.session m.reply ready (Ok More) tt m.left c.requires.fits.0 merges) (λ acts. marks_none old mid a)
+    (merge_acts old mid a b t now c.args.session m.reply ready c.merge_turn.ensures.cap (Ok More) tt m.left c.requires.fits.0 merges) (λ acts. marks_none old mid a)
     Same tt refl ready (λ said is. is) (λ told. more_behind c.args.session m.reply a b mid now m.left c.requires.fits.0 goes)
 
 pub returns-in_err-tell-in-Finished-clause-turn : goal.returns-in_err-tell-in-Finished-clause-turn
@@ -56,7 +56,7 @@ returns-in_err-tell-in-Finished-clause-turn g c now t more tells ready makes her
     let zeros = subst (λ (x : Base). HasNoZeros x.image) (sym ready.base) makes.going.sound.sound.no_zeros in
     let merges = subst (λ (p : Progress). Merges (Ok p) old mid a b t) c.in-Finished.is (c.in_ok-merge_turn.ensures.merges t tells ready.opened zeros) in
     turns_unsaid c.args.told (merge_said m.reply) (Ok Finished) left_refused (left_task _) old mid (g.H.Host.world c.tell.new.host) a b t now c.args.session _ _ more [] (merges_touch c.args.session m.left m.reply now) makes here
-    (merge_acts old mid a b t now c.args.session m.reply ready (Ok Finished) tt m.left c.requires.fits.0 merges) (λ acts. marks_none old mid a)
+    (merge_acts old mid a b t now c.args.session m.reply ready c.merge_turn.ensures.cap (Ok Finished) tt m.left c.requires.fits.0 merges) (λ acts. marks_none old mid a)
     tt m.reply (λ said is. is) c.tell.result (subst (λ (r : Reply). SaysLine c.tell.result mid (g.H.Host.world c.tell.new.host) (told_line c.args.session (told_reply c.args.told (Some r)))) c.replace-reply.ensures.value (c.tell.ensures.line tells)) ready c.from_residual-in_err-tell-in-Finished.result c.from_residual-in_err-tell-in-Finished.ensures.0
 
 pub returns-in_ok-tell-in-Finished-clause-turn : goal.returns-in_ok-tell-in-Finished-clause-turn
@@ -71,7 +71,7 @@ returns-in_ok-tell-in-Finished-clause-turn g c now t more tells ready makes here
     let merges = subst (λ (p : Progress). Merges (Ok p) old mid a b t) c.in-Finished.is (c.in_ok-merge_turn.ensures.merges t tells ready.opened zeros) in
     let goes = subst (λ (p : Progress). GoesOn p a b) c.in-Finished.is c.in_ok-merge_turn.ensures.goes in
     turns_said c.args.told (merge_said m.reply) (Ok Finished) left_refused (left_task _) old mid new a b t now c.args.session _ _ more [] (merges_touch c.args.session m.left m.reply now) makes here
-    (merge_acts old mid a b t now c.args.session m.reply ready (Ok Finished) tt m.left c.requires.fits.0 merges) (λ acts. marks_none old mid a)
+    (merge_acts old mid a b t now c.args.session m.reply ready c.merge_turn.ensures.cap (Ok Finished) tt m.left c.requires.fits.0 merges) (λ acts. marks_none old mid a)
     tt m.reply (λ said is. is) c.tell.result (subst (λ (r : Reply). SaysLine c.tell.result mid (g.H.Host.world c.tell.new.host) (told_line c.args.session (told_reply c.args.told (Some r)))) c.replace-reply.ensures.value (c.tell.ensures.line tells)) ready _ ((c.in_ok-tell-in-Finished.ensures.line tells).said ∙ ap (λ (r : Reply). mid.said ++ told_line c.args.session (told_reply c.args.told (Some r))) c.replace-reply.ensures.value) (λ is. status_none m.reply c.requires.fits.1)
     (λ told. finished_behind c.args.session m.reply a b new now m.left c.requires.fits.0 goes)
 

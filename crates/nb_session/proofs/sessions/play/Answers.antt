@@ -5,7 +5,7 @@ use Rattle.nb_sched.specs.Turns.{scene}
 use Rattle.nb_session.specs.declared.stop.Stop.TheVariants.{Device as DeviceStop, Memory as MemoryStop}
 use Rattle.nb_session.specs.Askers.{first_askers}
 use Rattle.nb_session.specs.Todo.{PlaysWhole}
-use Rattle.nb_session.proofs.WholeLaws.{turns_as, first_ready, whole_played, whole_failed, whole_grows, whole_counts, never_refused}
+use Rattle.nb_session.proofs.WholeLaws.{turns_as, first_ready, whole_shown, whole_played, whole_failed, whole_grows, whole_counts, never_refused}
 use Rattle.nb_model.specs.Run.{rounds}
 use Rattle.nb_session.specs.StillOpen.{ScriptStays}
 use Rattle.nb_session.proofs.SceneStays.{script_failed, script_stays}
@@ -16,18 +16,20 @@ take_turns-requires-clause-ready g c =
     first_ready g.H.Host.tells g.H.Host.world g.H.Host.faults c.args.told c.args.script.now c.requires.askable c.sessions_of-all.result c.args.host.now c.args.engine.now c.sessions_of-all.ensures
 
 pub returns-in-Ok-clause-plays : goal.returns-in-Ok-clause-plays
-returns-in-Ok-clause-plays g c now t tells ready begins making foretold =
+returns-in-Ok-clause-plays g c tells =
     let whole = c.in-Ok.ensures.turns in
-    subst (λ (b : Bool). PlaysWhole (Ok b) (g.H.Host.world c.args.host.now) (g.H.Host.world c.take_turns.new.host) c.args.engine.now c.take_turns.new.shared t c.args.told now c.args.script.now.schedule) (sym c.any_refused.ensures)
-    (whole_played g.H.Host.tells tells g.H.Host.world g.H.Host.faults c.args.host.now c.args.engine.now t c.args.told now c.args.script.now c.requires.askable whole.0 making (g.met.H.Host.timely c.args.host.now) ready begins
-    (scene c.take_turns.new.agents c.take_turns.new.host c.take_turns.new.shared)
-    (turns_as g.H.Host.tells g.H.Host.world g.H.Host.faults c.args.script.now.schedule _ (first_askers c.args.told c.args.script.now) _ whole.0 c.args.host.now c.args.engine.now (Ok tt) _ _ c.schedule.ensures c.sessions_of-all.ensures refl whole.1)
-    c.in-Ok.ensures.finished foretold)
+    let after = (scene c.take_turns.new.agents c.take_turns.new.host c.take_turns.new.shared) in
+    let turns = (turns_as g.H.Host.tells g.H.Host.world g.H.Host.faults c.args.script.now.schedule _ (first_askers c.args.told c.args.script.now) _ whole.0 c.args.host.now c.args.engine.now (Ok tt) _ _ c.schedule.ensures c.sessions_of-all.ensures refl whole.1) in (
+      whole_shown g.H.Host.tells tells g.H.Host.world g.H.Host.faults c.args.host.now c.args.engine.now c.args.told c.args.script.now c.requires.askable whole.0 (g.met.H.Host.timely c.args.host.now) (Ok tt) after turns,
+      λ now t ready begins making foretold.
+          subst (λ (b : Bool). PlaysWhole (Ok b) (g.H.Host.world c.args.host.now) (g.H.Host.world c.take_turns.new.host) c.args.engine.now c.take_turns.new.shared t c.args.told now c.args.script.now.schedule) (sym c.any_refused.ensures)
+          (whole_played g.H.Host.tells tells g.H.Host.world g.H.Host.faults c.args.host.now c.args.engine.now c.args.told c.args.script.now c.requires.askable whole.0 (g.met.H.Host.timely c.args.host.now) t now making ready begins after turns c.in-Ok.ensures.finished foretold),
+    )
 
 pub returns-in-Ok-clause-grows : goal.returns-in-Ok-clause-grows
 returns-in-Ok-clause-grows g c now t tells ready begins making =
     let whole = c.in-Ok.ensures.turns in
-    whole_grows g.H.Host.tells tells g.H.Host.world g.H.Host.faults c.args.host.now c.args.engine.now t c.args.told now c.args.script.now c.requires.askable whole.0 making (g.met.H.Host.timely c.args.host.now) ready begins (Ok tt)
+    whole_grows g.H.Host.tells tells g.H.Host.world g.H.Host.faults c.args.host.now c.args.engine.now c.args.told c.args.script.now c.requires.askable whole.0 (g.met.H.Host.timely c.args.host.now) t now making ready begins (Ok tt)
     (scene c.take_turns.new.agents c.take_turns.new.host c.take_turns.new.shared)
     (turns_as g.H.Host.tells g.H.Host.world g.H.Host.faults c.args.script.now.schedule _ (first_askers c.args.told c.args.script.now) _ whole.0 c.args.host.now c.args.engine.now (Ok tt) _ _ c.schedule.ensures c.sessions_of-all.ensures refl whole.1)
 
@@ -38,17 +40,18 @@ returns-in-Ok-clause-cause g c =
     (turns_as g.H.Host.tells g.H.Host.world g.H.Host.faults c.args.script.now.schedule _ (first_askers c.args.told c.args.script.now) _ whole.0 c.args.host.now c.args.engine.now (Ok tt) _ _ c.schedule.ensures c.sessions_of-all.ensures refl whole.1)
 
 pub returns-in-Err-Device-clause-plays : goal.returns-in-Err-Device-clause-plays
-returns-in-Err-Device-clause-plays g c now t tells ready begins making foretold =
+returns-in-Err-Device-clause-plays g c tells =
     let whole = c.in-Err-Device.ensures.turns in
-    whole_failed g.H.Host.tells tells g.H.Host.world g.H.Host.faults c.args.host.now c.args.engine.now t c.args.told now c.args.script.now c.requires.askable whole.0 making (g.met.H.Host.timely c.args.host.now) ready begins
-    (scene c.take_turns.new.agents c.take_turns.new.host c.take_turns.new.shared) Device
-    (turns_as g.H.Host.tells g.H.Host.world g.H.Host.faults c.args.script.now.schedule _ (first_askers c.args.told c.args.script.now) _ whole.0 c.args.host.now c.args.engine.now (Err Device) _ _ c.schedule.ensures c.sessions_of-all.ensures (ap Err c.in-Err-Device.field-0-is) whole.1)
-    DeviceStop (λ refused. refl) foretold
+    let after = (scene c.take_turns.new.agents c.take_turns.new.host c.take_turns.new.shared) in
+    let turns = (turns_as g.H.Host.tells g.H.Host.world g.H.Host.faults c.args.script.now.schedule _ (first_askers c.args.told c.args.script.now) _ whole.0 c.args.host.now c.args.engine.now (Err Device) _ _ c.schedule.ensures c.sessions_of-all.ensures (ap Err c.in-Err-Device.field-0-is) whole.1) in (
+      whole_shown g.H.Host.tells tells g.H.Host.world g.H.Host.faults c.args.host.now c.args.engine.now c.args.told c.args.script.now c.requires.askable whole.0 (g.met.H.Host.timely c.args.host.now) (Err Device) after turns,
+      λ now t ready begins making foretold. whole_failed g.H.Host.tells tells g.H.Host.world g.H.Host.faults c.args.host.now c.args.engine.now c.args.told c.args.script.now c.requires.askable whole.0 (g.met.H.Host.timely c.args.host.now) t now making ready begins after Device turns DeviceStop (λ refused. refl) foretold,
+    )
 
 pub returns-in-Err-Device-clause-grows : goal.returns-in-Err-Device-clause-grows
 returns-in-Err-Device-clause-grows g c now t tells ready begins making =
     let whole = c.in-Err-Device.ensures.turns in
-    whole_grows g.H.Host.tells tells g.H.Host.world g.H.Host.faults c.args.host.now c.args.engine.now t c.args.told now c.args.script.now c.requires.askable whole.0 making (g.met.H.Host.timely c.args.host.now) ready begins (Err Device)
+    whole_grows g.H.Host.tells tells g.H.Host.world g.H.Host.faults c.args.host.now c.args.engine.now c.args.told c.args.script.now c.requires.askable whole.0 (g.met.H.Host.timely c.args.host.now) t now making ready begins (Err Device)
     (scene c.take_turns.new.agents c.take_turns.new.host c.take_turns.new.shared)
     (turns_as g.H.Host.tells g.H.Host.world g.H.Host.faults c.args.script.now.schedule _ (first_askers c.args.told c.args.script.now) _ whole.0 c.args.host.now c.args.engine.now (Err Device) _ _ c.schedule.ensures c.sessions_of-all.ensures (ap Err c.in-Err-Device.field-0-is) whole.1)
 
@@ -59,17 +62,18 @@ returns-in-Err-Device-clause-cause g c =
     (turns_as g.H.Host.tells g.H.Host.world g.H.Host.faults c.args.script.now.schedule _ (first_askers c.args.told c.args.script.now) _ whole.0 c.args.host.now c.args.engine.now (Err Device) _ _ c.schedule.ensures c.sessions_of-all.ensures (ap Err c.in-Err-Device.field-0-is) whole.1)
 
 pub returns-in-Err-Memory-clause-plays : goal.returns-in-Err-Memory-clause-plays
-returns-in-Err-Memory-clause-plays g c now t tells ready begins making foretold =
+returns-in-Err-Memory-clause-plays g c tells =
     let whole = c.in-Err-Memory.ensures.turns in
-    whole_failed g.H.Host.tells tells g.H.Host.world g.H.Host.faults c.args.host.now c.args.engine.now t c.args.told now c.args.script.now c.requires.askable whole.0 making (g.met.H.Host.timely c.args.host.now) ready begins
-    (scene c.take_turns.new.agents c.take_turns.new.host c.take_turns.new.shared) Memory
-    (turns_as g.H.Host.tells g.H.Host.world g.H.Host.faults c.args.script.now.schedule _ (first_askers c.args.told c.args.script.now) _ whole.0 c.args.host.now c.args.engine.now (Err Memory) _ _ c.schedule.ensures c.sessions_of-all.ensures (ap Err c.in-Err-Memory.field-0-is) whole.1)
-    MemoryStop (λ refused. refl) foretold
+    let after = (scene c.take_turns.new.agents c.take_turns.new.host c.take_turns.new.shared) in
+    let turns = (turns_as g.H.Host.tells g.H.Host.world g.H.Host.faults c.args.script.now.schedule _ (first_askers c.args.told c.args.script.now) _ whole.0 c.args.host.now c.args.engine.now (Err Memory) _ _ c.schedule.ensures c.sessions_of-all.ensures (ap Err c.in-Err-Memory.field-0-is) whole.1) in (
+      whole_shown g.H.Host.tells tells g.H.Host.world g.H.Host.faults c.args.host.now c.args.engine.now c.args.told c.args.script.now c.requires.askable whole.0 (g.met.H.Host.timely c.args.host.now) (Err Memory) after turns,
+      λ now t ready begins making foretold. whole_failed g.H.Host.tells tells g.H.Host.world g.H.Host.faults c.args.host.now c.args.engine.now c.args.told c.args.script.now c.requires.askable whole.0 (g.met.H.Host.timely c.args.host.now) t now making ready begins after Memory turns MemoryStop (λ refused. refl) foretold,
+    )
 
 pub returns-in-Err-Memory-clause-grows : goal.returns-in-Err-Memory-clause-grows
 returns-in-Err-Memory-clause-grows g c now t tells ready begins making =
     let whole = c.in-Err-Memory.ensures.turns in
-    whole_grows g.H.Host.tells tells g.H.Host.world g.H.Host.faults c.args.host.now c.args.engine.now t c.args.told now c.args.script.now c.requires.askable whole.0 making (g.met.H.Host.timely c.args.host.now) ready begins (Err Memory)
+    whole_grows g.H.Host.tells tells g.H.Host.world g.H.Host.faults c.args.host.now c.args.engine.now c.args.told c.args.script.now c.requires.askable whole.0 (g.met.H.Host.timely c.args.host.now) t now making ready begins (Err Memory)
     (scene c.take_turns.new.agents c.take_turns.new.host c.take_turns.new.shared)
     (turns_as g.H.Host.tells g.H.Host.world g.H.Host.faults c.args.script.now.schedule _ (first_askers c.args.told c.args.script.now) _ whole.0 c.args.host.now c.args.engine.now (Err Memory) _ _ c.schedule.ensures c.sessions_of-all.ensures (ap Err c.in-Err-Memory.field-0-is) whole.1)
 

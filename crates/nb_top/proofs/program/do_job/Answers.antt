@@ -1,4 +1,4 @@
-use Rattle.std.proofs.Common.{◌≡◌, sym, subst}
+use Rattle.std.proofs.Common.{[], ◌≡◌, sym, subst}
 use Rattle.std.specs.Prelude.{Ok, Err, IfOk, Some, map, string_bytes}
 use Rattle.nb_model.specs.Words.{job_of}
 use Rattle.nb_host.specs.declared.faults.Fault.TheVariants.{Refused}
@@ -16,11 +16,14 @@ use Rattle.nb_top.specs.Touched.{IsWholeAsked, OfAsked, TouchesOnly}
 use Rattle.nb_top.proofs.program.do_job.Goals as goal
 
 pub returns-in_err-job-clause-runs : goal.returns-in_err-job-clause-runs
-returns-in_err-job-clause-runs g c account given tells knows may told =
-    let old = g.H.Host.world c.args.host.now in
-    let words = map string_bytes c.args.words.now in
-    runs_err c.from_residual.result c.from_residual.ensures.0 (λ r. GoesTo r old old (request_asked old.files words) account given)
-    (λ e. unasked_goes old account given e (quiet_begun old (g.met.H.Host.timely c.args.host.now)) words knows)
+returns-in_err-job-clause-runs g c tells = (
+  [],
+  λ account given knows may told.
+      let old = g.H.Host.world c.args.host.now in
+      let words = map string_bytes c.args.words.now in
+      runs_err c.from_residual.result c.from_residual.ensures.0 (λ r. GoesTo r old old (request_asked old.files words) account given)
+      (λ e. unasked_goes old account given e (quiet_begun old (g.met.H.Host.timely c.args.host.now)) words knows),
+)
 
 pub returns-in_err-job-clause-grows : goal.returns-in_err-job-clause-grows
 returns-in_err-job-clause-grows g c account tells knows =
@@ -28,13 +31,16 @@ returns-in_err-job-clause-grows g c account tells knows =
     grows_none old old (quiet_gave old old (quiet_begun old (g.met.H.Host.timely c.args.host.now)))
 
 pub returns-in-Ok-clause-runs : goal.returns-in-Ok-clause-runs
-returns-in-Ok-clause-runs g c account given tells knows may told =
-    let old = g.H.Host.world c.args.host.now in
-    let new = g.H.Host.world c.run_job.new.host in
-    let words = map string_bytes c.args.words.now in
-    let read = settled_value c.in_ok-job.field-0 c.in-Ok.job (λ value. c.read_job.result ≡ Ok value) c.in-Ok.is c.in_ok-job.ensures.value in
-    let is = asked_read old.files words c.read_job.result c.in-Ok.job read c.read_job.ensures.job in
-    subst (λ asked. GoesTo c.run_job.result old new asked account given) (sym is) (c.run_job.ensures.runs account given tells (subst (KnowsAsked old.files account) is knows) may told)
+returns-in-Ok-clause-runs g c tells = (
+  (c.run_job.ensures.runs tells).0,
+  λ account given knows may told.
+      let old = g.H.Host.world c.args.host.now in
+      let new = g.H.Host.world c.run_job.new.host in
+      let words = map string_bytes c.args.words.now in
+      let read = settled_value c.in_ok-job.field-0 c.in-Ok.job (λ value. c.read_job.result ≡ Ok value) c.in-Ok.is c.in_ok-job.ensures.value in
+      let is = asked_read old.files words c.read_job.result c.in-Ok.job read c.read_job.ensures.job in
+      subst (λ asked. GoesTo c.run_job.result old new asked account given) (sym is) ((c.run_job.ensures.runs tells).1 account given (subst (KnowsAsked old.files account) is knows) may told),
+)
 
 pub returns-in-Ok-clause-grows : goal.returns-in-Ok-clause-grows
 returns-in-Ok-clause-grows g c account tells knows =
@@ -45,14 +51,17 @@ returns-in-Ok-clause-grows g c account tells knows =
     c.run_job.ensures.grows account tells (subst (KnowsAsked old.files account) is knows)
 
 pub returns-in-Err-clause-runs : goal.returns-in-Err-clause-runs
-returns-in-Err-clause-runs g c account given tells knows may told =
-    let old = g.H.Host.world c.args.host.now in
-    let new = g.H.Host.world c.refuse_words.new.host in
-    let words = map string_bytes c.args.words.now in
-    let why = settled_refusal c.in_ok-job.field-0 c.in-Err.field-0 (λ r. c.read_job.result ≡ Err (Refused r)) c.in-Err.is c.in_ok-job.ensures.refusal in
-    let is = asked_usage old.files words (unread_words words c.read_job.result c.in-Err.field-0 why c.read_job.ensures.refusal) in
-    let says = c.refuse_words.ensures.line tells in
-    words_refused c.refuse_words.result c.refuse_words.result old new (request_asked old.files words) account given is says (usage_number c.refuse_words.result c.refuse_words.ensures.usage) says.said
+returns-in-Err-clause-runs g c tells = (
+  [],
+  λ account given knows may told.
+      let old = g.H.Host.world c.args.host.now in
+      let new = g.H.Host.world c.refuse_words.new.host in
+      let words = map string_bytes c.args.words.now in
+      let why = settled_refusal c.in_ok-job.field-0 c.in-Err.field-0 (λ r. c.read_job.result ≡ Err (Refused r)) c.in-Err.is c.in_ok-job.ensures.refusal in
+      let is = asked_usage old.files words (unread_words words c.read_job.result c.in-Err.field-0 why c.read_job.ensures.refusal) in
+      let says = c.refuse_words.ensures.line tells in
+      words_refused c.refuse_words.result c.refuse_words.result old new (request_asked old.files words) account given is says (usage_number c.refuse_words.result c.refuse_words.ensures.usage) says.said,
+)
 
 pub returns-in-Err-clause-grows : goal.returns-in-Err-clause-grows
 returns-in-Err-clause-grows g c account tells knows = grows_none (g.H.Host.world c.args.host.now) (g.H.Host.world c.refuse_words.new.host) c.refuse_words.ensures.gave

@@ -9,22 +9,31 @@ use Rattle.nb_top.specs.Touched.{OfAsked}
 use Rattle.nb_top.proofs.program.run.Goals as goal
 
 pub returns-in-Ok-clause-performs : goal.returns-in-Ok-clause-performs
-returns-in-Ok-clause-performs g c account given tells knows may told =
-    let old = g.H.Host.world c.args.host.now in
-    performs_ended old (g.H.Host.world c.do_job.new.host) account given may (g.met.H.Host.reads_left c.args.host.now tells)
-    (g.met.H.Host.timely c.do_job.new.host) (g.met.H.Host.reads_left c.do_job.new.host tells) _ (can_be_asked old.files (map string_bytes c.args.words.now)) c.in-Ok.status (c.in-Ok.ensures.runs account given tells knows may told)
+returns-in-Ok-clause-performs g c tells = (
+  (c.in-Ok.ensures.runs tells).0,
+  λ account given knows may told.
+      let old = g.H.Host.world c.args.host.now in
+      performs_ended old (g.H.Host.world c.do_job.new.host) account given may (g.met.H.Host.reads_left c.args.host.now tells)
+      (g.met.H.Host.timely c.do_job.new.host) (g.met.H.Host.reads_left c.do_job.new.host tells) _ (can_be_asked old.files (map string_bytes c.args.words.now)) c.in-Ok.status ((c.in-Ok.ensures.runs tells).1 account given knows may told),
+)
 
 pub returns-in-Err-Device-clause-performs : goal.returns-in-Err-Device-clause-performs
-returns-in-Err-Device-clause-performs g c account given tells knows may told =
-    let old = g.H.Host.world c.args.host.now in
-    performs_device old (g.H.Host.world c.do_job.new.host) account given may (g.met.H.Host.reads_left c.args.host.now tells)
-    (g.met.H.Host.timely c.do_job.new.host) (g.met.H.Host.reads_left c.do_job.new.host tells) _ (can_be_asked old.files (map string_bytes c.args.words.now)) _ (c.in-Err-Device.ensures.runs account given tells knows may told)
+returns-in-Err-Device-clause-performs g c tells = (
+  (c.in-Err-Device.ensures.runs tells).0,
+  λ account given knows may told.
+      let old = g.H.Host.world c.args.host.now in
+      performs_device old (g.H.Host.world c.do_job.new.host) account given may (g.met.H.Host.reads_left c.args.host.now tells)
+      (g.met.H.Host.timely c.do_job.new.host) (g.met.H.Host.reads_left c.do_job.new.host tells) _ (can_be_asked old.files (map string_bytes c.args.words.now)) _ ((c.in-Err-Device.ensures.runs tells).1 account given knows may told),
+)
 
 pub returns-in-Err-Memory-clause-performs : goal.returns-in-Err-Memory-clause-performs
-returns-in-Err-Memory-clause-performs g c account given tells knows may told =
-    let old = g.H.Host.world c.args.host.now in
-    performs_memory old (g.H.Host.world c.do_job.new.host) account given may (g.met.H.Host.reads_left c.args.host.now tells)
-    (g.met.H.Host.timely c.do_job.new.host) (g.met.H.Host.reads_left c.do_job.new.host tells) _ (can_be_asked old.files (map string_bytes c.args.words.now)) _ (c.in-Err-Memory.ensures.runs account given tells knows may told)
+returns-in-Err-Memory-clause-performs g c tells = (
+  (c.in-Err-Memory.ensures.runs tells).0,
+  λ account given knows may told.
+      let old = g.H.Host.world c.args.host.now in
+      performs_memory old (g.H.Host.world c.do_job.new.host) account given may (g.met.H.Host.reads_left c.args.host.now tells)
+      (g.met.H.Host.timely c.do_job.new.host) (g.met.H.Host.reads_left c.do_job.new.host tells) _ (can_be_asked old.files (map string_bytes c.args.words.now)) _ ((c.in-Err-Memory.ensures.runs tells).1 account given knows may told),
+)
 
 pub returns-in-Ok-clause-touches : goal.returns-in-Ok-clause-touches
 returns-in-Ok-clause-touches g c tells whole =

@@ -13,11 +13,14 @@ use Rattle.nb_top.specs.Touched.{MayTouch, IsWholeToMerge, TouchesAsked}
 use Rattle.nb_top.proofs.program.run_asking.Goals as goal
 
 pub returns-in_err-script-clause-runs : goal.returns-in_err-script-clause-runs
-returns-in_err-script-clause-runs g c account given tells knows may told =
-    let old = g.H.Host.world c.args.host.now in
-    let plan = plan_of c.args.db.now (c.args.statement ∷ []) in
-    runs_err c.from_residual.result c.from_residual.ensures.0 (λ r. RunsTo r old old (Ok (ToRun plan c.args.telling)) account given)
-    (λ e. script_unbegun old account given plan c.args.telling c.requires.askable knows old e (quiet_begun old (g.met.H.Host.timely c.args.host.now)))
+returns-in_err-script-clause-runs g c tells = (
+  [],
+  λ account given knows may told.
+      let old = g.H.Host.world c.args.host.now in
+      let plan = plan_of c.args.db.now (c.args.statement ∷ []) in
+      runs_err c.from_residual.result c.from_residual.ensures.0 (λ r. RunsTo r old old (Ok (ToRun plan c.args.telling)) account given)
+      (λ e. script_unbegun old account given plan c.args.telling c.requires.askable knows old e (quiet_begun old (g.met.H.Host.timely c.args.host.now))),
+)
 
 pub returns-in_err-script-clause-grows : goal.returns-in_err-script-clause-grows
 returns-in_err-script-clause-grows g c account tells knows =
@@ -25,14 +28,17 @@ returns-in_err-script-clause-grows g c account tells knows =
     grows_none old old (quiet_gave old old (quiet_begun old (g.met.H.Host.timely c.args.host.now)))
 
 pub returns-clause-runs : goal.returns-clause-runs
-returns-clause-runs g c account given tells knows may told =
-    let old = g.H.Host.world c.args.host.now in
-    let new = g.H.Host.world c.run_script.new.host in
-    let plan = plan_of c.args.db.now (c.args.statement ∷ []) in
-    let is = settled_value c.in_ok-script.field-0 c.in-Ok.script (λ value. c.script_asking.result ≡ Ok value) c.in-Ok.is c.in_ok-script.ensures.value in
-    let same : c.in-Ok.script ≡ plan = subst (λ r. IfOk r (λ script. script ≡ plan)) is c.script_asking.ensures.script in
-    subst (λ p. RunsTo c.run_script.result old new (Ok (ToRun p c.args.telling)) account given) same
-    (c.run_script.ensures.runs account given tells (subst (λ p. Knows old.files account (Ok (ToRun p c.args.telling))) (sym same) knows) may told)
+returns-clause-runs g c tells = (
+  (c.run_script.ensures.runs tells).0,
+  λ account given knows may told.
+      let old = g.H.Host.world c.args.host.now in
+      let new = g.H.Host.world c.run_script.new.host in
+      let plan = plan_of c.args.db.now (c.args.statement ∷ []) in
+      let is = settled_value c.in_ok-script.field-0 c.in-Ok.script (λ value. c.script_asking.result ≡ Ok value) c.in-Ok.is c.in_ok-script.ensures.value in
+      let same : c.in-Ok.script ≡ plan = subst (λ r. IfOk r (λ script. script ≡ plan)) is c.script_asking.ensures.script in
+      subst (λ p. RunsTo c.run_script.result old new (Ok (ToRun p c.args.telling)) account given) same
+      ((c.run_script.ensures.runs tells).1 account given (subst (λ p. Knows old.files account (Ok (ToRun p c.args.telling))) (sym same) knows) may told),
+)
 
 pub returns-clause-grows : goal.returns-clause-grows
 returns-clause-grows g c account tells knows =

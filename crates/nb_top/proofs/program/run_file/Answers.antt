@@ -1,4 +1,4 @@
-use Rattle.std.proofs.Common.{◌≡◌, ap, sym, subst}
+use Rattle.std.proofs.Common.{[], ◌≡◌, ap, sym, subst}
 use Rattle.std.specs.Prelude.{Ok, Err}
 use Rattle.nb_host.specs.declared.faults.Fault.TheVariants.{Refused}
 use Rattle.nb_session.proofs.GiftLaws.{grows_none, grows_joined}
@@ -15,12 +15,15 @@ use Rattle.nb_host.specs.Files.{Files}
 use Rattle.nb_top.proofs.program.run_file.Goals as goal
 
 pub returns-in_err-script-clause-runs : goal.returns-in_err-script-clause-runs
-returns-in_err-script-clause-runs g c account given tells knows may told =
-    let old = g.H.Host.world c.args.host.now in
-    let new = g.H.Host.world c.read_script.new.host in
-    let name = c.args.name.now in
-    runs_err c.from_residual.result c.from_residual.ensures.0 (λ r. RunsTo r old new (to_run (script_in name (old.files name))) account given)
-    (λ e. unread_runs old new name (old.files name) account given e knows c.read_script.ensures.quiet)
+returns-in_err-script-clause-runs g c tells = (
+  [],
+  λ account given knows may told.
+      let old = g.H.Host.world c.args.host.now in
+      let new = g.H.Host.world c.read_script.new.host in
+      let name = c.args.name.now in
+      runs_err c.from_residual.result c.from_residual.ensures.0 (λ r. RunsTo r old new (to_run (script_in name (old.files name))) account given)
+      (λ e. unread_runs old new name (old.files name) account given e knows c.read_script.ensures.quiet),
+)
 
 pub returns-in_err-script-clause-grows : goal.returns-in_err-script-clause-grows
 returns-in_err-script-clause-grows g c account tells knows =
@@ -29,19 +32,22 @@ returns-in_err-script-clause-grows g c account tells knows =
     grows_none old new (quiet_gave old new c.read_script.ensures.quiet)
 
 pub returns-in-Ok-clause-runs : goal.returns-in-Ok-clause-runs
-returns-in-Ok-clause-runs g c account given tells knows may told =
-    let old = g.H.Host.world c.args.host.now in
-    let mid = g.H.Host.world c.read_script.new.host in
-    let new = g.H.Host.world c.run_script.new.host in
-    let name = c.args.name.now in
-    let file = old.files name in
-    let quiet = c.read_script.ensures.quiet in
-    let is = settled_value c.in_ok-script.field-0 c.in-Ok.script (λ value. c.read_script.result ≡ Ok value) c.in-Ok.is c.in_ok-script.ensures.value in
-    let read : to_run (script_in name file) ≡ Ok (ToRun c.in-Ok.script All) = ap to_run (subst (λ r. IsRead r (script_in name file)) is (c.read_script.ensures.read tells)) in
-    runs_quietly c.run_script.result old mid new (to_run (script_in name file)) account given quiet
-    (subst (λ asked. RunsTo c.run_script.result mid new asked account given) (sym read)
-    (c.run_script.ensures.runs account given tells (knows_quietly old mid account (Ok (ToRun c.in-Ok.script All)) quiet (subst (Knows old.files account) read knows)) may
-    (foretold_from old mid new given (quiet_gave old mid quiet) told)))
+returns-in-Ok-clause-runs g c tells = (
+  (c.run_script.ensures.runs tells).0,
+  λ account given knows may told.
+      let old = g.H.Host.world c.args.host.now in
+      let mid = g.H.Host.world c.read_script.new.host in
+      let new = g.H.Host.world c.run_script.new.host in
+      let name = c.args.name.now in
+      let file = old.files name in
+      let quiet = c.read_script.ensures.quiet in
+      let is = settled_value c.in_ok-script.field-0 c.in-Ok.script (λ value. c.read_script.result ≡ Ok value) c.in-Ok.is c.in_ok-script.ensures.value in
+      let read : to_run (script_in name file) ≡ Ok (ToRun c.in-Ok.script All) = ap to_run (subst (λ r. IsRead r (script_in name file)) is (c.read_script.ensures.read tells)) in
+      runs_quietly c.run_script.result old mid new (to_run (script_in name file)) account given quiet
+      (subst (λ asked. RunsTo c.run_script.result mid new asked account given) (sym read)
+      ((c.run_script.ensures.runs tells).1 account given (knows_quietly old mid account (Ok (ToRun c.in-Ok.script All)) quiet (subst (Knows old.files account) read knows)) may
+      (foretold_from old mid new given _ (quiet_gave old mid quiet) told))),
+)
 
 pub returns-in-Ok-clause-grows : goal.returns-in-Ok-clause-grows
 returns-in-Ok-clause-grows g c account tells knows =
@@ -57,19 +63,22 @@ returns-in-Ok-clause-grows g c account tells knows =
     (c.run_script.ensures.grows account tells (knows_quietly old mid account (Ok (ToRun c.in-Ok.script All)) quiet (subst (Knows old.files account) read knows)))
 
 pub returns-in-Err-clause-runs : goal.returns-in-Err-clause-runs
-returns-in-Err-clause-runs g c account given tells knows may told =
-    let old = g.H.Host.world c.args.host.now in
-    let mid = g.H.Host.world c.read_script.new.host in
-    let new = g.H.Host.world c.refuse.new.host in
-    let name = c.args.name.now in
-    let file = old.files name in
-    let quiet = c.read_script.ensures.quiet in
-    let refusal = c.in-Err.refusal in
-    let is = settled_refusal c.in_ok-script.field-0 refusal (λ r. c.read_script.result ≡ Err (Refused r)) c.in-Err.is c.in_ok-script.ensures.refusal in
-    let read : script_in name file ≡ Err refusal = subst (λ r. IsRead r (script_in name file)) is (c.read_script.ensures.read tells) in
-    let says = c.refuse.ensures.line tells in
-    runs_quietly c.refuse.result old mid new (to_run (script_in name file)) account given quiet
-    (job_refused c.refuse.result c.refuse.result mid new (to_run (script_in name file)) refusal account given (ap to_run read) says (script_number name file refusal read c.refuse.result c.refuse.ensures.ok) says.said)
+returns-in-Err-clause-runs g c tells = (
+  [],
+  λ account given knows may told.
+      let old = g.H.Host.world c.args.host.now in
+      let mid = g.H.Host.world c.read_script.new.host in
+      let new = g.H.Host.world c.refuse.new.host in
+      let name = c.args.name.now in
+      let file = old.files name in
+      let quiet = c.read_script.ensures.quiet in
+      let refusal = c.in-Err.refusal in
+      let is = settled_refusal c.in_ok-script.field-0 refusal (λ r. c.read_script.result ≡ Err (Refused r)) c.in-Err.is c.in_ok-script.ensures.refusal in
+      let read : script_in name file ≡ Err refusal = subst (λ r. IsRead r (script_in name file)) is (c.read_script.ensures.read tells) in
+      let says = c.refuse.ensures.line tells in
+      runs_quietly c.refuse.result old mid new (to_run (script_in name file)) account given quiet
+      (job_refused c.refuse.result c.refuse.result mid new (to_run (script_in name file)) refusal account given (ap to_run read) says (script_number name file refusal read c.refuse.result c.refuse.ensures.ok) says.said),
+)
 
 pub returns-in-Err-clause-grows : goal.returns-in-Err-clause-grows
 returns-in-Err-clause-grows g c account tells knows =

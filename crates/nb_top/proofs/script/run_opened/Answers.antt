@@ -1,4 +1,4 @@
-use Rattle.std.proofs.Common.{ap, ◌∙◌}
+use Rattle.std.proofs.Common.{[], ap, ◌∙◌}
 use Rattle.nb_model.specs.Steps.{after_steps}
 use Rattle.nb_model.specs.Trail.{settled}
 use Rattle.nb_session.proofs.GiftLaws.{grows_none, grows_joined}
@@ -11,37 +11,43 @@ use Rattle.nb_session.specs.StillOpen.{script_merges}
 use Rattle.nb_top.proofs.script.run_opened.Goals as goal
 
 pub returns-in_err-say_opened-clause-plays : goal.returns-in_err-say_opened-clause-plays
-returns-in_err-say_opened-clause-plays g c now start strokes tells ready todo making told trail =
-    let old = g.H.Host.world c.args.host.now in
-    let new = g.H.Host.world c.say_opened.new.host in
-    let plan = c.args.script.now in
-    let held = c.args.engine.now in
-    let telling = c.args.telling in
-    let pages = held.files.count in
-    let done = first_event plan.first_session strokes (opened_reply plan.first held.files.count held.files.state) in
-    opened_err c.from_residual.result (λ r. PlaysOpened r old new held held start (told_first telling done) telling pages now plan) c.from_residual.ensures.0
-    (reply_unsaid old new new held held start now plan c.requires.askable ready todo making (told_first telling done) telling pages (told_first_made telling done) _ (told_output plan.first_session strokes plan.first held.files.count held.files.state telling)
-    (ap (after_steps (settled start)) (told_first_steps telling done) ∙ trail) c.say_opened.result (c.say_opened.ensures.line tells))
+returns-in_err-say_opened-clause-plays g c tells = (
+  [],
+  λ now start strokes ready todo making told trail.
+      let old = g.H.Host.world c.args.host.now in
+      let new = g.H.Host.world c.say_opened.new.host in
+      let plan = c.args.script.now in
+      let held = c.args.engine.now in
+      let telling = c.args.telling in
+      let pages = held.files.count in
+      let done = first_event plan.first_session strokes (opened_reply plan.first held.files.count held.files.state) in
+      opened_err c.from_residual.result (λ r. PlaysOpened r old new held held start (told_first telling done) telling pages now plan) c.from_residual.ensures.0
+      (reply_unsaid old new new held held start now plan c.requires.askable ready todo making (told_first telling done) telling pages (told_first_made telling done) _ (told_output plan.first_session strokes plan.first held.files.count held.files.state telling)
+      (ap (after_steps (settled start)) (told_first_steps telling done) ∙ trail) c.say_opened.result (c.say_opened.ensures.line tells)),
+)
 
 pub returns-in_err-say_opened-clause-grows : goal.returns-in_err-say_opened-clause-grows
 returns-in_err-say_opened-clause-grows g c now tells ready todo making = grows_none (g.H.Host.world c.args.host.now) (g.H.Host.world c.say_opened.new.host) c.say_opened.ensures.gave
 
 pub returns-clause-plays : goal.returns-clause-plays
-returns-clause-plays g c now start strokes tells ready todo making told trail =
-    let old = g.H.Host.world c.args.host.now in
-    let mid = g.H.Host.world c.say_opened.new.host in
-    let new = g.H.Host.world c.take_told.new.host in
-    let plan = c.args.script.now in
-    let held = c.args.engine.now in
-    let telling = c.args.telling in
-    let pages = held.files.count in
-    let done = first_event plan.first_session strokes (opened_reply plan.first held.files.count held.files.state) in
-    let says = c.say_opened.ensures.line tells in
-    let said = (c.in_ok-say_opened.ensures.line tells).said in
-    reply_said_then old mid new held c.take_told.new.engine start now plan c.requires.askable ready todo making (told_first telling done) telling pages (told_first_made telling done) _ (told_output plan.first_session strokes plan.first held.files.count held.files.state telling)
-    (ap (after_steps (settled start)) (told_first_steps telling done) ∙ trail) c.say_opened.result says (told_status plan.first_session strokes plan.first held.files.count held.files.state telling) said c.take_told.result
-    (c.take_told.ensures.plays now _ tells (ready_still old mid held now says.still ready) todo making
-    (foretold_from old mid new now.given c.say_opened.ensures.gave told))
+returns-clause-plays g c tells = (
+  (c.take_told.ensures.plays tells).0,
+  λ now start strokes ready todo making told trail.
+      let old = g.H.Host.world c.args.host.now in
+      let mid = g.H.Host.world c.say_opened.new.host in
+      let new = g.H.Host.world c.take_told.new.host in
+      let plan = c.args.script.now in
+      let held = c.args.engine.now in
+      let telling = c.args.telling in
+      let pages = held.files.count in
+      let done = first_event plan.first_session strokes (opened_reply plan.first held.files.count held.files.state) in
+      let says = c.say_opened.ensures.line tells in
+      let said = (c.in_ok-say_opened.ensures.line tells).said in
+      reply_said_then old mid new held c.take_told.new.engine start now plan c.requires.askable ready todo making (told_first telling done) telling pages (told_first_made telling done) _ (told_output plan.first_session strokes plan.first held.files.count held.files.state telling)
+      (ap (after_steps (settled start)) (told_first_steps telling done) ∙ trail) c.say_opened.result says (told_status plan.first_session strokes plan.first held.files.count held.files.state telling) said c.take_told.result
+      ((c.take_told.ensures.plays tells).1 now _ (ready_still old mid held now says.still ready) todo making
+      (foretold_from old mid new now.given _ c.say_opened.ensures.gave told)),
+)
 
 pub returns-clause-grows : goal.returns-clause-grows
 returns-clause-grows g c now tells ready todo making =

@@ -1,12 +1,12 @@
-use Rattle.std.proofs.Common.{◌≡◌, ap, sym, subst, ◌∙◌}
-use Rattle.std.specs.Prelude.{Ok, Err}
+use Rattle.std.proofs.Common.{[], ◌≡◌, ap, sym, subst, ◌∙◌}
+use Rattle.std.specs.Prelude.{Ok, Err, IfOk}
 use Rattle.nb_host.specs.declared.faults.Fault.TheVariants.{Refused}
 use Rattle.nb_model.specs.declared.reply.Reply.TheVariants.{Refused as RefusedReply}
 use Rattle.nb_model.specs.Gifts.{Foretells}
 use Rattle.nb_model.specs.Lines.{line_text}
 use Rattle.nb_session.proofs.GiftLaws.{grows_none, grows_joined}
 use Rattle.nb_session.proofs.SaysLaws.{says_other}
-use Rattle.nb_top.specs.Performed.{RunsTo}
+use Rattle.nb_top.specs.Performed.{RunsTo, cache_asked}
 use Rattle.nb_top.specs.Requests.{ToRun}
 use Rattle.nb_top.proofs.Beginnings.{script_refused, script_now, script_todo, script_given, script_ready, script_making, script_trail, script_ends_early, script_ends}
 use Rattle.nb_top.proofs.BegunRuns.{start}
@@ -17,63 +17,79 @@ use Rattle.nb_top.specs.Touched.{MayTouch}
 use Rattle.nb_top.proofs.script.run_script.Goals as goal
 
 pub returns-in_err-engine-clause-runs : goal.returns-in_err-engine-clause-runs
-returns-in_err-engine-clause-runs g c account given tells knows may told =
-    let old = g.H.Host.world c.args.host.now in
-    let mid = g.H.Host.world c.open.new.host in
-    let plan = c.args.script.now in
-    let begins = script_begins old account given plan c.args.telling c.requires.askable knows may mid c.open.result
-    (λ name size raw cache is. c.open.ensures.creates name size raw cache tells (c.first.ensures ∙ is)) (λ name cache is. c.open.ensures.attaches name cache tells (c.first.ensures ∙ is))
-    (λ name cache is. c.open.ensures.quiet name cache (c.first.ensures ∙ is)) c.open.ensures.scn in
-    runs_err c.from_residual.result c.from_residual.ensures.0 (λ r. RunsTo r old mid (Ok (ToRun plan c.args.telling)) account given) begins.fails
+returns-in_err-engine-clause-runs g c tells = (
+  [],
+  λ account given knows may told.
+      let old = g.H.Host.world c.args.host.now in
+      let mid = g.H.Host.world c.open.new.host in
+      let plan = c.args.script.now in
+      let begins = script_begins old account given plan c.args.telling c.requires.askable knows may mid c.open.result
+      (λ name size raw cache is. c.open.ensures.creates name size raw cache tells (c.first.ensures ∙ is)) (λ name cache is. c.open.ensures.attaches name cache tells (c.first.ensures ∙ is))
+      (λ name cache is. c.open.ensures.quiet name cache (c.first.ensures ∙ is)) c.open.ensures.scn
+      (subst (λ s. IfOk c.open.result (λ h. h.cap ≡ cache_asked s)) c.first.ensures c.open.ensures.cap) in
+      runs_err c.from_residual.result c.from_residual.ensures.0 (λ r. RunsTo r old mid (Ok (ToRun plan c.args.telling)) account given) begins.fails,
+)
 
 pub returns-in_err-refused-in-Ok-clause-runs : goal.returns-in_err-refused-in-Ok-clause-runs
-returns-in_err-refused-in-Ok-clause-runs g c account given tells knows may told =
-    let old = g.H.Host.world c.args.host.now in
-    let mid = g.H.Host.world c.open.new.host in
-    let new = g.H.Host.world c.run_opened.new.host in
-    let plan = c.args.script.now in
-    let begins = script_begins old account given plan c.args.telling c.requires.askable knows may mid c.open.result
-    (λ name size raw cache is. c.open.ensures.creates name size raw cache tells (c.first.ensures ∙ is)) (λ name cache is. c.open.ensures.attaches name cache tells (c.first.ensures ∙ is))
-    (λ name cache is. c.open.ensures.quiet name cache (c.first.ensures ∙ is)) c.open.ensures.scn in
-    let held = c.in-Ok.engine in
-    let done = begins.done held (settled_value c.in_ok-engine.field-0 held (λ value. c.open.result ≡ Ok value) c.in-Ok.is c.in_ok-engine.ensures.value) in
-    let later = subst (λ x. Foretells x mid new) (sym (script_given old account given plan c.args.telling c.requires.askable mid held done)) (foretold_from old mid new given done.gave told) in
-    runs_err c.from_residual-in_err-refused-in-Ok.result c.from_residual-in_err-refused-in-Ok.ensures.0 (λ r. RunsTo r old new (Ok (ToRun plan c.args.telling)) account given)
-    (λ e. script_ends_early old account given plan c.args.telling c.requires.askable mid held done new c.run_opened.new.engine e
-    (c.in_err-refused-in-Ok.ensures.plays (script_now old account given plan c.args.telling c.requires.askable mid held done) (start old account given plan c.args.telling c.requires.askable done.first) done.first.strokes tells
-    (script_ready old account given plan c.args.telling c.requires.askable mid held done) (script_todo old account given plan c.args.telling c.requires.askable mid held done)
-    (script_making old account given plan c.args.telling c.requires.askable mid held done) later (script_trail old account given plan c.args.telling c.requires.askable mid held done)))
+returns-in_err-refused-in-Ok-clause-runs g c tells = (
+  (c.in_err-refused-in-Ok.ensures.plays tells).0,
+  λ account given knows may told.
+      let old = g.H.Host.world c.args.host.now in
+      let mid = g.H.Host.world c.open.new.host in
+      let new = g.H.Host.world c.run_opened.new.host in
+      let plan = c.args.script.now in
+      let begins = script_begins old account given plan c.args.telling c.requires.askable knows may mid c.open.result
+      (λ name size raw cache is. c.open.ensures.creates name size raw cache tells (c.first.ensures ∙ is)) (λ name cache is. c.open.ensures.attaches name cache tells (c.first.ensures ∙ is))
+      (λ name cache is. c.open.ensures.quiet name cache (c.first.ensures ∙ is)) c.open.ensures.scn
+      (subst (λ s. IfOk c.open.result (λ h. h.cap ≡ cache_asked s)) c.first.ensures c.open.ensures.cap) in
+      let held = c.in-Ok.engine in
+      let done = begins.done held (settled_value c.in_ok-engine.field-0 held (λ value. c.open.result ≡ Ok value) c.in-Ok.is c.in_ok-engine.ensures.value) in
+      let later = subst (λ x. Foretells x ((c.in_err-refused-in-Ok.ensures.plays tells).0) mid new) (sym (script_given old account given plan c.args.telling c.requires.askable mid held done)) (foretold_from old mid new given _ done.gave told) in
+      runs_err c.from_residual-in_err-refused-in-Ok.result c.from_residual-in_err-refused-in-Ok.ensures.0 (λ r. RunsTo r old new (Ok (ToRun plan c.args.telling)) account given)
+      (λ e. script_ends_early old account given plan c.args.telling c.requires.askable mid held done new c.run_opened.new.engine e
+      ((c.in_err-refused-in-Ok.ensures.plays tells).1 (script_now old account given plan c.args.telling c.requires.askable mid held done) (start old account given plan c.args.telling c.requires.askable done.first) done.first.strokes
+      (script_ready old account given plan c.args.telling c.requires.askable mid held done) (script_todo old account given plan c.args.telling c.requires.askable mid held done)
+      (script_making old account given plan c.args.telling c.requires.askable mid held done) later (script_trail old account given plan c.args.telling c.requires.askable mid held done))),
+)
 
 pub returns-in_ok-refused-in-Ok-clause-runs : goal.returns-in_ok-refused-in-Ok-clause-runs
-returns-in_ok-refused-in-Ok-clause-runs g c account given tells knows may told =
-    let old = g.H.Host.world c.args.host.now in
-    let mid = g.H.Host.world c.open.new.host in
-    let new = g.H.Host.world c.run_opened.new.host in
-    let plan = c.args.script.now in
-    let begins = script_begins old account given plan c.args.telling c.requires.askable knows may mid c.open.result
-    (λ name size raw cache is. c.open.ensures.creates name size raw cache tells (c.first.ensures ∙ is)) (λ name cache is. c.open.ensures.attaches name cache tells (c.first.ensures ∙ is))
-    (λ name cache is. c.open.ensures.quiet name cache (c.first.ensures ∙ is)) c.open.ensures.scn in
-    let held = c.in-Ok.engine in
-    let done = begins.done held (settled_value c.in_ok-engine.field-0 held (λ value. c.open.result ≡ Ok value) c.in-Ok.is c.in_ok-engine.ensures.value) in
-    let later = subst (λ x. Foretells x mid new) (sym (script_given old account given plan c.args.telling c.requires.askable mid held done)) (foretold_from old mid new given done.gave told) in
-    script_ends old account given plan c.args.telling c.requires.askable mid held done new c.run_opened.new.engine c.in_ok-refused-in-Ok.refused c.ended.result c.ended.ensures.number c.in_ok-refused-in-Ok.ensures.none_waits
-    (c.in_ok-refused-in-Ok.ensures.plays (script_now old account given plan c.args.telling c.requires.askable mid held done) (start old account given plan c.args.telling c.requires.askable done.first) done.first.strokes tells
-    (script_ready old account given plan c.args.telling c.requires.askable mid held done) (script_todo old account given plan c.args.telling c.requires.askable mid held done)
-    (script_making old account given plan c.args.telling c.requires.askable mid held done) later (script_trail old account given plan c.args.telling c.requires.askable mid held done))
+returns-in_ok-refused-in-Ok-clause-runs g c tells = (
+  (c.in_ok-refused-in-Ok.ensures.plays tells).0,
+  λ account given knows may told.
+      let old = g.H.Host.world c.args.host.now in
+      let mid = g.H.Host.world c.open.new.host in
+      let new = g.H.Host.world c.run_opened.new.host in
+      let plan = c.args.script.now in
+      let begins = script_begins old account given plan c.args.telling c.requires.askable knows may mid c.open.result
+      (λ name size raw cache is. c.open.ensures.creates name size raw cache tells (c.first.ensures ∙ is)) (λ name cache is. c.open.ensures.attaches name cache tells (c.first.ensures ∙ is))
+      (λ name cache is. c.open.ensures.quiet name cache (c.first.ensures ∙ is)) c.open.ensures.scn
+      (subst (λ s. IfOk c.open.result (λ h. h.cap ≡ cache_asked s)) c.first.ensures c.open.ensures.cap) in
+      let held = c.in-Ok.engine in
+      let done = begins.done held (settled_value c.in_ok-engine.field-0 held (λ value. c.open.result ≡ Ok value) c.in-Ok.is c.in_ok-engine.ensures.value) in
+      let later = subst (λ x. Foretells x ((c.in_ok-refused-in-Ok.ensures.plays tells).0) mid new) (sym (script_given old account given plan c.args.telling c.requires.askable mid held done)) (foretold_from old mid new given _ done.gave told) in
+      script_ends old account given plan c.args.telling c.requires.askable mid held done new c.run_opened.new.engine c.in_ok-refused-in-Ok.refused c.ended.result c.ended.ensures.number c.in_ok-refused-in-Ok.ensures.none_waits
+      ((c.in_ok-refused-in-Ok.ensures.plays tells).1 (script_now old account given plan c.args.telling c.requires.askable mid held done) (start old account given plan c.args.telling c.requires.askable done.first) done.first.strokes
+      (script_ready old account given plan c.args.telling c.requires.askable mid held done) (script_todo old account given plan c.args.telling c.requires.askable mid held done)
+      (script_making old account given plan c.args.telling c.requires.askable mid held done) later (script_trail old account given plan c.args.telling c.requires.askable mid held done)),
+)
 
 pub returns-in-Err-clause-runs : goal.returns-in-Err-clause-runs
-returns-in-Err-clause-runs g c account given tells knows may told =
-    let old = g.H.Host.world c.args.host.now in
-    let mid = g.H.Host.world c.open.new.host in
-    let new = g.H.Host.world c.refuse.new.host in
-    let plan = c.args.script.now in
-    let begins = script_begins old account given plan c.args.telling c.requires.askable knows may mid c.open.result
-    (λ name size raw cache is. c.open.ensures.creates name size raw cache tells (c.first.ensures ∙ is)) (λ name cache is. c.open.ensures.attaches name cache tells (c.first.ensures ∙ is))
-    (λ name cache is. c.open.ensures.quiet name cache (c.first.ensures ∙ is)) c.open.ensures.scn in
-    let refusal = c.in-Err.refusal in
-    let is = begins.refused refusal (settled_refusal c.in_ok-engine.field-0 refusal (λ r. c.open.result ≡ Err (Refused r)) c.in-Err.is c.in_ok-engine.ensures.refusal) in
-    let says = says_other _ _ _ _ _ (ap (λ s. line_text s (RefusedReply refusal)) c.first_session.ensures.value) (c.refuse.ensures.line tells) in
-    script_refused old account given plan c.args.telling c.requires.askable mid refusal is new c.refuse.result c.refuse.result says c.refuse.ensures.ok says.said
+returns-in-Err-clause-runs g c tells = (
+  [],
+  λ account given knows may told.
+      let old = g.H.Host.world c.args.host.now in
+      let mid = g.H.Host.world c.open.new.host in
+      let new = g.H.Host.world c.refuse.new.host in
+      let plan = c.args.script.now in
+      let begins = script_begins old account given plan c.args.telling c.requires.askable knows may mid c.open.result
+      (λ name size raw cache is. c.open.ensures.creates name size raw cache tells (c.first.ensures ∙ is)) (λ name cache is. c.open.ensures.attaches name cache tells (c.first.ensures ∙ is))
+      (λ name cache is. c.open.ensures.quiet name cache (c.first.ensures ∙ is)) c.open.ensures.scn
+      (subst (λ s. IfOk c.open.result (λ h. h.cap ≡ cache_asked s)) c.first.ensures c.open.ensures.cap) in
+      let refusal = c.in-Err.refusal in
+      let is = begins.refused refusal (settled_refusal c.in_ok-engine.field-0 refusal (λ r. c.open.result ≡ Err (Refused r)) c.in-Err.is c.in_ok-engine.ensures.refusal) in
+      let says = says_other _ _ _ _ _ (ap (λ s. line_text s (RefusedReply refusal)) c.first_session.ensures.value) (c.refuse.ensures.line tells) in
+      script_refused old account given plan c.args.telling c.requires.askable mid refusal is new c.refuse.result c.refuse.result says c.refuse.ensures.ok says.said,
+)
 
 pub returns-in_err-engine-clause-grows : goal.returns-in_err-engine-clause-grows
 returns-in_err-engine-clause-grows g c account tells knows =
@@ -91,7 +107,8 @@ returns-in_err-refused-in-Ok-clause-grows g c account tells knows =
     let plan = c.args.script.now in
     let begins = script_begins old account no_given plan c.args.telling c.requires.askable knows tt mid c.open.result
     (λ name size raw cache is. c.open.ensures.creates name size raw cache tells (c.first.ensures ∙ is)) (λ name cache is. c.open.ensures.attaches name cache tells (c.first.ensures ∙ is))
-    (λ name cache is. c.open.ensures.quiet name cache (c.first.ensures ∙ is)) c.open.ensures.scn in
+    (λ name cache is. c.open.ensures.quiet name cache (c.first.ensures ∙ is)) c.open.ensures.scn
+    (subst (λ s. IfOk c.open.result (λ h. h.cap ≡ cache_asked s)) c.first.ensures c.open.ensures.cap) in
     let held = c.in-Ok.engine in
     let done = begins.done held (settled_value c.in_ok-engine.field-0 held (λ value. c.open.result ≡ Ok value) c.in-Ok.is c.in_ok-engine.ensures.value) in
     grows_joined old mid new (grows_none old mid done.gave)
@@ -107,7 +124,8 @@ returns-in_ok-refused-in-Ok-clause-grows g c account tells knows =
     let plan = c.args.script.now in
     let begins = script_begins old account no_given plan c.args.telling c.requires.askable knows tt mid c.open.result
     (λ name size raw cache is. c.open.ensures.creates name size raw cache tells (c.first.ensures ∙ is)) (λ name cache is. c.open.ensures.attaches name cache tells (c.first.ensures ∙ is))
-    (λ name cache is. c.open.ensures.quiet name cache (c.first.ensures ∙ is)) c.open.ensures.scn in
+    (λ name cache is. c.open.ensures.quiet name cache (c.first.ensures ∙ is)) c.open.ensures.scn
+    (subst (λ s. IfOk c.open.result (λ h. h.cap ≡ cache_asked s)) c.first.ensures c.open.ensures.cap) in
     let held = c.in-Ok.engine in
     let done = begins.done held (settled_value c.in_ok-engine.field-0 held (λ value. c.open.result ≡ Ok value) c.in-Ok.is c.in_ok-engine.ensures.value) in
     grows_joined old mid new (grows_none old mid done.gave)

@@ -20,7 +20,7 @@ returns-in_err-write-clause-makes g c t tells given fits =
     let wrote = c.write.ensures in
     let after : Held = record c.args.self.now { files = c.write.new.self.files; pages = c.write.new.self.pages; cap = c.write.new.self.cap } in
     let left = subst (λ (h : Held). Strikes old new (name_of h) t (page c.args.number c.args.page.now ∷ [])) c.self.view_is (wrote.takes t tells is.files fits is.agrees.forced).left in
-    let goes = subst (λ (h : Held). Goes h (record h { files = c.write.new.self.files; pages = c.write.new.self.pages; cap = c.write.new.self.cap })) c.self.view_is (goes_files _ c.write.new.self wrote.name wrote.page_size wrote.state wrote.entries) in
+    let goes = subst (λ (h : Held). Goes h (record h { files = c.write.new.self.files; pages = c.write.new.self.pages; cap = c.write.new.self.cap })) c.self.view_is (goes_files _ c.write.new.self wrote.name wrote.page_size wrote.state wrote.entries wrote.cap) in
     subst (λ (h : Held). Makes {T = Unit {0}} c.from_residual.result old new c.args.self.now h t (page c.args.number c.args.page.now ∷ [])) (sym (ap (λ (h : Held). record h { files = c.write.new.self.files; pages = c.write.new.self.pages; cap = c.write.new.self.cap }) c.self.view_is))
     (subst (λ r. Makes {T = Unit {0}} r old new c.args.self.now after t (page c.args.number c.args.page.now ∷ [])) (sym (passed_on c.from_residual.result c.in_err-write.field-0.0 c.from_residual.ensures)) (record {
       left = left;
@@ -48,7 +48,7 @@ returns-clause-makes g c t tells given fits =
       opened = open_written t c.args.number c.args.page.now fits _ pair old new c.take_flags.new.self first other is wrote.state wrote.entries takes.done (λ two. wrote.merged t _ tells is.files fits two (is.merged two));
       whole = page_whole t c.args.number c.args.page.now fits c.requires.some;
       goes = subst (λ (h : Held). Goes h c.take_flags.new.self) c.self.view_is
-          (goes_written c.args.number c.args.page.now _ c.take_flags.new.self pair first other (goes_files _ pair wrote.name wrote.page_size wrote.state wrote.entries));
+          (goes_written c.args.number c.args.page.now _ c.take_flags.new.self pair first other (goes_files _ pair wrote.name wrote.page_size wrote.state wrote.entries wrote.cap));
       gave = wrote.gave;
     }
 
