@@ -32,6 +32,7 @@ pub mod BitSound
 pub mod DraftJoin
 pub mod NewSound
 pub mod RoundLaws
+pub mod StepLaws
 pub mod NormalLaws
 pub mod StandsLaws
 pub mod OutputLaws
