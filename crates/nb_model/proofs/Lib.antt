@@ -33,6 +33,8 @@ pub mod DraftJoin
 pub mod NewSound
 pub mod RoundLaws
 pub mod StepLaws
+pub mod PlaceOrder
+pub mod OnwardLaws
 pub mod NormalLaws
 pub mod StandsLaws
 pub mod OutputLaws
