@@ -35,6 +35,8 @@ pub mod RoundLaws
 pub mod StepLaws
 pub mod PlaceOrder
 pub mod OnwardLaws
+pub mod FirstFree
+pub mod OnwardTests
 pub mod NormalLaws
 pub mod StandsLaws
 pub mod OutputLaws

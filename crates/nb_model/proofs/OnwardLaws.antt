@@ -24,6 +24,7 @@ pub record IsOnTheWay (old now : Image) (from made fresh : ℕ) : Type 0 where
   pub long : length now ≡ max (length old) from
   pub made_before : made < from
   pub fresh_before : fresh < from
+  pub made_five : made ≢ 0 → 5 ≤ made
   pub made_place : made ≢ 0 → is_scn_place (image_size old) made ≡ true
   pub fresh_place : fresh ≢ 0 → is_inventory_place (image_size old) fresh ≡ true
   pub taken : (q : ℕ) → 5 ≤ q → q < from → is_free_page now q ≡ false
@@ -50,6 +51,7 @@ way_begins x h =
       long = omega (arith, least);
       made_before = omega arith;
       fresh_before = omega arith;
+      made_five = λ some. absurd (some refl);
       made_place = λ some. absurd (some refl);
       fresh_place = λ some. absurd (some refl);
       taken = λ q from below. absurd (omega (arith, from, below));
@@ -178,6 +180,7 @@ module _ (old now next : Image) (from made fresh p kind m f : ℕ) (way : IsOnTh
   -- what depends on which SCN place was passed last
   record ByMade : Type 0 where
     before : m < p + 1
+    five : m ≢ 0 → 5 ≤ m
     place : m ≢ 0 → is_scn_place size m ≡ true
     page : m ≢ 0 → is_kind next 10 m ≡ true
     entries : (s : ℕ) → is_scn_place size s ≡ true → m < s → is_kind next 10 s ≡ is_kind old 10 s
@@ -185,6 +188,7 @@ module _ (old now next : Image) (from made fresh p kind m f : ℕ) (way : IsOnTh
   by_made : IsMadeBehind old now p made m → ByMade
   by_made (stays same kept) = let low = way.made_before in record {
     before = omega (arith, same, low, from_p);
+    five = λ some. omega (arith, same, way.made_five (λ e. some (same ∙ e)));
     place = λ some. ap (is_scn_place size) same ∙ way.made_place (λ e. some (same ∙ e));
     page = λ some. ap (is_kind next 10) same ∙ same_kind 10 made made_no_p ∙ way.made_page (λ e. some (same ∙ e));
     entries = λ s at behind. elim (eqb_tells s p) [
@@ -196,6 +200,7 @@ module _ (old now next : Image) (from made fresh p kind m f : ℕ) (way : IsOnTh
   }
   by_made (is_new same at none) = let low = way.made_before in record {
     before = omega (arith, same);
+    five = λ some. let five = way.five in omega (arith, same, five, from_p);
     place = λ some. ap (is_scn_place size) same ∙ at;
     page = λ some. ap (is_kind next 10) same ∙ scn_made at;
     entries = λ s place behind. same_kind 10 s (λ e. absurd (omega (arith, e, same, behind))) ∙ way.entries s place (omega (arith, same, behind, low, from_p));
@@ -265,6 +270,7 @@ module _ (old now next : Image) (from made fresh p kind m f : ℕ) (way : IsOnTh
         long = long;
         made_before = made_by.before;
         fresh_before = fresh_by.before;
+        made_five = made_by.five;
         made_place = made_by.place;
         fresh_place = fresh_by.place;
         taken = taken;
