@@ -21,6 +21,7 @@ pub mod MainLaws
 pub mod PutLaws
 pub mod FreshImageLaws
 pub mod SoundLaws
+pub mod NeedLaws
 pub mod FreshSound
 pub mod PutSound
 pub mod PastLaws

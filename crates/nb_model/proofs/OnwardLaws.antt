@@ -9,10 +9,10 @@ use Rattle.nb_fields.specs.Page.{kind_of}
 use Rattle.nb_fields.proofs.PlaceLemmas.{bits-least}
 use Rattle.nb_model.specs.Image.{Image, page_at, image_size}
 use Rattle.nb_model.specs.Forms.{is_kind, inventory_of, scn_page_of, has_entry, is_free_page, lowest_free, free_from, system_kind}
-use Rattle.nb_model.specs.Way.{Need, first_not, maps_from, entry_page, is_kept, needed_at}
 use Rattle.nb_model.proofs.SoundLaws.{inventory_place_some, scn_page_there, inventory_there}
+use Rattle.nb_model.proofs.NeedLaws.{HasScnPage}
 use Rattle.nb_model.proofs.NewSound.{inventory_before, places_apart}
-use Rattle.nb_model.proofs.StepLaws.{IsShaped, IsVisited, HasScnPage, IsReady, kind_parts, kind_from, kind_moves, scn_page_moves, map_entry_before}
+use Rattle.nb_model.proofs.StepLaws.{IsShaped, IsVisited, IsReady, kind_parts, kind_from, kind_moves, scn_page_moves, map_entry_before}
 use Rattle.nb_model.proofs.PlaceOrder.{div_rises, map_places_rise, map_places_from, map_place_is, maps_rise, map_behind, scn_behind}
 
 -- `now` is the image behind a search that started at `old`, has come up to page `from`, and went past places without their system pages:

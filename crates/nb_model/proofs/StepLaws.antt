@@ -16,13 +16,13 @@ use Rattle.nb_fields.proofs.PartLemmas.{length-with_part}
 use Rattle.nb_fields.proofs.PageLemmas.{length-page_of}
 use Rattle.nb_fields.proofs.FreshLaws.{taken_bits-free, bit_of-inventory}
 use Rattle.nb_model.specs.Image.{Page, Image, page_at, image_size, image_scn, with_page}
-use Rattle.nb_model.specs.Forms.{Draft, drafted, old_page, wrote, written, needs, is_kind, inventory_of, scn_page_of, bit_number, entry_number, has_entry, scn_entry, is_free_page, entry_written, entry_raised, raised, put, with_bit, set_bit, take_page, system_kind, system_payload, system_page}
-use Rattle.nb_model.specs.Way.{is_kept}
+use Rattle.nb_model.specs.Forms.{Draft, drafted, old_page, wrote, written, needs, is_kind, inventory_of, scn_page_of, bit_number, entry_number, has_entry, scn_entry, is_free_page, entry_written, entry_raised, raised, put, with_bit, set_bit, take_page, system_kind, system_payload, system_page, is_kept}
 use Rattle.nb_model.specs.Sound.{IsOfSize}
 use Rattle.nb_model.proofs.DraftJoin.{join_set_bit}
 use Rattle.nb_model.proofs.StrokeLaws.{with_page_same, with_page_other}
 use Rattle.nb_model.proofs.SoundLaws.{all_at, all_from, inventory_there, inventory_place_some, scn_page_there, scn_place_some, scn_place_before, scn_no_entry, with_page_length}
 use Rattle.nb_model.proofs.FitLaws.{form_page, written_image}
+use Rattle.nb_model.proofs.NeedLaws.{HasScnPage}
 use Rattle.nb_model.proofs.NewSound.{places_apart, inventory_before, stamped_kind, plain_place, system_is}
 use Rattle.nb_model.proofs.FreshSound.{inventory_length, scn_length}
 use Rattle.nb_model.proofs.BitLaws.{bit_else, bit_here, with_bit_length, bit_behind, one_bit}
@@ -112,10 +112,6 @@ pub record IsRaisedOn (x y : Image) (p : ℕ) : Type 0 where
 
 raised_same : (x : Image) (p : ℕ) → IsShaped x → IsRaisedOn x x p
 raised_same x p h = record { size = refl; long = refl; shaped = h; kinds = λ r. refl; others = λ r ne. refl }
-
--- the SCN page of page p is of its kind, if it has one
-abbrev pub HasScnPage : Image → ℕ → Type 0
-HasScnPage x p = has_entry x p ≡ true → is_kind x 10 (scn_page_of x p) ≡ true
 
 -- what a draft leaves that broke nothing
 abbrev pub IsClear : Draft → Type 0
