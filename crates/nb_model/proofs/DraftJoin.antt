@@ -6,7 +6,7 @@ use Rattle.nb_fields.specs.Bytes.{bytes_of, with_part}
 use Rattle.nb_fields.specs.Places.{bits_in, inventory_place, is_system_place}
 use Rattle.nb_model.specs.Image.{Image, page_at, image_size, image_scn}
 use Rattle.nb_model.specs.Strokes.{Stroke}
-use Rattle.nb_model.specs.Forms.{Draft, drafted, wrote, written, needs, is_kind, scn_page_of, inventory_of, bit_number, entry_number, scn_entry, has_entry, with_bit, entry_written, entry_raised, raised, put, set_bit, take_page, lowest_free, first_not, needed_at, system_kind, system_payload, system_page, no_page, new_within}
+use Rattle.nb_model.specs.Forms.{Draft, drafted, wrote, written, needs, is_kind, other_kind, wants, scn_page_of, inventory_of, bit_number, entry_number, scn_entry, has_entry, with_bit, entry_written, entry_raised, raised, put, set_bit, take_page, lowest_free, first_not, needed_at, system_kind, system_payload, system_page, no_page, new_within}
 
 -- the strokes of a draft, and then those of another that goes on from its image
 abbrev pub joined : Draft → Draft → Draft
@@ -92,6 +92,10 @@ join_system p d =
 
 join_full : Joins no_page
 join_full d = ap (λ (ss : List Stroke). record { image = d.image; strokes = ss; broken = d.broken; full = true }) (sym (append-nil d.strokes))
+
+-- what an image wants of a page
+pub join_wants : (image : Image) (kind p : ℕ) (d e : Draft) → wants image kind p (joined d e) ≡ joined d (wants image kind p e)
+join_wants image kind p d e = ap (λ (ps : List ℕ). record { image = e.image; strokes = d.strokes ++ e.strokes; broken = ps; full = e.full || d.full }) (sym (append_assoc (other_kind image kind p) e.broken d.broken))
 
 -- a round of the search for a new page
 pub join_round : (p : ℕ) → Joins (λ d. take_page p (system_page p d))

@@ -73,10 +73,10 @@ module _ (P : Draft → Type 0) (kept : IsKept P) where
 
   pub grown_keeps : (chain : Chain) (pages : List ℕ) (bytes : Slot) (d : Draft) → P d → P (grown chain pages bytes d).0
   unfolding grown
-  grown_keeps chain pages bytes d h = put_keeps P kept (last_of pages) 5 _ _ (new_keeps P kept _ 5 _ d h)
+  grown_keeps chain pages bytes d h = kept.reads _ _ (put_keeps P kept (last_of pages) 5 _ _ (new_keeps P kept _ 5 _ d h))
 
   pub at_keeps : (chain : Chain) (room : Option Spot) (pages : List ℕ) (bytes : Slot) (d : Draft) → P d → P (place_at chain room pages bytes d)
-  at_keeps chain (Some s) pages bytes d h = slot_keeps s.page s.slot bytes d h
+  at_keeps chain (Some s) pages bytes d h = kept.reads _ _ (slot_keeps s.page s.slot bytes d h)
   at_keeps chain None pages bytes d h = grown_keeps chain pages bytes d h
 
   pub place_keeps : (chain : Chain) (pages : List ℕ) (bytes : Slot) (d : Draft) → P d → P (place_slot chain pages bytes d)

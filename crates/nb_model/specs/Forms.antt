@@ -43,6 +43,13 @@ is_kind image kind p = nat_lt p (length image) && kind_of (page_at image p) == k
 unfoldable pub needs : (kind p : ℕ) → Draft → Draft
 needs kind p d = elim (is_kind d.image kind p) [ true ↦ d | false ↦ record d { broken = p ∷ d.broken } ]
 
+-- page p is noted where it isn't of that kind in an image
+unfoldable pub other_kind : Image → (kind p : ℕ) → List ℕ
+other_kind image kind p = elim (is_kind image kind p) [ true ↦ [] | false ↦ p ∷ [] ]
+
+abbrev pub wants : Image → (kind p : ℕ) → Draft → Draft
+wants image kind p d = record d { broken = other_kind image kind p ++ d.broken }
+
 -- the page inventory page and the SCN inventory page that have page p
 abbrev pub inventory_of : Image → ℕ → ℕ
 inventory_of image p = inventory_place (image_size image) (p / bits_in (image_size image))
