@@ -38,6 +38,7 @@ pub mod PlaceOrder
 pub mod OnwardLaws
 pub mod FirstFree
 pub mod OnwardTests
+pub mod SearchLaws
 pub mod NormalLaws
 pub mod StandsLaws
 pub mod OutputLaws

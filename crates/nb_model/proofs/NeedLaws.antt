@@ -119,3 +119,12 @@ none_ready x q none has = by (is_kind x 10 (scn_page_of x q)) refl
     by true e = e
     by false e = absurd (some_none (scn_page_of x q)
         (sym (ap (λ (t : Bool). elim t as (λ z. Option ℕ) [ true ↦ Some (scn_page_of x q) | false ↦ None ]) has) ∙ sym (entry_first x x q false e) ∙ none))
+
+-- two lists of needs of which none is unmet
+pub both_none : (a b : Option ℕ) → first_behind a b ≡ None → (a ≡ None) × (b ≡ None)
+unfolding first_behind
+both_none None b e = (refl, e)
+both_none (Some q) b e = absurd (some_none q e)
+  where
+    some_none : (q : ℕ) → Some q ≡ None → ⊥
+    some_none q e = cc

@@ -36,6 +36,7 @@ pub record IsOnTheWay (old now : Image) (from made fresh : ℕ) : Type 0 where
   pub made_page : made ≢ 0 → is_kind now 10 made ≡ true
   pub entries : (s : ℕ) → is_scn_place (image_size old) s ≡ true → made < s → is_kind now 10 s ≡ is_kind old 10 s
   pub asked : 5 < from → HasScnPage now (inventory_of now (from - 1))
+  pub read : 5 < from → is_kind now 2 (inventory_of now (from - 1)) ≡ true
 
 -- at the start
 pub way_begins : (x : Image) → IsShaped x → IsOnTheWay x x 5 0 0
@@ -63,6 +64,7 @@ way_begins x h =
       made_page = λ some. absurd (some refl);
       entries = λ s at behind. refl;
       asked = λ more. absurd (omega (arith, more));
+      read = λ more. absurd (omega (arith, more));
     }
 
 -- a visit changes the kind of no other page
@@ -164,6 +166,12 @@ module _ (old now next : Image) (from made fresh p kind m f : ℕ) (way : IsOnTh
       let before = map_entry_before now p way.shaped.size (omega (arith, five, from_p)) in
       subst (HasScnPage next) (sym same) (scn_page_moves now next (inventory_of now p) on.size
       (λ is. same_kind 10 (scn_page_of now (inventory_of now p)) (λ e. absurd (omega (arith, e, before))) ∙ is) entry)
+
+  read : is_kind next 2 (inventory_of next (p + 1 - 1)) ≡ true
+  read =
+      let e : p + 1 - 1 ≡ p = omega arith in
+      let same : inventory_of next (p + 1 - 1) ≡ inventory_of old p = ap (λ (q : ℕ). inventory_of next q) e ∙ ap (λ (s : ℕ). inventory_place s (p / bits_in s)) next_size in
+      ap (is_kind next 2) same ∙ same_kind 2 (inventory_of old p) (map_not_here (p / w) (omega arith)) ∙ tested (p / w) (omega arith)
 
   scn_made : is_scn_place size p ≡ true → is_kind next 10 p ≡ true
   scn_made at = subst (λ (n : ℕ). is_kind next n p ≡ true) (of_entries at) here_kind
@@ -282,4 +290,5 @@ module _ (old now next : Image) (from made fresh p kind m f : ℕ) (way : IsOnTh
         made_page = made_by.page;
         entries = made_by.entries;
         asked = λ more. asked;
+        read = λ more. read;
       }
