@@ -1,14 +1,17 @@
 -- The inventory pages that a search reads, and the first of them that isn't of its kind.
 use Rattle.std.proofs.Common.{◌≡◌, ◌≢◌, inl, inr, ℕ, zero, suc, ◌+◌, ◌-◌, ◌*◌, ◌/◌, ◌<◌, ◌≤◌, List, [], ◌∷◌, ◌++◌, length, refl, sym, ap, subst, ◌∙◌, arith, mul-le-mul_right}
-use Rattle.std.specs.Prelude.{Bool, true, false, not, ◌==◌, IsTrue, Option, Some, None, max}
-use Rattle.std.proofs.Math.Nat.{div-mul-le_self}
+use Rattle.std.specs.Prelude.{Bool, true, false, not, ◌==◌, IsTrue, Option, Some, None, Result, Ok, Err, IsErr, IsErrAnd, max}
+use Rattle.std.proofs.Math.Nat.{div-mul-le_self, mul-div_cancel}
 use Rattle.std.proofs.lemmas.Nat.{le-div}
 use Rattle.std.proofs.lemmas.Bool.{true≢false}
 use Rattle.std.proofs.lemmas.Bool.Decides.{eqb_tells, leb_tells}
 use Rattle.nb_fields.specs.Places.{is_page_size, bits_in, inventory_place}
-use Rattle.nb_fields.proofs.PlaceLemmas.{bits-least}
+use Rattle.nb_fields.proofs.PlaceLemmas.{bits-least, inventory_index}
+use Rattle.nb_host.specs.declared.faults.Fault.{Fault}
+use Rattle.nb_host.specs.declared.faults.Fault.TheVariants.{Refused, Device, Memory}
 use Rattle.nb_host.specs.declared.refusals.Refusal.{Refusal}
 use Rattle.nb_host.specs.declared.refusals.Refusal.TheVariants.{NotDatabase}
+use Rattle.nb_change.proofs.ResultLaws.{passed_on}
 use Rattle.nb_model.specs.Image.{Image, image_size}
 use Rattle.nb_model.specs.Forms.{is_kind, inventory_of, is_free_page, free_from, Need, first_not, maps_from}
 use Rattle.nb_model.specs.Causes.{Cause, when, not_kind}
@@ -16,7 +19,9 @@ use Rattle.nb_model.proofs.NeedLaws.{first_behind, first_append, behind_none, ma
 use Rattle.nb_model.proofs.FirstFree.{IsLowestFree, free_from_is}
 use Rattle.nb_model.proofs.PlaceOrder.{div_rises}
 use Rattle.nb_model.proofs.SearchLaws.{last_map}
-use Rattle.nb_engine.specs.Find.{AreTaken, need_cause, maps_up_to, AreMaps}
+use Rattle.nb_model.specs.Way.{maps_up_to}
+use Rattle.nb_state.specs.Does.{Tested}
+use Rattle.nb_engine.specs.Find.{AreTaken, RefusedFor, need_cause, AreMaps}
 
 -- what a test of a page's kind tells
 kind_by : (t : Bool) (p : ℕ) (r : Refusal) → when (not t) (NotDatabase p) ≡ Some r → (t ≡ false) × (r ≡ NotDatabase p)
@@ -156,3 +161,35 @@ module _ (image : Image) (from p : ℕ) (size : IsTrue (is_page_size (image_size
       all_found image (image_size image) (from / v) (p / v) rise (λ i low high.
       let step : i * v ≤ 1048575 / v * v = mul-le-mul_right v (omega (arith, high, same)) in
       maps (omega (arith, less, long)) i low (omega (arith, step, whole, end)) (omega (arith, step, whole, long)))
+
+-- what a test of the first inventory page found is the refusal of the call that passes it on
+pub refused_on : (S T : Type 0) (result : Result T Fault) (fault : Fault) (found cause : Cause) → IsErr result × IsErrAnd result (λ f. f ≡ fault) → ((r : Refusal) → found ≡ Some r → cause ≡ Some r)
+    → Tested {T = S} (Err fault) found → RefusedFor result cause
+refused_on S T result fault found cause passed are tested = subst (λ (x : Result T Fault). RefusedFor x cause) (sym (passed_on result fault passed)) (by fault tested)
+  where
+    by : (f : Fault) → Tested {T = S} (Err f) found → RefusedFor {T = T} (Err f) cause
+    by (Refused r) e = are r e
+    by Device e = tt
+    by Memory e = tt
+
+pub tested_by : (S T : Type 0) (result : Result T Fault) (fault : Fault) (found cause : Cause) → IsErr result × IsErrAnd result (λ f. f ≡ fault) → ((r : Refusal) → found ≡ Some r → cause ≡ Some r)
+    → RefusedFor {T = S} (Err fault) found → Tested result cause
+tested_by S T result fault found cause passed are tested = subst (λ (x : Result T Fault). Tested x cause) (sym (passed_on result fault passed)) (by fault tested)
+  where
+    by : (f : Fault) → RefusedFor {T = S} (Err f) found → Tested {T = T} (Err f) cause
+    by (Refused r) e = are r e
+    by Device e = tt
+    by Memory e = tt
+
+-- pages with their bits in one inventory page
+pub index_same : (size p q : ℕ) → IsTrue (is_page_size size) → inventory_place size (q / bits_in size) ≡ inventory_place size (p / bits_in size) → q / bits_in size ≡ p / bits_in size
+index_same size p q is same =
+    let i : ℕ = inventory_place size (p / bits_in size) in
+    sym (inventory_index size (q / bits_in size) i is same) ∙ inventory_index size (p / bits_in size) i is refl
+
+-- the first page behind them
+pub next_group : (page w next : ℕ) → 0 < w → next ≡ (page / w + 1) * w → next / w ≡ page / w + 1
+next_group page w next some e = ap (λ (n : ℕ). n / w) e ∙ mul-div_cancel (page / w + 1) some
+
+pub next_whole : (page w next : ℕ) → 0 < w → next ≡ (page / w + 1) * w → next / w * w ≡ next
+next_whole page w next some e = ap (λ (n : ℕ). n * w) (next_group page w next some e) ∙ sym e

@@ -1,11 +1,11 @@
 -- The search for a free page, and for the place of a new page.
-use Rattle.std.specs.Prelude.{◌≡◌, ℕ, ◌+◌, ◌-◌, ◌*◌, ◌/◌, ◌<◌, ◌≤◌, List, [], ◌∷◌, length, nat_lt, min, true, false, Option, Some, None, Result, Ok, Err}
+use Rattle.std.specs.Prelude.{◌≡◌, ℕ, ◌+◌, ◌-◌, ◌*◌, ◌/◌, ◌<◌, ◌≤◌, [], ◌∷◌, length, nat_lt, min, true, false, Option, Some, None, Result, Ok, Err}
 use Rattle.nb_fields.specs.Places.{bits_in, inventory_place, is_system_place}
 use Rattle.nb_host.specs.declared.faults.Fault.{Fault}
 use Rattle.nb_host.specs.declared.faults.Fault.TheVariants.{Refused, Device, Memory}
 use Rattle.nb_host.specs.declared.refusals.Refusal.TheVariants.{NotDatabase, Full}
 use Rattle.nb_model.specs.Image.{Page, Image, page_at, image_size}
-use Rattle.nb_model.specs.Forms.{is_kind, inventory_of, scn_page_of, has_entry, is_free_page, Need, maps_from}
+use Rattle.nb_model.specs.Forms.{is_kind, inventory_of, scn_page_of, has_entry, is_free_page}
 use Rattle.nb_model.specs.Causes.{Cause, first_cause, not_kind}
 
 -- no page from one on and below another is below the length and free
@@ -107,10 +107,6 @@ RefusedFor (Ok value) cause = Unit
 RefusedFor (Err (Refused refusal)) cause = cause ≡ Some refusal
 RefusedFor (Err Device) cause = Unit
 RefusedFor (Err Memory) cause = Unit
-
--- the inventory pages from that of one page on up to that of another
-abbrev pub maps_up_to : Image → (from p : ℕ) → List Need
-maps_up_to image from p = maps_from (image_size image) (p / bits_in (image_size image) + 1 - from / bits_in (image_size image)) (from / bits_in (image_size image))
 
 -- the inventory pages from that of one page on, of pages up to another, are of their kind
 abbrev pub AreMaps : Image → (from p : ℕ) → Type 0

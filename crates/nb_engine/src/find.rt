@@ -5,6 +5,7 @@ ghost use Rattle.nb_change.specs.Counts.{CountsDevice};
 ghost use Rattle.nb_page.specs.Quiet.{Quiet};
 ghost use Rattle.nb_model.specs.Image.{Page, Image, image_size};
 ghost use Rattle.nb_model.specs.Causes.{not_kind, no_room};
+ghost use Rattle.nb_model.specs.Way.{maps_up_to};
 ghost use Rattle.nb_model.specs.Forms.{inventory_of, free_from, lowest_free, first_not};
 ghost use Rattle.nb_model.specs.Sound.{IsSoundImage, HasHeader};
 ghost use Rattle.nb_model.specs.Trail.{Trail};
@@ -12,7 +13,7 @@ ghost use Rattle.nb_state.specs.Open.{IsOpen, but_pages};
 ghost use Rattle.nb_state.specs.Does.{Tested};
 ghost use Rattle.nb_engine.specs.Put.{Reads};
 ghost use Rattle.nb_engine.specs.Data.{second_data};
-ghost use Rattle.nb_engine.specs.Find.{IsRoom, AreTaken, IsFreeNear, IsNextPlace, IsFirstRoom, IsMap, EndsAt, HoldsMap, RefusesFull, RefusesFrom, RefusedFor, need_cause, maps_up_to, AreMaps, IsWayReady, not_there, no_entry_page, not_ready};
+ghost use Rattle.nb_engine.specs.Find.{IsRoom, AreTaken, IsFreeNear, IsNextPlace, IsFirstRoom, IsMap, EndsAt, HoldsMap, RefusesFull, RefusesFrom, RefusedFor, need_cause, AreMaps, IsWayReady, not_there, no_entry_page, not_ready};
 ghost use Rattle.nb_engine.specs.Make.{new_of};
 
 use crate::pages::{InventoryPage, ScnPage};

@@ -5,12 +5,13 @@ ghost use Rattle.nb_change.specs.Counts.{CountsDevice};
 ghost use Rattle.nb_page.specs.Quiet.{Quiet};
 ghost use Rattle.nb_model.specs.Image.{Page, Image, image_size};
 ghost use Rattle.nb_model.specs.Forms.{inventory_of, free_from, is_kind, system_kind, first_not};
+ghost use Rattle.nb_model.specs.Causes.{not_kind};
 ghost use Rattle.nb_model.specs.Trail.{Trail};
-ghost use Rattle.nb_model.proofs.OnwardLaws.{IsMadeBehind, IsFreshBehind};
+ghost use Rattle.nb_model.specs.Way.{next_place, maps_up_to, maps_on, entry_on, map_entry_on, own_entry_on, IsMadeBehind, IsFreshBehind};
 ghost use Rattle.nb_state.specs.Open.{IsOpen, but_pages};
 ghost use Rattle.nb_state.specs.Does.{Tested};
-ghost use Rattle.nb_engine.specs.Find.{IsMap, EndsAt, HoldsMap, need_cause, maps_up_to};
-ghost use Rattle.nb_engine.specs.Way.{next_place, maps_on, entry_on, map_entry_on, own_entry_on, way_cause};
+ghost use Rattle.nb_engine.specs.Find.{IsMap, EndsAt, HoldsMap, need_cause};
+ghost use Rattle.nb_engine.specs.Way.{way_cause};
 
 use crate::find::{FIRST_TO_GIVE, MOST_PAGES, is_system_place, next_free, was_read};
 use crate::pages::{InventoryPage, ScnPage};
@@ -40,7 +41,7 @@ fn hold_last<H: Host>(
 ) -> Result<(), Fault>
     requires room { length map.old ≡ store.old.files.page_size }
     requires number { number < 1048576 }
-    ensures test { (t : Trail) → IsTrue H.tells → IsOpen (H.world host.old) store.old t → EndsAt t.base.image from number map.old → Tested result (Rattle.nb_model.specs.Causes.not_kind t.base.image 2 (inventory_of t.base.image number)) }
+    ensures test { (t : Trail) → IsTrue H.tells → IsOpen (H.world host.old) store.old t → EndsAt t.base.image from number map.old → Tested result (not_kind t.base.image 2 (inventory_of t.base.image number)) }
     ensures map { (t : Trail) → IsTrue H.tells → IsOpen (H.world host.old) store.old t → EndsAt t.base.image from number map.old → OnOk result (IsMap t.base.image number map.new) }
     ensures room { length map.new ≡ length map.old }
     ensures open { (t : Trail) → IsTrue H.tells → IsOpen (H.world host.old) store.old t → IsOpen (H.world host.new) store.new t }
@@ -201,8 +202,8 @@ fn pass<H: Host>(
     requires place { place < 1048576 }
     requires system { is_system_place store.old.files.page_size place ≡ true }
     ensures test { (t : Trail) → IsTrue H.tells → IsOpen (H.world host.old) store.old t → Tested result (need_cause (first_not t.base.image (own_entry_on t.base.image way.old.made place))) }
-    ensures made { (t : Trail) → IsTrue H.tells → IsOpen (H.world host.old) store.old t → OnOk result (IsMadeBehind t.base.image t.base.image place way.old.made way.new.made) }
-    ensures fresh { (t : Trail) → IsTrue H.tells → IsOpen (H.world host.old) store.old t → OnOk result (IsFreshBehind t.base.image t.base.image place way.old.fresh way.new.fresh) }
+    ensures made { (t : Trail) → IsTrue H.tells → IsOpen (H.world host.old) store.old t → OnOk result (IsMadeBehind t.base.image place way.old.made way.new.made) }
+    ensures fresh { (t : Trail) → IsTrue H.tells → IsOpen (H.world host.old) store.old t → OnOk result (IsFreshBehind t.base.image place way.old.fresh way.new.fresh) }
     ensures from { way.new.from ≡ way.old.from }
     ensures map_room { length map.new ≡ length map.old }
     ensures scn_room { length scn_page.new ≡ length scn_page.old }

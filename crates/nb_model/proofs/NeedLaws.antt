@@ -25,6 +25,10 @@ first_append x (n ∷ ns) ms = by (is_kind x n.kind n.page) (first_append x ns m
     by true rest = rest
     by false rest = refl
 
+pub behind_some : (q : ℕ) (o : Option ℕ) → first_behind (Some q) o ≡ Some q
+unfolding first_behind
+behind_some q o = refl
+
 pub behind_none : (o : Option ℕ) → first_behind None o ≡ o
 unfolding first_behind
 behind_none o = refl

@@ -9,6 +9,7 @@ use Rattle.nb_fields.specs.Page.{kind_of}
 use Rattle.nb_fields.proofs.PlaceLemmas.{bits-least}
 use Rattle.nb_model.specs.Image.{Image, page_at, image_size}
 use Rattle.nb_model.specs.Forms.{is_kind, inventory_of, scn_page_of, has_entry, is_free_page, lowest_free, free_from, system_kind}
+use Rattle.nb_model.specs.Way.{IsMadeBehind, same_made, made_here, IsFreshBehind, same_fresh, fresh_here}
 use Rattle.nb_model.proofs.SoundLaws.{inventory_place_some, scn_page_there, inventory_there}
 use Rattle.nb_model.proofs.NeedLaws.{HasScnPage}
 use Rattle.nb_model.proofs.NewSound.{inventory_before, places_apart}
@@ -80,22 +81,12 @@ kind_same now next p kind k r on there ne =
     ap (λ (t : Bool). t && kind_of (page_at next r) == k) (below_same r (length now) (length next) p on.long there ne)
     ∙ ap (λ (n : ℕ). nat_lt r (length now) && n == k) (on.kinds r ne)
 
--- which SCN place was passed last without its page, behind page p: the same, or p
-pub data IsMadeBehind (old now : Image) (p made m : ℕ) : Type 0 where
-  stays : m ≡ made → (is_scn_place (image_size old) p ≡ true → is_kind now 10 p ≡ true) → IsMadeBehind old now p made m
-  is_new : m ≡ p → is_scn_place (image_size old) p ≡ true → is_kind now 10 p ≡ false → IsMadeBehind old now p made m
-
--- and which place of an inventory page
-pub data IsFreshBehind (old now : Image) (p fresh f : ℕ) : Type 0 where
-  stays : f ≡ fresh → (is_inventory_place (image_size old) p ≡ true → is_kind now 2 p ≡ true) → IsFreshBehind old now p fresh f
-  is_new : f ≡ p → is_inventory_place (image_size old) p ≡ true → is_kind now 2 p ≡ false → IsFreshBehind old now p fresh f
-
 -- A page further: the search came to page p, the lowest free page, and left it taken.
 module _ (old now next : Image) (from made fresh p kind m f : ℕ) (way : IsOnTheWay old now from made fresh) (on : IsVisited now next p kind)
     (lowest : (q : ℕ) → from ≤ q → q < p → is_free_page now q ≡ false) (from_p : from ≤ p) (there : p ≤ length now)
     (of_map : is_inventory_place (image_size old) p ≡ true → kind ≡ 2) (of_entries : is_scn_place (image_size old) p ≡ true → kind ≡ 10)
     (tested : (k : ℕ) → k ≤ p / bits_in (image_size old) → is_kind now 2 (inventory_place (image_size old) k) ≡ true)
-    (entry : HasScnPage now (inventory_of now p)) (made_is : IsMadeBehind old now p made m) (fresh_is : IsFreshBehind old now p fresh f) where
+    (entry : HasScnPage now (inventory_of now p)) (made_is : IsMadeBehind now p made m) (fresh_is : IsFreshBehind now p fresh f) where
   abbrev size : ℕ
   size = image_size old
 
@@ -193,8 +184,8 @@ module _ (old now next : Image) (from made fresh p kind m f : ℕ) (way : IsOnTh
     page : m ≢ 0 → is_kind next 10 m ≡ true
     entries : (s : ℕ) → is_scn_place size s ≡ true → m < s → is_kind next 10 s ≡ is_kind old 10 s
 
-  by_made : IsMadeBehind old now p made m → ByMade
-  by_made (stays same kept) = let low = way.made_before in record {
+  by_made : IsMadeBehind now p made m → ByMade
+  by_made (same_made same kept_now) = let kept : is_scn_place size p ≡ true → is_kind now 10 p ≡ true = λ at. kept_now (ap (λ (n : ℕ). is_scn_place n p) way.size ∙ at) in let low = way.made_before in record {
     before = omega (arith, same, low, from_p);
     five = λ some. omega (arith, same, way.made_five (λ e. some (same ∙ e)));
     place = λ some. ap (is_scn_place size) same ∙ way.made_place (λ e. some (same ∙ e));
@@ -206,7 +197,7 @@ module _ (old now next : Image) (from made fresh p kind m f : ℕ) (way : IsOnTh
       | inr e ↦ same_kind 10 s e.1 ∙ way.entries s at (omega (arith, same, behind))
     ];
   }
-  by_made (is_new same at none) = let low = way.made_before in record {
+  by_made (made_here same at_now none) = let at : is_scn_place size p ≡ true = ap (λ (n : ℕ). is_scn_place n p) (sym way.size) ∙ at_now in let low = way.made_before in record {
     before = omega (arith, same);
     five = λ some. let five = way.five in omega (arith, same, five, from_p);
     place = λ some. ap (is_scn_place size) same ∙ at;
@@ -233,8 +224,8 @@ module _ (old now next : Image) (from made fresh p kind m f : ℕ) (way : IsOnTh
   old_ahead : (k : ℕ) → (p + 1) / w ≤ k → inventory_place size k ≢ fresh → is_kind now 2 (inventory_place size k) ≡ is_kind old 2 (inventory_place size k)
   old_ahead k behind other = way.ahead k (omega (arith, behind, div_rises from (p + 1) w some_bits (omega (arith, from_p)))) other
 
-  by_fresh : IsFreshBehind old now p fresh f → ByFresh
-  by_fresh (stays same kept) = let low = way.fresh_before in record {
+  by_fresh : IsFreshBehind now p fresh f → ByFresh
+  by_fresh (same_fresh same kept_now) = let kept : is_inventory_place size p ≡ true → is_kind now 2 p ≡ true = λ at. kept_now (ap (λ (n : ℕ). is_inventory_place n p) way.size ∙ at) in let low = way.fresh_before in record {
     before = omega (arith, same, low, from_p);
     place = λ some. ap (is_inventory_place size) same ∙ way.fresh_place (λ e. some (same ∙ e));
     page = λ some. ap (is_kind next 2) same ∙ same_kind 2 fresh fresh_no_p ∙ way.fresh_map (λ e. some (same ∙ e));
@@ -253,7 +244,7 @@ module _ (old now next : Image) (from made fresh p kind m f : ℕ) (way : IsOnTh
       | inr e ↦ same_kind 2 (inventory_place size k) e.1 ∙ old_ahead k behind (λ own. other (own ∙ sym same))
     ];
   }
-  by_fresh (is_new same at none) = let low = way.fresh_before in record {
+  by_fresh (fresh_here same at_now none) = let at : is_inventory_place size p ≡ true = ap (λ (n : ℕ). is_inventory_place n p) (sym way.size) ∙ at_now in let low = way.fresh_before in record {
     before = omega (arith, same);
     place = λ some. ap (is_inventory_place size) same ∙ at;
     page = λ some. ap (is_kind next 2) same ∙ map_made at;

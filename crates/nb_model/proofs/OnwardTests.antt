@@ -7,6 +7,7 @@ use Rattle.nb_fields.specs.Places.{is_page_size, entries_in, bits_in, inventory_
 use Rattle.nb_fields.proofs.PlaceLemmas.{bits-least}
 use Rattle.nb_model.specs.Image.{Image, page_at, image_size}
 use Rattle.nb_model.specs.Forms.{is_kind, inventory_of, scn_page_of, has_entry, is_free_page, lowest_free, free_from, system_kind, Need, first_not, maps_from, entry_page, is_kept, needed_at}
+use Rattle.nb_model.specs.Way.{next_place, maps_on, entry_on, map_entry_on, own_entry_on, needed_on}
 use Rattle.nb_model.proofs.SoundLaws.{inventory_place_some, scn_place_some, scn_page_there, inventory_there}
 use Rattle.nb_model.proofs.NeedLaws.{HasScnPage, first_behind, first_append, behind_none, maps_found, maps_alike, maps_split, entry_moves, first_none, entry_found, entry_alike, ready_none}
 use Rattle.nb_model.proofs.FirstFree.{IsLowestFree, free_from_is, lowest_one, lowest_is}
@@ -14,33 +15,8 @@ use Rattle.nb_model.proofs.StepLaws.{IsShaped}
 use Rattle.nb_model.proofs.PlaceOrder.{div_rises, map_places_from, map_place_is, maps_rise, map_behind, scn_behind}
 use Rattle.nb_model.proofs.OnwardLaws.{IsOnTheWay}
 
--- where the search goes on: in a fresh inventory page each page is free
-abbrev pub next_place : (old : Image) (from fresh : ℕ) → ℕ
-next_place old from fresh = elim (inventory_of old from == fresh) [ true ↦ from | false ↦ free_from (length old - from) from old ]
-
--- the inventory pages that it reads for that
-abbrev pub maps_on : (old : Image) (from fresh p : ℕ) → List Need
-maps_on old from fresh p = elim (inventory_of old from == fresh) [
-  | true ↦ []
-  | false ↦ maps_from (image_size old) (p / bits_in (image_size old) + 1 - from / bits_in (image_size old)) (from / bits_in (image_size old))
-]
-
--- the SCN page of page q, unless it is made on the way
-abbrev pub entry_on : (old : Image) (made q : ℕ) → List Need
-entry_on old made q = elim (scn_page_of old q == made) [ true ↦ [] | false ↦ entry_page old q ]
-
--- that of the inventory page of page p, unless it was asked for where the search was before
-abbrev pub map_entry_on : (old : Image) (from made p : ℕ) → List Need
-map_entry_on old from made p = elim (nat_lt 5 from && inventory_of old p == inventory_of old (from - 1)) [ true ↦ [] | false ↦ entry_on old made (inventory_of old p) ]
-
--- all that a new page needs of page p, where the search comes to it next
-abbrev pub needed_on : (old : Image) (from made fresh p : ℕ) → List Need
-needed_on old from made fresh p = maps_on old from fresh p ++ elim (p == 1048576) [
-  | true ↦ []
-  | false ↦ map_entry_on old from made p ++ elim (is_kept old p) [ true ↦ [] | false ↦ entry_on old made p ]
-]
-
-plain_from : (size p : ℕ) → is_inventory_place size p ≡ false → is_scn_place size p ≡ false → is_system_place size p ≡ false
+-- a page where no system page stands
+pub plain_from : (size p : ℕ) → is_inventory_place size p ≡ false → is_scn_place size p ≡ false → is_system_place size p ≡ false
 unfolding is_system_place
 plain_from size p e f = ap (λ (t : Bool). t || is_scn_place size p) e ∙ f
 
