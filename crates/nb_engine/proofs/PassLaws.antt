@@ -7,11 +7,11 @@ use Rattle.nb_fields.specs.Places.{is_inventory_place, is_scn_place, is_system_p
 use Rattle.nb_host.specs.declared.refusals.Refusal.{Refusal}
 use Rattle.nb_host.specs.declared.refusals.Refusal.TheVariants.{NotDatabase, Full}
 use Rattle.nb_model.specs.Image.{Image, image_size}
-use Rattle.nb_model.specs.Forms.{is_kind, inventory_of, scn_page_of, has_entry, system_kind, Need, first_not, entry_page, is_kept}
+use Rattle.nb_model.specs.Forms.{is_kind, inventory_of, scn_page_of, has_entry, free_from, system_kind, Need, first_not, entry_page, is_kept}
 use Rattle.nb_model.specs.Causes.{Cause, first_cause, when, not_kind}
 use Rattle.nb_model.proofs.NeedLaws.{first_behind, first_append, behind_none, behind_some, first_none}
 use Rattle.nb_engine.specs.Find.{need_cause}
-use Rattle.nb_model.specs.Way.{next_place, maps_on, entry_on, map_entry_on, own_entry_on, needed_on}
+use Rattle.nb_model.specs.Way.{next_place, maps_up_to, maps_on, entry_on, map_entry_on, own_entry_on, needed_on}
 use Rattle.nb_engine.specs.Way.{way_cause}
 use Rattle.nb_engine.proofs.CauseLaws.{first_next, first_here}
 
@@ -138,3 +138,16 @@ module _ (x : Image) (from made fresh p : ℕ) (at : p ≡ next_place x from fre
       way_own e =
           asked_is ∙ ap (λ (o : Option ℕ). first_cause (need_cause (first_behind o (first_not x (own_entry_on x made p))) ∷ None ∷ [])) (need_none (first_not x (map_entry_on x from made p)) e)
           ∙ ap (λ (o : Option ℕ). first_cause (need_cause o ∷ None ∷ [])) (behind_none (first_not x (own_entry_on x made p))) ∙ alone (need_cause (first_not x (own_entry_on x made p)))
+
+-- where the search goes on, and what it reads for that
+pub place_fresh : (x : Image) (from fresh : ℕ) → inventory_of x from ≡ fresh → next_place x from fresh ≡ from
+place_fresh x from fresh own = ap (λ (t : Bool). elim t as (λ z. ℕ) [ true ↦ from | false ↦ free_from (length x - from) from x ]) (yes (inventory_of x from) fresh own)
+
+pub place_free : (x : Image) (from fresh : ℕ) → inventory_of x from ≢ fresh → next_place x from fresh ≡ free_from (length x - from) from x
+place_free x from fresh other = ap (λ (t : Bool). elim t as (λ z. ℕ) [ true ↦ from | false ↦ free_from (length x - from) from x ]) (no (inventory_of x from) fresh other)
+
+pub maps_fresh : (x : Image) (from fresh p : ℕ) → inventory_of x from ≡ fresh → need_cause (first_not x (maps_on x from fresh p)) ≡ None
+maps_fresh x from fresh p own = ap (λ (t : Bool). need_cause (first_not x (elim t as (λ z. List Need) [ true ↦ [] | false ↦ maps_up_to x from p ]))) (yes (inventory_of x from) fresh own) ∙ ap need_cause (first_none x)
+
+pub maps_free : (x : Image) (from fresh p : ℕ) → inventory_of x from ≢ fresh → maps_on x from fresh p ≡ maps_up_to x from p
+maps_free x from fresh p other = ap (λ (t : Bool). elim t as (λ z. List Need) [ true ↦ [] | false ↦ maps_up_to x from p ]) (no (inventory_of x from) fresh other)
