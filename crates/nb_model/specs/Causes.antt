@@ -76,6 +76,15 @@ not_of_form d = lowest_broken d.broken
 abbrev pub no_room : Draft → Cause
 no_room d = when d.full (Full 1048576)
 
+-- the database is too short for a new page
+abbrev pub too_short : Image → Cause
+too_short image = when (nat_lt (length image) 5) (NotDatabase (length image))
+
+-- so, where there is no room without one
+abbrev pub short_for : {X : Type 0} → (room : Option X) → Image → Cause
+short_for (Some x) image = None
+short_for None image = too_short image
+
 -- a copy or merge of another session runs; of any session
 abbrev pub runs_other : Option ℕ → ℕ → Cause
 runs_other None session = None
