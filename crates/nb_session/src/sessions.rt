@@ -84,7 +84,7 @@ fn play<H: Host>(
 }
 
 /// Plays a script on the open database, all but its first statement, to the end of every session, and says so much of it; then it writes
-/// out what waits. Answers whether a statement was refused. Where a call of the host fails or memory runs out, it ends at once.
+/// out what waits. Answers whether a statement was refused. Where a call of the host fails or memory runs out, no further turn is taken.
 ///
 /// How many pages are in memory at a `show cache` isn't computed by the definitions: some numbers are shown, and with them the whole run is
 /// exact, whatever account it begins from.

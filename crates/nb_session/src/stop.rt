@@ -4,7 +4,7 @@ ghost use Rattle.nb_session.specs.declared.stop.Stop.TheVariants.{Device, Memory
 use nb_host::HostFault;
 use std::alloc::AllocError;
 
-/// Why a run ended at once.
+/// Why a run ended early.
 #[derive(Clone, Copy, Debug, PartialEq, Eq)]
 pub enum Stop {
     Device,

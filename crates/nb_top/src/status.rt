@@ -7,8 +7,8 @@ pub enum Status {
     Refused = 1,
     /// The words name no job.
     Usage = 2,
-    /// A call of the host failed. The run ended at once.
+    /// A call of the host failed, and the run ended.
     Device = 3,
-    /// Memory ran out. The run ended at once.
+    /// Memory ran out, and the run ended.
     Memory = 4,
 }
