@@ -21,19 +21,19 @@ use Rattle.nb_cli.specs.Exit.{number_of}
 
 -- What is asked for was done, and what still waited was then given to the system. The status is that of the run, or Device where what
 -- waited couldn't be written.
-pub record EndsRun (tells : Bool) (status : Status) (old new : World) (asked : Asked) : Type 1 where
+pub record EndsRun {H : Type 0} (tells : Bool) (world : H → World) (status : Status) (old new : H) (asked : Asked) : Type 0 where
   pub ran : Status
-  pub behind : World
-  pub run : IsRun tells ran old behind asked
-  pub still : IsStill behind new
-  pub silent : IsSilent behind new
-  pub passes : Passes behind new
+  pub behind : H
+  pub run : IsRun tells ran (world old) (world behind) asked
+  pub still : IsStill (world behind) (world new)
+  pub silent : IsSilent (world behind) (world new)
+  pub passes : Passes (world behind) (world new)
   pub ended : (status ≡ ran) ⊎ (status ≡ Device)
 
 -- so the program ends, with the number of such a status
-pub record ExitsAs (tells : Bool) (code : ℕ) (old new : World) (asked : Asked) : Type 1 where
+pub record ExitsAs {H : Type 0} (tells : Bool) (world : H → World) (code : ℕ) (old new : H) (asked : Asked) : Type 0 where
   pub status : Status
-  pub ends : EndsRun tells status old new asked
+  pub ends : EndsRun tells world status old new asked
   pub number : code ≡ number_of status
 
 -- What was read of the words: the job that they name, or that they name none, or that memory was too short to read them. A word that is no text

@@ -72,7 +72,7 @@ fn run_out<H: Beside>(
 ) -> Status
     requires read { IsReadJob job.now }
     requires none { broken.old ≡ None }
-    ensures ends { (asked : Asked) → IsAskedBy job.now (H.world host.old).files asked → EndsRun H.tells result (H.world host.old) (H.world host.new) asked }
+    ensures ends { (asked : Asked) → IsAskedBy job.now (H.world host.old).files asked → EndsRun H.tells H.world result host.old host.new asked }
     ensures usage { result ≡ Status.Usage → NamesNone job.now }
     ensures no_job { NamesNone job.now → result ≢ Status.Done × result ≢ Status.Refused }
     ensures written { result ≢ Status.Device → result ≢ Status.Usage → H.waiting host.new ≡ None }
@@ -105,7 +105,7 @@ fn serve<H: Beside>(
     is_terminal: bool,
 ) -> ExitCode
     // Words that were read are those of the run. A word that is no text names no job, and want of memory leaves what they ask for unknown.
-    ensures ends { (asked : Asked) → IsAskedOf words.now (H.world host.old).files asked → ExitsAs H.tells (exit_status result) (H.world host.old) (H.world host.new) asked }
+    ensures ends { (asked : Asked) → IsAskedOf words.now (H.world host.old).files asked → ExitsAs H.tells H.world (exit_status result) host.old host.new asked }
     ensures usage { exit_status result ≡ 2 → IfOk words.now (λ words. job_of (map string_bytes words.items) ≡ None) }
     ensures no_job { IfOk words.now (λ words. job_of (map string_bytes words.items) ≡ None → exit_status result ≢ 0 × exit_status result ≢ 1) }
     ensures no_text { IfErr words.now (λ error. error_kind error ≢ ErrorKind.OutOfMemory → exit_status result ≢ 0 × exit_status result ≢ 1) }
