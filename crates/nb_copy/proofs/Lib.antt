@@ -28,3 +28,4 @@ pub mod StartLaws
 pub mod RoomStartLaws
 pub mod FileCopyLaws
 pub mod TouchLaws
+pub mod ReadLaws

@@ -1,5 +1,5 @@
 -- The start of a backup behind its tests: room in the history, the file, and the begin.
-use Rattle.std.proofs.Common.{◌≡◌, inl, inr, ℕ, ◌+◌, ◌<◌, ◌≤◌, List, [], ◌∷◌, ◌++◌, length, replicate, refl, sym, ap, subst, ◌∙◌, arith}
+use Rattle.std.proofs.Common.{◌≡◌, ◌≢◌, inl, inr, ℕ, ◌+◌, ◌<◌, ◌≤◌, List, [], ◌∷◌, ◌++◌, length, replicate, refl, sym, ap, subst, ◌∙◌, arith}
 use Rattle.std.specs.Prelude.{not, ◌==◌, nat_lt, IsTrue, Some, None, Result, Ok, Err}
 use Rattle.nb_fields.specs.Bytes.{number_in}
 use Rattle.nb_fields.specs.Header.{state_of, scn_of, size_of}
@@ -211,16 +211,16 @@ module _ (old mid : World) (a b : Held) (t : Trail) (s : Seen) (session : ℕ) (
         pub still_made : (result : Result LevelHead Fault) → BeginsFor result there new b d u guid (Some ask) session bare → IsMade new name
         still_made result begins = made_kept there new (OfFiles (name_of a)) _ name (begin_struck result begins) apart made
 
-        pub start_unbegun : (fault : Fault) → BeginsFor (Err fault) there new b d u guid (Some ask) session bare → StartsBackup (Err fault) old new a d t name guid outcome
-        start_unbegun (RefusedFault r) begins = absurd (none_some (sym starts_there ∙ begins.test))
+        pub start_unbegun : (fault : Fault) → fault ≢ Memory → BeginsFor (Err fault) there new b d u guid (Some ask) session bare → StartsBackup (Err fault) old new a d t name guid outcome
+        start_unbegun (RefusedFault r) sure begins = absurd (none_some (sym starts_there ∙ begins.test))
           where
             none_some : None ≡ Some r → ⊥
             none_some e = cc
-        start_unbegun Device begins =
+        start_unbegun Device sure begins =
             subst (λ (x : Outcome). StartsBackup (Err Device) old new a d t name guid x) (sym (turn_started s session since name none tries.test)) (record {
               says = tt;
               left = begun_left (Err Device) begins;
-              begun = inr (still_made (Err Device) begins);
+              begun = inr (still_made (Err Device) begins, sure);
               opened = tt;
               running = tt;
               gave = tt;
@@ -229,19 +229,7 @@ module _ (old mid : World) (a b : Held) (t : Trail) (s : Seen) (session : ℕ) (
               name = begins.name ∙ tries.makes.goes.name;
               started = tt;
             })
-        start_unbegun Memory begins =
-            subst (λ (x : Outcome). StartsBackup (Err Memory) old new a d t name guid x) (sym (turn_started s session since name none tries.test)) (record {
-              says = tt;
-              left = begun_left (Err Memory) begins;
-              begun = inr (still_made (Err Memory) begins);
-              opened = tt;
-              running = tt;
-              gave = tt;
-              times = begins.times ∙ made_gave.times;
-              refused = tt;
-              name = begins.name ∙ tries.makes.goes.name;
-              started = tt;
-            })
+        start_unbegun Memory sure begins = absurd (sure refl)
 
         -- it has begun
         module _ (begun : LevelHead) (begins : BeginsFor (Ok begun) there new b d u guid (Some ask) session bare) where
@@ -256,7 +244,7 @@ module _ (old mid : World) (a b : Held) (t : Trail) (s : Seen) (session : ℕ) (
               subst (λ (x : Outcome). StartsBackup (Ok copier) old new a d t name guid x) (sym (turn_started s session since name none tries.test)) (record {
                 says = refl;
                 left = begun_left (Ok begun) begins;
-                begun = inr (still_made (Ok begun) begins);
+                begun = inr (still_made (Ok begun) begins, tt);
                 opened = subst (λ (w : Trail). IsOpen new d w) (sym all_strokes) begins.opened;
                 running = begins.running;
                 gave = begins.gave ∙ ap (λ (gs : List (List ℕ)). gs ++ guid ∷ []) made_gave.guids;

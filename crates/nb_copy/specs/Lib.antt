@@ -8,3 +8,4 @@ pub mod FileCopying
 pub mod Starting
 pub mod Closing
 pub mod FileCopies
+pub mod Reading

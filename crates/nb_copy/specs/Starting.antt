@@ -1,8 +1,9 @@
 -- The start of a backup.
-use Rattle.std.specs.Prelude.{◌≡◌, ◌⊎◌, ℕ, zero, suc, ◌<◌, ◌≤◌, List, [], ◌∷◌, ◌++◌, length, replicate, Option, Some, None, is_none, nat_eq, Result, OnOk, IfOk}
+use Rattle.std.specs.Prelude.{◌≡◌, ◌⊎◌, ℕ, zero, suc, ◌<◌, ◌≤◌, List, [], ◌∷◌, ◌++◌, length, replicate, Option, Some, None, is_none, nat_eq, Result, OnOk, IfOk, IfErr, ◌≢◌}
 use Rattle.nb_host.specs.Files.{Files}
 use Rattle.nb_host.specs.World.{World}
 use Rattle.nb_host.specs.declared.faults.Fault.{Fault}
+use Rattle.nb_host.specs.declared.faults.Fault.TheVariants.{Memory}
 use Rattle.nb_host.specs.Names.{same_name}
 use Rattle.nb_host.specs.declared.refusals.Refusal.{Refusal}
 use Rattle.nb_host.specs.declared.refusals.Refusal.TheVariants.{NoHistory, NoGuid}
@@ -70,12 +71,16 @@ pub record HasNotBegun (old new : World) (name db : List ℕ) (t : Trail) (turn 
   pub guids : new.guids ≡ old.guids
   pub room : StartMakes old new name db t turn (room_in t.base.image).draft.strokes
 
+-- memory isn't short
+abbrev pub IsNotMemory : {T : Type 0} → Result T Fault → Type 0
+IsNotMemory result = IfErr result (λ fault. fault ≢ Memory)
+
 -- A backup into the file of that name is started, as its turn says; or it is refused, and changes nothing. However the call ends, nothing has
--- begun, or the file was made.
+-- begun, or the file was made; where memory is short nothing has begun.
 pub record StartsBackup (result : Result Backed Fault) (old new : World) (before after : Held) (t : Trail) (file guid : List ℕ) (turn : Outcome) : Type 0 where
   pub says : SaysNone result turn.reply
   pub left : StartMakes old new file (name_of before) t turn turn.strokes
-  pub begun : HasNotBegun old new file (name_of before) t turn ⊎ IsMade new file
+  pub begun : HasNotBegun old new file (name_of before) t turn ⊎ (IsMade new file × IsNotMemory result)
   pub opened : WhereEnded result (IsOpen new after (after_strokes t turn.strokes))
   pub running : WhereEnded result (after.running ≡ turn.running)
   pub gave : OnOk result (new.guids ≡ old.guids ++ guid ∷ [])

@@ -1,4 +1,4 @@
-ghost use Rattle.std.specs.Prelude.{◌≡◌, ◌⊎◌, ◌-◌, ◌<◌, ◌≤◌, ℕ, length, [], ◌∷◌, Option, Some, List, true, IsTrue, IfOk, OnOk};
+ghost use Rattle.std.specs.Prelude.{◌≡◌, ◌⊎◌, ◌+◌, ◌-◌, ◌<◌, ◌≤◌, ℕ, length, [], ◌∷◌, Option, Some, List, true, IsTrue, IfOk, OnOk};
 ghost use Rattle.nb_fields.specs.Places.{is_page_size};
 ghost use Rattle.nb_change.specs.Changes.{NoNames, Only};
 ghost use Rattle.nb_change.specs.Counts.{CountsDevice};
@@ -19,7 +19,8 @@ ghost use Rattle.nb_state.specs.Turns.{GaveAtMost};
 ghost use Rattle.nb_engine.specs.Stays.{StaysOpen};
 ghost use Rattle.nb_copy.specs.FileCopying.{file_count, file_next, file_written};
 ghost use Rattle.nb_copy.specs.Making.{IsMade};
-ghost use Rattle.nb_copy.specs.Starting.{StartsBackup, BeginsFor, IsBackingUp, KnowsFree, IsNineAtMost, IsItsLevel, ask_by, ask_in, earlier_cause, file_cause, turn_since};
+ghost use Rattle.nb_copy.specs.Reading.{asked_scn, page_reads};
+ghost use Rattle.nb_copy.specs.Starting.{StartsBackup, BeginsFor, IsBackingUp, IsNotMemory, KnowsFree, IsNineAtMost, IsItsLevel, ask_by, ask_in, earlier_cause, file_cause, turn_since};
 ghost use Rattle.nb_copy.specs.Closing.{BackupTurn, BackupCounts, Closes, GaveTimeAtMost, ReadsTwo};
 
 use crate::file_copy::FileCopy;
@@ -49,13 +50,14 @@ impl Model for Copier {
     ghost use Rattle.std.specs.Prelude.{◌≡◌, ◌≤◌};
     ghost use Rattle.nb_engine.specs.History.{IsPlaced};
     ghost use Rattle.nb_copy.specs.FileCopying.{file_name, file_page_size};
+    ghost use Rattle.nb_copy.specs.Reading.{asked_scn, earlier_scn};
     ghost use Rattle.nb_copy.specs.Starting.{Backed, ask_by};
 
     ghost Value = { Backed };
 
     ghost view = { λ c. record { backing = record { name = c.name; ask = ask_by c.head; scn = c.head.scn; guid = c.head.guid; page = c.room.page; slot = c.room.slot }; page_size = c.head.page_size; file = c.file } };
 
-    ghost invariant = { λ c. (c.head.level ≤ 9) × IsPlaced c.head.page_size c.room × (file_page_size c.file ≡ c.head.page_size) × (file_name c.file ≡ c.name) };
+    ghost invariant = { λ c. (c.head.level ≤ 9) × IsPlaced c.head.page_size c.room × (file_page_size c.file ≡ c.head.page_size) × (file_name c.file ≡ c.name) × (earlier_scn c.file ≡ asked_scn (ask_by c.head)) };
 }
 
 /// Tests whether a backup into a file of that name may begin. The refusals are `Access`, `WrongState` and `FileExists`, in this order.
@@ -124,7 +126,9 @@ fn begin<H: Host>(
         → BeginsFor result (H.world host.old) (H.world host.new) engine.old engine.new t guid ask session head.now }
     ensures asks { IsTrue H.tells → (guid : List ℕ) × (length guid ≡ 16) × GaveAtMost (H.world host.old) (H.world host.new) guid }
     ensures stays_open { (t : Trail) → IsTrue H.tells → IsOpen (H.world host.old) engine.old t → StaysOpen result (H.world host.old) (H.world host.new) engine.old engine.new t NoNames }
+    ensures takes_none { IsNotMemory result }
     ensures level { IfOk result (λ begun. begun.level ≡ head.now.level) }
+    ensures previous_scn { IfOk result (λ begun. begun.previous_scn ≡ head.now.previous_scn) }
     ensures size { IfOk result (λ begun. begun.page_size ≡ head.now.page_size) }
     ensures page_size { engine.new.files.page_size ≡ engine.old.files.page_size }
     ensures cap { engine.new.cap ≡ engine.old.cap }
@@ -161,7 +165,7 @@ fn start_from<H: Host>(
     ensures stays_open { (t : Trail) → IsTrue H.tells → IsOpen (H.world host.old) engine.old t → (name.now ≡ delta_name engine.old.files.name → ⊥)
         → StaysOpen result (H.world host.old) (H.world host.new) engine.old engine.new t (Only name.now) }
     ensures made_first { (t : Trail) → IsTrue H.tells → IsOpen (H.world host.old) engine.old t → (name.now ≡ delta_name engine.old.files.name → ⊥)
-        → (GaveNothing (H.world host.old) (H.world host.new) × Goes engine.old engine.new) ⊎ IsMade (H.world host.new) name.now }
+        → (GaveNothing (H.world host.old) (H.world host.new) × Goes engine.old engine.new) ⊎ (IsMade (H.world host.new) name.now × IsNotMemory result) }
     ensures free { IsTrue H.tells → OnOk result (is_free_name (H.world host.old).files name.now ≡ true) }
     ensures named { IfOk result (λ copier. copier.backing.name ≡ name.now) }
     ensures its_level { IfOk result (λ copier. IsItsLevel since copier.backing.ask.level) }
@@ -213,9 +217,9 @@ impl Copier {
         ensures stays_open { (t : Trail) → IsTrue H.tells → IsOpen (H.world host.old) engine.old t → (name.now ≡ delta_name engine.old.files.name → ⊥)
             → StaysOpen result (H.world host.old) (H.world host.new) engine.old engine.new t (Only name.now) }
 
-        // And however it ends, no GUID was taken and the state stays, or the file was made.
+        // And however it ends, no GUID was taken and the state stays, or the file was made; the former where memory is short.
         ensures made_first { (t : Trail) → IsTrue H.tells → IsOpen (H.world host.old) engine.old t → (name.now ≡ delta_name engine.old.files.name → ⊥)
-            → (GaveNothing (H.world host.old) (H.world host.new) × Goes engine.old engine.new) ⊎ IsMade (H.world host.new) name.now }
+            → (GaveNothing (H.world host.old) (H.world host.new) × Goes engine.old engine.new) ⊎ (IsMade (H.world host.new) name.now × IsNotMemory result) }
         ensures free { IsTrue H.tells → OnOk result (is_free_name (H.world host.old).files name.now ≡ true) }
         ensures named { IfOk result (λ copier. copier.backing.name ≡ name.now) }
         ensures level { IfOk result (λ copier. copier.backing.ask.level ≡ level) }
@@ -248,9 +252,9 @@ impl Copier {
         ensures stays_open { (t : Trail) → IsTrue H.tells → IsOpen (H.world host.old) engine.old t → (name.now ≡ delta_name engine.old.files.name → ⊥)
             → StaysOpen result (H.world host.old) (H.world host.new) engine.old engine.new t (Only name.now) }
 
-        // And however it ends, no GUID was taken and the state stays, or the file was made.
+        // And however it ends, no GUID was taken and the state stays, or the file was made; the former where memory is short.
         ensures made_first { (t : Trail) → IsTrue H.tells → IsOpen (H.world host.old) engine.old t → (name.now ≡ delta_name engine.old.files.name → ⊥)
-            → (GaveNothing (H.world host.old) (H.world host.new) × Goes engine.old engine.new) ⊎ IsMade (H.world host.new) name.now }
+            → (GaveNothing (H.world host.old) (H.world host.new) × Goes engine.old engine.new) ⊎ (IsMade (H.world host.new) name.now × IsNotMemory result) }
         ensures free { IsTrue H.tells → OnOk result (is_free_name (H.world host.old).files name.now ≡ true) }
         ensures named { IfOk result (λ copier. copier.backing.name ≡ name.now) }
         ensures size { IfOk result (λ copier. copier.page_size ≡ engine.old.files.page_size) }
@@ -334,6 +338,11 @@ impl Copier {
             → BackupTurn result (H.world host.old) (H.world host.new) engine.old engine.new self.old self.new t (next_time s.given) (close_backup s self.old.backing).strokes }
         ensures asks { (t : Trail) → IsTrue H.tells → IsOpen (H.world host.old) engine.old t → engine.old.files.state ≡ 1 → IsBackingUp (H.world host.old) self.old t.base.frozen → self.old.backing.page < length t.base.image
             → (OfFiles engine.old.files.name self.old.backing.name → ⊥) → (time : ℕ) × GaveTimeAtMost (H.world host.old) (H.world host.new) time }
+
+        // While pages are left a turn of level 0 reads its page, and one of a level of 1 to 9 page 0, an SCN page, or what has changed since the
+        // earlier backup by its SCN entry. `laws` has the sum of all turns.
+        ensures reads { (t : Trail) → IsTrue H.tells → IsOpen (H.world host.old) engine.old t → engine.old.files.state ≡ 1 → IsBackingUp (H.world host.old) self.old t.base.frozen → file_next self.old.file < file_count self.old.file
+            → (H.world host.new).reads ≤ (H.world host.old).reads + page_reads (asked_scn self.old.backing.ask) t.base.frozen (file_next self.old.file) }
 
         // Whatever stands in the database and in the file: only they are touched, and the database is open behind that.
         ensures stays_open { (t : Trail) → IsTrue H.tells → IsOpen (H.world host.old) engine.old t → (OfFiles engine.old.files.name self.old.backing.name → ⊥)

@@ -10,6 +10,7 @@ ghost use Rattle.nb_state.specs.Open.{IsOpen};
 ghost use Rattle.nb_copy.specs.FileCopying.{file_name, file_page_size, file_count, file_next, file_written, whole_file, IsFileCopying, IsSameFile, FileTurn, FileCounts};
 ghost use Rattle.nb_copy.specs.FileStarting.{IsNewFile, IsStartedFile};
 ghost use Rattle.nb_copy.specs.Making.{IsUnfinishedOr};
+ghost use Rattle.nb_copy.specs.Reading.{earlier_scn, page_reads};
 ghost use Rattle.nb_base.specs.Touches.{Touches};
 
 use crate::level_copy::LevelCopy;
@@ -86,11 +87,14 @@ impl FileCopy {
             → Changes (H.world host.old) (H.world host.new) (Only (file_name self.old)) (Remade (H.world host.old) (file_name self.old) (IsUnfinishedOr (whole_file self.old t.base.frozen))) }
         ensures answer { (t : Trail) → IsTrue H.tells → IsOpen (H.world host.old) engine.old t → engine.old.files.state ≡ 1 → IsFileCopying (H.world host.old) self.old t.base.frozen
             → FileTurn result (H.world host.new) self.old self.new t.base.frozen }
+        ensures reads { (t : Trail) → IsTrue H.tells → IsOpen (H.world host.old) engine.old t → engine.old.files.state ≡ 1 → IsFileCopying (H.world host.old) self.old t.base.frozen
+            → (H.world host.new).reads ≤ (H.world host.old).reads + page_reads (earlier_scn self.old) t.base.frozen (file_next self.old) }
         ensures touches { IsTrue H.tells → Touches (H.world host.old) (H.world host.new) (Only (file_name self.old)) }
         ensures same { (frozen : Image) → OnOk result (IsSameFile self.old self.new frozen) }
         ensures counts { FileCounts result self.old self.new }
         ensures name { file_name self.new ≡ file_name self.old }
         ensures size { file_page_size self.new ≡ file_page_size self.old }
+        ensures earlier { earlier_scn self.new ≡ earlier_scn self.old }
         ensures engine { engine.new ≡ engine.old }
         ensures gave { GaveNothing (H.world host.old) (H.world host.new) }
         ensures twice { IsTrue H.tells → (H.world host.new).reads ≤ (H.world host.old).reads + 2 }

@@ -12,6 +12,7 @@ ghost use Rattle.nb_copy.specs.Gathering.{HasTaken};
 ghost use Rattle.nb_copy.specs.LevelCopying.{HasEntriesOf, IsFresh, IsLevelBegun, IsLevelCopying, IsLevelOf, taken_below, whole_level};
 ghost use Rattle.nb_copy.specs.Making.{IsMade, IsUnfinished, IsUnfinishedOr};
 ghost use Rattle.nb_base.specs.Touches.{Touches};
+ghost use Rattle.nb_copy.specs.Reading.{loads_entries, one_if, reads_at};
 ghost use Rattle.nb_copy.specs.Turns.{Fetched, LevelTurn, LevelCounts};
 
 use crate::level_file::LevelFile;
@@ -110,6 +111,7 @@ impl LevelCopy {
         ensures same { self.new ≡ record self.old { scn_page = self.new.scn_page } }
         ensures engine { engine.new ≡ engine.old }
         ensures quiet { Quiet (H.world host.old) (H.world host.new) }
+        ensures loads { IsTrue H.tells → (H.world host.new).reads ≤ (H.world host.old).reads + one_if (loads_entries self.old.file.head.page_size self.old.next) }
         ensures once { IsTrue H.tells → (H.world host.new).reads ≤ (H.world host.old).reads + 1 }
         ensures cause { CountsFault result (H.faults host.old) (H.faults host.new) }
     {
@@ -133,6 +135,8 @@ impl LevelCopy {
         ensures same { self.new ≡ record self.old { scn_page = self.new.scn_page; page = self.new.page } }
         ensures engine { engine.new ≡ engine.old }
         ensures quiet { Quiet (H.world host.old) (H.world host.new) }
+        ensures reads { (t : Trail) → IsTrue H.tells → IsOpen (H.world host.old) engine.old t → engine.old.files.state ≡ 1 → IsLevelOf self.old t.base.frozen → HasEntriesOf self.old t.base.frozen
+            → (H.world host.new).reads ≤ (H.world host.old).reads + reads_at t.base.frozen self.old.file.head.previous_scn self.old.next }
         ensures twice { IsTrue H.tells → (H.world host.new).reads ≤ (H.world host.old).reads + 2 }
         ensures cause { CountsFault result (H.faults host.old) (H.faults host.new) }
     {
@@ -162,6 +166,7 @@ impl LevelCopy {
         ensures same { OnOk result (self.new ≡ record self.old { file = record self.old.file { written = self.new.file.written; run = self.new.file.run }; next = 1; page = self.new.page }) }
         ensures name { self.new.file.name ≡ self.old.file.name }
         ensures size { self.new.file.head.page_size ≡ self.old.file.head.page_size }
+        ensures head { self.new.file.head ≡ self.old.file.head }
         ensures engine { engine.new ≡ engine.old }
         ensures gave { GaveNothing (H.world host.old) (H.world host.new) }
         ensures once { IsTrue H.tells → (H.world host.new).reads ≤ (H.world host.old).reads + 1 }
@@ -188,8 +193,11 @@ impl LevelCopy {
         ensures same { OnOk result (self.new ≡ record self.old { file = record self.old.file { written = self.new.file.written; run = self.new.file.run }; next = self.old.next + 1; scn_page = self.new.scn_page; page = self.new.page }) }
         ensures name { self.new.file.name ≡ self.old.file.name }
         ensures size { self.new.file.head.page_size ≡ self.old.file.head.page_size }
+        ensures head { self.new.file.head ≡ self.old.file.head }
         ensures engine { engine.new ≡ engine.old }
         ensures gave { GaveNothing (H.world host.old) (H.world host.new) }
+        ensures reads { (t : Trail) → IsTrue H.tells → IsOpen (H.world host.old) engine.old t → engine.old.files.state ≡ 1 → IsLevelOf self.old t.base.frozen → HasEntriesOf self.old t.base.frozen
+            → (H.world host.new).reads ≤ (H.world host.old).reads + reads_at t.base.frozen self.old.file.head.previous_scn self.old.next }
         ensures twice { IsTrue H.tells → (H.world host.new).reads ≤ (H.world host.old).reads + 2 }
         ensures cause { CountsFault result (H.faults host.old) (H.faults host.new) }
     {
@@ -218,11 +226,16 @@ impl LevelCopy {
         ensures answer { (t : Trail) → IsTrue H.tells → IsOpen (H.world host.old) engine.old t → engine.old.files.state ≡ 1 → IsLevelCopying (H.world host.old) self.old t.base.frozen
             → LevelTurn result (H.world host.new) self.old self.new t.base.frozen }
 
-        // Whatever stands in the files: no other one is touched.
+        // It reads page 0 in its turn, each SCN page once, and of the others those whose entry is above the SCN of the earlier backup.
+        ensures reads { (t : Trail) → IsTrue H.tells → IsOpen (H.world host.old) engine.old t → engine.old.files.state ≡ 1 → IsLevelCopying (H.world host.old) self.old t.base.frozen
+            → (H.world host.new).reads ≤ (H.world host.old).reads + reads_at t.base.frozen self.old.file.head.previous_scn self.old.next }
+
+        // Whatever stands in the files: no other one is touched, and two pages are read at most.
         ensures touches { IsTrue H.tells → Touches (H.world host.old) (H.world host.new) (Only self.old.file.name) }
         ensures counts { LevelCounts result self.old self.new }
         ensures name { self.new.file.name ≡ self.old.file.name }
         ensures size { self.new.file.head.page_size ≡ self.old.file.head.page_size }
+        ensures head { self.new.file.head ≡ self.old.file.head }
         ensures engine { engine.new ≡ engine.old }
         ensures gave { GaveNothing (H.world host.old) (H.world host.new) }
         ensures twice { IsTrue H.tells → (H.world host.new).reads ≤ (H.world host.old).reads + 2 }

@@ -14,6 +14,7 @@
 mod copier;
 mod file_copier;
 mod file_copy;
+pub mod laws;
 mod level_copy;
 mod level_file;
 mod page_copy;

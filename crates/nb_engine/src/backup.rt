@@ -1,5 +1,6 @@
 // A backup begins and ends, and what was changed meanwhile is merged.
 ghost use Rattle.std.specs.Prelude.{◌≡◌, ◌≢◌, ℕ, List, length, IsTrue, IfErr, IfOk, OnOk, Option, Some};
+ghost use Rattle.nb_host.specs.declared.faults.Fault.TheVariants.{Memory};
 ghost use Rattle.nb_change.specs.Counts.{CountsDevice};
 ghost use Rattle.nb_model.specs.Account.{Ask};
 ghost use Rattle.nb_model.specs.Outcomes.{Seen, next_guid};
@@ -31,6 +32,7 @@ impl Engine {
         ensures page_size { self.new.files.page_size ≡ self.old.files.page_size }
         ensures cap { self.new.cap ≡ self.old.cap }
         ensures cause { CountsDevice result (H.faults host.old) (H.faults host.new) }
+        ensures takes_none { IfErr result (λ fault. fault ≢ Memory) }
     {
         if self.store.is_read_only() {
             return Err(Fault::Refused(Refusal::Access { found: 1 }));

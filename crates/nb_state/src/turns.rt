@@ -1,6 +1,7 @@
 // The turns of a backup: begin, end, and the merge.
 ghost use Rattle.std.specs.Prelude.{◌≡◌, ◌≢◌, ◌<◌, ◌≤◌, ◌+◌, ℕ, List, [], ◌∷◌, length, IsTrue, IfErr, IfOk, OnOk, Option, Some};
 ghost use Rattle.nb_host.specs.Causes.{CountsFault};
+ghost use Rattle.nb_host.specs.declared.faults.Fault.TheVariants.{Memory};
 ghost use Rattle.nb_change.specs.Counts.{CountsDevice};
 ghost use Rattle.nb_change.specs.Gave.{GaveNothing};
 ghost use Rattle.nb_model.specs.Account.{Ask};
@@ -43,6 +44,7 @@ impl Store {
         ensures normal { OnOk result (self.now.files.state ≡ 0) }
         ensures scn { OnOk result (self.now.scn < 4294967294) }
         ensures cause { (faults : ℕ) → CountsDevice result faults faults }
+        ensures takes_none { IfErr result (λ fault. fault ≢ Memory) }
     {
         let state = self.pair.state();
         if case_of(state, Event::Begin) == Case::WrongState {
@@ -89,6 +91,7 @@ impl Store {
         ensures page_size { self.new.files.page_size ≡ self.old.files.page_size }
         ensures cap { self.new.cap ≡ self.old.cap }
         ensures cause { CountsDevice result (H.faults host.old) (H.faults host.new) }
+        ensures takes_none { IfErr result (λ fault. fault ≢ Memory) }
     {
         self.check_begin()?;
         let guid = host.guid()?;

@@ -9,7 +9,7 @@ use Rattle.nb_model.specs.Account.{Base}
 use Rattle.nb_model.specs.Image.{image_state}
 use Rattle.nb_model.specs.Outcomes.{Seen, next_guid}
 use Rattle.nb_change.proofs.ResultLaws.{passed_on}
-use Rattle.nb_copy.specs.Starting.{Backed, StartsBackup, IsItsLevel, turn_since}
+use Rattle.nb_copy.specs.Starting.{Backed, IsNotMemory, StartsBackup, IsItsLevel, turn_since}
 use Rattle.nb_change.proofs.GaveLaws.{nothing_joined}
 use Rattle.nb_base.specs.Takes.{after_strokes}
 use Rattle.nb_copy.proofs.QuietLaws.{quiet_gave}
@@ -134,7 +134,7 @@ returns-in_err-head-2-clause-turn g c s t tells same runs is sound free plain gi
     let late = given_later old made new guid (nothing_joined old there made tries.makes.gave gave) given in
     subst (λ (x : Base). StartsBackup c.from_residual-in_err-head-2.result old new a d t name guid (turn_since (record s { base = x }) c.args.session c.args.since name)) same
     (subst (λ (r : Result Backed Fault). StartsBackup r old new a d t name guid (turn_since seen c.args.session c.args.since name)) (sym (passed_on c.from_residual-in_err-head-2.result fault c.from_residual-in_err-head-2.ensures))
-    (start_unbegun old there a b t seen c.args.session c.args.since name runs refl is sound apart none Room room tries made reads file gave new d (is_made _ _ _ _ name tells make.files) (λ m. g.met.H.Host.reads_left _ tells m) c.in_ok-head.head fault
+    (start_unbegun old there a b t seen c.args.session c.args.since name runs refl is sound apart none Room room tries made reads file gave new d (is_made _ _ _ _ name tells make.files) (λ m. g.met.H.Host.reads_left _ tells m) c.in_ok-head.head fault c.in_err-head-2.ensures.takes_none
     (c.in_err-head-2.ensures.begins (after_strokes t xs) guid (Some (ask_in c.args.since t.base.image)) tells opened late)))
 
 pub returns-in_err-head-2-clause-asks : goal.returns-in_err-head-2-clause-asks
@@ -299,7 +299,9 @@ returns-in_err-head-2-clause-made_first g c t tells is plain =
     let own = makes.goes.name ∙ ap name_of check.same in
     let apart : OfFiles (name_of b) name → ⊥ = λ its. free_apart (g.H.Host.world c.args.host.now) a t name is (check.free tells) plain (subst (λ (n : List ℕ). OfFiles n name) own its) in
     let opened = open_aside _ _ b _ makes.opened (λ m. g.met.H.Host.reads_left _ tells m) (Only name) (λ m same its. apart (subst (OfFiles (name_of b)) same its)) _ file in
-    inr (made_kept _ _ _ _ name (c.in_err-head-2.ensures.stays_open _ tells opened).touched (λ its. ⊎_elim apart (λ none. none) its) (is_made _ _ _ _ name tells make.files))
+    let fault = c.in_err-head-2.field-0.0 in
+    let sure = subst (λ (r : Result Backed Fault). IsNotMemory r) (sym (passed_on c.from_residual-in_err-head-2.result fault c.from_residual-in_err-head-2.ensures)) c.in_err-head-2.ensures.takes_none in
+    inr (made_kept _ _ _ _ name (c.in_err-head-2.ensures.stays_open _ tells opened).touched (λ its. ⊎_elim apart (λ none. none) its) (is_made _ _ _ _ name tells make.files), sure)
 
 pub returns-clause-made_first : goal.returns-clause-made_first
 returns-clause-made_first g c t tells is plain =
@@ -313,4 +315,4 @@ returns-clause-made_first g c t tells is plain =
     let own = makes.goes.name ∙ ap name_of check.same in
     let apart : OfFiles (name_of b) name → ⊥ = λ its. free_apart (g.H.Host.world c.args.host.now) a t name is (check.free tells) plain (subst (λ (n : List ℕ). OfFiles n name) own its) in
     let opened = open_aside _ _ b _ makes.opened (λ m. g.met.H.Host.reads_left _ tells m) (Only name) (λ m same its. apart (subst (OfFiles (name_of b)) same its)) _ file in
-    inr (made_kept _ _ _ _ name (c.in_ok-head-2.ensures.stays_open _ tells opened).touched (λ its. ⊎_elim apart (λ none. none) its) (is_made _ _ _ _ name tells make.files))
+    inr (made_kept _ _ _ _ name (c.in_ok-head-2.ensures.stays_open _ tells opened).touched (λ its. ⊎_elim apart (λ none. none) its) (is_made _ _ _ _ name tells make.files), tt)

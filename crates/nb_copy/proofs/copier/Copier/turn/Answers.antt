@@ -1,5 +1,5 @@
 use Rattle.std.proofs.Common.{◌≡◌, ◌<◌, List, length, sym, ap, subst, ◌∙◌, arith, ℕ}
-use Rattle.std.specs.Prelude.{Ok, Err, Result}
+use Rattle.std.specs.Prelude.{Ok, Err, Option, Result}
 use Rattle.nb_host.specs.declared.faults.Fault.{Fault}
 use Rattle.nb_host.specs.declared.faults.Fault.TheVariants.{Device}
 use Rattle.nb_model.specs.Backups.{close_backup}
@@ -11,6 +11,7 @@ use Rattle.nb_change.proofs.ResultLaws.{passed_on}
 use Rattle.nb_copy.specs.declared.file_copy.FileCopy.{FileCopy}
 use Rattle.nb_copy.specs.FileCopying.{IsFileCopying, FileTurn, FileCounts, file_count, file_next, whole_count}
 use Rattle.nb_copy.specs.Starting.{Backed, ask_by}
+use Rattle.nb_copy.specs.Reading.{asked_scn, page_reads}
 use Rattle.nb_copy.specs.Closing.{BackupTurn, Closes}
 use Rattle.nb_copy.proofs.ClosingLaws.{file_named, kept_named, asked_behind, asked_before, goes_further, mid_open, turn_failed, turn_more, close_failed, close_finished, written_all}
 use Rattle.nb_engine.proofs.StaysLaws.{stays_aside, stays_among, stays_passed, stays_then, stays_valued}
@@ -192,3 +193,33 @@ returns-in_ok-close-in-Finished-clause-stays_open g c t tells is apart =
     let other = λ (m : List ℕ) (same : m ≡ name) (own : OfFiles (name_of c.args.engine.now) m). apart (subst (OfFiles (name_of c.args.engine.now)) same own) in
     stays_then Finished _ _ _ _ _ _ _ _ (stays_aside old mid c.args.engine.now t is reads (Only name) other _ file (Ok Finished) c.turn.new.engine c.turn.ensures.engine)
     (λ u here. stays_among _ _ _ _ _ _ (Only name) (λ m none. absurd none) (stays_valued _ _ _ _ _ tt Finished (c.in_ok-close-in-Finished.ensures.stays_open u tells here)))
+
+pub returns-in_err-turn-clause-reads : goal.returns-in_err-turn-clause-reads
+returns-in_err-turn-clause-reads g c t tells is stalled backing left =
+    let old = g.H.Host.world c.args.host.now in
+    let copier : Backed = c.args.self.now in
+    let filed = ap (λ (v : Backed). v.file) c.self.view_is in
+    let goes = subst (λ (f : FileCopy). IsFileCopying old f t.base.frozen) (sym filed) backing.goes in
+    let asked = ap (λ (e : Option ℕ). page_reads e t.base.frozen (file_next c.self.inside.file)) (c.self.invariant.4 ∙ ap (λ (v : Backed). asked_scn v.backing.ask) c.self.view_is)
+    ∙ ap (λ (f : FileCopy). page_reads (asked_scn copier.backing.ask) t.base.frozen (file_next f)) filed in
+    omega (arith, asked, c.turn.ensures.reads t tells is stalled goes)
+
+pub returns-in-More-clause-reads : goal.returns-in-More-clause-reads
+returns-in-More-clause-reads g c t tells is stalled backing left =
+    let old = g.H.Host.world c.args.host.now in
+    let copier : Backed = c.args.self.now in
+    let filed = ap (λ (v : Backed). v.file) c.self.view_is in
+    let goes = subst (λ (f : FileCopy). IsFileCopying old f t.base.frozen) (sym filed) backing.goes in
+    let asked = ap (λ (e : Option ℕ). page_reads e t.base.frozen (file_next c.self.inside.file)) (c.self.invariant.4 ∙ ap (λ (v : Backed). asked_scn v.backing.ask) c.self.view_is)
+    ∙ ap (λ (f : FileCopy). page_reads (asked_scn copier.backing.ask) t.base.frozen (file_next f)) filed in
+    omega (arith, asked, c.turn.ensures.reads t tells is stalled goes)
+
+pub returns-in_err-close-in-Finished-clause-reads : goal.returns-in_err-close-in-Finished-clause-reads
+returns-in_err-close-in-Finished-clause-reads g c t tells is stalled backing left =
+    let counts = subst (λ (p : Progress). FileCounts (Ok p) c.self.inside.file c.turn.new.self) c.in-Finished.is c.in_ok-turn.ensures.counts in
+    absurd (omega (arith, left, ends_all c.self.inside.file c.args.self.now.file (ap (λ (v : Backed). v.file) c.self.view_is) counts.0))
+
+pub returns-in_ok-close-in-Finished-clause-reads : goal.returns-in_ok-close-in-Finished-clause-reads
+returns-in_ok-close-in-Finished-clause-reads g c t tells is stalled backing left =
+    let counts = subst (λ (p : Progress). FileCounts (Ok p) c.self.inside.file c.turn.new.self) c.in-Finished.is c.in_ok-turn.ensures.counts in
+    absurd (omega (arith, left, ends_all c.self.inside.file c.args.self.now.file (ap (λ (v : Backed). v.file) c.self.view_is) counts.0))

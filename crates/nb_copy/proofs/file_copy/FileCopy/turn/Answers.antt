@@ -1,8 +1,9 @@
-use Rattle.std.proofs.Common.{inl, inr, ⊎_elim, sym, subst, ap}
+use Rattle.std.proofs.Common.{◌≡◌, ◌+◌, ◌≤◌, arith, inl, inr, ⊎_elim, sym, subst, ap}
 use Rattle.nb_change.specs.Changes.{Changes, Only, Remade}
 use Rattle.nb_change.proofs.MovedLaws.{remade_weaker}
 use Rattle.nb_copy.specs.declared.file_copy.FileCopy.{FileCopy}
-use Rattle.nb_copy.specs.FileCopying.{IsFileCopying, file_name, whole_file}
+use Rattle.nb_copy.specs.FileCopying.{IsFileCopying, file_name, file_next, whole_file}
+use Rattle.nb_copy.specs.Reading.{earlier_scn, page_reads}
 use Rattle.nb_copy.specs.Making.{IsFreeOr, IsUnfinishedOr}
 use Rattle.nb_model.specs.Levels.{joined}
 use Rattle.nb_copy.proofs.TouchLaws.{touches_named}
@@ -18,3 +19,15 @@ returns-in-Pages-clause-left g c t tells is stalled copying =
 
 pub returns-in-Pages-clause-touches : goal.returns-in-Pages-clause-touches
 returns-in-Pages-clause-touches g c tells = touches_named _ _ _ _ (ap file_name (sym c.in-Pages.is)) (c.turn.ensures.touches tells)
+
+pub returns-in-Pages-clause-reads : goal.returns-in-Pages-clause-reads
+returns-in-Pages-clause-reads g c t tells is stalled copying =
+    let one : page_reads (earlier_scn c.args.self.now) t.base.frozen (file_next c.args.self.now) ≡ 1 = ap (λ (f : FileCopy). page_reads (earlier_scn f) t.base.frozen (file_next f)) c.in-Pages.is in
+    omega (arith, one, c.turn.ensures.once tells)
+
+pub returns-in-Level-clause-reads : goal.returns-in-Level-clause-reads
+returns-in-Level-clause-reads g c t tells is stalled copying =
+    let old = g.H.Host.world c.args.host.now in
+    let new = g.H.Host.world c.turn.new.host in
+    subst (λ (f : FileCopy). new.reads ≤ old.reads + page_reads (earlier_scn f) t.base.frozen (file_next f)) (sym c.in-Level.is)
+    (c.turn.ensures.reads t tells is stalled (subst (λ (f : FileCopy). IsFileCopying old f t.base.frozen) c.in-Level.is copying))

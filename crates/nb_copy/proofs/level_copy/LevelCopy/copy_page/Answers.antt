@@ -92,3 +92,15 @@ returns-in_ok-take-clause-touches g c tells = touches_then _ _ _ _ (touches_quie
 
 pub returns-else-may_be_changed-clause-touches : goal.returns-else-may_be_changed-clause-touches
 returns-else-may_be_changed-clause-touches g c tells = touches_quiet _ _ _ c.in_ok-may_be_changed.ensures.quiet
+
+pub returns-in_err-may_be_changed-clause-reads : goal.returns-in_err-may_be_changed-clause-reads
+returns-in_err-may_be_changed-clause-reads g c t tells open_ stalled of ready = omega (arith, c.in_err-may_be_changed.ensures.reads t tells open_ stalled of ready)
+
+pub returns-in_err-take-clause-reads : goal.returns-in_err-take-clause-reads
+returns-in_err-take-clause-reads g c t tells open_ stalled of ready = omega (arith, c.in_ok-may_be_changed.ensures.reads t tells open_ stalled of ready, c.take.ensures.log.reads)
+
+pub returns-in_ok-take-clause-reads : goal.returns-in_ok-take-clause-reads
+returns-in_ok-take-clause-reads g c t tells open_ stalled of ready = omega (arith, c.in_ok-may_be_changed.ensures.reads t tells open_ stalled of ready, c.take.ensures.log.reads)
+
+pub returns-else-may_be_changed-clause-reads : goal.returns-else-may_be_changed-clause-reads
+returns-else-may_be_changed-clause-reads g c t tells open_ stalled of ready = omega (arith, c.in_ok-may_be_changed.ensures.reads t tells open_ stalled of ready)

@@ -1,7 +1,7 @@
 use Rattle.std.proofs.Common.{◌≡◌, length, ap, subst, ◌∙◌, arith, sym}
 use Rattle.std.specs.Prelude.{IsTrue}
 use Rattle.std.proofs.lemmas.List.{with_items_is}
-use Rattle.nb_fields.specs.Places.{is_page_size}
+use Rattle.nb_fields.specs.Places.{is_page_size, is_scn_place}
 use Rattle.nb_level.specs.declared.head.LevelHead.{LevelHead}
 use Rattle.nb_page.proofs.QuietLemmas.{quiet_joined as quiet_joined}
 use Rattle.nb_state.specs.Open.{Held}
@@ -9,6 +9,7 @@ use Rattle.nb_state.proofs.MakesLaws.{open_still}
 use Rattle.nb_copy.specs.LevelCopying.{LevelCopying}
 use Rattle.nb_model.specs.Image.{page_at, image_size}
 use Rattle.nb_copy.proofs.PlaceLaws.{own_page, entry_low}
+use Rattle.nb_copy.proofs.ReadLaws.{entry_above, reads_both, reads_least}
 use Rattle.nb_copy.proofs.level_copy.LevelCopy.fetch.Goals as goal
 
 pub returns-then-is_place-clause-fetched : goal.returns-then-is_place-clause-fetched
@@ -54,3 +55,52 @@ returns-clause-fetched g c t tells open_ stalled of ready =
 
 pub returns-clause-quiet : goal.returns-clause-quiet
 returns-clause-quiet g c = quiet_joined _ _ _ c.in_ok-index.ensures.quiet c.read_main.ensures.quiet
+
+pub returns-in_err-index-clause-reads : goal.returns-in_err-index-clause-reads
+returns-in_err-index-clause-reads g c t tells open_ stalled of ready =
+    let copy = c.args.self.now in
+    omega (arith, c.in_err-index.ensures.loads tells, reads_least t.base.frozen copy.file.head.previous_scn copy.next copy.file.head.page_size of.size c.requires.some)
+
+pub returns-then-is_place-clause-reads : goal.returns-then-is_place-clause-reads
+returns-then-is_place-clause-reads g c t tells open_ stalled of ready =
+    let copy = c.args.self.now in
+    omega (arith, c.in_ok-index.ensures.loads tells, reads_least t.base.frozen copy.file.head.previous_scn copy.next copy.file.head.page_size of.size c.requires.some)
+
+pub returns-then-entry-head-clause-reads : goal.returns-then-entry-head-clause-reads
+returns-then-entry-head-clause-reads g c t tells open_ stalled of ready =
+    let copy = c.args.self.now in
+    omega (arith, c.in_ok-index.ensures.loads tells, reads_least t.base.frozen copy.file.head.previous_scn copy.next copy.file.head.page_size of.size c.requires.some)
+
+pub returns-in_err-read_main-clause-reads : goal.returns-in_err-read_main-clause-reads
+returns-in_err-read_main-clause-reads g c t tells open_ stalled of ready =
+    let frozen = t.base.frozen in
+    let copy = c.args.self.now in
+    let load = c.in_ok-index.ensures in
+    let size : c.head-head.result.now.page_size ≡ copy.file.head.page_size =
+    ap (λ (h : LevelHead). h.page_size) c.head-head.ensures ∙ ap (λ (v : LevelCopying). v.file.head.page_size) c.self.view_is ∙ ap (λ (v : LevelCopying). v.file.head.page_size) load.same in
+    let next : c.self.inside.next ≡ copy.next = ap (λ (v : LevelCopying). v.next) c.self.view_is ∙ ap (λ (v : LevelCopying). v.next) load.same in
+    let scn : c.head-head.result.now.previous_scn ≡ copy.file.head.previous_scn =
+    ap (λ (h : LevelHead). h.previous_scn) c.head-head.ensures ∙ ap (λ (v : LevelCopying). v.file.head.previous_scn) c.self.view_is ∙ ap (λ (v : LevelCopying). v.file.head.previous_scn) load.same in
+    let place = ap (λ n. is_scn_place n copy.next) (sym size) ∙ ap (is_scn_place c.head-head.result.now.page_size) (sym next) ∙ sym c.is_place.ensures.value ∙ c.if-is_place.false in
+    let long = ap length c.deref-2.ensures.value ∙ c.self.invariant.scn_room in
+    let above = entry_above frozen copy.file.head.page_size copy.next c.in_ok-index.index copy.file.head.previous_scn c.entry.result c.deref-2.result.now of.size load.index
+    (sym size ∙ ap (λ (h : LevelHead). h.page_size) c.head-head.ensures ∙ sym long) load.inside (c.deref-2.ensures.value ∙ ap (λ (v : LevelCopying). v.scn_page) c.self.view_is ∙ load.entries t tells open_ stalled of ready) c.entry.ensures
+    (omega (arith, c.if-entry-head.false, scn)) c.requires.some place in
+    omega (arith, load.loads tells, c.read_main.ensures.once tells, reads_both frozen copy.file.head.previous_scn copy.next copy.file.head.page_size of.size c.requires.some above)
+
+pub returns-clause-reads : goal.returns-clause-reads
+returns-clause-reads g c t tells open_ stalled of ready =
+    let frozen = t.base.frozen in
+    let copy = c.args.self.now in
+    let load = c.in_ok-index.ensures in
+    let size : c.head-head.result.now.page_size ≡ copy.file.head.page_size =
+    ap (λ (h : LevelHead). h.page_size) c.head-head.ensures ∙ ap (λ (v : LevelCopying). v.file.head.page_size) c.self.view_is ∙ ap (λ (v : LevelCopying). v.file.head.page_size) load.same in
+    let next : c.self.inside.next ≡ copy.next = ap (λ (v : LevelCopying). v.next) c.self.view_is ∙ ap (λ (v : LevelCopying). v.next) load.same in
+    let scn : c.head-head.result.now.previous_scn ≡ copy.file.head.previous_scn =
+    ap (λ (h : LevelHead). h.previous_scn) c.head-head.ensures ∙ ap (λ (v : LevelCopying). v.file.head.previous_scn) c.self.view_is ∙ ap (λ (v : LevelCopying). v.file.head.previous_scn) load.same in
+    let place = ap (λ n. is_scn_place n copy.next) (sym size) ∙ ap (is_scn_place c.head-head.result.now.page_size) (sym next) ∙ sym c.is_place.ensures.value ∙ c.if-is_place.false in
+    let long = ap length c.deref-2.ensures.value ∙ c.self.invariant.scn_room in
+    let above = entry_above frozen copy.file.head.page_size copy.next c.in_ok-index.index copy.file.head.previous_scn c.entry.result c.deref-2.result.now of.size load.index
+    (sym size ∙ ap (λ (h : LevelHead). h.page_size) c.head-head.ensures ∙ sym long) load.inside (c.deref-2.ensures.value ∙ ap (λ (v : LevelCopying). v.scn_page) c.self.view_is ∙ load.entries t tells open_ stalled of ready) c.entry.ensures
+    (omega (arith, c.if-entry-head.false, scn)) c.requires.some place in
+    omega (arith, load.loads tells, c.read_main.ensures.once tells, reads_both frozen copy.file.head.previous_scn copy.next copy.file.head.page_size of.size c.requires.some above)

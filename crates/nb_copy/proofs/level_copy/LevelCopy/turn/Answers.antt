@@ -8,6 +8,7 @@ use Rattle.nb_copy.specs.Gathering.{LevelWriting, HasTaken, MayHave}
 use Rattle.nb_copy.specs.LevelCopying.{LevelCopying, whole_level}
 use Rattle.nb_copy.specs.Making.{IsUnfinished, IsUnfinishedOr, IsKept}
 use Rattle.nb_copy.proofs.LevelLaws.{below_all, may_below, level_next}
+use Rattle.nb_copy.proofs.ReadLaws.{reads_first}
 use Rattle.nb_copy.proofs.TouchLaws.{touches_named}
 use Rattle.nb_copy.proofs.level_copy.LevelCopy.turn.Goals as goal
 
@@ -70,3 +71,25 @@ returns-in_err-close-clause-touches g c tells = touches_named _ _ _ _ (ap (λ (v
 
 pub returns-then-self-clause-touches : goal.returns-then-self-clause-touches
 returns-then-self-clause-touches g c tells = touches_named _ _ _ _ (ap (λ (v : LevelCopying). v.file.name) c.self.view_is) (c.in_ok-close.ensures.touches tells)
+
+pub returns-in_err-begin-clause-reads : goal.returns-in_err-begin-clause-reads
+returns-in_err-begin-clause-reads g c t tells open_ stalled copying =
+    let copy = c.args.self.now in
+    let zero : copy.next ≡ 0 = omega (arith, c.if-self-eq0.true, ap (λ (v : LevelCopying). v.next) c.self.view_is) in
+    omega (arith, c.begin.ensures.once tells, reads_first t.base.frozen copy.file.head.previous_scn copy.next zero)
+
+pub returns-in_err-copy_page-clause-reads : goal.returns-in_err-copy_page-clause-reads
+returns-in_err-copy_page-clause-reads g c t tells open_ stalled copying =
+    let begun = copying.begun (omega (arith, c.if-self-eq0.false, ap (λ (v : LevelCopying). v.next) c.self.view_is)) in
+    c.copy_page.ensures.reads t tells open_ stalled copying.of begun.entries
+
+pub returns-in_ok-begin-clause-reads : goal.returns-in_ok-begin-clause-reads
+returns-in_ok-begin-clause-reads g c t tells open_ stalled copying =
+    let copy = c.args.self.now in
+    let zero : copy.next ≡ 0 = omega (arith, c.if-self-eq0.true, ap (λ (v : LevelCopying). v.next) c.self.view_is) in
+    omega (arith, c.begin.ensures.once tells, reads_first t.base.frozen copy.file.head.previous_scn copy.next zero)
+
+pub returns-in_ok-copy_page-clause-reads : goal.returns-in_ok-copy_page-clause-reads
+returns-in_ok-copy_page-clause-reads g c t tells open_ stalled copying =
+    let begun = copying.begun (omega (arith, c.if-self-eq0.false, ap (λ (v : LevelCopying). v.next) c.self.view_is)) in
+    c.copy_page.ensures.reads t tells open_ stalled copying.of begun.entries
