@@ -1,7 +1,7 @@
 -- How many pages the copy of a level reads.
-use Rattle.std.proofs.Common.{◌≡◌, ◌≢◌, ◌⊎◌, inl, inr, ℕ, zero, suc, ◌+◌, ◌-◌, ◌%◌, ◌<◌, ◌≤◌, List, length, refl, sym, ap, subst, ◌∙◌, arith}
-use Rattle.std.specs.Prelude.{Bool, true, false, IsTrue, ◌==◌, ◌&&◌, ◌||◌, nat_lt, slice_index, Some}
-use Rattle.std.proofs.lemmas.Bool.{and_from, and_left, or_left, or_right, or_from, ne_eqb, eq-eqb, lt-ltb}
+use Rattle.std.proofs.Common.{◌≡◌, ◌⊎◌, inl, inr, ℕ, zero, suc, ◌+◌, ◌%◌, ◌<◌, ◌≤◌, length, refl, sym, ap, ◌∙◌, arith}
+use Rattle.std.specs.Prelude.{Bool, true, false, IsTrue, ◌==◌, ◌||◌, nat_lt, slice_index}
+use Rattle.std.proofs.lemmas.Bool.{and_from, and_left, or_left, or_right, ne_eqb, eq-eqb, lt-ltb}
 use Rattle.std.proofs.Math.Nat.{mod-eq_of_lt}
 use Rattle.nb_fields.specs.Places.{is_page_size, entries_in, is_scn_place}
 use Rattle.nb_fields.proofs.SizeLemmas.{size_facts}
@@ -10,13 +10,7 @@ use Rattle.nb_model.specs.Forms.{has_entry, scn_entry, scn_page_of}
 use Rattle.nb_scn.specs.Entries.{entries}
 use Rattle.nb_engine.proofs.PutLaws.{other-with}
 use Rattle.nb_engine.proofs.RaiseLaws.{entry-is}
-use Rattle.nb_level.specs.declared.head.LevelHead.{LevelHead}
-use Rattle.nb_copy.specs.declared.file_copy.FileCopy.{FileCopy}
-use Rattle.nb_copy.specs.declared.file_copy.FileCopy.TheVariants.{Pages, Level}
-use Rattle.nb_copy.specs.FileStarting.{IsNewFile, IsStartedFile}
-use Rattle.nb_copy.specs.LevelCopying.{LevelCopying}
-use Rattle.nb_copy.specs.Reading.{asked_scn, earlier_scn, scn_below, is_above, loads_entries, one_if, reads_at, sum_below}
-use Rattle.nb_copy.specs.Starting.{ask_by}
+use Rattle.nb_copy.specs.Reading.{is_above, loads_entries, one_if, reads_at, sum_below}
 
 -- the turn of a page that reads an SCN page
 loads_true : (size p index : ℕ) → index ≡ p % entries_in size → (p ≡ 1) ⊎ (index ≡ 0) → one_if (loads_entries size p) ≡ 1
@@ -143,15 +137,3 @@ pub sum_most : (n : ℕ) (f g : ℕ → ℕ) → ((p : ℕ) → p < n → f p �
 unfolding sum_below
 sum_most zero f g most = omega arith
 sum_most (suc k) f g most = omega (arith, sum_most k f g (λ p low. most p (omega (arith, low))), most k (omega arith))
-
-since_some : (level scn : ℕ) → 1 ≤ level → scn_below level scn ≡ Some scn
-since_some zero scn some = absurd (omega (arith, some))
-since_some (suc below) scn some = refl
-
--- a copier that has begun goes on from the backup that is asked for
-pub begun_earlier : (name : List ℕ) (bare head begun : LevelHead) (count : ℕ) (f g : FileCopy) → IsNewFile name bare f → IsStartedFile f g head count → begun.level ≡ bare.level → begun.previous_scn ≡ bare.previous_scn → earlier_scn g ≡ asked_scn (ask_by begun)
-begun_earlier name bare head begun count (Pages f) (Pages g) new started level scn = sym (ap (λ n. scn_below n begun.previous_scn) (level ∙ new.3))
-begun_earlier name bare head begun count (Level f) (Level g) new started level scn =
-    ap (λ (c : LevelCopying). Some c.file.head.previous_scn) started ∙ ap (λ (h : LevelHead). Some h.previous_scn) new.1 ∙ ap Some (sym scn) ∙ sym (since_some begun.level begun.previous_scn (omega (arith, level, new.4)))
-begun_earlier name bare head begun count (Pages f) (Level g) new started level scn = absurd started
-begun_earlier name bare head begun count (Level f) (Pages g) new started level scn = absurd started

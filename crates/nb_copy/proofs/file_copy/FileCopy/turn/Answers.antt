@@ -28,6 +28,6 @@ returns-in-Pages-clause-reads g c t tells is stalled copying =
 pub returns-in-Level-clause-reads : goal.returns-in-Level-clause-reads
 returns-in-Level-clause-reads g c t tells is stalled copying =
     let old = g.H.Host.world c.args.host.now in
-    let new = g.H.Host.world c.turn.new.host in
+    let new = g.H.Host.world c.turn-in-Level.new.host in
     subst (λ (f : FileCopy). new.reads ≤ old.reads + page_reads (earlier_scn f) t.base.frozen (file_next f)) (sym c.in-Level.is)
-    (c.turn.ensures.reads t tells is stalled (subst (λ (f : FileCopy). IsFileCopying old f t.base.frozen) c.in-Level.is copying))
+    (c.turn-in-Level.ensures.reads t tells is stalled (subst (λ (f : FileCopy). IsFileCopying old f t.base.frozen) c.in-Level.is copying))
