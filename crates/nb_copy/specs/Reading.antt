@@ -15,6 +15,7 @@ is_above image scn page = has_entry image page && nat_lt scn (scn_entry image pa
 unfoldable pub loads_entries : (size page : ℕ) → Bool
 loads_entries size page = page == 1 || page % entries_in size == 0
 
+-- one where it holds
 abbrev pub one_if : Bool → ℕ
 one_if true = 1
 one_if false = 0
