@@ -33,17 +33,13 @@ pub unshown_early : (result : Result Status Stop) (broken : Option Broken) (aske
 unshown_early (Ok status) broken asked none failed = absurd (cc failed)
 unshown_early (Err e) broken asked none failed = subst (λ (b : Option Broken). IfShown b asked) (sym none) tt
 
--- a refusal of a script is of what is asked for
-err_same : {A E : Type 0} (r q : E) → Err {A} r ≡ Err q → r ≡ q
-err_same r q h = cc
-
-runs_same : (r q : Result Request Refusal) → Runs r ≡ Runs q → r ≡ q
-runs_same r q h = cc
+same_refusal : (r q : Refusal) → Runs (Err r) ≡ Runs (Err q) → r ≡ q
+same_refusal r q h = cc
 
 -- what was noted is the line of the refusal
 pub shown_by : (result : Result Status Stop) (broken : Option Broken) (refusal : Refusal) → Names broken refusal → IsShownOf result broken (Runs (Err refusal))
 shown_by (Ok status) (Some b) refusal names = ap (λ (r : Refusal). Runs (Err r)) names
-shown_by (Ok status) None refusal names = λ line h. names line (err_same refusal (BadScript line) (runs_same (Err refusal) (Err (BadScript line)) h))
+shown_by (Ok status) None refusal names = λ line h. names line (same_refusal refusal (BadScript line) h)
 shown_by (Err e) (Some b) refusal names = ap (λ (r : Refusal). Runs (Err r)) names
 shown_by (Err e) None refusal names = tt
 

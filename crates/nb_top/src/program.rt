@@ -1,12 +1,16 @@
 // A job, from the words to the last reply.
-ghost use Rattle.std.specs.Prelude.{◌≡◌, ◌≢◌, ◌⊎◌, [], ◌∷◌, None, Ok, Err, map, string_bytes, IsTrue, IfOk};
+ghost use Rattle.std.specs.Prelude.{◌≡◌, ◌≢◌, ◌⊎◌, [], ◌∷◌, None, Ok, Err, IsErr, map, string_bytes, IsTrue, IfOk};
 ghost use Rattle.nb_host.specs.Causes.{Rose};
 ghost use Rattle.nb_host.specs.declared.refusals.Refusal.TheVariants.{Usage as UsageRefusal};
+ghost use Rattle.nb_change.specs.Gave.{GaveNothing};
+ghost use Rattle.nb_model.specs.Lines.{line_text};
+ghost use Rattle.nb_model.specs.declared.reply.Reply.TheVariants.{Refused as RefusedReply};
 ghost use Rattle.nb_model.specs.declared.statement.Statement.TheVariants.{BeginBackup, ShowHeader, ShowPages};
 ghost use Rattle.nb_model.specs.Words.{job_of};
 ghost use Rattle.nb_script.specs.Asked.{IsAskable};
 ghost use Rattle.nb_script.specs.Scripts.{script_of};
 ghost use Rattle.nb_session.specs.Causes.{CountsStop};
+ghost use Rattle.nb_session.specs.Says.{SaysLine};
 ghost use Rattle.nb_top.specs.Goes.{Goes, IsRun};
 ghost use Rattle.nb_top.specs.Requests.{Asked, FitsJob, IsAskedBy, IsReadJob, NamesNone, Runs, ToRun, plan_of, request_asked, request_of, script_in, to_run};
 ghost use Rattle.nb_top.specs.Shown.{IsShown, IsShownOf};
@@ -157,8 +161,9 @@ fn run_job<H: Host>(
 
 /// Refuses words that name no job.
 fn refuse_words<H: Host>(alloc: Global, host: &mut H) -> Result<Status, Stop>
-    ensures goes { Goes H.tells result (H.world host.old) (H.world host.new) (Runs (Err UsageRefusal)) }
     ensures usage { IfOk result (λ status. status ≡ Status.Usage) }
+    ensures line { IsTrue H.tells → SaysLine result (H.world host.old) (H.world host.new) (line_text 0 (RefusedReply UsageRefusal)) }
+    ensures gave { GaveNothing (H.world host.old) (H.world host.new) }
     ensures cause { CountsStop result (H.faults host.old) (H.faults host.new) }
 {
     refuse(alloc, host, 0, Refusal::Usage)?;
@@ -177,7 +182,8 @@ fn do_job<H: Host>(
     ensures goes { (asked : Asked) → IsAskedBy job.now (H.world host.old).files asked → Goes H.tells result (H.world host.old) (H.world host.new) asked }
     ensures shown { (asked : Asked) → IsTrue H.tells → IsAskedBy job.now (H.world host.old).files asked → IsShownOf result broken.new asked }
     ensures usage { IfOk result (λ status. status ≡ Status.Usage → NamesNone job.now) }
-    ensures no_job { IfOk result (λ status. NamesNone job.now → status ≡ Status.Usage) }
+    ensures no_job { IfOk result (λ status. IsErr job.now → status ≡ Status.Usage) }
+    ensures done { IfOk result (λ status. (status ≡ Status.Usage) ⊎ ((status ≡ Status.Done) ⊎ (status ≡ Status.Refused))) }
     ensures cause { CountsStop result (H.faults host.old) (H.faults host.new) }
 {
     match job {
@@ -205,7 +211,7 @@ pub fn run_read<H: Host>(
     ensures device { result ≡ Status.Device → Rose (H.faults host.old) (H.faults host.new) }
     ensures no_device { result ≢ Status.Device → H.faults host.new ≡ H.faults host.old }
     ensures usage { result ≡ Status.Usage → NamesNone job.now }
-    ensures no_job { NamesNone job.now → result ≢ Status.Done × result ≢ Status.Refused }
+    ensures no_job { IsErr job.now → result ≢ Status.Done × result ≢ Status.Refused }
     ensures runs { (asked : Asked) → IsAskedBy job.now (H.world host.old).files asked → IsRun H.tells result (H.world host.old) (H.world host.new) asked }
     // A line is shown exactly where the script is refused for it; where a call of the host fails or memory runs out it may be lost.
     ensures shown { (asked : Asked) → IsTrue H.tells → IsAskedBy job.now (H.world host.old).files asked → IsShown result broken.new asked }
