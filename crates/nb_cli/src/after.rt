@@ -1,4 +1,5 @@
 // What the standard error says behind a run.
+use crate::beside::End;
 use crate::changed::script_in;
 use crate::look::look_at;
 use crate::seeing::{database_of, seen, seen_of};
@@ -7,7 +8,7 @@ use nb_file::{Disk, FileHost};
 use nb_host::Name;
 use nb_model::{Job, Statement};
 use nb_top::Status;
-use nb_top::broken::broken_line;
+use nb_top::broken::Broken;
 use std::alloc::{AllocError, Global};
 use std::io;
 use std::os::fd::AsRawFd;
@@ -49,16 +50,8 @@ fn show_usage<R: Eprint>(alloc: Global, rt: &R, words: &io::Result<Vec<String>>)
 }
 
 /// The line that breaks the form of a script, where that is why it was refused.
-fn show_broken<R: Files + Print + Eprint + Clock + Drop>(
-    alloc: Global,
-    rt: &R,
-    host: &mut FileHost<R>,
-    script: &Name,
-)
-where
-    R::File: Disk + AsRawFd,
-{
-    if let Ok(Some(broken)) = broken_line(alloc, host, script) {
+fn show_broken<R: Eprint>(rt: &R, script: &Name, broken: Option<&Broken>) {
+    if let Some(broken) = broken {
         let _ = eprintln!(rt; "nehumiro: {script}:{}: {}", broken.line, broken.text);
     }
 }
@@ -133,24 +126,25 @@ fn show_shortage<R: Eprint>(rt: &R, asked: Option<String>) {
 pub fn explain<R: Files + Print + Eprint + Clock + Drop>(
     alloc: Global,
     rt: &R,
-    host: &mut FileHost<R>,
+    host: &FileHost<R>,
     words: &io::Result<Vec<String>>,
     job: Option<&Job>,
-    status: Status,
-    before: Option<u16>,
+    end: &End,
 )
 where
     R::File: Disk + AsRawFd + FileExt,
 {
-    match (status, job) {
+    match (end.status, job) {
         (Status::Done, _) => {}
         (Status::Usage, _) => show_usage(alloc, rt, words),
-        (Status::Refused, Some(Job::Run { script })) => show_broken(alloc, rt, host, script),
+        (Status::Refused, Some(Job::Run { script })) => {
+            show_broken(rt, script, end.broken.as_ref());
+        }
         (Status::Refused, Some(job)) => show_advice(alloc, rt, job, host.last_said()),
-        (Status::Device, Some(job)) => show_standing(alloc, rt, host, job, before),
+        (Status::Device, Some(job)) => show_standing(alloc, rt, host, job, end.before),
         (Status::Memory, Some(job)) => {
             show_shortage(rt, shortage_of(alloc, rt, job));
-            show_standing(alloc, rt, host, job, before);
+            show_standing(alloc, rt, host, job, end.before);
         }
         (Status::Memory, None) => show_shortage(rt, None),
         (Status::Refused | Status::Device, None) => {}

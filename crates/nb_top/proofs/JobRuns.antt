@@ -47,58 +47,33 @@ use Rattle.nb_top.proofs.SureRuns.{script_left, script_end}
 use Rattle.nb_top.proofs.Turns.{quiet_turn}
 use Rattle.nb_top.proofs.TurnsStand.{IsSoundJob, turn_stands}
 
--- its file wasn't read
-pub unread_runs : (old new : World) (name : List ℕ) (file : File) (account : Account) (given : Given) (e : Stop) → Knows old.files account (to_run (script_in name file)) → Quiet old new → RunsTo (Err e) old new (to_run (script_in name file)) account given
-unread_runs old new name file account given e knows quiet = by (script_in name file) refl knows
-  where
-    by : (read : Result Plan Refusal) → script_in name file ≡ read → Knows old.files account (to_run read) → RunsTo (Err e) old new (to_run read) account given
-    by (Ok plan) is known = script_unbegun old account given plan All (askable_in name file plan is) known new e quiet
-    by (Err refusal) is known = record {
-      events = refused_job refusal;
-      last = account;
-      left = given;
-      performed = (refl, refl, refl);
-      opened = inl tt;
-      stops = left_quietly old new account (target_of (Err refusal) (refused_job refusal)) (refused_job refusal) quiet;
-      finished = tt;
-    }
-
--- The words weren't read, for want of memory.
-module _ (old : World) (account : Account) (given : Given) (e : Stop) (quiet : Quiet old old) where
-  refused_unasked : (refusal : Refusal) → RunsTo (Err e) old old (Err refusal) account given
-  refused_unasked refusal = record {
+-- Nothing was done.
+module _ (old new : World) (account : Account) (given : Given) (e : Stop) (quiet : Quiet old new) where
+  refused_undone : (refusal : Refusal) → RunsTo (Err e) old new (Err refusal) account given
+  refused_undone refusal = record {
     events = refused_job refusal;
     last = account;
     left = given;
     performed = (refl, refl, refl);
     opened = inl tt;
-    stops = left_quietly old old account (target_of (Err refusal) (refused_job refusal)) (refused_job refusal) quiet;
+    stops = left_quietly old new account (target_of (Err refusal) (refused_job refusal)) (refused_job refusal) quiet;
     finished = tt;
   }
 
-  request_unasked : (r : Request) → CanBeAsked r → Knows old.files account (Ok r) → RunsTo (Err e) old old (Ok r) account given
-  request_unasked (ToRun plan telling) can knows = script_unbegun old account given plan telling can knows old e quiet
-  request_unasked (ToGenerate number name) can knows = generated_unbegun old number name account given can knows old e quiet
+  request_undone : (r : Request) → CanBeAsked r → Knows old.files account (Ok r) → RunsTo (Err e) old new (Ok r) account given
+  request_undone (ToRun plan telling) can knows = script_unbegun old account given plan telling can knows new e quiet
+  request_undone (ToGenerate number name) can knows = generated_unbegun old number name account given can knows new e quiet
 
-  pub unasked_goes : (words : List (List ℕ)) → KnowsAsked old.files account (request_asked old.files words) → GoesTo (Err e) old old (request_asked old.files words) account given
-  unasked_goes words = by (request_asked old.files words) (can_be_asked old.files words)
-    where
-      by : (asked : Asked) → CanBeMet asked → KnowsAsked old.files account asked → GoesTo (Err e) old old asked account given
-      by (Runs (Err refusal)) can knows = refused_unasked refusal
-      by (Runs (Ok r)) can knows = request_unasked r can knows
-      by (Does deed) can knows = quiet_turn old old (one_turn old.files deed) ((one_turn old.files deed).turn account) quiet account refl e
+  pub undone_goes : (asked : Asked) → CanBeMet asked → KnowsAsked old.files account asked → GoesTo (Err e) old new asked account given
+  undone_goes (Runs (Err refusal)) can knows = refused_undone refusal
+  undone_goes (Runs (Ok r)) can knows = request_undone r can knows
+  undone_goes (Does deed) can knows = quiet_turn old new (one_turn old.files deed) ((one_turn old.files deed).turn account) quiet account refl e
 
 -- a refusal to session 0
 pub job_refused : {S E : Type 0} (told : Result S E) (result : Result Status Stop) (old new : World) (asked : Result Request Refusal) (refusal : Refusal) (account : Account) (given : Given) → asked ≡ Err refusal
     → SaysLine told old new (line_text 0 (RefusedReply refusal)) → IfOk result (λ status. number_of status ≡ status_after (RefusedReply refusal)) → OnOk result (new.said ≡ old.said ++ line_text 0 (RefusedReply refusal)) → RunsTo result old new asked account given
 job_refused told result old new asked refusal account given is says number said =
     subst (λ (a : Result Request Refusal). RunsTo result old new a account given) (sym is) (refused_runs old new 0 refusal account given (Err refusal) told result (refl, refl, refl) says number said)
-
--- of words that name no job
-pub words_refused : {S E : Type 0} (told : Result S E) (result : Result Status Stop) (old new : World) (asked : Asked) (account : Account) (given : Given) → asked ≡ Runs (Err Usage)
-    → SaysLine told old new (line_text 0 (RefusedReply Usage)) → IfOk result (λ status. number_of status ≡ status_after (RefusedReply Usage)) → OnOk result (new.said ≡ old.said ++ line_text 0 (RefusedReply Usage)) → GoesTo result old new asked account given
-words_refused told result old new asked account given is says number said =
-    subst (λ (a : Asked). GoesTo result old new a account given) (sym is) (job_refused told result old new (Err Usage) Usage account given refl says number said)
 
 -- of a script
 pub script_number : (name : List ℕ) (file : File) (refusal : Refusal) → script_in name file ≡ Err refusal → (result : Result Status Stop) → IfOk result (λ status. status ≡ RefusedStatus) → IfOk result (λ status. number_of status ≡ status_after (RefusedReply refusal))

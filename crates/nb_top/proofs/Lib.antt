@@ -43,3 +43,5 @@ pub mod Restored
 pub mod Fixed
 pub mod MergeTurns
 pub mod Merged
+pub mod GoesLaws
+pub mod ShownLaws

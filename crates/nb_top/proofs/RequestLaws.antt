@@ -1,12 +1,12 @@
 -- What the words ask for can be asked.
-use Rattle.std.proofs.Common.{◌≡◌, ◌⊎◌, ⊎_elim, ℕ, zero, suc, ◌-◌, ◌≤◌, List, [], ◌∷◌, length, get_or, true, false, refl, ap, subst, arith}
+use Rattle.std.proofs.Common.{◌≡◌, ◌⊎◌, ⊎_elim, ℕ, zero, suc, ◌-◌, ◌≤◌, List, [], ◌∷◌, length, get_or, true, false, refl, sym, ap, subst, arith}
 use Rattle.std.specs.Prelude.{Bool, ◌&&◌, ◌==◌, not, nat_le, slice_index, codes, Option, Some, None, Result, Ok, Err, IfOk, IfErr, replicate}
 use Rattle.std.specs.List.{AllByRecursion, list_all}
 use Rattle.std.proofs.lemmas.Bool.{and_parts, leb-true, le-leb}
 use Rattle.nb_host.specs.Files.{File, Files}
 use Rattle.nb_host.specs.Names.{is_name, is_delta, same_name}
 use Rattle.nb_host.specs.declared.faults.Fault.{Fault}
-use Rattle.nb_host.specs.declared.faults.Fault.TheVariants.{Refused, Memory}
+use Rattle.nb_host.specs.declared.faults.Fault.TheVariants.{Refused, Device, Memory}
 use Rattle.nb_host.specs.declared.refusals.Refusal.{Refusal}
 use Rattle.nb_host.specs.declared.refusals.Refusal.TheVariants.{Usage}
 use Rattle.nb_model.specs.declared.job.Job.{Job}
@@ -17,9 +17,9 @@ use Rattle.nb_model.proofs.GoingLaws.{name_short}
 use Rattle.nb_model.specs.Words.{Word, Read, are_flags, is_database, is_file, job_if, number_in_word, plain_job, backup_job, restore_job, apply_job, database_job, read_words, job_of_flags, job_read, job_of}
 use Rattle.nb_script.specs.Asked.{IsFurther, IsAskable}
 use Rattle.nb_script.specs.Fits.{IsBase, IsFile}
-use Rattle.nb_script.specs.Scripts.{Plan}
+use Rattle.nb_script.specs.Scripts.{Plan, script_of}
 use Rattle.nb_script.proofs.AskedLemmas.{answer_is_askable}
-use Rattle.nb_top.specs.Requests.{Request, ToRun, ToGenerate, Deed, ToRestore, ToFix, ToMerge, Asked, Runs, Does, FitsJob, script_in, to_run, plan_of, request_of, request_asked}
+use Rattle.nb_top.specs.Requests.{IsAskedBy, IsReadJob, Request, ToRun, ToGenerate, Deed, ToRestore, ToFix, ToMerge, Asked, Runs, Does, FitsJob, script_in, to_run, plan_of, request_of, request_asked}
 
 -- The statements of a script can be asked today. The name of a script that is written is none that a difference file may have.
 abbrev pub CanBeAsked : Request → Type 0
@@ -130,9 +130,9 @@ flags_fit flags (row ∷ rows) all = by (are_flags flags row.0) (flags_fit flags
     by true later = all.0
     by false later = later
 
-read_fits : (read : Read) → IfJob (job_read read)
+flags_fits : (read : Read) → IfJob (job_read read)
 unfolding job_read
-read_fits read = flags_fit read.flags _
+flags_fits read = flags_fit read.flags _
     (plain_fits read.plain, (backup_fits read.plain, (restore_fits read.plain, (apply_fits read.plain, (lock_fits read.plain, (sized_fits read.plain, (unlock_fits read.plain, (fixup_fits read.plain, tt))))))))
 
 words_fit : (words : List Word) → IfJob (job_of words)
@@ -141,7 +141,7 @@ words_fit words = by (read_words words)
   where
     by : (read : Option Read) → IfJob (elim read as (λ z. Option Job) [ None ↦ None | Some r ↦ job_read r ])
     by None = tt
-    by (Some r) = read_fits r
+    by (Some r) = flags_fits r
 
 pub fits_words : (words : List Word) (job : Job) → job_of words ≡ Some job → FitsJob job
 fits_words words job is = subst IfJob is (words_fit words)
@@ -219,6 +219,11 @@ pub askable_in : (name : List ℕ) (file : File) (plan : Plan) → script_in nam
 askable_in name None plan is = absurd (err_ok _ plan is)
 askable_in name (Some bytes) plan is = answer_is_askable bytes (Ok plan) is
 
+-- and so can one that some bytes spell
+pub spelled_can : (bytes : List ℕ) (s : Result Plan Refusal) → script_of bytes ≡ s → CanBeMet (Runs (to_run s))
+spelled_can bytes (Ok plan) is = answer_is_askable bytes (Ok plan) is
+spelled_can bytes (Err refusal) is = tt
+
 not_true : (b : Bool) → not b ≡ true → b ≡ false
 not_true true h = cc
 not_true false h = refl
@@ -236,11 +241,11 @@ restore_asked db names fits = (plain_file db (and_parts (is_file db) (nat_le (le
 
 -- What the words ask for can be asked.
 module _ (files : Files) where
-  script_can : (name : List ℕ) (s : Result Plan Refusal) → script_in name (files name) ≡ s → CanBeMet (Runs (to_run s))
+  pub script_can : (name : List ℕ) (s : Result Plan Refusal) → script_in name (files name) ≡ s → CanBeMet (Runs (to_run s))
   script_can name (Ok plan) is = askable_in name (files name) plan is
   script_can name (Err refusal) is = tt
 
-  job_can : (job : Job) → FitsJob job → CanBeMet (request_of files job)
+  pub job_can : (job : Job) → FitsJob job → CanBeMet (request_of files job)
   job_can (Run name) fits = script_can name (script_in name (files name)) refl
   job_can (Backup level db file) fits = backup_askable level db file fits
   job_can (BackupSince guid db file) fits = since_askable guid db file fits
@@ -271,3 +276,30 @@ unread_words words answer refusal is why =
   where
     refused_memory : Refused refusal ≡ Memory → ⊥
     refused_memory h = cc
+
+-- What was read of words can be met.
+pub read_can : (files : Files) (read : Result Job Fault) (asked : Asked) → IsReadJob read → IsAskedBy read files asked → CanBeMet asked
+read_can files (Ok job) asked fits by = subst CanBeMet (sym by) (job_can files job fits)
+read_can files (Err (Refused refusal)) asked fits by = subst CanBeMet (sym by) tt
+read_can files (Err Memory) asked fits by = subst CanBeMet (sym by.1) (can_be_asked files by.0)
+read_can files (Err Device) asked fits by = absurd fits
+
+-- what was read is what the words name
+pub read_fits : (words : List Word) (read : Result Job Fault) → IfOk read (λ (job : Job). job_of words ≡ Some job) → IfErr read (λ (fault : Fault). (fault ≡ Memory) ⊎ ((fault ≡ Refused Usage) × (job_of words ≡ None))) → IsReadJob read
+read_fits words (Ok job) is none = fits_words words job is
+read_fits words (Err (Refused refusal)) is none = tt
+read_fits words (Err Memory) is none = tt
+read_fits words (Err Device) is none = ⊎_elim (λ memory. other memory) (λ usage. refused usage.0) none
+  where
+    other : Device ≡ Memory → ⊥
+    other h = cc
+
+    refused : Device ≡ Refused Usage → ⊥
+    refused h = cc
+
+pub read_asks : (files : Files) (words : List Word) (read : Result Job Fault) → IfOk read (λ (job : Job). job_of words ≡ Some job) → IfErr read (λ (fault : Fault). (fault ≡ Memory) ⊎ ((fault ≡ Refused Usage) × (job_of words ≡ None)))
+    → IsAskedBy read files (request_asked files words)
+read_asks files words (Ok job) is none = asked_job files words job is
+read_asks files words (Err (Refused refusal)) is none = asked_usage files words (unread_words words (Err (Refused refusal)) refusal refl none)
+read_asks files words (Err Memory) is none = (words, refl)
+read_asks files words (Err Device) is none = read_fits words (Err Device) is none

@@ -2,6 +2,8 @@
 use Rattle.std.specs.Prelude.{◌≡◌, ℕ, ◌≤◌, true, List, [], ◌∷◌, length, replicate, Option, None, Some, Result, Ok, Err}
 use Rattle.std.specs.List.{list_all}
 use Rattle.nb_host.specs.Files.{File, Files}
+use Rattle.nb_host.specs.declared.faults.Fault.{Fault}
+use Rattle.nb_host.specs.declared.faults.Fault.TheVariants.{Refused as RefusedFault, Device, Memory}
 use Rattle.nb_host.specs.declared.refusals.Refusal.{Refusal}
 use Rattle.nb_host.specs.declared.refusals.Refusal.TheVariants.{Usage, NoFile}
 use Rattle.nb_model.specs.declared.job.Job.{Job}
@@ -89,3 +91,24 @@ request_of files job = elim (deed_of job) [ Some deed ↦ Does deed | None ↦ R
 -- what the words ask for
 abbrev pub request_asked : Files → (words : List (List ℕ)) → Asked
 request_asked files words = elim (job_of words) [ None ↦ Runs (Err Usage) | Some job ↦ request_of files job ]
+
+-- What was read of words: a job whose names they may give, or that they name none, or that memory was too short to read them.
+abbrev pub IsReadJob : Result Job Fault → Type 0
+IsReadJob (Ok job) = FitsJob job
+IsReadJob (Err (RefusedFault refusal)) = Unit {0}
+IsReadJob (Err Memory) = Unit {0}
+IsReadJob (Err Device) = ⊥
+
+-- they name none
+abbrev pub NamesNone : Result Job Fault → Type 0
+NamesNone (Err (RefusedFault refusal)) = Unit {0}
+NamesNone (Ok job) = ⊥
+NamesNone (Err Memory) = ⊥
+NamesNone (Err Device) = ⊥
+
+-- what they ask for, which isn't known where memory was too short
+abbrev pub IsAskedBy : Result Job Fault → Files → Asked → Type 0
+IsAskedBy (Ok job) files asked = asked ≡ request_of files job
+IsAskedBy (Err (RefusedFault refusal)) files asked = asked ≡ Runs (Err Usage)
+IsAskedBy (Err Memory) files asked = (words : List (List ℕ)) × (asked ≡ request_asked files words)
+IsAskedBy (Err Device) files asked = ⊥

@@ -1,12 +1,8 @@
 // The line of a script that breaks its form, for a reader.
-ghost use Rattle.std.specs.Prelude.{◌≡◌, Err, IsTrue, IfOk, IfSome};
-ghost use Rattle.nb_host.specs.declared.refusals.Refusal.TheVariants.{BadScript};
-ghost use Rattle.nb_page.specs.Quiet.{Quiet};
-ghost use Rattle.nb_top.specs.Requests.{script_in};
+ghost use Rattle.std.specs.Prelude.{IfOk};
+ghost use Rattle.nb_top.specs.Shown.{Names};
 
-use crate::reading::read_file;
-use nb_host::{Fault, Host, Name, Refusal};
-use nb_script::parse;
+use nb_host::Refusal;
 use std::alloc::{AllocError, Global};
 
 /// How many bytes of a line are shown at most.
@@ -49,25 +45,18 @@ fn text_of(alloc: Global, bytes: &[u8], line: u32) -> Result<String, AllocError>
     }
 }
 
-/// The line that breaks the form of a script, none where the file spells one or isn't read for its length. It is read once more, and
-/// nothing changes.
-pub fn broken_line<H: Host>(
+/// The line that the refusal of a script of these bytes names, where it is refused for its form.
+pub(crate) fn broken_by(
     alloc: Global,
-    host: &mut H,
-    script: &Name,
-) -> Result<Option<Broken>, Fault>
-    ensures line { IsTrue H.tells → IfOk result (λ found. IfSome found (λ broken. script_in script.now ((H.world host.old).files script.now) ≡ Err (BadScript broken.line))) }
-    ensures quiet { Quiet (H.world host.old) (H.world host.new) }
+    bytes: &[u8],
+    refusal: &Refusal,
+) -> Result<Option<Broken>, AllocError>
+    ensures { IfOk result (λ found. Names found refusal.now) }
 {
-    let bytes = match read_file(alloc, host, script) {
-        Ok(bytes) => bytes,
-        Err(Fault::Refused(_)) => return Ok(None),
-        Err(fault) => return Err(fault),
-    };
-    match parse(alloc, &bytes) {
-        Err(Fault::Refused(Refusal::BadScript { line })) => {
-            let text = text_of(alloc, &bytes, line)?;
-            Ok(Some(Broken { line, text }))
+    match refusal {
+        Refusal::BadScript { line } => {
+            let text = text_of(alloc, bytes, *line)?;
+            Ok(Some(Broken { line: *line, text }))
         }
         _ => Ok(None),
     }

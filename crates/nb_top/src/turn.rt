@@ -7,9 +7,9 @@ ghost use Rattle.nb_model.specs.Jobs.{apply_turn, fixup_turn, restore_turn};
 ghost use Rattle.nb_session.specs.Causes.{CountsStop};
 ghost use Rattle.nb_session.specs.Others.{LeavesOthers};
 ghost use Rattle.nb_top.specs.OneTurn.{fixing, merging, one_turn, restoring};
-ghost use Rattle.nb_top.specs.Requests.{Deed, FitsJob, deed_of};
-ghost use Rattle.nb_top.specs.Served.{Serves, TurnsTo};
-ghost use Rattle.nb_top.specs.Touched.{TouchesOnly};
+ghost use Rattle.nb_top.specs.Goes.{Goes};
+ghost use Rattle.nb_top.specs.Requests.{Deed, Does, FitsJob, deed_of};
+ghost use Rattle.nb_top.specs.Served.{Serves};
 
 use crate::Status;
 use crate::script::{refuse, say_line, settled};
@@ -77,9 +77,7 @@ fn take_turn<H: Host>(alloc: Global, host: &mut H, job: &Job) -> Result<Reply, F
 pub(crate) fn run_turn<H: Host>(alloc: Global, host: &mut H, job: &Job) -> Result<Status, Stop>
     requires deed { (deed : Deed) × (deed_of job.now ≡ Some deed) }
     requires fits { FitsJob job.now }
-    ensures turns { (deed : Deed) (account : Account) → deed_of job.now ≡ Some deed → IsTrue H.tells → (one_turn (H.world host.old).files deed).knows account
-        → TurnsTo result (H.world host.old) (H.world host.new) (one_turn (H.world host.old).files deed) account }
-    ensures touches { (deed : Deed) → deed_of job.now ≡ Some deed → IsTrue H.tells → TouchesOnly result (H.world host.old) (H.world host.new) (Only (one_turn (H.world host.old).files deed).name) }
+    ensures goes { (deed : Deed) → deed_of job.now ≡ Some deed → Goes H.tells result (H.world host.old) (H.world host.new) (Does deed) }
     ensures done { IfOk result (λ status. (status ≡ Status.Done) ⊎ (status ≡ Status.Refused)) }
     ensures cause { CountsStop result (H.faults host.old) (H.faults host.new) }
 {

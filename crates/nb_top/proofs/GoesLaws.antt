@@ -1,0 +1,97 @@
+-- What is done of what is asked for, put together.
+use Rattle.std.proofs.Common.{◌≡◌, List, [], ℕ, refl, sym, subst}
+use Rattle.std.specs.Prelude.{Bool, IsTrue, Result, Ok, Err, IsErr, IfOk, OnOk}
+use Rattle.nb_host.specs.Files.{Files}
+use Rattle.nb_host.specs.World.{World}
+use Rattle.nb_host.specs.Crash.{Leaves, LeavesAll}
+use Rattle.nb_host.specs.Moments.{IsTimely}
+use Rattle.nb_host.specs.declared.refusals.Refusal.{Refusal}
+use Rattle.nb_change.specs.Changes.{Only}
+use Rattle.nb_change.specs.Gave.{GaveNothing}
+use Rattle.nb_page.specs.Quiet.{Quiet}
+use Rattle.nb_page.proofs.QuietLemmas.{quiet_begun}
+use Rattle.nb_model.specs.declared.reply.Reply.TheVariants.{Refused as RefusedReply}
+use Rattle.nb_model.specs.Account.{Account}
+use Rattle.nb_model.specs.Lines.{line_text}
+use Rattle.nb_model.specs.Outcomes.{Given}
+use Rattle.nb_model.specs.Output.{status_after}
+use Rattle.nb_session.specs.declared.stop.Stop.{Stop}
+use Rattle.nb_session.specs.Says.{SaysLine}
+use Rattle.nb_session.proofs.GiftLaws.{grows_none, grows_joined}
+use Rattle.nb_session.proofs.OthersLaws.{leaves_quiet}
+use Rattle.nb_top.specs.declared.status.Status.{Status}
+use Rattle.nb_top.specs.declared.status.Status.TheVariants.{Device, Memory}
+use Rattle.nb_top.specs.Goes.{Goes, IsRun}
+use Rattle.nb_top.specs.Numbers.{number_of}
+use Rattle.nb_top.specs.OneTurn.{one_turn}
+use Rattle.nb_top.specs.Performed.{GoesTo, KnowsAsked, RunsTo}
+use Rattle.nb_top.specs.Requests.{Request, ToRun, ToGenerate, Deed, Asked, Runs, Does}
+use Rattle.nb_top.specs.Served.{TurnsTo}
+use Rattle.nb_top.specs.Touched.{IsWholeToMerge, MayTouch, OfAsked, TouchesOnly}
+use Rattle.nb_top.proofs.JobRuns.{job_refused, performs_device, performs_ended, performs_memory, undone_goes}
+use Rattle.nb_top.proofs.QuietRuns.{foretold_from, knows_quietly, quiet_gave, runs_quietly}
+use Rattle.nb_top.proofs.RequestLaws.{CanBeMet}
+use Rattle.nb_top.proofs.ScriptRuns.{runs_err}
+use Rattle.nb_top.proofs.TouchLaws.{only_err, only_refused, only_stopped, touches_then}
+
+-- a run that begins with calls that change nothing
+pub goes_quietly : (tells : Bool) (old mid new : World) (asked : Result Request Refusal) (result : Result Status Stop) → Quiet old mid → Goes tells result mid new (Runs asked) → Goes tells result old new (Runs asked)
+goes_quietly tells old mid new asked result quiet goes = record {
+  does = λ told. ((goes.does told).0, λ account given knows may foretold.
+      runs_quietly result old mid new asked account given quiet
+      ((goes.does told).1 account given (knows_quietly old mid account asked quiet knows) may (foretold_from old mid new given _ (quiet_gave old mid quiet) foretold)));
+  grows = λ account told knows. grows_joined old mid new (grows_none old mid (quiet_gave old mid quiet)) (goes.grows account told (knows_quietly old mid account asked quiet knows));
+  touches = λ told whole.
+      touches_then old mid new asked (leaves_quiet old mid (MayTouch asked) quiet) result asked (λ m may. may)
+      (goes.touches told (subst (λ (files : Files). IsWholeToMerge files asked) (sym quiet.still.files) whole));
+}
+
+-- nothing was done
+pub goes_undone : (tells : Bool) (old new : World) (asked : Asked) (result : Result Status Stop) → CanBeMet asked → IsErr result → Quiet old new → Goes tells result old new asked
+goes_undone tells old new asked result can failed quiet = record {
+  does = λ told. ([], λ account given knows may foretold. runs_err result failed (λ r. GoesTo r old new asked account given) (λ e. undone_goes old new account given e quiet asked can knows));
+  grows = λ account told knows. grows_none old new (quiet_gave old new quiet);
+  touches = λ told whole. only_err old new (OfAsked old.files asked) result failed (leaves_quiet old new (OfAsked old.files asked) quiet);
+}
+
+-- a refusal is said to session 0, and that is all
+pub goes_refused : (tells : Bool) (old new : World) (asked : Result Request Refusal) (refusal : Refusal) (result : Result Status Stop) → asked ≡ Err refusal → IsTimely old → IsTimely new → (IsTrue tells → LeavesAll new new.files)
+    → GaveNothing old new → (IsTrue tells → SaysLine result old new (line_text 0 (RefusedReply refusal))) → IfOk result (λ status. number_of status ≡ status_after (RefusedReply refusal)) → Goes tells result old new (Runs asked)
+goes_refused tells old new asked refusal result is begun timely reads gave says number = record {
+  does = λ tell. ([], λ account given knows may foretold. job_refused result result old new asked refusal account given is (says tell) number (says tell).said);
+  grows = λ account tell knows. grows_none old new gave;
+  touches = λ tell whole. only_refused old old new (MayTouch asked) (leaves_quiet old old (MayTouch asked) (quiet_begun old begun)) timely (reads tell) result 0 refusal (says tell);
+}
+
+-- a job of one turn
+pub turn_goes : (tells : Bool) (old new : World) (deed : Deed) (result : Result Status Stop)
+    → ((account : Account) → IsTrue tells → (one_turn old.files deed).knows account → TurnsTo result old new (one_turn old.files deed) account) → (IsTrue tells → TouchesOnly result old new (Only (one_turn old.files deed).name))
+    → Goes tells result old new (Does deed)
+turn_goes tells old new deed result turns touches = record {
+  does = λ told. ([], λ account given knows may foretold. turns account told knows);
+  grows = λ account told knows. grows_none old new (turns account told knows).gave;
+  touches = λ told whole. touches told;
+}
+
+-- What a run does that ends so.
+module _ (tells : Bool) (old new : World) (asked : Asked) (can : CanBeMet asked) (before : IsTrue tells → (name : List ℕ) → Leaves old name (old.files name)) (timely : IsTimely new) (reads : IsTrue tells → (name : List ℕ) → Leaves new name (new.files name)) where
+  pub run_ended : (status : Status) → Goes tells (Ok status) old new asked → IsRun tells status old new asked
+  run_ended status goes = record {
+    does = λ told. ((goes.does told).0, λ account given knows may foretold. performs_ended old new account given may (before told) timely (reads told) asked can status ((goes.does told).1 account given knows may foretold));
+    grows = goes.grows;
+    touches = goes.touches;
+  }
+
+  pub run_device : (stop : Stop) → Goes tells (Err stop) old new asked → IsRun tells Device old new asked
+  run_device stop goes = record {
+    does = λ told. ((goes.does told).0, λ account given knows may foretold. performs_device old new account given may (before told) timely (reads told) asked can stop ((goes.does told).1 account given knows may foretold));
+    grows = goes.grows;
+    touches = λ told whole. only_stopped old new (OfAsked old.files asked) stop Device refl (goes.touches told whole);
+  }
+
+  pub run_memory : (stop : Stop) → Goes tells (Err stop) old new asked → IsRun tells Memory old new asked
+  run_memory stop goes = record {
+    does = λ told. ((goes.does told).0, λ account given knows may foretold. performs_memory old new account given may (before told) timely (reads told) asked can stop ((goes.does told).1 account given knows may foretold));
+    grows = goes.grows;
+    touches = λ told whole. only_stopped old new (OfAsked old.files asked) stop Memory refl (goes.touches told whole);
+  }
