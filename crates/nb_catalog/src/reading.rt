@@ -1,0 +1,49 @@
+ghost use Rattle.std.specs.Prelude.{◌≡◌, ◌<◌, ◌^◌, length, IsTrue, IfOk, IfErr};
+ghost use Rattle.nb_host.specs.declared.faults.Fault.TheVariants.{Memory};
+ghost use Rattle.nb_catalog.specs.Plans.{plan_of};
+
+use crate::Plan;
+use crate::lines::parents;
+use crate::points::{count_in_lines, entries, newest, outside_lines, with_line, without_line};
+use nb_host::Fault;
+use nb_level::LevelHead;
+use std::alloc::Global;
+use std::marker::Model;
+
+/// The heads of backup files, each in the place that the file has in a list.
+///
+/// Contracts see it as the list of the heads.
+#[derive(Drop)]
+pub struct Catalogue {
+    heads: Vec<LevelHead>,
+}
+
+impl Model for Catalogue {
+    ghost use Rattle.std.specs.Prelude.{List, length, ◌<◌, ◌^◌};
+    ghost use Rattle.nb_level.specs.declared.head.LevelHead.{LevelHead};
+
+    ghost Value = { List LevelHead };
+
+    ghost view = { λ c. c.heads.items };
+
+    ghost invariant = { λ c. length c.heads.items < 2 ^ 32 };
+}
+
+impl Catalogue {
+    /// Which files the last restore points need, `keep` of them. Want of memory is the only fault.
+    pub fn plan(&self, keep: u32) -> Result<Plan, Fault>
+        ensures exact { IfOk result (λ plan. plan ≡ plan_of self.now keep) }
+        ensures only_memory { IfErr result (λ fault. fault ≡ Memory) }
+    {
+        let alloc = *self.heads.allocator();
+        let parents = parents(alloc, &self.heads)?;
+        let entries = entries(alloc, &self.heads)?;
+        let points = with_line(alloc, &parents, &entries)?;
+        let kept = newest(alloc, &points, keep)?;
+        Ok(Plan {
+            kept: count_in_lines(&parents, &kept, &entries),
+            dropped: outside_lines(alloc, &parents, &kept, &points)?,
+            orphans: without_line(alloc, &parents, &entries)?,
+        })
+    }
+}
