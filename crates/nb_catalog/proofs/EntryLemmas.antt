@@ -4,7 +4,7 @@ use Rattle.std.specs.List.{slice_index_or}
 use Rattle.std.proofs.lemmas.List.{append-nil, at_drop_more, at_drop_all}
 use Rattle.nb_level.specs.declared.head.LevelHead.{LevelHead}
 use Rattle.nb_catalog.specs.declared.entry.Entry.{Entry}
-use Rattle.nb_catalog.specs.Plans.{entries_from, entries}
+use Rattle.nb_catalog.specs.Plans.{entries_from, entries_of}
 
 abbrev entry_at : ℕ → LevelHead → Entry
 entry_at n h = record { place = n; level = h.level; scn = h.scn }
@@ -18,8 +18,8 @@ unfolding entries_from
 no_entries n = refl
 
 -- one file more
-pub entries_more : (heads : List LevelHead) (done new : List Entry) (n : ℕ) (d : LevelHead) → n < length heads → done ++ entries_from n (drop n heads) ≡ entries heads
-    → new ≡ done ++ entry_at n (slice_index_or heads n d) ∷ [] → new ++ entries_from (n + 1) (drop (n + 1) heads) ≡ entries heads
+pub entries_more : (heads : List LevelHead) (done new : List Entry) (n : ℕ) (d : LevelHead) → n < length heads → done ++ entries_from n (drop n heads) ≡ entries_of heads
+    → new ≡ done ++ entry_at n (slice_index_or heads n d) ∷ [] → new ++ entries_from (n + 1) (drop (n + 1) heads) ≡ entries_of heads
 entries_more heads done new n d there so_far is =
     let h = slice_index_or heads n d in
     let rest = entries_from (n + 1) (drop (n + 1) heads) in
@@ -27,7 +27,7 @@ entries_more heads done new n d there so_far is =
     ∙ ap (λ (es : List Entry). done ++ es) (sym (at_drop_more (entries_from n) heads n d there ∙ first_entry n h (drop (n + 1) heads))) ∙ so_far
 
 -- all of them
-pub entries_all : (heads : List LevelHead) (done : List Entry) (n : ℕ) → length heads ≤ n → done ++ entries_from n (drop n heads) ≡ entries heads → done ≡ entries heads
+pub entries_all : (heads : List LevelHead) (done : List Entry) (n : ℕ) → length heads ≤ n → done ++ entries_from n (drop n heads) ≡ entries_of heads → done ≡ entries_of heads
 entries_all heads done n end so_far = sym (append-nil done) ∙ ap (λ (es : List Entry). done ++ es) (sym (at_drop_all (entries_from n) heads n end ∙ no_entries n)) ∙ so_far
 
 -- there are as many as files

@@ -13,8 +13,8 @@ abbrev pub parent : List LevelHead → (child : LevelHead) → Option ℕ
 parent heads child = position (is_parent child) heads
 
 -- that of each file
-abbrev pub parents : List LevelHead → List (Option ℕ)
-parents heads = map (parent heads) heads
+abbrev pub parents_of : List LevelHead → List (Option ℕ)
+parents_of heads = map (parent heads) heads
 
 -- The line of the file of that level in that place, by the parent of each: the places of the files from level 0 up to it. There is
 -- none where a parent is missing.

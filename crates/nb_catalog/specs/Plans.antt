@@ -2,7 +2,7 @@
 use Rattle.std.specs.Prelude.{ℕ, ◌+◌, Bool, ◌&&◌, ◌||◌, ◌==◌, not, nat_lt, List, [], ◌∷◌, Option, map, option_map, filter, count_by, is_some, unwrap_or, false}
 use Rattle.std.specs.List.{list_any}
 use Rattle.nb_level.specs.declared.head.LevelHead.{LevelHead}
-use Rattle.nb_catalog.specs.Lines.{parents, line_at, is_among}
+use Rattle.nb_catalog.specs.Lines.{parents_of, line_at, is_among}
 use Rattle.nb_catalog.specs.declared.entry.Entry.{Entry}
 
 -- the files with their places, where the first of them has place n
@@ -10,22 +10,22 @@ unfoldable pub entries_from : (n : ℕ) → List LevelHead → List Entry
 entries_from n [] = []
 entries_from n (h ∷ hs) = record { place = n; level = h.level; scn = h.scn } ∷ entries_from (n + 1) hs
 
-abbrev pub entries : List LevelHead → List Entry
-entries heads = entries_from 0 heads
+abbrev pub entries_of : List LevelHead → List Entry
+entries_of heads = entries_from 0 heads
 
 -- the line of a file, by the parent of each: the places of the files from level 0 up to it, and none where one is missing
 abbrev pub line_by : List (Option ℕ) → Entry → Option (List ℕ)
 line_by parents e = line_at parents e.level e.place
 
 abbrev pub line : List LevelHead → Entry → Option (List ℕ)
-line heads e = line_by (parents heads) e
+line heads e = line_by (parents_of heads) e
 
 -- a restore point is a file that has a line
 abbrev pub is_point : List LevelHead → Entry → Bool
 is_point heads e = is_some (line heads e)
 
 abbrev pub points : List LevelHead → List Entry
-points heads = filter (is_point heads) (entries heads)
+points heads = filter (is_point heads) (entries_of heads)
 
 -- the first comes behind the second: by SCN, and then by place
 abbrev pub is_newer : Entry → Entry → Bool
@@ -49,7 +49,7 @@ is_in_lines parents es e = list_any (is_in_line parents e.place) es
 
 -- a file is needed where it is in the line of a kept point
 abbrev pub is_needed : List LevelHead → (keep : ℕ) → Entry → Bool
-is_needed heads keep e = is_in_lines (parents heads) (kept heads keep) e
+is_needed heads keep e = is_in_lines (parents_of heads) (kept heads keep) e
 
 abbrev pub places : List Entry → List ℕ
 places es = map (λ e. e.place) es
@@ -59,7 +59,7 @@ abbrev pub dropped : List LevelHead → (keep : ℕ) → List ℕ
 dropped heads keep = places (filter (λ e. not (is_needed heads keep e)) (points heads))
 
 abbrev pub orphans : List LevelHead → List ℕ
-orphans heads = places (filter (λ e. not (is_point heads e)) (entries heads))
+orphans heads = places (filter (λ e. not (is_point heads e)) (entries_of heads))
 
 -- how many files are needed, and the places of the others
 pub record Retention : Type 0 where
@@ -68,4 +68,4 @@ pub record Retention : Type 0 where
   pub orphans : List ℕ
 
 abbrev pub plan_of : List LevelHead → (keep : ℕ) → Retention
-plan_of heads keep = record { kept = count_by (is_needed heads keep) (entries heads); dropped = dropped heads keep; orphans = orphans heads }
+plan_of heads keep = record { kept = count_by (is_needed heads keep) (entries_of heads); dropped = dropped heads keep; orphans = orphans heads }

@@ -1,6 +1,6 @@
 ghost use Rattle.std.specs.Prelude.{◌≡◌, map, option_map, IfOk, None};
 ghost use Rattle.std.specs.List.{slice_index_or};
-ghost use Rattle.nb_catalog.specs.Lines.{is_parent, parent, parents, line_at, is_among};
+ghost use Rattle.nb_catalog.specs.Lines.{is_parent, parent, parents_of, line_at, is_among};
 
 use nb_level::LevelHead;
 use std::alloc::{AllocError, Global};
@@ -27,7 +27,7 @@ pub(crate) fn parents(
     alloc: Global,
     heads: &[LevelHead],
 ) -> Result<Vec<Option<usize>>, AllocError>
-    ensures { IfOk result (λ v. v.items ≡ parents heads.now) }
+    ensures { IfOk result (λ v. v.items ≡ parents_of heads.now) }
 {
     heads.iter().map(|child| parent(heads, child)).collect(alloc)
 }

@@ -1,6 +1,9 @@
-ghost use Rattle.std.specs.Prelude.{◌≡◌, ◌<◌, ◌^◌, length, filter, count_by, not, is_some, IfOk};
-ghost use Rattle.nb_catalog.specs.Plans.{entries, line_by, is_newer, newest, is_in_line, is_in_lines, places};
+ghost use Rattle.std.specs.Prelude.{◌≡◌, ◌<◌, ◌^◌, length, filter, count_by, not, is_some, List, IfOk};
+ghost use Rattle.nb_level.specs.declared.head.LevelHead.{LevelHead};
+ghost use Rattle.nb_catalog.specs.Lines.{parents_of};
+ghost use Rattle.nb_catalog.specs.Plans.{entries_of, plan_of, line_by, is_newer, newest, is_in_line, is_in_lines, places};
 
+use crate::Plan;
 use crate::entry::Entry;
 use crate::lines::is_in_line_at;
 use nb_level::LevelHead;
@@ -9,7 +12,7 @@ use std::alloc::{AllocError, Global};
 /// The files with their places.
 pub(crate) fn entries(alloc: Global, heads: &[LevelHead]) -> Result<Vec<Entry>, AllocError>
     requires { length heads.now < 2 ^ 32 }
-    ensures { IfOk result (λ v. v.items ≡ entries heads.now) }
+    ensures { IfOk result (λ v. v.items ≡ entries_of heads.now) }
 {
     let mut entries = Vec::new(alloc);
     for (place, head) in heads.iter().enumerate() {
@@ -30,7 +33,7 @@ fn has_line(parents: &[Option<usize>], entry: &Entry) -> bool
 }
 
 /// The files that have a line: the restore points.
-pub(crate) fn with_line(
+fn with_line(
     alloc: Global,
     parents: &[Option<usize>],
     entries: &[Entry],
@@ -45,7 +48,7 @@ pub(crate) fn with_line(
 }
 
 /// The places of the files that have none.
-pub(crate) fn without_line(
+fn without_line(
     alloc: Global,
     parents: &[Option<usize>],
     entries: &[Entry],
@@ -75,7 +78,7 @@ fn newer_count(entries: &[Entry], than: &Entry) -> usize
 }
 
 /// So many of these, the newest, in their order.
-pub(crate) fn newest(
+fn newest(
     alloc: Global,
     entries: &[Entry],
     keep: u32,
@@ -104,7 +107,7 @@ fn is_in_lines(parents: &[Option<usize>], kept: &[Entry], entry: &Entry) -> bool
 }
 
 /// How many files are in the lines of these.
-pub(crate) fn count_in_lines(parents: &[Option<usize>], kept: &[Entry], entries: &[Entry]) -> u32
+fn count_in_lines(parents: &[Option<usize>], kept: &[Entry], entries: &[Entry]) -> u32
     requires { length entries.now < 2 ^ 32 }
     ensures { result ≡ count_by (is_in_lines parents.now kept.now) entries.now }
 {
@@ -112,7 +115,7 @@ pub(crate) fn count_in_lines(parents: &[Option<usize>], kept: &[Entry], entries:
 }
 
 /// The places of the files that are in the line of none of these.
-pub(crate) fn outside_lines(
+fn outside_lines(
     alloc: Global,
     parents: &[Option<usize>],
     kept: &[Entry],
@@ -126,4 +129,26 @@ pub(crate) fn outside_lines(
         .filter(|e| !is_in_lines(parents, kept, e))
         .map(|e| e.place)
         .collect(alloc)
+}
+
+/// The plan for files whose parents stand in those places.
+pub(crate) fn plan_by(
+    alloc: Global,
+    parents: &[Option<usize>],
+    entries: &[Entry],
+    keep: u32,
+) -> Result<Plan, AllocError>
+    requires { length entries.now < 2 ^ 32 }
+    ensures { (heads : List LevelHead) → parents.now ≡ parents_of heads → entries.now ≡ entries_of heads → IfOk result (λ plan. plan ≡ plan_of heads keep) }
+{
+    let points = with_line(alloc, parents, entries)?;
+    let kept = newest(alloc, &points, keep)?;
+    let dropped = outside_lines(alloc, parents, &kept, &points)?;
+    let orphans = without_line(alloc, parents, entries)?;
+    let kept = count_in_lines(parents, &kept, entries);
+    Ok(Plan {
+        kept,
+        dropped,
+        orphans,
+    })
 }

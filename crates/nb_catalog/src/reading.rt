@@ -4,7 +4,7 @@ ghost use Rattle.nb_catalog.specs.Plans.{plan_of};
 
 use crate::Plan;
 use crate::lines::parents;
-use crate::points::{count_in_lines, entries, newest, outside_lines, with_line, without_line};
+use crate::points::{entries, plan_by};
 use nb_host::Fault;
 use nb_level::LevelHead;
 use std::alloc::Global;
@@ -38,12 +38,7 @@ impl Catalogue {
         let alloc = *self.heads.allocator();
         let parents = parents(alloc, &self.heads)?;
         let entries = entries(alloc, &self.heads)?;
-        let points = with_line(alloc, &parents, &entries)?;
-        let kept = newest(alloc, &points, keep)?;
-        Ok(Plan {
-            kept: count_in_lines(&parents, &kept, &entries),
-            dropped: outside_lines(alloc, &parents, &kept, &points)?,
-            orphans: without_line(alloc, &parents, &entries)?,
-        })
+        let plan = plan_by(alloc, &parents, &entries, keep)?;
+        Ok(plan)
     }
 }
