@@ -1,13 +1,19 @@
 -- What a catalogue keeps of a backup file.
-use Rattle.std.specs.Prelude.{ℕ, ◌-◌, List, [], ◌∷◌, Some, None, Result, Ok, Err, true, false}
+use Rattle.std.specs.Prelude.{◌≡◌, ℕ, ◌-◌, List, [], ◌∷◌, Some, None, Result, Ok, Err, true, false}
 use Rattle.nb_fields.specs.Header.{size_of, scn_of, guid_of}
-use Rattle.nb_host.specs.Files.{File, Files}
+use Rattle.nb_host.specs.Files.{File, Files, bytes_of}
+use Rattle.nb_host.specs.declared.faults.Fault.{Fault}
+use Rattle.nb_host.specs.declared.faults.Fault.TheVariants.{Refused, Device, Memory}
 use Rattle.nb_host.specs.declared.refusals.Refusal.{Refusal}
 use Rattle.nb_host.specs.declared.refusals.Refusal.TheVariants.{NoFile, BadLevel}
-use Rattle.nb_model.specs.Levels.{Head, begins_level, read_level}
+use Rattle.nb_model.specs.Levels.{Head, Contents, begins_level, read_level}
 use Rattle.nb_model.specs.Restoring.{not_whole}
 use Rattle.nb_model.specs.Stands.{nil}
+use Rattle.nb_model.specs.Image.{Numbered}
+use Rattle.nb_level.specs.Heads.{head_of}
+use Rattle.nb_level.specs.Reading.{Reading, still_to_come}
 use Rattle.nb_level.specs.declared.head.LevelHead.{LevelHead}
+use Rattle.nb_chain.specs.Level.{LevelRefused}
 use Rattle.nb_catalog.specs.Answers.{with_first}
 
 -- the head of a level file
@@ -30,3 +36,24 @@ read_file name (Some bytes) = elim (begins_level bytes) [
 unfoldable pub read_files : Files → (names : List (List ℕ)) → Result (List LevelHead) Refusal
 read_files files [] = Ok []
 read_files files (name ∷ names) = elim (read_file name (files name)) [ Err refusal ↦ Err refusal | Ok head ↦ with_first head (read_files files names) ]
+
+-- the pages that were still to come of a level file were read to its end, or the first broken place was met
+abbrev pub EndSays : File → Reading → Result Unit Fault → Type 0
+EndSays file r (Ok done) = (pages : List Numbered) × (still_to_come (bytes_of file) r ≡ Ok pages)
+EndSays file r (Err (Refused refusal)) = (at : ℕ) × (still_to_come (bytes_of file) r ≡ Err at) × (refusal ≡ BadLevel r.name at)
+EndSays file r (Err Device) = Unit {0}
+EndSays file r (Err Memory) = Unit {0}
+
+-- the file is a level file, and this is its head
+pub record IsLevelHead (file : File) (head : LevelHead) : Type 0 where
+  pub bytes : List ℕ
+  pub there : file ≡ Some bytes
+  pub contents : Contents
+  pub read : read_level bytes ≡ Ok contents
+  pub named : head_of head ≡ contents.head
+
+abbrev pub LevelSays : File → (name : List ℕ) → Result LevelHead Fault → Type 0
+LevelSays file name (Ok head) = IsLevelHead file head
+LevelSays file name (Err (Refused refusal)) = LevelRefused file name refusal
+LevelSays file name (Err Device) = Unit {0}
+LevelSays file name (Err Memory) = Unit {0}

@@ -2,10 +2,12 @@
 #![tactic(auto)]
 
 mod entry;
+mod heads;
 mod lines;
 mod plan;
 mod points;
 mod reading;
 
+pub use heads::Catalogue;
 pub use plan::Plan;
-pub use reading::Catalogue;
+pub use reading::catalogue;

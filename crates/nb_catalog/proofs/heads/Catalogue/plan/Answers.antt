@@ -3,7 +3,7 @@ use Rattle.nb_level.specs.declared.head.LevelHead.{LevelHead}
 use Rattle.nb_catalog.specs.declared.entry.Entry.{Entry}
 use Rattle.nb_catalog.specs.Plans.{entries_of}
 use Rattle.nb_catalog.proofs.EntryLemmas.{length-entries}
-use Rattle.nb_catalog.proofs.reading.Catalogue.plan.Goals as goal
+use Rattle.nb_catalog.proofs.heads.Catalogue.plan.Goals as goal
 
 pub plan_by-requires : goal.plan_by-requires
 plan_by-requires c =
