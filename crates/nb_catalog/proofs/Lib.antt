@@ -2,3 +2,4 @@ pub mod LineLemmas
 pub mod EntryLemmas
 pub mod PlanLemmas
 pub mod HeadLemmas
+pub mod FileLemmas

@@ -1,0 +1,28 @@
+use Rattle.std.proofs.Common.{◌≡◌, List, [], ◌∷◌, ◌++◌, ap, ◌∙◌}
+use Rattle.nb_host.specs.Files.{Files, bytes_of}
+use Rattle.nb_model.specs.Levels.{behind}
+use Rattle.nb_level.specs.Reading.{Reading, still_to_come}
+use Rattle.nb_level.proofs.ReadingLemmas.{behind-behind}
+use Rattle.nb_page.proofs.QuietLemmas.{quiet_call, quiet_joined}
+use Rattle.nb_chain.proofs.PageLemmas.{gives_there}
+use Rattle.nb_catalog.proofs.reading.read_on.Goals as goal
+
+pub loop-preserved : goal.loop-preserved
+loop-preserved g c =
+    let loop = c.loop.invariant in
+    let log = c.next.ensures.log in
+    let files : Files = (g.H.Host.world c.args.host.now).files in
+    let same : (g.H.Host.world c.loop.host).files c.loop.reader.name ≡ files c.loop.reader.name = ap (λ (f : Files). f c.loop.reader.name) loop.quiet.still.files in
+    let named : files c.loop.reader.name ≡ files c.args.reader.now.name = ap (λ (r : Reading). files r.name) loop.same in
+    record {
+      same = c.next.ensures.same ∙ ap (λ (r : Reading). record r { place = c.next.new.self.place }) loop.same;
+      quiet = quiet_joined _ _ _ loop.quiet (quiet_call _ _ (g.met.H.Host.timely _) c.next.ensures.files log.said log.guids log.times c.next.ensures.time);
+      cause = c.in_ok-next.ensures.cause ∙ loop.cause;
+      so_far = λ tells.
+          let done = loop.so_far tells in
+          let page = (c.in-PageAt.field-0, c.next.new.into) ∷ [] in
+          let bytes = bytes_of (files c.args.reader.now.name) in
+          (done.0 ++ page, done.1
+          ∙ ap (behind done.0) (gives_there _ _ c.loop.reader c.next.new.self c.in_ok-next.field-0 c.next.new.into c.in-PageAt.field-0 g.H.Host.tells c.in-PageAt.is tells c.in_ok-next.ensures.answer (same ∙ named))
+          ∙ behind-behind done.0 page (still_to_come bytes c.next.new.self));
+    }
