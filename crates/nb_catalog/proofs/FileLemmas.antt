@@ -1,5 +1,5 @@
 -- Reading files one by one.
-use Rattle.std.proofs.Common.{◌≡◌, ℕ, ◌+◌, ◌<◌, ◌≤◌, List, [], ◌∷◌, ◌++◌, length, drop, refl, sym, ap, ◌∙◌, append_assoc}
+use Rattle.std.proofs.Common.{◌≡◌, ℕ, ◌+◌, ◌<◌, ◌≤◌, List, [], ◌∷◌, ◌++◌, length, drop, refl, sym, ap, subst, ◌∙◌, append_assoc}
 use Rattle.std.specs.Prelude.{Result, Ok, Err}
 use Rattle.std.specs.List.{slice_index_or}
 use Rattle.std.proofs.lemmas.List.{append-nil, at_drop_more, at_drop_all}
@@ -58,3 +58,7 @@ module _ (files : Files) where
     -- all of them
     pub read_all : length names ≤ n → read_files files names ≡ Ok heads
     read_all end = so_far ∙ ap (with_all heads) (at_drop_all (read_files files) names n end ∙ none_left) ∙ ap Ok (append-nil heads)
+
+-- a refusal that is meant is answered
+pub refused : {T : Type 0} (meant : Result T Refusal) (fault : Fault) (r : Refusal) → fault ≡ Refused r → meant ≡ Err r → Says meant (Err fault)
+refused meant fault r is means = subst (λ (f : Fault). Says meant (Err f)) (sym is) means

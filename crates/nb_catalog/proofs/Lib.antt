@@ -3,3 +3,4 @@ pub mod EntryLemmas
 pub mod PlanLemmas
 pub mod HeadLemmas
 pub mod FileLemmas
+pub mod ListLemmas
