@@ -4,3 +4,5 @@ pub mod PlanLemmas
 pub mod HeadLemmas
 pub mod FileLemmas
 pub mod ListLemmas
+pub mod InLemmas
+pub mod KeptLaws

@@ -1,4 +1,5 @@
 pub mod Answers
+pub mod Chained
 pub mod Heads
 pub mod Lines
 pub mod NameLists

@@ -1,5 +1,6 @@
 ghost use Rattle.std.specs.Prelude.{◌≡◌, ◌<◌, ◌^◌, ◌+◌, ◌++◌, [], ◌∷◌, length, OnOk, IfOk, IfErr};
 ghost use Rattle.nb_host.specs.declared.faults.Fault.TheVariants.{Memory};
+ghost use Rattle.nb_catalog.specs.Chained.{IsSafe};
 ghost use Rattle.nb_catalog.specs.Plans.{plan_of};
 
 use crate::Plan;
@@ -50,6 +51,7 @@ impl Catalogue {
     /// Which files the last restore points need, `keep` of them. Want of memory is the only fault.
     pub fn plan(&self, keep: u32) -> Result<Plan, Fault>
         ensures exact { IfOk result (λ plan. plan ≡ plan_of self.now keep) }
+        ensures safe { IfOk result (λ plan. IsSafe self.now keep plan) }
         ensures only_memory { IfErr result (λ fault. fault ≡ Memory) }
     {
         let alloc = *self.heads.allocator();
