@@ -1,12 +1,13 @@
 -- The files of a catalogue with their places.
-use Rattle.std.proofs.Common.{◌≡◌, ℕ, suc, ◌+◌, ◌<◌, ◌≤◌, List, [], ◌∷◌, ◌++◌, length, drop, refl, sym, ap, ◌∙◌, append_assoc}
+use Rattle.std.proofs.Common.{◌≡◌, inl, inr, ℕ, suc, ◌+◌, ◌<◌, ◌≤◌, List, [], ◌∷◌, ◌++◌, length, drop, refl, sym, ap, ◌∙◌, arith, append_assoc}
 use Rattle.std.specs.List.{slice_index_or}
 use Rattle.std.proofs.lemmas.List.{append-nil, at_drop_more, at_drop_all}
 use Rattle.nb_level.specs.declared.head.LevelHead.{LevelHead}
 use Rattle.nb_catalog.specs.declared.entry.Entry.{Entry}
 use Rattle.nb_catalog.specs.Plans.{entries_from, entries_of}
+use Rattle.nb_catalog.proofs.InLemmas.{In}
 
-abbrev entry_at : ℕ → LevelHead → Entry
+abbrev pub entry_at : ℕ → LevelHead → Entry
 entry_at n h = record { place = n; level = h.level; scn = h.scn }
 
 first_entry : (n : ℕ) (h : LevelHead) (hs : List LevelHead) → entries_from n (h ∷ hs) ≡ entry_at n h ∷ entries_from (n + 1) hs
@@ -35,3 +36,12 @@ pub length-entries : (n : ℕ) (heads : List LevelHead) → length (entries_from
 unfolding entries_from
 length-entries n [] = refl
 length-entries n (h ∷ hs) = ap suc (length-entries (n + 1) hs)
+
+-- each is a file in its place
+pub in_entries : (n : ℕ) (heads : List LevelHead) (e : Entry) (d : LevelHead) → In (entries_from n heads) e → (i : ℕ) × (i < length heads) × (entry_at (n + i) (slice_index_or heads i d) ≡ e)
+unfolding entries_from
+in_entries n [] e d is = absurd is
+in_entries n (h ∷ hs) e d (inl same) = (0, omega arith, ap (λ (k : ℕ). entry_at k h) (omega arith) ∙ same)
+in_entries n (h ∷ hs) e d (inr is) =
+    let found = in_entries (n + 1) hs e d is in
+    (suc found.0, omega (arith, found.1), ap (λ (k : ℕ). entry_at k (slice_index_or hs found.0 d)) (omega arith) ∙ found.2)

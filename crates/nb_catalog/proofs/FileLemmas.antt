@@ -25,11 +25,11 @@ with_all-first xs x (Ok more) = ap Ok (sym (append_assoc xs (x ∷ []) more))
 with_all-first xs x (Err refusal) = refl
 
 module _ (files : Files) where
-  none_left : read_files files [] ≡ Ok []
+  pub none_left : read_files files [] ≡ Ok []
   unfolding read_files
   none_left = refl
 
-  by_first : (name : List ℕ) (names : List (List ℕ)) (r : Result LevelHead Refusal) → read_file name (files name) ≡ r
+  pub by_first : (name : List ℕ) (names : List (List ℕ)) (r : Result LevelHead Refusal) → read_file name (files name) ≡ r
       → read_files files (name ∷ names) ≡ elim r [ Err refusal ↦ Err refusal | Ok head ↦ with_first head (read_files files names) ]
   unfolding read_files
   by_first name names r is = ap (λ (x : Result LevelHead Refusal). elim x as (λ y. Result (List LevelHead) Refusal) [ Err refusal ↦ Err refusal | Ok head ↦ with_first head (read_files files names) ]) is

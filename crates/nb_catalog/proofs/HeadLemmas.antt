@@ -29,7 +29,7 @@ unfolding begins_level
 first_begins first bytes read = ap (λ l. pointwise nat_eq (take 4 l) level_signature) read ∙ ap (λ l. pointwise nat_eq l level_signature) (take-take 4 4 bytes (omega arith))
 
 -- what a file is read as, case by case
-read_none : (name : List ℕ) → read_file name None ≡ Err (NoFile name)
+pub read_none : (name : List ℕ) → read_file name None ≡ Err (NoFile name)
 unfolding read_file
 read_none name = refl
 
@@ -50,7 +50,7 @@ module _ (name bytes : List ℕ) where
   pub read_level_err : (at : ℕ) → begins_level bytes ≡ true → read_level bytes ≡ Err at → read_file name (Some bytes) ≡ Err (BadLevel name at)
   read_level_err at begins read = read_by_begin true begins ∙ ap (λ (r : Result Contents ℕ). elim r as (λ x. Result LevelHead Refusal) [ Err at ↦ Err (BadLevel name at) | Ok c ↦ Ok (level_head c.head) ]) read
 
-  by_cause : (cause : Cause) → not_whole name bytes ≡ cause → begins_level bytes ≡ false → read_file name (Some bytes) ≡ elim cause [ Some refusal ↦ Err refusal | None ↦ Ok (whole_head bytes) ]
+  pub by_cause : (cause : Cause) → not_whole name bytes ≡ cause → begins_level bytes ≡ false → read_file name (Some bytes) ≡ elim cause [ Some refusal ↦ Err refusal | None ↦ Ok (whole_head bytes) ]
   by_cause cause is begins = read_by_begin false begins ∙ ap (λ (c : Cause). elim c as (λ x. Result LevelHead Refusal) [ Some refusal ↦ Err refusal | None ↦ Ok (whole_head bytes) ]) is
 
   link_by_cause : begins_level bytes ≡ false → first_link name bytes ≡ elim (not_whole name bytes) [ Some refusal ↦ Err refusal | None ↦ Ok (whole_link bytes) ]

@@ -6,3 +6,4 @@ pub mod FileLemmas
 pub mod ListLemmas
 pub mod InLemmas
 pub mod KeptLaws
+pub mod ReadLaws

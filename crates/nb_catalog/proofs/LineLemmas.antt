@@ -1,5 +1,5 @@
 -- The line of a file, step by step.
-use Rattle.std.proofs.Common.{◌≡◌, ◌≢◌, ℕ, zero, suc, ◌+◌, ◌-◌, ◌==◌, List, [], ◌∷◌, ◌++◌, Bool, true, false, refl, sym, ap, ◌∙◌, arith}
+use Rattle.std.proofs.Common.{◌≡◌, ◌≢◌, ℕ, zero, suc, ◌+◌, ◌-◌, ◌==◌, List, [], ◌∷◌, ◌++◌, Bool, true, false, refl, sym, ap, ◌∙◌, arith, length, length-append}
 use Rattle.std.specs.Prelude.{◌||◌, Option, Some, None, option_map}
 use Rattle.std.specs.List.{slice_index_or, list_any}
 use Rattle.std.proofs.lemmas.List.Folds.{list_any-append}
@@ -48,3 +48,27 @@ among_none parents level place wanted h none = ap (option_map (is_among wanted))
 
 pub among_zero : (parents : List (Option ℕ)) (level place wanted : ℕ) → level ≡ 0 → option_map (is_among wanted) (line_at parents level place) ≡ Some (place == wanted)
 among_zero parents level place wanted h = ap (option_map (is_among wanted)) (line_of_zero parents level place h) ∙ ap Some (or_false (place == wanted))
+
+-- a line of a level above 0 is that of the parent, and the file
+pub line_split : (parents : List (Option ℕ)) (level place : ℕ) (line : List ℕ) → line_at parents (suc level) place ≡ Some line
+    → (above : ℕ) × (front : List ℕ) × (slice_index_or parents place None ≡ Some above) × (line_at parents level above ≡ Some front) × (line ≡ front ++ place ∷ [])
+unfolding line_at
+line_split parents level place line is = by (slice_index_or parents place None) refl is
+  where
+    behind : (above : ℕ) → slice_index_or parents place None ≡ Some above → (front : Option (List ℕ)) → line_at parents level above ≡ front → option_map (λ (l : List ℕ). l ++ place ∷ []) front ≡ Some line
+        → (above : ℕ) × (front : List ℕ) × (slice_index_or parents place None ≡ Some above) × (line_at parents level above ≡ Some front) × (line ≡ front ++ place ∷ [])
+    behind above parent None lined e = absurd (cc e)
+    behind above parent (Some front) lined e = (above, front, parent, lined, sym (cc e))
+    by : (o : Option ℕ) → slice_index_or parents place None ≡ o → (elim o as (λ x. Option (List ℕ)) [ None ↦ None | Some above ↦ option_map (λ (l : List ℕ). l ++ place ∷ []) (line_at parents level above) ]) ≡ Some line
+        → (above : ℕ) × (front : List ℕ) × (slice_index_or parents place None ≡ Some above) × (line_at parents level above ≡ Some front) × (line ≡ front ++ place ∷ [])
+    by None parent e = absurd (cc e)
+    by (Some above) parent e = behind above parent (line_at parents level above) refl e
+
+-- a line has one file for each level
+pub length-line : (parents : List (Option ℕ)) (level place : ℕ) (line : List ℕ) → line_at parents level place ≡ Some line → length line ≡ level + 1
+unfolding line_at
+length-line parents zero place line is = let same : place ∷ [] ≡ line = cc is in ap length (sym same)
+length-line parents (suc level) place line is =
+    let parts = line_split parents level place line is in
+    let behind = length-line parents level parts.0 parts.1 parts.3 in
+    omega (arith, behind, ap length parts.4 ∙ length-append parts.1 (place ∷ []))
