@@ -7,3 +7,4 @@ pub mod ListLemmas
 pub mod InLemmas
 pub mod KeptLaws
 pub mod ReadLaws
+pub mod ChainLaws

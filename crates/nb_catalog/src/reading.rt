@@ -1,10 +1,13 @@
-ghost use Rattle.std.specs.Prelude.{◌≡◌, ◌<◌, ◌^◌, List, ℕ, Some, true, false, length, IsTrue, IfOk};
+ghost use Rattle.std.specs.Prelude.{◌≡◌, ◌<◌, ◌^◌, List, ℕ, Some, true, false, length, Contains, IsTrue, IfOk};
 ghost use Rattle.nb_host.specs.Causes.{CountsFault};
 ghost use Rattle.nb_host.specs.Files.{bytes_of};
 ghost use Rattle.nb_model.specs.Levels.{begins_level};
 ghost use Rattle.nb_page.specs.Quiet.{Quiet};
 ghost use Rattle.nb_level.specs.Answers.{CountsDevice};
 ghost use Rattle.nb_catalog.specs.Answers.{Says};
+ghost use Rattle.nb_catalog.specs.declared.entry.Entry.{Entry};
+ghost use Rattle.nb_catalog.specs.Chained.{IsChained};
+ghost use Rattle.nb_catalog.specs.Plans.{points};
 ghost use Rattle.nb_catalog.specs.Heads.{EndSays, LevelSays, read_file, read_files};
 
 use crate::Catalogue;
@@ -97,6 +100,7 @@ fn read_head<H: Host>(alloc: Global, host: &mut H, name: &Name) -> Result<LevelH
 pub fn catalogue<H: Host>(alloc: Global, host: &mut H, files: &[Name]) -> Result<Catalogue, Fault>
     requires few { length files.now < 2 ^ 32 }
     ensures answer { IsTrue H.tells → Says (read_files (H.world host.old).files files.now) result }
+    ensures chained { IsTrue H.tells → IfOk result (λ heads. (e : Entry) → Contains (points heads) e → IsChained (H.world host.old).files files.now heads e) }
     ensures quiet { Quiet (H.world host.old) (H.world host.new) }
     ensures cause { CountsDevice result (H.faults host.old) (H.faults host.new) }
 {

@@ -6,6 +6,7 @@ use Rattle.nb_page.proofs.QuietLemmas.{quiet_joined}
 use Rattle.nb_chain.proofs.AnswerLemmas.{passed}
 use Rattle.nb_catalog.specs.Answers.{Says}
 use Rattle.nb_catalog.specs.Heads.{read_file, read_files}
+use Rattle.nb_catalog.proofs.ChainLaws.{points_chained}
 use Rattle.nb_catalog.proofs.FileLemmas.{read_more, read_fault, read_all}
 use Rattle.nb_catalog.proofs.reading.catalogue.Goals as goal
 
@@ -36,3 +37,8 @@ loop-name-preserved g c =
 pub returns-clause-answer : goal.returns-clause-answer
 returns-clause-answer g c tells =
     read_all (g.H.Host.world c.args.host.now).files c.args.files.now c.loop-name.catalogue c.loop-name.name-index (c.loop-name.invariant.so_far tells) c.loop-name-test.false
+
+pub returns-clause-chained : goal.returns-clause-chained
+returns-clause-chained g c tells =
+    let files : Files = (g.H.Host.world c.args.host.now).files in
+    points_chained files c.args.files.now c.loop-name.catalogue (read_all files c.args.files.now c.loop-name.catalogue c.loop-name.name-index (c.loop-name.invariant.so_far tells) c.loop-name-test.false)
