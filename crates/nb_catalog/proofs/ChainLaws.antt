@@ -6,7 +6,7 @@ use Rattle.std.proofs.lemmas.List.{append-nil, map-append, get_or-map}
 use Rattle.std.proofs.lemmas.List.Quantifiers.{position-Some}
 use Rattle.nb_host.specs.Files.{Files}
 use Rattle.nb_host.specs.declared.refusals.Refusal.{Refusal}
-use Rattle.nb_model.specs.Restoring.{Link, next_link, next_links, linked, verdict}
+use Rattle.nb_model.specs.Restoring.{Link, first_link, next_link, next_links, linked, verdict}
 use Rattle.nb_level.specs.declared.head.LevelHead.{LevelHead}
 use Rattle.nb_chain.proofs.LinkLemmas.{first_there}
 use Rattle.nb_catalog.specs.declared.entry.Entry.{Entry}
@@ -27,6 +27,25 @@ next_there files k last l name bytes names there accepted = rw (there, next_link
 none_next : (files : Files) (k : ℕ) (last : Link) → next_links files k last [] ≡ Ok []
 unfolding next_links
 none_next files k last = refl
+
+-- with it the chain goes on
+goes_on : (files : Files) (level : ℕ) (before l : Link) (name bytes : List ℕ) (behind : List (List ℕ)) (ls : List Link) → files name ≡ Some bytes → next_link (level + 1) before name bytes ≡ Ok l
+    → next_links files (suc level + 1) l behind ≡ Ok ls → next_links files (level + 1) before (name ∷ behind) ≡ Ok (l ∷ ls)
+goes_on files level before l name bytes behind ls there accepted next =
+    let same : level + 1 + 1 ≡ suc level + 1 = omega arith in
+    next_there files (level + 1) before l name bytes behind there accepted ∙ ap (λ (k : ℕ). linked l (next_links files k l behind)) same ∙ ap (linked l) next
+
+-- the names of a line, and those behind
+names_joined : (names : List (List ℕ)) (l front : List ℕ) (place : ℕ) (behind : List (List ℕ)) → l ≡ front ++ place ∷ [] → names_at names l ++ behind ≡ names_at names front ++ (slice_index_or names place [] ∷ behind)
+names_joined names l front place behind is =
+    let f : ℕ → List ℕ = λ p. slice_index_or names p [] in
+    ap (λ (ps : List ℕ). names_at names ps ++ behind) is ∙ ap (λ (ns : List (List ℕ)). ns ++ behind) (map-append f front (place ∷ [])) ∙ append_assoc (map f front) (f place ∷ []) behind
+
+-- the first file, and those behind
+begins_with : (files : Files) (names : List (List ℕ)) (l : List ℕ) (place : ℕ) (bytes : List ℕ) (link : Link) (behind : List (List ℕ)) (ls : List Link) → place ∷ [] ≡ l → files (slice_index_or names place []) ≡ Some bytes
+    → first_link (slice_index_or names place []) bytes ≡ Ok link → next_links files 1 link behind ≡ Ok ls → verdict files (names_at names l ++ behind) ≡ Ok (link ∷ ls)
+begins_with files names l place bytes link behind ls same there accepted next =
+    ap (λ (ps : List ℕ). verdict files (names_at names ps ++ behind)) (sym same) ∙ first_there files (slice_index_or names place []) behind bytes link there accepted ∙ ap (linked link) next
 
 module _ (files : Files) (names : List (List ℕ)) (heads : List LevelHead) (read : read_files files names ≡ Ok heads) where
   abbrev head : ℕ → LevelHead
@@ -55,25 +74,18 @@ module _ (files : Files) (names : List (List ℕ)) (heads : List LevelHead) (rea
   unfolding line_at
   chain_from zero place l lined within level behind ls next =
       let is = file_at place within in
-      let same : place ∷ [] ≡ l = cc lined in
-      (is.link ∷ ls, ap (λ (ps : List ℕ). verdict files (names_at names ps ++ behind)) (sym same) ∙ first_there files (name place) behind is.bytes is.link is.there (is.first level) ∙ ap (linked is.link) next)
+      (is.link ∷ ls, begins_with files names l place is.bytes is.link behind ls (cc lined) is.there (is.first level) next)
   chain_from (suc level) place l lined within leveled behind ls next =
       let parts = line_split (parents_of heads) level place l lined in
-      let above : ℕ = parts.0 in
-      let front : List ℕ = parts.1 in
-      let goes = parent_is place above within parts.2 in
+      let goes = parent_is place parts.0 within parts.2 in
       let is = file_at place within in
-      let before = file_at above goes.there in
-      let low : (head above).level ≡ level = omega (arith, parent_level (head place) (head above) goes.parent, leveled) in
-      let place_is : suc level ≡ level + 1 = omega arith in
-      let accepted : next_link (level + 1) before.link (name place) is.bytes ≡ Ok is.link = ap (λ (k : ℕ). next_link k before.link (name place) is.bytes) (sym (leveled ∙ place_is)) ∙ is.next before.link (head above) before.same goes.parent in
-      let further : next_links files (level + 1) before.link (name place ∷ behind) ≡ Ok (is.link ∷ ls) =
-          next_there files (level + 1) before.link is.link (name place) is.bytes behind is.there accepted
-          ∙ ap (linked is.link) (ap (λ (k : ℕ). next_links files (k + 1) is.link behind) (sym place_is) ∙ next) in
-      let found = chain_from level above front parts.3 goes.there low (name place ∷ behind) (is.link ∷ ls) further in
-      let joined : names_at names l ++ behind ≡ names_at names front ++ (name place ∷ behind) =
-          ap (λ (ps : List ℕ). names_at names ps ++ behind) parts.4 ∙ ap (λ (ns : List (List ℕ)). ns ++ behind) (map-append name front (place ∷ [])) ∙ append_assoc (names_at names front) (name place ∷ []) behind in
-      (found.0, ap (verdict files) joined ∙ found.1)
+      let before = file_at parts.0 goes.there in
+      let low : (head parts.0).level ≡ level = omega (arith, parent_level (head place) (head parts.0) goes.parent, leveled) in
+      let here : (head place).level ≡ level + 1 = omega (arith, leveled) in
+      let accepted = subst (λ (k : ℕ). next_link k before.link (name place) is.bytes ≡ Ok is.link) here (is.next before.link (head parts.0) before.same goes.parent) in
+      let further = goes_on files level before.link is.link (name place) is.bytes behind ls is.there accepted next in
+      let found = chain_from level parts.0 parts.1 parts.3 goes.there low (name place ∷ behind) (is.link ∷ ls) further in
+      (found.0, ap (verdict files) (names_joined names l parts.1 place behind parts.4) ∙ found.1)
 
   some_line : (o : Option (List ℕ)) → is_some o ≡ true → (l : List ℕ) × (o ≡ Some l)
   some_line None is = absurd (cc is)
