@@ -1,5 +1,5 @@
 -- What the answers of the calls below say of a file.
-use Rattle.std.proofs.Common.{◌≡◌, ℕ, ◌-◌, List, [], take, drop, refl, sym, ap, subst, ◌∙◌, arith, nat_eq}
+use Rattle.std.proofs.Common.{◌≡◌, ℕ, ◌-◌, List, [], ◌∷◌, ◌++◌, take, drop, refl, sym, ap, subst, ◌∙◌, arith, nat_eq}
 use Rattle.std.specs.Prelude.{Bool, true, false, Some, None, Result, Ok, Err}
 use Rattle.std.specs.Cmp.Lexicographic.{pointwise}
 use Rattle.std.proofs.lemmas.List.{take-take}
@@ -12,10 +12,13 @@ use Rattle.nb_host.specs.declared.refusals.Refusal.TheVariants.{NoFile, BadLevel
 use Rattle.nb_page.specs.Header.{header_in}
 use Rattle.nb_page.specs.declared.header.Header.{Header}
 use Rattle.nb_model.specs.Causes.{Cause}
-use Rattle.nb_model.specs.Levels.{Head, Contents, begins_level, level_signature, read_level}
+use Rattle.nb_model.specs.Image.{Numbered}
+use Rattle.nb_model.specs.Levels.{Head, Contents, behind, begins_level, level_signature, read_level}
 use Rattle.nb_model.specs.Restoring.{Link, first_link, not_whole, whole_link}
 use Rattle.nb_model.specs.Stands.{nil}
 use Rattle.nb_level.specs.Heads.{head_of}
+use Rattle.nb_level.specs.Reading.{Reading, still_to_come}
+use Rattle.nb_level.proofs.ReadingLemmas.{behind-behind}
 use Rattle.nb_level.specs.declared.head.LevelHead.{LevelHead}
 use Rattle.nb_chain.specs.declared.first_file.First.{First}
 use Rattle.nb_chain.specs.First.{FirstSays, FirstRefused}
@@ -103,3 +106,8 @@ level_says None name (Err (Refused r)) begins is = read_none name ∙ ap (λ (x 
 level_says (Some bytes) name (Err (Refused r)) begins is = read_level_err name bytes is.0 begins is.1 ∙ ap (λ (x : Refusal). Err x) (sym is.2)
 level_says file name (Err Device) begins is = tt
 level_says file name (Err Memory) begins is = tt
+
+-- one page more of those that were still to come
+pub pages_more : (file : File) (first now next : Reading) (pages : List Numbered) (page : Numbered) → still_to_come (bytes_of file) first ≡ behind pages (still_to_come (bytes_of file) now)
+    → still_to_come (bytes_of file) now ≡ behind (page ∷ []) (still_to_come (bytes_of file) next) → still_to_come (bytes_of file) first ≡ behind (pages ++ page ∷ []) (still_to_come (bytes_of file) next)
+pages_more file first now next pages page so_far gives = so_far ∙ ap (behind pages) gives ∙ behind-behind pages (page ∷ []) (still_to_come (bytes_of file) next)

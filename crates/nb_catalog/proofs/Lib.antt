@@ -8,3 +8,4 @@ pub mod InLemmas
 pub mod KeptLaws
 pub mod ReadLaws
 pub mod ChainLaws
+pub mod TurnLemmas

@@ -4,3 +4,4 @@ pub mod Heads
 pub mod Lines
 pub mod NameLists
 pub mod Plans
+pub mod Turns

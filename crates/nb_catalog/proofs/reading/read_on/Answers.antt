@@ -1,10 +1,10 @@
 use Rattle.std.proofs.Common.{◌≡◌, List, [], ◌∷◌, ◌++◌, ap, ◌∙◌}
-use Rattle.nb_host.specs.Files.{Files, bytes_of}
-use Rattle.nb_model.specs.Levels.{behind}
-use Rattle.nb_level.specs.Reading.{Reading, still_to_come}
-use Rattle.nb_level.proofs.ReadingLemmas.{behind-behind}
+use Rattle.nb_host.specs.Files.{Files}
+use Rattle.nb_model.specs.Image.{Numbered}
+use Rattle.nb_level.specs.Reading.{Reading}
 use Rattle.nb_page.proofs.QuietLemmas.{quiet_call, quiet_joined}
 use Rattle.nb_chain.proofs.PageLemmas.{gives_there}
+use Rattle.nb_catalog.proofs.HeadLemmas.{pages_more}
 use Rattle.nb_catalog.proofs.reading.read_on.Goals as goal
 
 pub loop-preserved : goal.loop-preserved
@@ -20,9 +20,7 @@ loop-preserved g c =
       cause = c.in_ok-next.ensures.cause ∙ loop.cause;
       so_far = λ tells.
           let done = loop.so_far tells in
-          let page = (c.in-PageAt.field-0, c.next.new.into) ∷ [] in
-          let bytes = bytes_of (files c.args.reader.now.name) in
-          (done.0 ++ page, done.1
-          ∙ ap (behind done.0) (gives_there _ _ c.loop.reader c.next.new.self c.in_ok-next.field-0 c.next.new.into c.in-PageAt.field-0 g.H.Host.tells c.in-PageAt.is tells c.in_ok-next.ensures.answer (same ∙ named))
-          ∙ behind-behind done.0 page (still_to_come bytes c.next.new.self));
+          let page : Numbered = (c.in-PageAt.field-0, c.next.new.into) in
+          (done.0 ++ page ∷ [], pages_more (files c.args.reader.now.name) c.args.reader.now c.loop.reader c.next.new.self done.0 page done.1
+          (gives_there _ _ c.loop.reader c.next.new.self c.in_ok-next.field-0 c.next.new.into c.in-PageAt.field-0 g.H.Host.tells c.in-PageAt.is tells c.in_ok-next.ensures.answer (same ∙ named)));
     }
