@@ -1,9 +1,8 @@
 -- What the answers of the calls below say of a file.
-use Rattle.std.proofs.Common.{◌≡◌, ℕ, ◌-◌, List, [], ◌∷◌, ◌++◌, take, drop, refl, sym, ap, subst, ◌∙◌, arith, nat_eq}
+use Rattle.std.proofs.Common.{◌≡◌, ℕ, ◌-◌, List, [], ◌∷◌, ◌++◌, take, drop, refl, sym, ap, ◌∙◌, arith, nat_eq}
 use Rattle.std.specs.Prelude.{Bool, true, false, Some, None, Result, Ok, Err}
 use Rattle.std.specs.Cmp.Lexicographic.{pointwise}
 use Rattle.std.proofs.lemmas.List.{take-take}
-use Rattle.nb_fields.specs.Header.{size_of, scn_of, guid_of}
 use Rattle.nb_host.specs.Files.{File, bytes_of}
 use Rattle.nb_host.specs.declared.faults.Fault.{Fault}
 use Rattle.nb_host.specs.declared.faults.Fault.TheVariants.{Refused, Device, Memory}
@@ -16,15 +15,13 @@ use Rattle.nb_model.specs.Image.{Numbered}
 use Rattle.nb_model.specs.Levels.{Head, Contents, behind, begins_level, level_signature, read_level}
 use Rattle.nb_model.specs.Restoring.{Link, first_link, not_whole, whole_link}
 use Rattle.nb_model.specs.Stands.{nil}
-use Rattle.nb_level.specs.Heads.{head_of}
 use Rattle.nb_level.specs.Reading.{Reading, still_to_come}
 use Rattle.nb_level.proofs.ReadingLemmas.{behind-behind}
 use Rattle.nb_level.specs.declared.head.LevelHead.{LevelHead}
 use Rattle.nb_chain.specs.declared.first_file.First.{First}
-use Rattle.nb_chain.specs.First.{FirstSays, FirstRefused}
-use Rattle.nb_chain.specs.Level.{LevelRefused}
+use Rattle.nb_chain.specs.First.{FirstSays}
 use Rattle.nb_catalog.specs.Answers.{Says}
-use Rattle.nb_catalog.specs.Heads.{level_head, whole_head, read_file, LevelSays, IsLevelHead}
+use Rattle.nb_catalog.specs.Heads.{level_head, whole_head, read_file, LevelSays}
 
 -- four bytes tell a level file
 pub first_begins : (first bytes : List ℕ) → first ≡ take 4 (drop 0 bytes) → begins_level first ≡ begins_level bytes

@@ -59,6 +59,7 @@ line_split parents level place line is = by (slice_index_or parents place None) 
         → (above : ℕ) × (front : List ℕ) × (slice_index_or parents place None ≡ Some above) × (line_at parents level above ≡ Some front) × (line ≡ front ++ place ∷ [])
     behind above parent None lined e = absurd (cc e)
     behind above parent (Some front) lined e = (above, front, parent, lined, sym (cc e))
+
     by : (o : Option ℕ) → slice_index_or parents place None ≡ o → (elim o as (λ x. Option (List ℕ)) [ None ↦ None | Some above ↦ option_map (λ (l : List ℕ). l ++ place ∷ []) (line_at parents level above) ]) ≡ Some line
         → (above : ℕ) × (front : List ℕ) × (slice_index_or parents place None ≡ Some above) × (line_at parents level above ≡ Some front) × (line ≡ front ++ place ∷ [])
     by None parent e = absurd (cc e)

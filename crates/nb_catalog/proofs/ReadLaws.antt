@@ -1,5 +1,5 @@
 -- A file that was read, in a chain.
-use Rattle.std.proofs.Common.{◌≡◌, ℕ, zero, suc, ◌+◌, ◌-◌, ◌<◌, ◌≤◌, List, [], ◌∷◌, length, refl, sym, ap, subst, ◌∙◌, arith, eq-eqb}
+use Rattle.std.proofs.Common.{◌≡◌, ℕ, zero, suc, ◌+◌, ◌<◌, ◌≤◌, List, [], ◌∷◌, length, refl, sym, ap, subst, ◌∙◌, arith, eq-eqb}
 use Rattle.std.specs.Prelude.{Bool, true, false, not, ◌&&◌, ◌||◌, ◌==◌, nat_le, nat_lt, Option, Some, None, Result, Ok, Err}
 use Rattle.std.specs.List.{slice_index_or}
 use Rattle.std.proofs.lemmas.Bool.{and_parts, leb-true, eqb-true}
@@ -131,9 +131,11 @@ module _ (name bytes : List ℕ) (head : LevelHead) (read : read_file name (Some
       by_level : begins_level bytes ≡ true → (r : Result Contents ℕ) → read_level bytes ≡ r → IsRead name (Some bytes) head
       by_level begins (Ok c) is = as_level c begins is
       by_level begins (Err at) is = absurd (cc (sym (read_level_err name bytes at begins is) ∙ read))
+
       by_whole : begins_level bytes ≡ false → (c : Cause) → not_whole name bytes ≡ c → IsRead name (Some bytes) head
       by_whole begins None is = as_whole begins is
       by_whole begins (Some r) is = absurd (cc (sym (by_cause name bytes (Some r) is begins) ∙ read))
+
       by : (b : Bool) → begins_level bytes ≡ b → IsRead name (Some bytes) head
       by true begins = by_level begins (read_level bytes) refl
       by false begins = by_whole begins (not_whole name bytes) refl
@@ -153,6 +155,7 @@ each_read files (name ∷ names) heads read p dn dh there = by (read_file name (
         → read_file (slice_index_or (name ∷ names) q dn) (files (slice_index_or (name ∷ names) q dn)) ≡ Ok (slice_index_or heads q dh)
     at h hs is all zero same behind = is ∙ ap (λ (l : List LevelHead). Ok (slice_index_or l 0 dh)) all
     at h hs is all (suc q) same behind = behind q (omega (arith, there, same, ap length all)) ∙ ap (λ (l : List LevelHead). Ok (slice_index_or l (suc q) dh)) all
+
     by : (r : Result LevelHead Refusal) → read_file name (files name) ≡ r → (more : Result (List LevelHead) Refusal) → read_files files names ≡ more
         → ((hs : List LevelHead) → read_files files names ≡ Ok hs → (p : ℕ) (dn : List ℕ) (dh : LevelHead) → p < length hs → read_file (slice_index_or names p dn) (files (slice_index_or names p dn)) ≡ Ok (slice_index_or hs p dh))
         → read_file (slice_index_or (name ∷ names) p dn) (files (slice_index_or (name ∷ names) p dn)) ≡ Ok (slice_index_or heads p dh)

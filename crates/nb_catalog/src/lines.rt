@@ -23,13 +23,13 @@ fn parent(heads: &[LevelHead], child: &LevelHead) -> Option<usize>
 }
 
 /// The place of the first file that each file goes on from.
-pub(crate) fn parents(
-    alloc: Global,
-    heads: &[LevelHead],
-) -> Result<Vec<Option<usize>>, AllocError>
+pub(crate) fn parents(alloc: Global, heads: &[LevelHead]) -> Result<Vec<Option<usize>>, AllocError>
     ensures { IfOk result (λ v. v.items ≡ parents_of heads.now) }
 {
-    heads.iter().map(|child| parent(heads, child)).collect(alloc)
+    heads
+        .iter()
+        .map(|child| parent(heads, child))
+        .collect(alloc)
 }
 
 fn parent_at(parents: &[Option<usize>], place: usize) -> Option<usize>

@@ -78,11 +78,7 @@ fn newer_count(entries: &[Entry], than: &Entry) -> usize
 }
 
 /// So many of these, the newest, in their order.
-fn newest(
-    alloc: Global,
-    entries: &[Entry],
-    keep: u32,
-) -> Result<Vec<Entry>, AllocError>
+fn newest(alloc: Global, entries: &[Entry], keep: u32) -> Result<Vec<Entry>, AllocError>
     ensures { IfOk result (λ v. v.items ≡ newest keep entries.now) }
 {
     entries
@@ -111,7 +107,10 @@ fn count_in_lines(parents: &[Option<usize>], kept: &[Entry], entries: &[Entry]) 
     requires { length entries.now < 2 ^ 32 }
     ensures { result ≡ count_by (is_in_lines parents.now kept.now) entries.now }
 {
-    entries.iter().filter(|e| is_in_lines(parents, kept, e)).count() as u32
+    entries
+        .iter()
+        .filter(|e| is_in_lines(parents, kept, e))
+        .count() as u32
 }
 
 /// The places of the files that are in the line of none of these.

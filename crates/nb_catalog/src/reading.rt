@@ -29,11 +29,7 @@ fn is_level<H: Host>(host: &mut H, name: &Name) -> Result<bool, HostFault>
 }
 
 /// Reads the pages of a level file that are still to come, up to its end.
-fn read_on<H: Host>(
-    host: &mut H,
-    reader: &mut LevelReader,
-    page: &mut [u8],
-) -> Result<(), Fault>
+fn read_on<H: Host>(host: &mut H, reader: &mut LevelReader, page: &mut [u8]) -> Result<(), Fault>
     requires { length page.old ≡ reader.old.head.page_size }
     ensures answer { IsTrue H.tells → EndSays ((H.world host.old).files reader.old.name) reader.old result }
     ensures quiet { Quiet (H.world host.old) (H.world host.new) }

@@ -1,4 +1,4 @@
-use Rattle.std.proofs.Common.{ℕ, ◌+◌, List, [], ◌∷◌, length, ap, subst, ◌∙◌, arith, length-append}
+use Rattle.std.proofs.Common.{ℕ, ◌+◌, List, [], ◌∷◌, length, ap, subst, ◌∙◌, length-append}
 use Rattle.std.specs.Prelude.{Ok, Err}
 use Rattle.nb_host.specs.Files.{File, Files}
 use Rattle.nb_level.specs.declared.head.LevelHead.{LevelHead}

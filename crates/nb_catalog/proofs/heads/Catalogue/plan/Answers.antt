@@ -1,6 +1,4 @@
-use Rattle.std.proofs.Common.{ℕ, ◌<◌, List, length, ap, sym, subst, ◌∙◌}
-use Rattle.nb_level.specs.declared.head.LevelHead.{LevelHead}
-use Rattle.nb_catalog.specs.declared.entry.Entry.{Entry}
+use Rattle.std.proofs.Common.{ℕ, ◌<◌, length, ap, sym, subst, ◌∙◌}
 use Rattle.nb_catalog.specs.Lines.{parents_of}
 use Rattle.nb_catalog.specs.Plans.{entries_of}
 use Rattle.nb_catalog.proofs.EntryLemmas.{length-entries}
