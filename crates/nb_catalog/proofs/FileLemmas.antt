@@ -1,15 +1,16 @@
 -- Reading files one by one.
-use Rattle.std.proofs.Common.{◌≡◌, ℕ, ◌+◌, ◌<◌, ◌≤◌, List, [], ◌∷◌, ◌++◌, length, drop, refl, sym, ap, subst, ◌∙◌, append_assoc}
-use Rattle.std.specs.Prelude.{Result, Ok, Err}
+use Rattle.std.proofs.Common.{◌≡◌, ℕ, ◌+◌, ◌<◌, ◌≤◌, List, [], ◌∷◌, ◌++◌, length, drop, refl, sym, ap, subst, ◌∙◌, arith, append_assoc}
+use Rattle.std.specs.Prelude.{Result, Ok, Err, sum_by}
 use Rattle.std.specs.List.{slice_index_or}
 use Rattle.std.proofs.lemmas.List.{append-nil, at_drop_more, at_drop_all}
+use Rattle.std.proofs.lemmas.List.Sums.{sum_by-drop_more}
 use Rattle.nb_host.specs.Files.{Files}
 use Rattle.nb_host.specs.declared.faults.Fault.{Fault}
 use Rattle.nb_host.specs.declared.faults.Fault.TheVariants.{Refused, Device, Memory}
 use Rattle.nb_host.specs.declared.refusals.Refusal.{Refusal}
 use Rattle.nb_level.specs.declared.head.LevelHead.{LevelHead}
 use Rattle.nb_catalog.specs.Answers.{Says, with_first}
-use Rattle.nb_catalog.specs.Heads.{read_file, read_files}
+use Rattle.nb_catalog.specs.Heads.{read_file, read_files, reads_of, all_reads}
 
 -- with all of these in front
 abbrev pub with_all : {T : Type 0} → List T → Result (List T) Refusal → Result (List T) Refusal
@@ -62,3 +63,14 @@ module _ (files : Files) where
 -- a refusal that is meant is answered
 pub refused : {T : Type 0} (meant : Result T Refusal) (fault : Fault) (r : Refusal) → fault ≡ Refused r → meant ≡ Err r → Says meant (Err fault)
 refused meant fault r is means = subst (λ (f : Fault). Says meant (Err f)) (sym is) means
+
+-- the reads of one file more
+pub reads_more : (files : Files) (names : List (List ℕ)) (n : ℕ) (name : List ℕ) (start before after all : ℕ) → name ≡ slice_index_or names n name → n < length names → before + all_reads files (drop n names) ≤ start + all → after ≤ before + reads_of (files name)
+    → after + all_reads files (drop (n + 1) names) ≤ start + all
+reads_more files names n name start before after all at there so_far more =
+    let f : List ℕ → ℕ = λ m. reads_of (files m) in
+    let split : sum_by f (drop n names) ≡ f name + sum_by f (drop (n + 1) names) = sum_by-drop_more f names n name there ∙ ap (λ (m : List ℕ). f m + sum_by f (drop (n + 1) names)) (sym at) in
+    omega (arith, so_far, more, split)
+
+pub reads_all : (files : Files) (names : List (List ℕ)) (n : ℕ) (start before all : ℕ) → before + all_reads files (drop n names) ≤ start + all → before ≤ start + all
+reads_all files names n start before all so_far = omega (arith, so_far)

@@ -1,6 +1,6 @@
 -- What the answers of the calls below say of a file.
-use Rattle.std.proofs.Common.{◌≡◌, ℕ, ◌-◌, List, [], ◌∷◌, ◌++◌, take, drop, refl, sym, ap, ◌∙◌, arith, nat_eq}
-use Rattle.std.specs.Prelude.{Bool, true, false, Some, None, Result, Ok, Err}
+use Rattle.std.proofs.Common.{◌≡◌, ℕ, ◌-◌, List, [], ◌∷◌, ◌++◌, take, drop, refl, sym, ap, ◌∙◌, arith, nat_eq, ◌+◌, length, ◌≤◌}
+use Rattle.std.specs.Prelude.{Bool, true, false, Some, None, Result, Ok, Err, IfOk}
 use Rattle.std.specs.Cmp.Lexicographic.{pointwise}
 use Rattle.std.proofs.lemmas.List.{take-take}
 use Rattle.nb_host.specs.Files.{File, bytes_of}
@@ -15,13 +15,14 @@ use Rattle.nb_model.specs.Image.{Numbered}
 use Rattle.nb_model.specs.Levels.{Head, Contents, behind, begins_level, level_signature, read_level}
 use Rattle.nb_model.specs.Restoring.{Link, first_link, not_whole, whole_link}
 use Rattle.nb_model.specs.Stands.{nil}
+use Rattle.nb_model.proofs.StandsLaws.{not_level}
 use Rattle.nb_level.specs.Reading.{Reading, still_to_come}
 use Rattle.nb_level.proofs.ReadingLemmas.{behind-behind}
 use Rattle.nb_level.specs.declared.head.LevelHead.{LevelHead}
 use Rattle.nb_chain.specs.declared.first_file.First.{First}
 use Rattle.nb_chain.specs.First.{FirstSays}
 use Rattle.nb_catalog.specs.Answers.{Says}
-use Rattle.nb_catalog.specs.Heads.{level_head, whole_head, read_file, LevelSays}
+use Rattle.nb_catalog.specs.Heads.{level_head, whole_head, read_file, reads_of, LevelSays, IsLevelHead}
 
 -- four bytes tell a level file
 pub first_begins : (first bytes : List ℕ) → first ≡ take 4 (drop 0 bytes) → begins_level first ≡ begins_level bytes
@@ -95,16 +96,37 @@ whole_read file name first begins is =
     ∙ ap (λ (h : LevelHead). Ok h) (sym (whole_same first.header bytes is.2.header))
 
 -- a level file
-pub level_says : (file : File) (name : List ℕ) (result : Result LevelHead Fault) → begins_level (bytes_of file) ≡ true → LevelSays file name result → Says (read_file name file) result
-level_says file name (Ok head) begins is =
+pub level_says : (file : File) (name : List ℕ) (before after : ℕ) (result : Result LevelHead Fault) → begins_level (bytes_of file) ≡ true → LevelSays file name before after result → Says (read_file name file) result
+level_says file name before after (Ok head) begins is =
     ap (read_file name) is.there ∙ read_level_ok name is.bytes is.contents (sym (ap (λ (f : File). begins_level (bytes_of f)) is.there) ∙ begins) is.read
     ∙ ap (λ (h : Head). Ok (level_head h)) (sym is.named)
-level_says None name (Err (Refused r)) begins is = read_none name ∙ ap (λ (x : Refusal). Err x) (sym is)
-level_says (Some bytes) name (Err (Refused r)) begins is = read_level_err name bytes is.0 begins is.1 ∙ ap (λ (x : Refusal). Err x) (sym is.2)
-level_says file name (Err Device) begins is = tt
-level_says file name (Err Memory) begins is = tt
+level_says None name before after (Err (Refused r)) begins is = read_none name ∙ ap (λ (x : Refusal). Err x) (sym is)
+level_says (Some bytes) name before after (Err (Refused r)) begins is = read_level_err name bytes is.0 begins is.1 ∙ ap (λ (x : Refusal). Err x) (sym is.2)
+level_says file name before after (Err Device) begins is = tt
+level_says file name before after (Err Memory) begins is = tt
 
 -- one page more of those that were still to come
 pub pages_more : (file : File) (first now next : Reading) (pages : List Numbered) (page : Numbered) → still_to_come (bytes_of file) first ≡ behind pages (still_to_come (bytes_of file) now)
     → still_to_come (bytes_of file) now ≡ behind (page ∷ []) (still_to_come (bytes_of file) next) → still_to_come (bytes_of file) first ≡ behind (pages ++ page ∷ []) (still_to_come (bytes_of file) next)
 pages_more file first now next pages page so_far gives = so_far ∙ ap (behind pages) gives ∙ behind-behind pages (page ∷ []) (still_to_come (bytes_of file) next)
+
+-- how many reads a file takes
+pub level_reads : (file : File) (before after : ℕ) (head : LevelHead) → (is : IsLevelHead file before after head) → reads_of file ≡ length is.contents.pages + 3
+unfolding reads_of
+level_reads file before after head is =
+    ap reads_of is.there ∙ ap (λ (r : Result Contents ℕ). elim r as (λ x. ℕ) [ Err at ↦ 2 | Ok c ↦ length c.pages + 3 ]) is.read
+
+pub whole_reads : (file : File) (bytes : List ℕ) → file ≡ Some bytes → begins_level (bytes_of file) ≡ false → reads_of file ≡ 2
+unfolding reads_of
+whole_reads file bytes there begins =
+    ap reads_of there ∙ ap (λ (r : Result Contents ℕ). elim r as (λ x. ℕ) [ Err at ↦ 2 | Ok c ↦ length c.pages + 3 ]) (not_level bytes (sym (ap (λ (f : File). begins_level (bytes_of f)) there) ∙ begins))
+
+pub level_counted : (file : File) (name : List ℕ) (result : Result LevelHead Fault) (start before after : ℕ) → LevelSays file name before after result → before ≤ start + 1 → IfOk result (λ head. after ≤ start + reads_of file)
+level_counted file name (Ok head) start before after is begun = omega (arith, is.reads, begun, level_reads file before after head is)
+level_counted file name (Err fault) start before after is begun = tt
+
+pub whole_counted : (file : File) (name : List ℕ) (result : Result LevelHead Fault) (start before after : ℕ) → begins_level (bytes_of file) ≡ false → Says (read_file name file) result → IfOk result (λ head. after ≤ before + 1) → before ≤ start + 1
+    → IfOk result (λ head. after ≤ start + reads_of file)
+whole_counted None name (Ok head) start before after begins is counted begun = absurd (cc (sym (read_none name) ∙ is))
+whole_counted (Some bytes) name (Ok head) start before after begins is counted begun = omega (arith, counted, begun, whole_reads (Some bytes) bytes refl begins)
+whole_counted file name (Err fault) start before after begins is counted begun = tt

@@ -1,4 +1,4 @@
-ghost use Rattle.std.specs.Prelude.{◌≡◌, ◌<◌, ◌^◌, List, ℕ, Some, true, false, length, Contains, IsTrue, IfOk};
+ghost use Rattle.std.specs.Prelude.{◌≡◌, ◌+◌, ◌<◌, ◌≤◌, ◌^◌, List, ℕ, Some, true, false, length, Contains, IsTrue, IfOk};
 ghost use Rattle.nb_host.specs.Causes.{CountsFault};
 ghost use Rattle.nb_host.specs.Files.{bytes_of};
 ghost use Rattle.nb_model.specs.Levels.{begins_level};
@@ -8,7 +8,7 @@ ghost use Rattle.nb_catalog.specs.Answers.{Says};
 ghost use Rattle.nb_catalog.specs.declared.entry.Entry.{Entry};
 ghost use Rattle.nb_catalog.specs.Chained.{IsChained};
 ghost use Rattle.nb_catalog.specs.Plans.{points};
-ghost use Rattle.nb_catalog.specs.Heads.{EndSays, LevelSays, read_file, read_files};
+ghost use Rattle.nb_catalog.specs.Heads.{EndSays, LevelSays, all_reads, read_file, read_files, reads_of};
 
 use crate::Catalogue;
 use nb_chain::read_first;
@@ -21,6 +21,7 @@ use std::alloc::Global;
 fn is_level<H: Host>(host: &mut H, name: &Name) -> Result<bool, HostFault>
     ensures answer { IsTrue H.tells → IfOk result (λ is. is ≡ begins_level (bytes_of ((H.world host.old).files name.now))) }
     ensures quiet { Quiet (H.world host.old) (H.world host.new) }
+    ensures reads { IsTrue H.tells → (H.world host.new).reads ≤ (H.world host.old).reads + 1 }
     ensures cause { CountsFault result (H.faults host.old) (H.faults host.new) }
 {
     let mut first = [0; 4];
@@ -31,7 +32,7 @@ fn is_level<H: Host>(host: &mut H, name: &Name) -> Result<bool, HostFault>
 /// Reads the pages of a level file that are still to come, up to its end.
 fn read_on<H: Host>(host: &mut H, reader: &mut LevelReader, page: &mut [u8]) -> Result<(), Fault>
     requires { length page.old ≡ reader.old.head.page_size }
-    ensures answer { IsTrue H.tells → EndSays ((H.world host.old).files reader.old.name) reader.old result }
+    ensures answer { IsTrue H.tells → EndSays ((H.world host.old).files reader.old.name) reader.old (H.world host.old).reads (H.world host.new).reads result }
     ensures quiet { Quiet (H.world host.old) (H.world host.new) }
     ensures cause { CountsDevice result (H.faults host.old) (H.faults host.new) }
 {
@@ -41,7 +42,7 @@ fn read_on<H: Host>(host: &mut H, reader: &mut LevelReader, page: &mut [u8]) -> 
 
 /// Reads a level file to its end, once, and answers its head. It takes memory for two pages.
 fn read_level<H: Host>(alloc: Global, host: &mut H, name: &Name) -> Result<LevelHead, Fault>
-    ensures answer { IsTrue H.tells → LevelSays ((H.world host.old).files name.now) name.now result }
+    ensures answer { IsTrue H.tells → LevelSays ((H.world host.old).files name.now) name.now (H.world host.old).reads (H.world host.new).reads result }
     ensures quiet { Quiet (H.world host.old) (H.world host.new) }
     ensures cause { CountsDevice result (H.faults host.old) (H.faults host.new) }
 {
@@ -56,6 +57,7 @@ fn read_level<H: Host>(alloc: Global, host: &mut H, name: &Name) -> Result<Level
 fn read_whole<H: Host>(alloc: Global, host: &mut H, name: &Name) -> Result<LevelHead, Fault>
     ensures answer { IsTrue H.tells → begins_level (bytes_of ((H.world host.old).files name.now)) ≡ false → Says (read_file name.now ((H.world host.old).files name.now)) result }
     ensures quiet { Quiet (H.world host.old) (H.world host.new) }
+    ensures reads { IsTrue H.tells → IfOk result (λ head. (H.world host.new).reads ≤ (H.world host.old).reads + 1) }
     ensures cause { CountsDevice result (H.faults host.old) (H.faults host.new) }
 {
     let Header {
@@ -78,6 +80,7 @@ fn read_whole<H: Host>(alloc: Global, host: &mut H, name: &Name) -> Result<Level
 fn read_head<H: Host>(alloc: Global, host: &mut H, name: &Name) -> Result<LevelHead, Fault>
     ensures answer { IsTrue H.tells → Says (read_file name.now ((H.world host.old).files name.now)) result }
     ensures quiet { Quiet (H.world host.old) (H.world host.new) }
+    ensures reads { IsTrue H.tells → IfOk result (λ head. (H.world host.new).reads ≤ (H.world host.old).reads + reads_of ((H.world host.old).files name.now)) }
     ensures cause { CountsDevice result (H.faults host.old) (H.faults host.new) }
 {
     if is_level(host, name)? {
@@ -98,6 +101,7 @@ pub fn catalogue<H: Host>(alloc: Global, host: &mut H, files: &[Name]) -> Result
     ensures answer { IsTrue H.tells → Says (read_files (H.world host.old).files files.now) result }
     ensures chained { IsTrue H.tells → IfOk result (λ heads. (e : Entry) → Contains (points heads) e → IsChained (H.world host.old).files files.now heads e) }
     ensures quiet { Quiet (H.world host.old) (H.world host.new) }
+    ensures reads { IsTrue H.tells → IfOk result (λ heads. (H.world host.new).reads ≤ (H.world host.old).reads + all_reads (H.world host.old).files files.now) }
     ensures cause { CountsDevice result (H.faults host.old) (H.faults host.new) }
 {
     let mut catalogue = Catalogue::new(alloc);

@@ -1,4 +1,4 @@
-use Rattle.std.proofs.Common.{◌≡◌, [], ◌∷◌, ◌++◌, ap, ◌∙◌}
+use Rattle.std.proofs.Common.{◌≡◌, [], ◌∷◌, ◌++◌, ap, ◌∙◌, arith, length-append}
 use Rattle.nb_host.specs.Files.{Files}
 use Rattle.nb_model.specs.Image.{Numbered}
 use Rattle.nb_level.specs.Reading.{Reading}
@@ -24,5 +24,6 @@ loop-preserved g c =
             done.0 ++ page ∷ [],
             pages_more (files c.args.reader.now.name) c.args.reader.now c.loop.reader c.next.new.self done.0 page done.1
                 (gives_there _ _ c.loop.reader c.next.new.self c.in_ok-next.field-0 c.next.new.into c.in-PageAt.field-0 g.H.Host.tells c.in-PageAt.is tells c.in_ok-next.ensures.answer (same ∙ named)),
+            omega (arith, done.2, log.reads tells, length-append done.0 (page ∷ [])),
           );
     }

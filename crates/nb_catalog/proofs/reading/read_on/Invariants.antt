@@ -1,4 +1,4 @@
-use Rattle.std.proofs.Common.{◌≡◌, ◌-◌, List}
+use Rattle.std.proofs.Common.{◌≡◌, ◌+◌, ◌-◌, ◌≤◌, List, length}
 use Rattle.std.specs.Prelude.{IsTrue}
 use Rattle.nb_host.specs.Files.{bytes_of}
 use Rattle.nb_model.specs.Image.{Numbered}
@@ -14,7 +14,8 @@ invariant-loop g l = record {
   quiet : Quiet (g.H.Host.world l.fn.host) (g.H.Host.world l.host);
   cause : g.H.Host.faults l.host ≡ g.H.Host.faults l.fn.host;
   so_far : IsTrue g.H.Host.tells → (pages : List Numbered)
-      × (still_to_come (bytes_of ((g.H.Host.world l.fn.host).files l.fn.reader.name)) l.fn.reader ≡ behind pages (still_to_come (bytes_of ((g.H.Host.world l.fn.host).files l.fn.reader.name)) l.reader));
+      × (still_to_come (bytes_of ((g.H.Host.world l.fn.host).files l.fn.reader.name)) l.fn.reader ≡ behind pages (still_to_come (bytes_of ((g.H.Host.world l.fn.host).files l.fn.reader.name)) l.reader))
+      × ((g.H.Host.world l.host).reads ≤ (g.H.Host.world l.fn.host).reads + length pages);
 }
 
 -- numbers rise up to the most that a page may have
