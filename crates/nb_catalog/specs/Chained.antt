@@ -5,6 +5,7 @@ use Rattle.nb_host.specs.Files.{Files}
 use Rattle.nb_model.specs.Restoring.{Link, verdict}
 use Rattle.nb_level.specs.declared.head.LevelHead.{LevelHead}
 use Rattle.nb_catalog.specs.declared.entry.Entry.{Entry}
+use Rattle.nb_catalog.specs.Heads.{read_files}
 use Rattle.nb_catalog.specs.Plans.{line, points, kept, Retention}
 
 -- the names in these places
@@ -23,3 +24,10 @@ pub record IsChained (files : Files) (names : List (List ℕ)) (heads : List Lev
 pub record IsSafe (heads : List LevelHead) (keep : ℕ) (plan : Retention) : Type 0 where
   pub points : (e : Entry) → Contains (kept heads keep) e → Contains (points heads) e
   pub needed : (e : Entry) (chain : List ℕ) (place : ℕ) → Contains (kept heads keep) e → line heads e ≡ Some chain → Contains chain place → ¬ Contains plan.dropped place
+
+-- The plan of these files that were read: the files of each kept point's line are a chain that is accepted, and none of them is dropped.
+pub record KeepsChains (files : Files) (names : List (List ℕ)) (keep : ℕ) (plan : Retention) : Type 0 where
+  pub heads : List LevelHead
+  pub read : read_files files names ≡ Ok heads
+  pub chained : (e : Entry) → Contains (kept heads keep) e → IsChained files names heads e
+  pub safe : IsSafe heads keep plan

@@ -16,3 +16,13 @@ returns-in_err-catalogue-clause-answer g c tells =
 pub returns-clause-answer : goal.returns-clause-answer
 returns-clause-answer g c tells =
     planned_is (g.H.Host.world c.args.host.now).files c.args.files.now c.args.keep c.in_ok-catalogue.catalogue c.in_ok-plan.plan (c.in_ok-catalogue.ensures.answer tells) c.in_ok-plan.ensures.exact
+
+pub returns-clause-chains : goal.returns-clause-chains
+returns-clause-chains g c tells =
+    let safe = c.in_ok-plan.ensures.safe in
+    record {
+      heads = c.in_ok-catalogue.catalogue;
+      read = c.in_ok-catalogue.ensures.answer tells;
+      chained = λ e kept. c.in_ok-catalogue.ensures.chained tells e (safe.points e kept);
+      safe = safe;
+    }
