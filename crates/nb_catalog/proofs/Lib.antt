@@ -9,3 +9,4 @@ pub mod KeptLaws
 pub mod ReadLaws
 pub mod ChainLaws
 pub mod TurnLemmas
+pub mod WholeLaws

@@ -51,6 +51,7 @@ impl Catalogue {
     /// Which files the last restore points need, `keep` of them. Want of memory is the only fault.
     pub fn plan(&self, keep: u32) -> Result<Plan, Fault>
         ensures exact { IfOk result (λ plan. plan ≡ plan_of self.now keep) }
+        ensures whole { IfOk result (λ plan. plan.kept + length plan.dropped + length plan.orphans ≡ length self.now) }
         ensures safe { IfOk result (λ plan. IsSafe self.now keep plan) }
         ensures only_memory { IfErr result (λ fault. fault ≡ Memory) }
     {
