@@ -10,7 +10,8 @@ use Rattle.nb_host.specs.declared.faults.Fault.TheVariants.{Refused, Device, Mem
 use Rattle.nb_host.specs.declared.refusals.Refusal.{Refusal}
 use Rattle.nb_level.specs.declared.head.LevelHead.{LevelHead}
 use Rattle.nb_catalog.specs.Answers.{Says, with_first}
-use Rattle.nb_catalog.specs.Heads.{read_file, read_files, reads_of, all_reads}
+use Rattle.nb_catalog.specs.Heads.{read_file, read_files}
+use Rattle.nb_catalog.specs.Reads.{reads_of, all_reads}
 
 -- with all of these in front
 abbrev pub with_all : {T : Type 0} → List T → Result (List T) Refusal → Result (List T) Refusal

@@ -22,7 +22,8 @@ use Rattle.nb_level.specs.declared.head.LevelHead.{LevelHead}
 use Rattle.nb_chain.specs.declared.first_file.First.{First}
 use Rattle.nb_chain.specs.First.{FirstSays}
 use Rattle.nb_catalog.specs.Answers.{Says}
-use Rattle.nb_catalog.specs.Heads.{level_head, whole_head, read_file, reads_of, LevelSays, IsLevelHead}
+use Rattle.nb_catalog.specs.Heads.{level_head, whole_head, read_file}
+use Rattle.nb_catalog.specs.Reads.{reads_of, LevelSays, IsLevelHead}
 
 -- four bytes tell a level file
 pub first_begins : (first bytes : List ℕ) → first ≡ take 4 (drop 0 bytes) → begins_level first ≡ begins_level bytes
@@ -130,3 +131,7 @@ pub whole_counted : (file : File) (name : List ℕ) (result : Result LevelHead F
 whole_counted None name (Ok head) start before after begins is counted begun = absurd (cc (sym (read_none name) ∙ is))
 whole_counted (Some bytes) name (Ok head) start before after begins is counted begun = omega (arith, counted, begun, whole_reads (Some bytes) bytes refl begins)
 whole_counted file name (Err fault) start before after begins is counted begun = tt
+
+-- a reader that goes on is the same but for its place
+pub same_on : (first now next : Reading) → next ≡ record now { place = next.place } → now ≡ record first { place = now.place } → next ≡ record first { place = next.place }
+same_on first now next on so_far = on ∙ ap (λ (r : Reading). record r { place = next.place }) so_far

@@ -4,4 +4,5 @@ pub mod Heads
 pub mod Lines
 pub mod NameLists
 pub mod Plans
+pub mod Reads
 pub mod Turns

@@ -3,7 +3,7 @@ ghost use Rattle.nb_page.specs.Quiet.{Quiet};
 ghost use Rattle.nb_level.specs.Answers.{CountsDevice};
 ghost use Rattle.nb_catalog.specs.Answers.{Says};
 ghost use Rattle.nb_catalog.specs.Chained.{KeepsChains};
-ghost use Rattle.nb_catalog.specs.Heads.{all_reads};
+ghost use Rattle.nb_catalog.specs.Reads.{all_reads};
 ghost use Rattle.nb_catalog.specs.Turns.{planned};
 
 use crate::{Plan, catalogue};

@@ -8,7 +8,8 @@ ghost use Rattle.nb_catalog.specs.Answers.{Says};
 ghost use Rattle.nb_catalog.specs.declared.entry.Entry.{Entry};
 ghost use Rattle.nb_catalog.specs.Chained.{IsChained};
 ghost use Rattle.nb_catalog.specs.Plans.{points};
-ghost use Rattle.nb_catalog.specs.Heads.{EndSays, LevelSays, all_reads, read_file, read_files, reads_of};
+ghost use Rattle.nb_catalog.specs.Heads.{read_file, read_files};
+ghost use Rattle.nb_catalog.specs.Reads.{EndSays, LevelSays, all_reads, reads_of};
 
 use crate::Catalogue;
 use nb_chain::read_first;

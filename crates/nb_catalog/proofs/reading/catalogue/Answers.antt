@@ -5,7 +5,8 @@ use Rattle.nb_level.specs.declared.head.LevelHead.{LevelHead}
 use Rattle.nb_page.proofs.QuietLemmas.{quiet_joined}
 use Rattle.nb_chain.proofs.AnswerLemmas.{passed}
 use Rattle.nb_catalog.specs.Answers.{Says}
-use Rattle.nb_catalog.specs.Heads.{all_reads, read_file, read_files, reads_of}
+use Rattle.nb_catalog.specs.Heads.{read_file, read_files}
+use Rattle.nb_catalog.specs.Reads.{all_reads, reads_of}
 use Rattle.nb_catalog.proofs.ChainLaws.{points_chained}
 use Rattle.nb_catalog.proofs.FileLemmas.{reads_more, reads_all, read_more, read_fault, read_all}
 use Rattle.nb_catalog.proofs.reading.catalogue.Goals as goal

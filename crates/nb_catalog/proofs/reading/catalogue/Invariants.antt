@@ -1,7 +1,8 @@
 use Rattle.std.proofs.Common.{◌≡◌, ◌+◌, ◌≤◌, length, drop}
 use Rattle.std.specs.Prelude.{IsTrue}
 use Rattle.nb_page.specs.Quiet.{Quiet}
-use Rattle.nb_catalog.specs.Heads.{all_reads, read_files}
+use Rattle.nb_catalog.specs.Heads.{read_files}
+use Rattle.nb_catalog.specs.Reads.{all_reads}
 use Rattle.nb_catalog.proofs.FileLemmas.{with_all}
 use Rattle.nb_catalog.proofs.reading.catalogue.Given as goal
 
