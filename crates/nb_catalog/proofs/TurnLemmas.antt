@@ -1,0 +1,25 @@
+-- A plan by what the files are read as.
+use Rattle.std.proofs.Common.{◌≡◌, ℕ, List, sym, ap, ◌∙◌}
+use Rattle.std.specs.Prelude.{Result, Ok, Err}
+use Rattle.nb_host.specs.Files.{Files}
+use Rattle.nb_host.specs.declared.faults.Fault.{Fault}
+use Rattle.nb_host.specs.declared.faults.Fault.TheVariants.{Refused, Device, Memory}
+use Rattle.nb_host.specs.declared.refusals.Refusal.{Refusal}
+use Rattle.nb_level.specs.declared.head.LevelHead.{LevelHead}
+use Rattle.nb_catalog.specs.Answers.{Says}
+use Rattle.nb_catalog.specs.Heads.{read_files}
+use Rattle.nb_catalog.specs.Plans.{Retention, plan_of}
+use Rattle.nb_catalog.specs.Turns.{planned}
+
+module _ (files : Files) (names : List (List ℕ)) (keep : ℕ) where
+  by_heads : (r : Result (List LevelHead) Refusal) → read_files files names ≡ r → planned files names keep ≡ elim r [ Err refusal ↦ Err refusal | Ok heads ↦ Ok (plan_of heads keep) ]
+  unfolding planned
+  by_heads r is = ap (λ (x : Result (List LevelHead) Refusal). elim x as (λ y. Result Retention Refusal) [ Err refusal ↦ Err refusal | Ok heads ↦ Ok (plan_of heads keep) ]) is
+
+  pub planned_is : (heads : List LevelHead) (plan : Retention) → read_files files names ≡ Ok heads → plan ≡ plan_of heads keep → planned files names keep ≡ Ok plan
+  planned_is heads plan read is = by_heads (Ok heads) read ∙ ap (λ (p : Retention). Ok p) (sym is)
+
+  pub planned_fault : (fault : Fault) → Says {T = List LevelHead} (read_files files names) (Err fault) → Says {T = Retention} (planned files names keep) (Err fault)
+  planned_fault (Refused r) is = by_heads (Err r) is
+  planned_fault Device is = tt
+  planned_fault Memory is = tt

@@ -1,0 +1,134 @@
+ghost use Rattle.std.specs.Prelude.{◌≡◌, ◌≤◌, ◌++◌, ℕ, [], ◌∷◌, length, is_some, IfSome, IfNone, IfOk, OnOk};
+ghost use Rattle.std.specs.Str.{IsUtf8};
+ghost use Rattle.nb_host.specs.declared.faults.Fault.TheVariants.{Refused};
+ghost use Rattle.nb_host.specs.declared.refusals.Refusal.TheVariants.{BadScript};
+ghost use Rattle.nb_level.specs.Answers.{CountsDevice};
+ghost use Rattle.nb_model.specs.Words.{is_file};
+ghost use Rattle.nb_script.specs.Lines.{left};
+ghost use Rattle.nb_catalog.specs.Answers.{Says};
+ghost use Rattle.nb_catalog.specs.NameLists.{names_on, list_of};
+
+use nb_host::{Fault, Name, Refusal};
+use nb_script::{Lines, MOST_BYTES};
+use std::alloc::{AllocError, Global};
+use std::marker::Model;
+
+/// How many names a list has at most.
+pub const MOST_NAMES: usize = 1000;
+
+/// Names of files, 1 to 1,000 of them.
+///
+/// Contracts see it as the list of the names.
+#[derive(Drop)]
+pub struct NameList {
+    names: Vec<Name>,
+}
+
+impl Model for NameList {
+    ghost use Rattle.std.specs.Prelude.{List, ℕ};
+
+    ghost Value = { List (List ℕ) };
+
+    ghost view = { λ l. l.names.items };
+}
+
+impl NameList {
+    fn new(alloc: Global) -> NameList
+        ensures { result ≡ [] }
+    {
+        NameList {
+            names: Vec::new(alloc),
+        }
+    }
+
+    fn len(&self) -> usize
+        ensures { result ≡ length self.now }
+    {
+        self.names.len()
+    }
+
+    /// One name more, the last of the list.
+    fn add(&mut self, name: Name) -> Result<(), AllocError>
+        ensures { OnOk result (self.new ≡ self.old ++ name ∷ []) }
+    {
+        self.names.push(name)?;
+        Ok(())
+    }
+
+    /// The names in their order.
+    pub fn names(&self) -> &[Name]
+        ensures { result.now ≡ self.now }
+    {
+        &self.names
+    }
+}
+
+fn as_text(bytes: &[u8]) -> Option<&str>
+    ensures same { IfSome result (λ text. text.now ≡ bytes.now) }
+    ensures none { IfNone result (¬ IsUtf8 bytes.now) }
+{
+    match str::from_utf8(bytes) {
+        Ok(text) => Some(text),
+        Err(_) => None,
+    }
+}
+
+/// The name that a line spells, where a user may give it.
+#[tactic(auto, using(nb_script::proofs::Ascii::not_name))]
+fn name_on(line: &[u8]) -> Option<Name>
+    ensures exact { is_some result ≡ is_file line.now }
+    ensures same { IfSome result (λ name. name ≡ line.now) }
+{
+    let name = Name::read(as_text(line)?)?;
+    if name.is_delta() { None } else { Some(name) }
+}
+
+fn bad(line: u32) -> Fault
+    ensures { result ≡ Refused (BadScript line) }
+{
+    Fault::Refused(Refusal::BadScript { line })
+}
+
+/// The names on these lines, 1,000 at most.
+fn names_on(alloc: Global, mut lines: Lines<'_>) -> Result<NameList, Fault>
+    ensures exact { Says (names_on 1000 (left lines.entry.passed lines.entry.rest.now)) result }
+    ensures most { IfOk result (λ names. length names ≤ 1000) }
+    ensures cause { (faults : ℕ) → CountsDevice result faults faults }
+{
+    let mut names = NameList::new(alloc);
+    while let Some(line) = lines.next() {
+        if names.len() == MOST_NAMES {
+            return Err(bad(lines.passed()));
+        }
+        let Some(name) = name_on(line) else {
+            return Err(bad(lines.passed()));
+        };
+        names.add(name)?;
+    }
+    Ok(names)
+}
+
+/// The list of names that the bytes spell, one name a line. Empty lines and lines that begin with `#` are skipped.
+///
+/// `ScriptLong` where there are more than 1,048,576 bytes, and `BadScript` otherwise: with the first line, from 1, that is no name
+/// which a user may give, or that has the 1,001st name; or, where no line has a name, with the number of lines plus 1. Want of
+/// memory is the only other fault.
+#[tactic(auto, unfolding(crate::specs::NameLists::list_of, crate::specs::NameLists::some_names_on))]
+pub fn read_list(alloc: Global, bytes: &[u8]) -> Result<NameList, Fault>
+    ensures exact { Says (list_of bytes.now) result }
+    ensures some { IfOk result (λ names. 1 ≤ length names) }
+    ensures most { IfOk result (λ names. length names ≤ 1000) }
+    ensures cause { (faults : ℕ) → CountsDevice result faults faults }
+{
+    if bytes.len() > MOST_BYTES {
+        let bytes = bytes.len() as u64;
+        return Err(Fault::Refused(Refusal::ScriptLong { bytes }));
+    }
+    let lines = Lines::new(bytes);
+    let mut ahead = lines;
+    let Some(_) = ahead.next() else {
+        return Err(bad(ahead.passed() + 1));
+    };
+    let names = names_on(alloc, lines)?;
+    Ok(names)
+}
