@@ -1,5 +1,4 @@
 -- Calls that touch one file alone.
-use Rattle.std.specs.Prelude.{ℕ, List}
 use Rattle.nb_host.specs.World.{World}
 use Rattle.nb_change.specs.Changes.{Names, Changes}
 

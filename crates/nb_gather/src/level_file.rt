@@ -97,7 +97,12 @@ impl LevelFile {
 
     /// Takes page `number`, which is above those that it took. It goes into the run that waits, or begins a run. A run that is complete is
     /// appended.
-    pub fn gather<H: Host>(&mut self, host: &mut H, number: u32, page: &[u8]) -> Result<(), HostFault>
+    pub fn gather<H: Host>(
+        &mut self,
+        host: &mut H,
+        number: u32,
+        page: &[u8],
+    ) -> Result<(), HostFault>
         requires size { length page.now ≡ self.old.head.page_size }
         requires written { self.old.written < 4294967295 }
         ensures left { IsTrue H.tells → (rs : List Numbered) → HasTaken (H.world host.old) self.old rs → MayHave self.old.head (rs ++ (number, page.now) ∷ [])
@@ -123,12 +128,7 @@ impl LevelFile {
     }
 
     /// Takes page `number`, which is above those that it took, where its stamp is above the SCN of the earlier backup.
-    pub fn take<H: Host>(
-        &mut self,
-        host: &mut H,
-        number: u32,
-        page: &[u8],
-    ) -> Result<(), HostFault>
+    pub fn take<H: Host>(&mut self, host: &mut H, number: u32, page: &[u8]) -> Result<(), HostFault>
         requires size { length page.now ≡ self.old.head.page_size }
         requires page { IsTrue (is_page_size (length page.now)) }
         requires written { self.old.written < 4294967295 }
