@@ -1,9 +1,9 @@
 -- A level file goes on by a run that is appended.
-use Rattle.std.proofs.Common.{◌≡◌, ◌≢◌, inl, inr, ⊎_elim, ℕ, ◌+◌, ◌<◌, List, [], ◌∷◌, ◌++◌, length, sym, ap, subst, ◌∙◌, arith, length-append, append_assoc}
-use Rattle.std.specs.Prelude.{Some, Result, Ok, Err}
+use Rattle.std.proofs.Common.{◌≡◌, ◌≢◌, ◌⊎◌, inl, inr, ⊎_elim, ℕ, ◌+◌, ◌<◌, List, [], ◌∷◌, ◌++◌, length, take, refl, sym, ap, subst, ◌∙◌, arith, length-append, append_assoc}
+use Rattle.std.specs.Prelude.{Some, Result, Ok, Err, MatchResult}
 use Rattle.std.proofs.lemmas.List.{append-nil}
 use Rattle.nb_fields.specs.Bytes.{bytes_of as number_bytes}
-use Rattle.nb_host.specs.Files.{File, Files, bytes_of, with_bytes}
+use Rattle.nb_host.specs.Files.{File, Files, bytes_of, with_file, with_bytes}
 use Rattle.nb_host.specs.World.{World}
 use Rattle.nb_host.specs.Crash.{AppendLeft}
 use Rattle.nb_host.specs.Moments.{IsTimely}
@@ -17,7 +17,7 @@ use Rattle.nb_model.specs.Levels.{Stretch, head_then, joined, run_bytes}
 use Rattle.nb_model.proofs.GatherLaws.{total}
 use Rattle.nb_gather.specs.Making.{IsUnfinished}
 use Rattle.nb_gather.specs.Gathering.{Waiting, Holds, IsHeaded, Reads, IsTornFile, level_front}
-use Rattle.nb_gather.proofs.TornLaws.{torn_of, torn_is, torn_longer, torn_more}
+use Rattle.nb_gather.proofs.TornLaws.{torn_of, torn_is, torn_self, torn_front, torn_longer, torn_more}
 use Rattle.nb_gather.proofs.UnfinishedLaws.{AreFit}
 use Rattle.nb_gather.proofs.NoLevelLaws.{head_more, no_backup}
 
@@ -29,6 +29,18 @@ append_torn bs as_ n b c long is (inr (torn, more, whole, grown)) = record {
   there = grown ∙ ap (λ (f : File). Some (bytes_of f ++ torn)) is.there;
   is = torn_is (bs ++ as_) (is.torn ++ torn) (torn_more bs as_ is.torn torn (sym (ap (λ (f : File). length (bytes_of f)) is.there) ∙ whole ∙ long) (torn_of bs is.torn is.is) (torn_of as_ torn more));
 }
+
+-- What reads behind bytes that were appended, also where that fails, is what a stop may leave of them.
+pub appended : {T E : Type 0} (result : Result T E) (old new : Files) (name bytes : List ℕ)
+    → MatchResult result (λ x. new ≡ with_file old name (with_bytes (old name) bytes)) (λ e. (new ≡ old) ⊎ ((k : ℕ) × (new ≡ with_file old name (with_bytes (old name) (take k bytes)))))
+    → AppendLeft (length (bytes_of (old name))) bytes (old name) (new name)
+appended (Ok x) old new name bytes is = inr (bytes, torn_is bytes bytes (torn_self bytes), refl, ap (λ (f : Files). f name) is ∙ with_file-same old name _)
+appended (Err e) old new name bytes is =
+    ⊎_elim (λ same. inl (ap (λ (f : Files). f name) same)) (λ some. inr (take some.0 bytes, torn_is bytes (take some.0 bytes) (torn_front some.0 bytes), refl, ap (λ (f : Files). f name) some.1 ∙ with_file-same old name _)) is
+
+-- a file that reads so
+pub whole_torn : (bs : List ℕ) (c : File) → c ≡ Some bs → IsTornFile bs c
+whole_torn bs c is = record { torn = bs; there = is; is = torn_is bs bs (torn_self bs) }
 
 -- both of two pieces
 pub two_torn : (bs first second : List ℕ) (n : ℕ) (b c : File) → n ≡ length bs → IsTornFile bs b → TwoLeft n first second b c → IsTornFile (bs ++ (first ++ second)) c
@@ -103,3 +115,11 @@ module _ (name : List ℕ) (head : LevelHead) (ss : List Stretch) (run : Waiting
   run_left result old new timely stands is fit few adds silent =
       two_alone name result old new (level_front head ss) _ _ IsUnfinished timely stands adds silent
       (λ c torn. torn_unfinished head (ss ++ s ∷ []) c is fit few (subst (λ (b : List ℕ). IsTornFile b c) (held_front head ss run s holds) torn))
+
+  -- and so the file reads, also where that fails
+  pub run_reads : {T E : Type 0} (result : Result T E) (old new : World) → Reads old name (level_front head ss) → IsHeaded (head_of head) → AreFit head.page_size (ss ++ s ∷ []) → total (ss ++ s ∷ []) < 4294967296
+      → AddsTwo result old new name (number_bytes 4 run.first ++ number_bytes 4 run.count) run.bytes → IsUnfinished (new.files name)
+  run_reads result old new stands is fit few adds =
+      torn_unfinished head (ss ++ s ∷ []) (new.files name) is fit few (subst (λ (b : List ℕ). IsTornFile b (new.files name)) (held_front head ss run s holds)
+      (append_torn (level_front head ss) _ (length (bytes_of (old.files name))) (old.files name) (new.files name) (ap (λ (f : File). length (bytes_of f)) stands.reads) (whole_torn (level_front head ss) (old.files name) stands.reads)
+      (appended result old.files new.files name _ adds.files)))

@@ -23,7 +23,7 @@ use Rattle.nb_model.specs.Levels.{Stretch, body_bytes, run_bytes, runs_of, end_b
 use Rattle.nb_model.proofs.GatherLaws.{total}
 use Rattle.nb_gather.specs.Gathering.{LevelWriting, Holds, Reads, HasTaken, MayHave, complete, incomplete, level_front}
 use Rattle.nb_gather.specs.Making.{IsUnfinished, IsUnfinishedOr}
-use Rattle.nb_gather.proofs.AppendLaws.{run_read, run_left}
+use Rattle.nb_gather.proofs.AppendLaws.{appended, whole_torn, torn_unfinished, run_read, run_reads, run_left}
 use Rattle.nb_gather.proofs.FitLaws.{RunsFit, runs_fit, complete_all, total_runs}
 use Rattle.nb_gather.proofs.NoLevelLaws.{head_more, no_backup, end_torn}
 use Rattle.nb_gather.proofs.TornLaws.{Torn, torn_self, torn_of}
@@ -51,6 +51,10 @@ module _ (old : World) (file : LevelWriting) (rs : List Numbered) (has : HasTake
       sym (append-nil (complete (runs_of rs))) ∙ ap (λ (x : List Stretch). complete (runs_of rs) ++ x) (sym (none_waits file.run file.head rs fit has.waits none)) ∙ complete_all (runs_of rs) in
       subst (λ (ss : List Stretch). Reads old file.name (level_front file.head ss)) all has.stands
 
+  -- until it is closed it reads as unfinished
+  pub still_unfinished : IsUnfinished (old.files file.name)
+  still_unfinished = torn_unfinished file.head (complete (runs_of rs)) (old.files file.name) may.formed fit.done fit.few_done (whole_torn (level_front file.head (complete (runs_of rs))) (old.files file.name) has.stands.reads)
+
   module _ (some : file.run.count ≢ 0) where
     last : (w : Stretch) × (incomplete (runs_of rs) ≡ w ∷ []) × Holds file.run w
     last = one_waits file.run file.head rs fit has.waits some
@@ -63,6 +67,11 @@ module _ (old : World) (file : LevelWriting) (rs : List Numbered) (has : HasTake
     last_left result new timely adds silent =
         run_left file.name file.head (complete (runs_of rs)) file.run last.0 last.2 result old new timely has.stands may.formed (subst (AreFit file.head.page_size) (sym all_runs) fit.all)
         (subst (λ (ss : List Stretch). total ss < 4294967296) (sym all_runs) fit.few) adds silent
+
+    pub last_reads : {T E : Type 0} (result : Result T E) (new : World) → AddsTwo result old new file.name (number_bytes 4 file.run.first ++ number_bytes 4 file.run.count) file.run.bytes → IsUnfinished (new.files file.name)
+    last_reads result new adds =
+        run_reads file.name file.head (complete (runs_of rs)) file.run last.0 last.2 result old new has.stands may.formed (subst (AreFit file.head.page_size) (sym all_runs) fit.all)
+        (subst (λ (ss : List Stretch). total ss < 4294967296) (sym all_runs) fit.few) adds
 
     pub last_read : {T E : Type 0} (result : Result T E) (new : World) → AddsTwo result old new file.name (number_bytes 4 file.run.first ++ number_bytes 4 file.run.count) file.run.bytes → OnOk result (Reads new file.name (level_front file.head (runs_of rs)))
     last_read (Ok x) new adds = subst (λ (ss : List Stretch). Reads new file.name (level_front file.head ss)) all_runs (run_read file.name file.head (complete (runs_of rs)) file.run last.0 last.2 x old new has.stands adds)
@@ -97,6 +106,10 @@ module _ (name : List ℕ) (head : LevelHead) (rs : List Numbered) (may : MayHav
         | inr none ↦ inl (subst IsUnfinished (sym there) (inr none))
       ]
 
+  -- the file reads as its front
+  pub front_reads : (w : World) → Reads w name front → IsUnfinished (w.files name)
+  front_reads w reads = subst IsUnfinished (sym reads.reads) front_unfinished
+
   pub more_than : (old new : World) → Changes old new (Only name) (Remade old name IsUnfinished) → Changes old new (Only name) (Remade old name (IsUnfinishedOr whole))
   more_than old new so_far = remade_weaker old new (Only name) name IsUnfinished (IsUnfinishedOr whole) so_far (λ c is. inl is)
 
@@ -106,6 +119,11 @@ module _ (name : List ℕ) (head : LevelHead) (rs : List Numbered) (may : MayHav
     end_written result written counted so_far appends silent time =
         remade_step old there new name (IsUnfinishedOr whole) (λ c. c ≡ Some front) (IsUnfinishedOr whole) (AppendLeft (length (bytes_of (there.files name))) (end_bytes written)) so_far time appends.left
         (bytes_others tells result there new name (end_bytes written) told appends) silent (subst (λ (f : File). IsDurable there name f) stands.reads (syncs.durable told)).only (λ c is. is) (λ c d is left. end_left _ written c d counted is left)
+
+    -- and so the file reads, also where that fails
+    pub end_or : {T E : Type 0} (result : Result T E) (written : ℕ) → written ≡ length rs → AppendsBytes tells result there new name (end_bytes written) → IsUnfinishedOr whole (new.files name)
+    end_or result written counted appends =
+        end_left _ written (there.files name) (new.files name) counted (ap (λ (f : Files). f name) syncs.still.files ∙ stands.reads) (appended result there.files new.files name (end_bytes written) (appends.files told))
 
     pub end_reads : {E : Type 0} (x : Unit {0}) (written : ℕ) → written ≡ length rs → AppendsBytes {E = E} tells (Ok x) there new name (end_bytes written) → new.files name ≡ Some whole
     end_reads x written counted appends =

@@ -15,7 +15,7 @@ use Rattle.nb_model.proofs.GatherLaws.{total}
 use Rattle.nb_model.proofs.ReadLaws.{eq_yes}
 use Rattle.nb_gather.specs.Gathering.{Waiting, Holds, HoldsAll, Reads, HasTaken, MayHave, complete, incomplete, level_front}
 use Rattle.nb_gather.specs.Making.{IsUnfinished}
-use Rattle.nb_gather.proofs.AppendLaws.{run_read, run_left}
+use Rattle.nb_gather.proofs.AppendLaws.{run_read, run_reads, run_left}
 use Rattle.nb_gather.proofs.FitLaws.{RunsFit, runs_fit, may_front, lt_tells}
 use Rattle.nb_gather.proofs.RunLaws.{no_both, one_run, longer_run, goes_on, Grows, runs_added, grown_none, grown_other, grown_more, grown_full}
 use Rattle.nb_gather.proofs.UnfinishedLaws.{AreFit}
@@ -130,6 +130,13 @@ module _ (head : LevelHead) (rs : List Numbered) (r : Numbered) (run : Waiting) 
       let fit = runs_fit head (rs ++ r ∷ []) may in
       run_left name head (complete (runs_of rs)) run completes.s completes.holds result old new timely stands may.formed (subst (AreFit head.page_size) all_runs fit.done)
       (subst (λ (ss : List Stretch). total ss < 4294967296) all_runs fit.few_done) adds silent
+
+  pub completes_reads : {T E : Type 0} (result : Result T E) (old new : World) → MayHave head (rs ++ r ∷ []) → Reads old name (level_front head (complete (runs_of rs)))
+      → AddsTwo result old new name (bytes_of 4 run.first ++ bytes_of 4 run.count) run.bytes → IsUnfinished (new.files name)
+  completes_reads result old new may stands adds =
+      let fit = runs_fit head (rs ++ r ∷ []) may in
+      run_reads name head (complete (runs_of rs)) run completes.s completes.holds result old new stands may.formed (subst (AreFit head.page_size) all_runs fit.done)
+      (subst (λ (ss : List Stretch). total ss < 4294967296) all_runs fit.few_done) adds
 
   pub completes_taken : {T E : Type 0} (x : T) (old new : World) (written : ℕ) (last : Waiting) → written ≡ length rs → HoldsAll last waits → Reads old name (level_front head (complete (runs_of rs)))
       → AddsTwo {E = E} (Ok x) old new name (bytes_of 4 run.first ++ bytes_of 4 run.count) run.bytes → HasTaken new (record { name = name; head = head; written = written + 1; run = last }) (rs ++ r ∷ [])

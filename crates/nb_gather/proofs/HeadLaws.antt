@@ -15,7 +15,7 @@ use Rattle.nb_level.specs.Heads.{head_of}
 use Rattle.nb_model.specs.Levels.{head_then, run_bytes, runs_of}
 use Rattle.nb_gather.specs.Gathering.{LevelWriting, IsHeaded, Reads, IsTornFile, HasTaken, complete, incomplete, level_front}
 use Rattle.nb_gather.specs.Making.{IsEmpty, IsMade, IsUnfinished}
-use Rattle.nb_gather.proofs.AppendLaws.{append_torn, torn_unfinished}
+use Rattle.nb_gather.proofs.AppendLaws.{append_torn, appended, torn_unfinished}
 use Rattle.nb_gather.proofs.UnfinishedLaws.{AreFit}
 use Rattle.nb_model.proofs.GatherLaws.{total}
 
@@ -52,6 +52,12 @@ module _ (head : LevelHead) (name : List ℕ) (tells : Bool) (old new : World) (
       remade_step old old new name IsUnfinished IsEmpty IsUnfinished (AppendLeft (length (bytes_of (old.files name))) (head_then 102 (head_of head) [])) (remade_begun old (Only name) name IsUnfinished timely) time appends.left
       (bytes_others tells result old new name (head_then 102 (head_of head) []) told appends) silent made.only (λ c unfinished. unfinished)
       (λ c d empty left. torn_unfinished head (complete (runs_of [])) d is (no_fit head) no_total (head_torn head _ c d none empty left))
+
+  -- and so the file reads, also where that fails
+  pub head_reads : {T E : Type 0} (result : Result T E) → IsHeaded (head_of head) → AppendsBytes tells result old new name (head_then 102 (head_of head) []) → IsUnfinished (new.files name)
+  head_reads result is appends =
+      torn_unfinished head (complete (runs_of [])) (new.files name) is (no_fit head) no_total
+      (head_torn head _ (old.files name) (new.files name) none made.reads (appended result old.files new.files name (head_then 102 (head_of head) []) (appends.files told)))
 
   -- no page was taken
   pub head_taken : {T E : Type 0} (result : Result T E) (file : LevelWriting) → file.name ≡ name → file.head ≡ head → file.run.count ≡ 0 → file.written ≡ 0 → AppendsBytes tells result old new name (head_then 102 (head_of head) []) → OnOk result (HasTaken new file [])

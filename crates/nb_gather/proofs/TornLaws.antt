@@ -39,6 +39,12 @@ torn_short bs [] is = omega arith
 torn_short [] (t ∷ ts) is = absurd is
 torn_short (b ∷ bs) (t ∷ ts) is = let rest = torn_short bs ts is.1 in omega (arith, rest)
 
+-- the rest was lost
+pub torn_front : (k : ℕ) (bs : List ℕ) → Torn bs (take k bs)
+torn_front zero bs = tt
+torn_front (suc k) [] = tt
+torn_front (suc k) (b ∷ bs) = (inl refl, torn_front k bs)
+
 -- bytes behind that were lost
 pub torn_longer : (bs cs ts : List ℕ) → Torn bs ts → Torn (bs ++ cs) ts
 torn_longer bs cs [] is = tt

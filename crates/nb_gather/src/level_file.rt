@@ -87,6 +87,7 @@ impl LevelFile {
     /// Writes the head into the file, which was made. It comes before the first page.
     pub fn begin<H: Host>(&self, host: &mut H) -> Result<(), HostFault>
         ensures left { IsTrue H.tells → IsHeaded (head_of self.now.head) → IsMade (H.world host.old) self.now.name → Changes (H.world host.old) (H.world host.new) (Only self.now.name) (Remade (H.world host.old) self.now.name IsUnfinished) }
+        ensures reads { IsTrue H.tells → IsHeaded (head_of self.now.head) → IsMade (H.world host.old) self.now.name → IsUnfinished ((H.world host.new).files self.now.name) }
         ensures begun { IsTrue H.tells → IsMade (H.world host.old) self.now.name → self.now.run.count ≡ 0 → self.now.written ≡ 0 → OnOk result (HasTaken (H.world host.new) self.now []) }
         ensures touches { IsTrue H.tells → Touches (H.world host.old) (H.world host.new) (Only self.now.name) }
         ensures log { IsSilent (H.world host.old) (H.world host.new) }
@@ -107,6 +108,7 @@ impl LevelFile {
         requires written { self.old.written < 4294967295 }
         ensures left { IsTrue H.tells → (rs : List Numbered) → HasTaken (H.world host.old) self.old rs → MayHave self.old.head (rs ++ (number, page.now) ∷ [])
             → Changes (H.world host.old) (H.world host.new) (Only self.old.name) (Remade (H.world host.old) self.old.name IsUnfinished) }
+        ensures reads { IsTrue H.tells → (rs : List Numbered) → HasTaken (H.world host.old) self.old rs → MayHave self.old.head (rs ++ (number, page.now) ∷ []) → IsUnfinished ((H.world host.new).files self.old.name) }
         ensures taken { IsTrue H.tells → (rs : List Numbered) → HasTaken (H.world host.old) self.old rs → MayHave self.old.head (rs ++ (number, page.now) ∷ []) → OnOk result (HasTaken (H.world host.new) self.new (rs ++ (number, page.now) ∷ [])) }
         ensures touches { IsTrue H.tells → Touches (H.world host.old) (H.world host.new) (Only self.old.name) }
         ensures same { self.new ≡ record self.old { written = self.new.written; run = self.new.run } }
@@ -152,6 +154,7 @@ impl LevelFile {
     fn finish<H: Host>(&mut self, host: &mut H) -> Result<(), HostFault>
         ensures left { IsTrue H.tells → (rs : List Numbered) → HasTaken (H.world host.old) self.old rs → MayHave self.old.head rs
             → Changes (H.world host.old) (H.world host.new) (Only self.old.name) (Remade (H.world host.old) self.old.name IsUnfinished) }
+        ensures reads { IsTrue H.tells → (rs : List Numbered) → HasTaken (H.world host.old) self.old rs → MayHave self.old.head rs → IsUnfinished ((H.world host.new).files self.old.name) }
         ensures finished { IsTrue H.tells → (rs : List Numbered) → HasTaken (H.world host.old) self.old rs → MayHave self.old.head rs → OnOk result (Reads (H.world host.new) self.old.name (level_front self.old.head (runs_of rs))) }
         ensures touches { IsTrue H.tells → Touches (H.world host.old) (H.world host.new) (Only self.old.name) }
         ensures same { self.new ≡ record self.old { run = self.new.run } }
@@ -168,6 +171,7 @@ impl LevelFile {
     pub fn close<H: Host>(&mut self, host: &mut H) -> Result<(), HostFault>
         ensures left { IsTrue H.tells → (rs : List Numbered) → HasTaken (H.world host.old) self.old rs → MayHave self.old.head rs
             → Changes (H.world host.old) (H.world host.new) (Only self.old.name) (Remade (H.world host.old) self.old.name (IsUnfinishedOr (level_bytes 102 (head_of self.old.head) rs))) }
+        ensures reads { IsTrue H.tells → (rs : List Numbered) → HasTaken (H.world host.old) self.old rs → MayHave self.old.head rs → IsUnfinishedOr (level_bytes 102 (head_of self.old.head) rs) ((H.world host.new).files self.old.name) }
         ensures done { IsTrue H.tells → (rs : List Numbered) → HasTaken (H.world host.old) self.old rs → MayHave self.old.head rs → OnOk result (IsKept (H.world host.new) self.old.name (level_bytes 102 (head_of self.old.head) rs)) }
         ensures touches { IsTrue H.tells → Touches (H.world host.old) (H.world host.new) (Only self.old.name) }
         ensures same { self.new ≡ record self.old { run = self.new.run } }
