@@ -1,0 +1,5 @@
+pub mod Folding
+pub mod Verdict
+pub mod Fold
+pub mod Sources
+pub mod Merging

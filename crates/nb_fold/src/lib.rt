@@ -1,0 +1,9 @@
+//! Folding consecutive level files into one.
+//!
+//! It rests on `nb_level`, which reads level files, and on `nb_gather`, which writes one page by page.
+#![tactic(auto)]
+
+mod folding;
+mod source;
+
+pub use folding::Folded;
