@@ -3,3 +3,4 @@ pub mod Verdict
 pub mod Fold
 pub mod Sources
 pub mod Merging
+pub mod Checking

@@ -62,6 +62,20 @@ abbrev pub FileRefused : File → (name : List ℕ) → Refusal → Type 0
 FileRefused None name refusal = refusal ≡ NoFile name
 FileRefused (Some bytes) name refusal = (at : ℕ) × (read_level bytes ≡ Err at) × (refusal ≡ BadLevel name at)
 
+-- it answers such a value, or the device fails
+abbrev pub IsTaken : {T : Type 0} → Result T Fault → (T → Type 0) → Type 0
+IsTaken (Ok value) P = P value
+IsTaken (Err (Refused refusal)) P = ⊥
+IsTaken (Err Device) P = Unit {0}
+IsTaken (Err Memory) P = ⊥
+
+-- it answers such a value, or memory is wanted, or the device fails
+abbrev pub IsGiven : {T : Type 0} → Result T Fault → (T → Type 0) → Type 0
+IsGiven (Ok value) P = P value
+IsGiven (Err (Refused refusal)) P = ⊥
+IsGiven (Err Device) P = Unit {0}
+IsGiven (Err Memory) P = Unit {0}
+
 -- how many numbers there are at most from the page on that waits
 abbrev pub due_by : (waiting : Option ℕ) → ℕ
 due_by None = 0
@@ -109,10 +123,3 @@ IsLeast n = AllByRecursion (λ (s : Held). (m : ℕ) → s.waiting ≡ Some m �
 -- each reads pages of that size
 abbrev pub AreOfPages : (size : ℕ) → List Held → Type 0
 AreOfPages size = AllByRecursion (λ (s : Held). s.reader.head.page_size ≡ size)
-
--- it answers such a value; nothing is refused
-abbrev pub IsTaken : {T : Type 0} → Result T Fault → (T → Type 0) → Type 0
-IsTaken (Ok value) P = P value
-IsTaken (Err (Refused refusal)) P = ⊥
-IsTaken (Err Device) P = Unit {0}
-IsTaken (Err Memory) P = ⊥

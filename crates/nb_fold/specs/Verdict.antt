@@ -1,5 +1,5 @@
 -- When level files are folded: the refusals in their order, and the turn of the job.
-use Rattle.std.specs.Prelude.{ℕ, ◌+◌, List, [], ◌∷◌, length, Option, Some, None, Result, Ok, Err, true, false}
+use Rattle.std.specs.Prelude.{ℕ, ◌+◌, List, [], ◌∷◌, ◌++◌, length, Option, Some, None, Result, Ok, Err, true, false}
 use Rattle.nb_host.specs.Files.{Files}
 use Rattle.nb_host.specs.declared.refusals.Refusal.{Refusal}
 use Rattle.nb_host.specs.declared.refusals.Refusal.TheVariants.{NoFile, FileExists, BadLevel}
@@ -18,21 +18,25 @@ abbrev pub not_after : (last : Option Contents) (name : List ℕ) → Contents �
 not_after None name c = None
 not_after (Some last) name c = not_behind (last.head.level + 1) (level_link last) name c
 
--- with one more file before
-abbrev pub with_file : Contents → Result (List Contents) Refusal → Result (List Contents) Refusal
-with_file c (Ok cs) = Ok (c ∷ cs)
-with_file c (Err refusal) = Err refusal
+-- what the next file holds, behind the last, or its refusal
+unfoldable pub file_after : Files → (last : Option Contents) → (name : List ℕ) → Result Contents Refusal
+file_after files last name = elim (files name) [
+  | None ↦ Err (NoFile name)
+  | Some bytes ↦ elim (read_level bytes) [
+    | Err at ↦ Err (BadLevel name at)
+    | Ok c ↦ elim (not_after last name c) [ Some refusal ↦ Err refusal | None ↦ Ok c ]
+  ]
+]
+
+-- with more files before
+abbrev pub with_files : List Contents → Result (List Contents) Refusal → Result (List Contents) Refusal
+with_files cs (Ok more) = Ok (cs ++ more)
+with_files cs (Err refusal) = Err refusal
 
 -- what the files hold from here on, behind the last, or the first refusal
 unfoldable pub files_after : Files → (last : Option Contents) → (names : List (List ℕ)) → Result (List Contents) Refusal
 files_after files last [] = Ok []
-files_after files last (name ∷ names) = elim (files name) [
-  | None ↦ Err (NoFile name)
-  | Some bytes ↦ elim (read_level bytes) [
-    | Err at ↦ Err (BadLevel name at)
-    | Ok c ↦ elim (not_after last name c) [ Some refusal ↦ Err refusal | None ↦ with_file c (files_after files (Some c) names) ]
-  ]
-]
+files_after files last (name ∷ names) = elim (file_after files last name) [ Err refusal ↦ Err refusal | Ok c ↦ with_files (c ∷ []) (files_after files (Some c) names) ]
 
 -- what files hold that go on from one another
 abbrev pub chained : Files → (names : List (List ℕ)) → Result (List Contents) Refusal

@@ -1,13 +1,16 @@
-ghost use Rattle.std.specs.Prelude.{◌≡◌, ◌+◌, ◌≤◌, List, Ok, IsTrue, OnOk, ◌-◌};
+ghost use Rattle.std.specs.Prelude.{◌≡◌, ◌+◌, ◌≤◌, ℕ, List, Some, Ok, IsTrue, OnOk, ◌-◌};
 ghost use Rattle.nb_change.specs.Counts.{CountsDevice};
 ghost use Rattle.nb_host.specs.Files.{bytes_of};
 ghost use Rattle.nb_level.specs.Reading.{still_to_come};
+ghost use Rattle.nb_fields.specs.Places.{is_page_size};
 ghost use Rattle.nb_model.specs.Image.{Numbered};
+ghost use Rattle.nb_model.specs.Levels.{Contents, read_level};
 ghost use Rattle.nb_page.specs.Quiet.{Quiet};
-ghost use Rattle.nb_fold.specs.Sources.{IsTaken, Waits, count_at, due_by, rest_after};
+ghost use Rattle.nb_fold.specs.Sources.{IsGiven, IsOpened, IsTaken, Waits, count_at, due_by, rest_after};
 
-use nb_host::{Fault, Host};
-use nb_level::{Item, LevelReader};
+use nb_host::{Fault, Host, Name};
+use nb_level::{Item, LevelHead, LevelReader};
+use std::alloc::Global;
 use std::marker::Model;
 
 /// A level file that is folded with others: it is read from front to back, one page at a time, and its next page waits.
@@ -31,6 +34,32 @@ impl Model for Source {
 }
 
 impl Source {
+    /// Begins to read a level file, whose first page waits then. It takes the memory for two pages.
+    pub(crate) fn start<H: Host>(alloc: Global, host: &mut H, name: &Name) -> Result<Source, Fault>
+        ensures opened { IsTrue H.tells → (bytes : List ℕ) (c : Contents) → (H.world host.old).files name.now ≡ Some bytes → read_level bytes ≡ Ok c → IsGiven result (λ source. IsOpened (H.world host.old).files name.now source c) }
+        ensures quiet { Quiet (H.world host.old) (H.world host.new) }
+        ensures reads { IsTrue H.tells → (H.world host.new).reads ≤ (H.world host.old).reads + 2 }
+        ensures cause { CountsDevice result (H.faults host.old) (H.faults host.new) }
+    {
+        let reader = LevelReader::start(alloc, host, name)?;
+        let page = vec![in alloc; 0; reader.head().page_size as usize]?;
+        let mut source = Source {
+            reader,
+            waiting: None,
+            page,
+        };
+        source.advance(host)?;
+        Ok(source)
+    }
+
+    /// The head of the file.
+    pub(crate) fn head(&self) -> LevelHead
+        ensures value { result ≡ self.now.reader.head }
+        ensures size { IsTrue (is_page_size result.page_size) }
+    {
+        self.reader.head()
+    }
+
     /// The number of the page that waits.
     pub(crate) fn waiting(&self) -> Option<u32>
         ensures { result ≡ self.now.waiting }
