@@ -1,3 +1,5 @@
 pub mod PagesLaws
 pub mod FoldedLaws
 pub mod OpenLaws
+pub mod AddLaws
+pub mod PassLaws

@@ -1,5 +1,5 @@
 -- The files that are folded are read to their ends, and each goes on from the one before it.
-use Rattle.std.specs.Prelude.{◌≡◌, ℕ, ◌+◌, ◌*◌, ◌≤◌, List, [], ◌∷◌, ◌++◌, length, Option, Some, None, Result, Ok, Err}
+use Rattle.std.specs.Prelude.{◌≡◌, ℕ, ◌+◌, ◌≤◌, List, [], ◌∷◌, ◌++◌, length, Option, Some, None, Result, Ok, Err}
 use Rattle.nb_host.specs.Files.{File, Files, bytes_of}
 use Rattle.nb_host.specs.declared.faults.Fault.{Fault}
 use Rattle.nb_host.specs.declared.faults.Fault.TheVariants.{Refused, Device, Memory}
@@ -9,7 +9,6 @@ use Rattle.nb_model.specs.Image.{Numbered}
 use Rattle.nb_model.specs.Levels.{Contents, read_level}
 use Rattle.nb_level.specs.Heads.{head_of}
 use Rattle.nb_level.specs.Reading.{Reading, still_to_come}
-use Rattle.nb_fold.specs.Fold.{fold_reads}
 use Rattle.nb_fold.specs.Sources.{Held, FileRefused, IsOpened, AreOpened, AreOfPages}
 use Rattle.nb_fold.specs.Verdict.{file_after, chained}
 
@@ -56,7 +55,7 @@ pub record IsAdded (files : Files) (name : List ℕ) (last : Option Contents) (o
   pub added : new ≡ old ++ source ∷ []
   pub accepted : file_after files last name ≡ Ok contents
   pub opened : IsOpened files name source contents
-  pub reads : after ≤ before + 2 * length contents.pages + 4
+  pub reads : after ≤ before + length contents.pages + 4
 
 abbrev pub AddSays : Files → (name : List ℕ) → Option Contents → (old new : List Held) (before after : ℕ) → Result (Unit {0}) Fault → Type 0
 AddSays files name last old new before after (Ok done) = IsAdded files name last old new before after
@@ -64,18 +63,17 @@ AddSays files name last old new before after (Err (Refused refusal)) = file_afte
 AddSays files name last old new before after (Err Device) = Unit {0}
 AddSays files name last old new before after (Err Memory) = Unit {0}
 
+-- how many reads it takes until the first page of each waits
+abbrev pub open_reads : List Contents → ℕ
+open_reads [] = 0
+open_reads (c ∷ cs) = length c.pages + 4 + open_reads cs
+
 -- all of them go on from one another
 pub record AreChained (files : Files) (names : List (List ℕ)) (before after : ℕ) (sources : List Held) : Type 0 where
   pub contents : List Contents
   pub accepted : chained files names ≡ Ok contents
   pub opened : AreOpened files names sources contents
-  pub reads : after + 1 ≤ before + fold_reads contents
-
-abbrev pub ChainSays : Files → (names : List (List ℕ)) (before after : ℕ) → {A : Type 0} → Result (List Held) Fault → Type 0
-ChainSays files names before after (Ok sources) = AreChained files names before after sources
-ChainSays files names before after (Err (Refused refusal)) = chained files names ≡ Err refusal
-ChainSays files names before after (Err Device) = Unit {0}
-ChainSays files names before after (Err Memory) = Unit {0}
+  pub reads : after ≤ before + open_reads contents
 
 -- the size of the pages of the first
 abbrev pub first_size : List Held → ℕ

@@ -1,13 +1,30 @@
-ghost use Rattle.std.specs.Prelude.{◌≡◌, ◌+◌, ◌≤◌, length, IsTrue, IfOk, OnOk, Option};
+ghost use Rattle.std.specs.Prelude.{◌≡◌, ◌+◌, ◌<◌, ◌≤◌, ℕ, length, IsTrue, IfOk, OnOk, Option, Err};
 ghost use Rattle.nb_change.specs.Counts.{CountsDevice};
 ghost use Rattle.nb_model.specs.Levels.{Contents};
+ghost use Rattle.nb_level.specs.Heads.{head_of};
 ghost use Rattle.nb_page.specs.Quiet.{Quiet};
-ghost use Rattle.nb_fold.specs.Checking.{AddSays, AreAlike, AreChained, ChainSays, IsLast};
+ghost use Rattle.nb_host.specs.declared.faults.Fault.TheVariants.{Refused};
+ghost use Rattle.nb_host.specs.declared.refusals.Refusal.{Refusal};
+ghost use Rattle.nb_fold.specs.Verdict.{chained, not_after};
+ghost use Rattle.nb_fold.specs.Checking.{AddSays, AreAlike, AreChained, IsLast, Tested, first_size};
 
 use crate::checking::{check_file, goes_on};
 use crate::source::Source;
 use nb_host::{Fault, Host, Name};
+use nb_level::LevelHead;
 use std::alloc::Global;
+
+/// Whether a level file goes on from the last of those before. The refusals are those of `goes_on`.
+fn goes_on_from(sources: &[Source], head: &LevelHead, name: &Name) -> Result<(), Fault>
+    ensures test { (last : Option Contents) (c : Contents) → IsLast sources.now last → c.head ≡ head_of head.now → Tested (not_after last name.now c) result }
+    ensures size { OnOk result (0 < length sources.now → AreAlike sources.now → head.now.page_size ≡ first_size sources.now) }
+    ensures cause { (faults : ℕ) → CountsDevice result faults faults }
+{
+    if sources.is_empty() {
+        return Ok(());
+    }
+    goes_on(&sources[sources.len() - 1].head(), head, name)
+}
 
 /// Reads a file to its end, tests that it goes on from the last of those before, and begins to read it again.
 ///
@@ -26,9 +43,7 @@ fn add<H: Host>(
 {
     check_file(alloc, host, name)?;
     let source = Source::start(alloc, host, name)?;
-    if let Some(last) = sources.last() {
-        goes_on(&last.head(), &source.head(), name)?;
-    }
+    goes_on_from(sources, &source.head(), name)?;
     sources.push(source)?;
     Ok(())
 }
@@ -40,7 +55,8 @@ pub(crate) fn open_all<H: Host>(
     host: &mut H,
     files: &[Name],
 ) -> Result<Vec<Source>, Fault>
-    ensures answer { IsTrue H.tells → ChainSays (H.world host.old).files files.now (H.world host.old).reads (H.world host.new).reads result }
+    ensures answer { IsTrue H.tells → IfOk result (λ sources. AreChained (H.world host.old).files files.now (H.world host.old).reads (H.world host.new).reads sources.items) }
+    ensures refused { IsTrue H.tells → (refusal : Refusal) → result ≡ Err (Refused refusal) → chained (H.world host.old).files files.now ≡ Err refusal }
     ensures alike { IfOk result (λ sources. AreAlike sources.items) }
     ensures all { IfOk result (λ sources. length sources.items ≡ length files.now) }
     ensures quiet { Quiet (H.world host.old) (H.world host.new) }
