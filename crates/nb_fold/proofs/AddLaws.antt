@@ -1,6 +1,7 @@
 -- A file that is added behind others that go on from one another.
 use Rattle.std.proofs.Common.{◌≡◌, ℕ, zero, suc, ◌+◌, ◌-◌, ◌<◌, ◌≤◌, List, [], ◌∷◌, ◌++◌, length, get_or, drop, refl, sym, ap, subst, ◌∙◌, arith, length-append, append_assoc, drop-cons}
-use Rattle.std.specs.Prelude.{Some, None, Option, Result, Ok, Err}
+use Rattle.std.specs.Prelude.{Some, None, Option, Result, Ok, Err, false, ◌==◌}
+use Rattle.std.proofs.lemmas.Bool.{true≢false}
 use Rattle.std.proofs.lemmas.List.{append-nil, drop_all}
 use Rattle.nb_host.specs.Files.{File, Files}
 use Rattle.nb_host.specs.declared.faults.Fault.{Fault}
@@ -25,6 +26,10 @@ last_alike size [] s some is all = absurd (omega (arith, some))
 last_alike size (t ∷ []) s some is all = ap (λ (x : Held). x.reader.head.page_size) is ∙ all.0
 last_alike size (t ∷ u ∷ us) s some is all =
     last_alike size (u ∷ us) s (omega arith) (is ∙ ap (λ n. get_or (t ∷ u ∷ us) n s) (let e : suc (suc (length us)) - 1 ≡ suc (suc (length us) - 1) = omega arith in e)) all.1
+
+pub some_of : (ss : List Held) → (length ss == 0) ≡ false → 0 < length ss
+some_of [] e = absurd (true≢false e)
+some_of (s ∷ ss) e = omega arith
 
 pub no_last : (ss : List Held) (last : Option Contents) → length ss ≡ 0 → IsLast ss last → last ≡ None
 no_last [] None none l = refl

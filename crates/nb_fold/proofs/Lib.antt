@@ -3,3 +3,5 @@ pub mod FoldedLaws
 pub mod OpenLaws
 pub mod AddLaws
 pub mod PassLaws
+pub mod NextLaws
+pub mod MergeLaws

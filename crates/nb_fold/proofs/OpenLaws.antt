@@ -120,6 +120,10 @@ pub passed : (T : Type 0) (P : Result T Fault → Type 0) (result : Result T Fau
 passed T P (Ok value) fault is here = absurd is.1
 passed T P (Err e) fault is here = subst (λ (f : Fault). P (Err f)) (sym is.1) here
 
+pub fault_is : (T : Type 0) (result : Result T Fault) (fault f : Fault) → IsErr result × IsErrAnd result (λ e. e ≡ fault) → result ≡ Err f → fault ≡ f
+fault_is T (Ok value) fault f is same = absurd is.1
+fault_is T (Err e) fault f is same = sym is.1 ∙ (let same_fault : e ≡ f = cc in same_fault)
+
 -- Whether a file is one that can be folded.
 module _ (tells : Bool) (told : IsTrue tells) (file : File) (name : List ℕ) where
   pub not_whole : (before after : ℕ) (fault : Fault) → StartSays tells file name (Err fault) → FileSays file name before after (Err fault)

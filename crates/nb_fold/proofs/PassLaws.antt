@@ -1,9 +1,13 @@
 -- The files are read on where the page of a number waits, one after another.
 use Rattle.std.proofs.Common.{◌≡◌, ℕ, zero, suc, ◌+◌, ◌<◌, ◌≤◌, List, [], ◌∷◌, ◌++◌, length, get_or, set, take, drop, refl, sym, ap, subst, ◌∙◌, arith, drop-cons}
 use Rattle.std.proofs.lemmas.List.{take_more, drop-set-lt, drop-drop}
+use Rattle.std.specs.Prelude.{Err}
 use Rattle.nb_host.specs.Files.{Files}
+use Rattle.nb_host.specs.declared.faults.Fault.{Fault}
+use Rattle.nb_host.specs.declared.faults.Fault.TheVariants.{Refused, Device, Memory}
 use Rattle.nb_model.specs.Image.{Numbered}
-use Rattle.nb_fold.specs.Sources.{Held, AllWait, AreOfPages, Waits, count_at, counts_at, due, due_by, rest_after, rests}
+use Rattle.nb_fold.specs.Merging.{AreApart}
+use Rattle.nb_fold.specs.Sources.{Held, AllWait, AreOfPages, IsTaken, Waits, count_at, counts_at, due, due_by, rest_after, rests}
 
 -- the rests of so many files, and the others as they were
 abbrev pub rests_upto : (i n : ℕ) → List (List Numbered) → List (List Numbered)
@@ -58,9 +62,19 @@ pages_set size i [] s later low is same all = absurd (omega (arith, low))
 pages_set size zero (t ∷ ts) s later low is same all = (same ∙ ap (λ (x : Held). x.reader.head.page_size) is ∙ all.0, all.1)
 pages_set size (suc i) (t ∷ ts) s later low is same all = (all.0, pages_set size i ts s later (omega (arith, low)) is same all.1)
 
+pub apart_set : (name : List ℕ) (i : ℕ) (ss : List Held) (s later : Held) → i < length ss → s ≡ get_or ss i s → later.reader.name ≡ s.reader.name → AreApart name ss → AreApart name (set ss i later)
+apart_set name i [] s later low is same all = absurd (omega (arith, low))
+apart_set name zero (t ∷ ts) s later low is same all = (λ e. all.0 (sym (same ∙ ap (λ (x : Held). x.reader.name) is) ∙ e), all.1)
+apart_set name (suc i) (t ∷ ts) s later low is same all = (all.0, apart_set name i ts s later (omega (arith, low)) is same all.1)
+
 counts_more : (n : ℕ) (ss : List Held) (s : Held) → counts_at n (ss ++ s ∷ []) ≡ counts_at n ss + count_at n s.waiting
 counts_more n [] s = omega arith
 counts_more n (t ∷ ts) s = let rest = counts_more n ts s in omega (arith, rest)
+
+pub counts_front : (k n : ℕ) (ss : List Held) → counts_at n (take k ss) ≤ counts_at n ss
+counts_front zero n ss = omega arith
+counts_front (suc k) n [] = omega arith
+counts_front (suc k) n (s ∷ ss) = let rest = counts_front k n ss in omega (arith, rest)
 
 -- the files from that place on are as they were
 module _ (i n : ℕ) (old now : List Held) (s : Held) (same : drop i now ≡ drop i old) (long : length now ≡ length old) (low : i < length now) (is : s ≡ get_or now i s) where
@@ -79,3 +93,9 @@ module _ (i n : ℕ) (old now : List Held) (s : Held) (same : drop i now ≡ dro
 
   pub counts_upto : counts_at n (take (i + 1) old) ≡ counts_at n (take i old) + count_at n s.waiting
   counts_upto = ap (counts_at n) (take_more old i s (omega (arith, low, long)) ∙ ap (λ (x : Held). take i old ++ x ∷ []) (sym there_still)) ∙ counts_more n (take i old) s
+
+-- a fault says the same whatever was to be done
+pub fails_alike : {S T : Type 0} (P : S → Type 0) (Q : T → Type 0) (fault : Fault) → IsTaken {T = S} (Err fault) P → IsTaken {T = T} (Err fault) Q
+fails_alike P Q (Refused refusal) is = is
+fails_alike P Q Device is = tt
+fails_alike P Q Memory is = is

@@ -1,9 +1,9 @@
 -- Files that are folded, page by page.
-use Rattle.std.specs.Prelude.{◌≡◌, ◌≢◌, ℕ, ◌+◌, ◌<◌, ◌≤◌, List, [], ◌∷◌, ◌++◌, length, Bool, true, false, Result, Ok, Err}
+use Rattle.std.specs.Prelude.{◌≡◌, ◌≢◌, ℕ, ◌+◌, ◌<◌, ◌≤◌, List, [], ◌∷◌, ◌++◌, length, Bool, true, false}
 use Rattle.std.specs.List.{AllByRecursion}
+use Rattle.nb_host.specs.Files.{File}
 use Rattle.nb_host.specs.World.{World}
-use Rattle.nb_host.specs.declared.faults.Fault.{Fault}
-use Rattle.nb_host.specs.declared.faults.Fault.TheVariants.{Refused, Device, Memory}
+use Rattle.nb_change.specs.Changes.{Changes, Only, Remade}
 use Rattle.nb_model.specs.Image.{Numbered}
 use Rattle.nb_model.specs.Levels.{AreRising, AreOfSize}
 use Rattle.nb_gather.specs.Gathering.{LevelWriting, HasTaken, MayHave}
@@ -47,15 +47,16 @@ pub record HasFolded (w : World) (file : LevelWriting) (whole : List Numbered) (
   pub reads : w.reads ≤ most
 
 -- a page more was folded, or none is left
-abbrev pub FoldsOn : Result Bool Fault → World → LevelWriting → List Held → (whole : List Numbered) (most : ℕ) → Type 0
-FoldsOn (Ok true) w file sources whole most = IsFolding w file sources whole most
-FoldsOn (Ok false) w file sources whole most = HasFolded w file whole most
-FoldsOn (Err (Refused refusal)) w file sources whole most = ⊥
-FoldsOn (Err Device) w file sources whole most = Unit {0}
-FoldsOn (Err Memory) w file sources whole most = ⊥
+abbrev pub FoldsOn : (more : Bool) → World → LevelWriting → List Held → (whole : List Numbered) (most : ℕ) → Type 0
+FoldsOn true w file sources whole most = IsFolding w file sources whole most
+FoldsOn false w file sources whole most = HasFolded w file whole most
 
 -- where a page was folded, fewer numbers are due, and no more pages than those are taken
-abbrev pub FallsOn : Result Bool Fault → (before after : LevelWriting) → (old new : List Held) → Type 0
-FallsOn (Ok true) before after old new = (due new < due old) × (after.written + due new ≤ before.written + due old)
-FallsOn (Ok false) before after old new = Unit {0}
-FallsOn (Err fault) before after old new = Unit {0}
+abbrev pub FallsOn : (more : Bool) → (before after : LevelWriting) → (old new : List Held) → Type 0
+FallsOn true before after old new = (due new < due old) × (after.written + due new ≤ before.written + due old)
+FallsOn false before after old new = Unit {0}
+
+-- Of the file a stop leaves what it would have left before, or such a file as was made, and so it reads. No other file is touched.
+pub record Makes (old new : World) (name : List ℕ) (made : File → Type 0) : Type 0 where
+  pub left : Changes old new (Only name) (Remade old name made)
+  pub reads : made (new.files name)

@@ -1,4 +1,4 @@
-ghost use Rattle.std.specs.Prelude.{◌≡◌, ◌+◌, ◌≤◌, ℕ, List, Some, Ok, IsTrue, OnOk, ◌-◌};
+ghost use Rattle.std.specs.Prelude.{◌≡◌, ◌+◌, ◌<◌, ◌≤◌, length, IfSome, ℕ, List, Some, Ok, IsTrue, OnOk, ◌-◌};
 ghost use Rattle.nb_change.specs.Counts.{CountsDevice};
 ghost use Rattle.nb_host.specs.Files.{bytes_of};
 ghost use Rattle.nb_level.specs.Reading.{still_to_come};
@@ -62,14 +62,16 @@ impl Source {
 
     /// The number of the page that waits.
     pub(crate) fn waiting(&self) -> Option<u32>
-        ensures { result ≡ self.now.waiting }
+        ensures value { result ≡ self.now.waiting }
+        ensures below { IfSome result (λ number. number < 1048576) }
     {
         self.waiting
     }
 
     /// The page that waits.
     pub(crate) fn page(&self) -> &[u8]
-        ensures { result.now ≡ self.now.page }
+        ensures value { result.now ≡ self.now.page }
+        ensures size { length result.now ≡ self.now.reader.head.page_size }
     {
         &self.page
     }
