@@ -1,5 +1,5 @@
 -- Files that are folded, page by page.
-use Rattle.std.specs.Prelude.{◌≡◌, ◌≢◌, ℕ, ◌+◌, ◌<◌, ◌≤◌, List, [], ◌∷◌, ◌++◌, length, Bool, true, false}
+use Rattle.std.specs.Prelude.{◌≡◌, ◌≢◌, ◌⊎◌, ℕ, ◌+◌, ◌<◌, ◌≤◌, List, [], ◌∷◌, ◌++◌, length, Bool, true, false}
 use Rattle.std.specs.List.{AllByRecursion}
 use Rattle.nb_host.specs.Files.{File}
 use Rattle.nb_host.specs.World.{World}
@@ -40,6 +40,16 @@ pub record IsFolding (w : World) (file : LevelWriting) (sources : List Held) (wh
   pub apart : AreApart file.name sources
   pub reads : w.reads + pages_left coming ≤ most
 
+-- All of these pages are still to come.
+pub record IsReady (w : World) (file : LevelWriting) (sources : List Held) (whole : List Numbered) (most : ℕ) : Type 0 where
+  pub coming : List (List Numbered)
+  pub all : whole ≡ folded_pages coming
+  pub may : MayHave file.head whole
+  pub waits : AllWait w.files sources coming
+  pub rises : AllRise 0 coming
+  pub apart : AreApart file.name sources
+  pub reads : w.reads + pages_left coming ≤ most
+
 -- it took all of them
 pub record HasFolded (w : World) (file : LevelWriting) (whole : List Numbered) (most : ℕ) : Type 0 where
   pub has : HasTaken w file whole
@@ -60,3 +70,8 @@ FallsOn false before after old new = Unit {0}
 pub record Makes (old new : World) (name : List ℕ) (made : File → Type 0) : Type 0 where
   pub left : Changes old new (Only name) (Remade old name made)
   pub reads : made (new.files name)
+
+-- the same, where it may also read as it did
+pub record MakesOr (old new : World) (name : List ℕ) (made : File → Type 0) : Type 0 where
+  pub left : Changes old new (Only name) (Remade old name made)
+  pub reads : (new.files name ≡ old.files name) ⊎ made (new.files name)

@@ -8,5 +8,6 @@ mod folding;
 mod merging;
 mod opening;
 mod source;
+mod writing;
 
 pub use folding::Folded;

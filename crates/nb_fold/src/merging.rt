@@ -67,8 +67,9 @@ fn fold_page<H: Host>(
     ensures gave { GaveNothing (H.world host.old) (H.world host.new) }
     ensures cause { CountsDevice result (H.faults host.old) (H.faults host.new) }
 {
-    let Some((number, page)) = next_page(sources) else {
-        return Ok(false);
+    let (number, page) = match next_page(sources) {
+        Some(next) => next,
+        None => return Ok(false),
     };
     file.gather(host, number, page)?;
     pass_all(host, sources, number)?;
