@@ -5,3 +5,4 @@ pub mod AddLaws
 pub mod PassLaws
 pub mod NextLaws
 pub mod MergeLaws
+pub mod FoldLaws

@@ -1,5 +1,6 @@
 -- Level files are folded into one.
-use Rattle.std.specs.Prelude.{◌≡◌, ◌≢◌, ◌⊎◌, ◌+◌, ◌*◌, ◌≤◌, ℕ, List, [], ◌∷◌, length, Contains, Result, Ok, Err}
+use Rattle.std.specs.Prelude.{◌≡◌, ◌≢◌, ◌⊎◌, ◌+◌, ◌*◌, ◌≤◌, ℕ, List, [], ◌∷◌, length, Result, Ok, Err}
+use Rattle.std.specs.List.{AllByRecursion}
 use Rattle.nb_host.specs.Files.{File, Files}
 use Rattle.nb_host.specs.World.{World}
 use Rattle.nb_host.specs.Crash.{Leaves}
@@ -12,7 +13,7 @@ use Rattle.nb_page.specs.Quiet.{Quiet}
 use Rattle.nb_model.specs.Levels.{Contents}
 use Rattle.nb_level.specs.Heads.{head_of}
 use Rattle.nb_gather.specs.Making.{IsKept, IsUnfinishedOr}
-use Rattle.nb_fold.specs.declared.folding.Folded.{Folded}
+use Rattle.nb_fold.specs.declared.folded.Folded.{Folded}
 use Rattle.nb_fold.specs.Folding.{folded, bytes_for}
 use Rattle.nb_fold.specs.Verdict.{fold_verdict}
 
@@ -32,7 +33,7 @@ pub record IsFolded (old new : World) (out : List ℕ) (names : List (List ℕ))
   pub head : head_of made.head ≡ (folded files).head
   pub pages : made.pages ≡ length (folded files).pages
   pub kept : IsKept new out (bytes_for (folded files))
-  pub apart : (name : List ℕ) → Contains names name → name ≢ out
+  pub apart : AllByRecursion (λ (name : List ℕ). name ≢ out) names
   pub reads : new.reads ≤ old.reads + fold_reads files
 
 -- a refused call, and one that wants memory, changes nothing

@@ -4,3 +4,4 @@ pub mod Fold
 pub mod Sources
 pub mod Merging
 pub mod Checking
+pub mod Prepared
