@@ -1,4 +1,4 @@
-ghost use Rattle.std.specs.Prelude.{◌≡◌, ◌<◌, ◌≤◌, List, Err, IsTrue, IfOk, OnOk, false, true, length, ℕ};
+ghost use Rattle.std.specs.Prelude.{◌≡◌, ◌+◌, ◌<◌, ◌≤◌, List, Err, IsTrue, IfOk, OnOk, false, true, length, ℕ};
 ghost use Rattle.nb_change.specs.Counts.{CountsDevice};
 ghost use Rattle.nb_fields.specs.Places.{is_page_size};
 ghost use Rattle.nb_host.specs.Files.{Files};
@@ -33,12 +33,21 @@ fn folded_head(sources: &[Source]) -> LevelHead
     ensures alike { AreAlike sources.now → result.page_size ≡ first_size sources.now }
     ensures size { IsTrue (is_page_size result.page_size) }
 {
-    let first = sources[0].head();
-    let last = sources[sources.len() - 1].head();
+    let LevelHead {
+        level,
+        previous,
+        page_size,
+        previous_scn,
+        ..
+    } = sources[0].head();
+    let LevelHead { guid, scn, .. } = sources[sources.len() - 1].head();
     LevelHead {
-        guid: last.guid,
-        scn: last.scn,
-        ..first
+        level,
+        guid,
+        previous,
+        page_size,
+        scn,
+        previous_scn,
     }
 }
 
