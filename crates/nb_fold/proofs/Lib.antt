@@ -6,3 +6,4 @@ pub mod PassLaws
 pub mod NextLaws
 pub mod MergeLaws
 pub mod FoldLaws
+pub mod SameLaws

@@ -5,3 +5,4 @@ pub mod Sources
 pub mod Merging
 pub mod Checking
 pub mod Prepared
+pub mod Same
