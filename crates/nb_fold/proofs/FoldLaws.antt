@@ -1,8 +1,8 @@
 -- What a fold is known by before its file is made, and what it leaves.
-use Rattle.std.proofs.Common.{◌≡◌, ◌≢◌, ◌⊎◌, inl, inr, ⊎_elim, ℕ, zero, suc, ◌+◌, ◌-◌, ◌*◌, ◌<◌, ◌≤◌, List, [], ◌∷◌, length, get_or, refl, sym, ap, subst, ◌∙◌, arith}
-use Rattle.std.specs.Prelude.{Bool, true, false, Some, None, Option, Result, Ok, Err}
+use Rattle.std.proofs.Common.{◌≡◌, ◌≢◌, inl, inr, ⊎_elim, ℕ, suc, ◌+◌, ◌-◌, ◌*◌, ◌<◌, ◌≤◌, List, [], ◌∷◌, length, get_or, refl, sym, ap, subst, ◌∙◌, arith}
+use Rattle.std.specs.Prelude.{true, false, Some, None, Option, Result, Ok, Err}
 use Rattle.std.specs.List.{AllByRecursion}
-use Rattle.std.proofs.lemmas.Bool.{and_parts, true≢false}
+use Rattle.std.proofs.lemmas.Bool.{and_parts}
 use Rattle.nb_fields.specs.Free.{is_free_file}
 use Rattle.nb_fields.specs.Places.{is_page_size}
 use Rattle.nb_host.specs.Files.{File, Files}
@@ -12,7 +12,7 @@ use Rattle.nb_host.specs.declared.faults.Fault.{Fault}
 use Rattle.nb_host.specs.declared.faults.Fault.TheVariants.{Refused, Device, Memory}
 use Rattle.nb_host.specs.declared.refusals.Refusal.{Refusal}
 use Rattle.nb_host.specs.declared.refusals.Refusal.TheVariants.{FileExists}
-use Rattle.nb_change.specs.Changes.{Changes, Only, NoNames, Remade}
+use Rattle.nb_change.specs.Changes.{Only, NoNames, Remade}
 use Rattle.nb_change.specs.Gave.{GaveNothing}
 use Rattle.nb_change.proofs.ChangesLaws.{rested, kept_then}
 use Rattle.nb_change.proofs.GaveLaws.{nothing_joined}
@@ -21,16 +21,15 @@ use Rattle.nb_page.specs.Free.{is_free_name}
 use Rattle.nb_page.specs.Quiet.{Quiet}
 use Rattle.nb_level.specs.declared.head.LevelHead.{LevelHead}
 use Rattle.nb_level.specs.Heads.{head_of}
-use Rattle.nb_model.specs.Image.{Numbered}
-use Rattle.nb_model.specs.Levels.{Head, Contents, AreRising, AreOfSize, level_bytes, read_level}
+use Rattle.nb_model.specs.Levels.{Head, Contents, AreOfSize, level_bytes}
 use Rattle.nb_model.proofs.FreeLaws.{free_no_level}
-use Rattle.nb_gather.specs.Gathering.{LevelWriting, IsHeaded, MayHave}
+use Rattle.nb_gather.specs.Gathering.{LevelWriting}
 use Rattle.nb_gather.specs.Making.{IsKept, IsUnfinishedOr}
 use Rattle.nb_fold.specs.declared.folded.Folded.{Folded}
 use Rattle.nb_fold.specs.Checking.{AreChained, open_reads}
 use Rattle.nb_fold.specs.Fold.{FoldAnswers, FoldLeft, Folds, fold_reads}
-use Rattle.nb_fold.specs.Folding.{bytes_for, first_head, folded, folded_head, folded_pages, last_head, pages_of_each}
-use Rattle.nb_fold.specs.Merging.{AllOfSize, AllRise, AreApart, IsReady, MakesOr, pages_left}
+use Rattle.nb_fold.specs.Folding.{bytes_for, first_head, folded, folded_head, last_head, pages_of_each}
+use Rattle.nb_fold.specs.Merging.{AllOfSize, AllRise, AreApart, MakesOr, pages_left}
 use Rattle.nb_fold.specs.Prepared.{IsPrepared}
 use Rattle.nb_fold.specs.Sources.{Held, AllWait, AreOfPages, AreOpened, IsOpened, IsTaken, due, due_by}
 use Rattle.nb_fold.specs.Verdict.{chained, fold_verdict}

@@ -1,5 +1,5 @@
 -- A page more of the files is folded.
-use Rattle.std.proofs.Common.{◌≡◌, ◌≢◌, ◌⊎◌, inl, inr, ⊎_elim, ℕ, ◌+◌, ◌<◌, ◌≤◌, List, [], ◌∷◌, ◌++◌, length, refl, sym, ap, subst, ◌∙◌, arith, append_assoc}
+use Rattle.std.proofs.Common.{◌≡◌, ◌≢◌, ◌⊎◌, inl, inr, ⊎_elim, ℕ, ◌+◌, ◌<◌, ◌≤◌, List, [], ◌∷◌, ◌++◌, refl, sym, ap, subst, ◌∙◌, arith, append_assoc}
 use Rattle.std.specs.Prelude.{Bool, IsTrue, Some, None, Option, Result, Ok, Err, true, false}
 use Rattle.std.proofs.lemmas.List.{append-nil}
 use Rattle.nb_host.specs.Files.{File, Files, bytes_of}
@@ -7,7 +7,7 @@ use Rattle.nb_host.specs.World.{World}
 use Rattle.nb_host.specs.Crash.{Leaves, LeavesAll}
 use Rattle.nb_host.specs.Moments.{IsTimely, Passes}
 use Rattle.nb_host.specs.Calls.{Remakes}
-use Rattle.nb_change.specs.Changes.{Changes, Only, NoNames, Remade}
+use Rattle.nb_change.specs.Changes.{Only, NoNames, Remade}
 use Rattle.nb_change.proofs.ChangesLaws.{rested, kept_on}
 use Rattle.nb_change.proofs.MovedLaws.{remade_begun, remade_weaker}
 use Rattle.nb_change.proofs.CallLaws.{remade_alone}

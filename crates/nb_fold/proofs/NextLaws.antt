@@ -1,6 +1,6 @@
 -- Which page comes next.
-use Rattle.std.proofs.Common.{◌≡◌, ℕ, ◌<◌, ◌≤◌, List, [], ◌∷◌, refl, sym, ap, subst, ◌∙◌, arith}
-use Rattle.std.specs.Prelude.{Bool, true, false, ◌==◌, Option, Some, None}
+use Rattle.std.proofs.Common.{◌≡◌, ℕ, ◌<◌, ◌≤◌, List, [], ◌∷◌, refl, sym, ap, ◌∙◌, arith}
+use Rattle.std.specs.Prelude.{Bool, true, false, Option, Some, None}
 use Rattle.nb_model.specs.Image.{Page}
 use Rattle.nb_model.proofs.ReadLaws.{eq_no, eq_yes}
 use Rattle.nb_fold.specs.Folding.{or_before}

@@ -1,5 +1,5 @@
 -- A level file is read to its end, and then again.
-use Rattle.std.proofs.Common.{◌≡◌, ℕ, ◌+◌, ◌≤◌, List, [], ◌∷◌, ◌++◌, length, refl, sym, ap, subst, ◌∙◌, arith, length-append}
+use Rattle.std.proofs.Common.{◌≡◌, ℕ, ◌+◌, ◌≤◌, List, [], ◌∷◌, ◌++◌, length, sym, ap, subst, ◌∙◌, arith, length-append}
 use Rattle.std.specs.Prelude.{Bool, IsTrue, Some, None, Result, Ok, Err, IsErr, IsErrAnd}
 use Rattle.std.proofs.lemmas.List.{append-nil}
 use Rattle.nb_host.specs.Files.{File, Files, bytes_of}
@@ -7,14 +7,14 @@ use Rattle.nb_host.specs.declared.faults.Fault.{Fault}
 use Rattle.nb_host.specs.declared.faults.Fault.TheVariants.{Refused, Device, Memory}
 use Rattle.nb_host.specs.declared.refusals.Refusal.TheVariants.{BadLevel, NoFile}
 use Rattle.nb_model.specs.Image.{Numbered}
-use Rattle.nb_model.specs.Levels.{Head, Contents, behind, read_level, with_head}
+use Rattle.nb_model.specs.Levels.{Contents, behind, read_level, with_head}
 use Rattle.nb_level.specs.Answers.{NextSays, StartSays}
 use Rattle.nb_level.specs.Heads.{head_of}
 use Rattle.nb_level.specs.Reading.{Reading, still_to_come}
 use Rattle.nb_level.specs.declared.item.Item.{Item}
 use Rattle.nb_level.specs.declared.item.Item.TheVariants.{PageAt, End}
 use Rattle.nb_level.proofs.ReadingLemmas.{behind-behind, behind-none}
-use Rattle.nb_fold.specs.Checking.{EndSays, IsWhole, FileSays}
+use Rattle.nb_fold.specs.Checking.{EndSays, FileSays}
 use Rattle.nb_fold.specs.Sources.{Held, FileRefused, IsGiven, IsTaken, IsOpened, Waits}
 
 -- so far these pages were read, of those that were still to come

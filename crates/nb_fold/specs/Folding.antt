@@ -1,5 +1,5 @@
 -- Level files that go on from one another, folded into one.
-use Rattle.std.specs.Prelude.{ℕ, zero, suc, ◌+◌, ◌==◌, List, [], ◌∷◌, length, Option, Some, None, true, false}
+use Rattle.std.specs.Prelude.{ℕ, zero, suc, ◌+◌, ◌==◌, List, [], ◌∷◌, Option, Some, None, true, false}
 use Rattle.nb_model.specs.Image.{Page, Numbered}
 use Rattle.nb_model.specs.Levels.{Head, Contents, level_bytes}
 

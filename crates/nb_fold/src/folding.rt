@@ -62,9 +62,7 @@ fn check_out<H: Host>(host: &mut H, out: &Name) -> Result<(), Fault>
     if is_free(host, out)? {
         return Ok(());
     }
-    Err(Fault::Refused(Refusal::FileExists {
-        name: out.copied(),
-    }))
+    Err(Fault::Refused(Refusal::FileExists { name: out.copied() }))
 }
 
 /// Accepts the fold, and takes all that it needs. It changes nothing.

@@ -1,4 +1,4 @@
-use Rattle.std.proofs.Common.{◌<◌, List, sym, ap, subst, ◌∙◌, arith, length}
+use Rattle.std.proofs.Common.{List, sym, ap, subst, ◌∙◌, arith}
 use Rattle.std.specs.Prelude.{IsTrue, Err}
 use Rattle.nb_fields.specs.Places.{is_page_size}
 use Rattle.nb_host.specs.Files.{Files}

@@ -1,8 +1,7 @@
-use Rattle.std.proofs.Common.{◌≡◌, ◌+◌, ◌<◌, ◌≤◌, refl, sym, ap, subst, ◌∙◌, arith}
+use Rattle.std.proofs.Common.{refl, ap, arith}
 use Rattle.std.specs.Prelude.{Bool}
 use Rattle.nb_gather.specs.Gathering.{LevelWriting}
 use Rattle.nb_gather.specs.Making.{IsUnfinished}
-use Rattle.nb_fold.specs.Merging.{Makes}
 use Rattle.nb_fold.specs.Sources.{IsTaken}
 use Rattle.nb_fold.proofs.MergeLaws.{falls_by, folds_end, folds_on, makes_none, makes_quiet, may_take, waits_mid}
 use Rattle.nb_fold.proofs.OpenLaws.{passed}

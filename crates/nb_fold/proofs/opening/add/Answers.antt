@@ -1,4 +1,4 @@
-use Rattle.std.proofs.Common.{◌≡◌, ◌<◌, List, sym, ap, subst, ◌∙◌, length}
+use Rattle.std.proofs.Common.{◌<◌, List, sym, ap, subst, ◌∙◌, length}
 use Rattle.nb_host.specs.Files.{Files}
 use Rattle.nb_level.specs.Heads.{head_of}
 use Rattle.nb_level.specs.declared.head.LevelHead.{LevelHead}

@@ -1,15 +1,11 @@
-use Rattle.std.proofs.Common.{◌≡◌, ◌<◌, ◌-◌, sym, ap, subst, ◌∙◌, arith, length}
-use Rattle.std.specs.Prelude.{Some, false}
-use Rattle.std.proofs.lemmas.Bool.{true≢false, eqb-true}
-use Rattle.std.proofs.lemmas.Bool.Decides.{eqb_tells}
+use Rattle.std.proofs.Common.{◌≡◌, sym, ap, subst, ◌∙◌, length}
+use Rattle.std.proofs.lemmas.Bool.{eqb-true}
 use Rattle.nb_change.proofs.ResultLaws.{on_ok_then}
 use Rattle.nb_level.specs.Heads.{head_of}
 use Rattle.nb_level.specs.declared.head.LevelHead.{LevelHead}
 use Rattle.nb_model.specs.Levels.{Contents}
 use Rattle.std.specs.Prelude.{Option}
-use Rattle.nb_model.proofs.ReadLaws.{eq_yes}
 use Rattle.nb_fold.specs.Checking.{Tested, first_size}
-use Rattle.nb_fold.specs.Sources.{Held}
 use Rattle.nb_fold.specs.Verdict.{not_after}
 use Rattle.nb_fold.proofs.AddLaws.{last_there, last_alike, no_last, some_of}
 use Rattle.nb_fold.proofs.opening.goes_on_from.Goals as goal

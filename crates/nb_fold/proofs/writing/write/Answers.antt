@@ -1,4 +1,4 @@
-use Rattle.std.proofs.Common.{◌≡◌, ◌≢◌, inl, ℕ, ◌≤◌, List, sym, ap, subst, ◌∙◌, arith, length}
+use Rattle.std.proofs.Common.{◌≡◌, ◌≢◌, inl, ℕ, List, sym, ap, subst, ◌∙◌, arith}
 use Rattle.nb_host.specs.Files.{File}
 use Rattle.nb_level.specs.Heads.{head_of}
 use Rattle.nb_model.specs.Levels.{level_bytes}
@@ -8,7 +8,6 @@ use Rattle.nb_fold.specs.Merging.{Makes}
 use Rattle.nb_fold.specs.Sources.{IsTaken}
 use Rattle.nb_fold.proofs.MergeLaws.{folding_begun, makes_or, makes_weaker}
 use Rattle.nb_fold.proofs.OpenLaws.{passed}
-use Rattle.nb_fold.proofs.PassLaws.{fails_alike}
 use Rattle.nb_fold.proofs.writing.write.Goals as goal
 
 pub returns-in_err-begin-clause-makes : goal.returns-in_err-begin-clause-makes

@@ -1,5 +1,4 @@
 use Rattle.std.proofs.Common.{refl, ap}
-use Rattle.nb_level.specs.Reading.{Reading}
 use Rattle.nb_fold.specs.Sources.{Held, IsGiven, IsOpened, Waits}
 use Rattle.nb_fold.proofs.OpenLaws.{not_begun, coming_now, opened, given_by, passed}
 use Rattle.nb_fold.proofs.source.Source.start.Goals as goal
