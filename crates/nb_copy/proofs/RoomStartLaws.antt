@@ -41,7 +41,7 @@ use Rattle.nb_copy.specs.declared.since.Since.{Since}
 use Rattle.nb_copy.specs.declared.file_copy.FileCopy.{FileCopy}
 use Rattle.nb_copy.specs.FileStarting.{IsNewFile, IsStartedFile}
 use Rattle.nb_copy.specs.FileCopying.{file_count}
-use Rattle.nb_copy.specs.Making.{IsEmpty, IsMade}
+use Rattle.nb_gather.specs.Making.{IsEmpty, IsMade}
 use Rattle.nb_copy.proofs.StartCauses.{scn_room}
 use Rattle.nb_copy.proofs.BegunLaws.{begun_image, begun_frozen, begun_long, begun_size, begun_state}
 use Rattle.nb_copy.proofs.FileStartLaws.{file_first, file_starts}

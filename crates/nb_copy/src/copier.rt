@@ -18,7 +18,7 @@ ghost use Rattle.nb_state.specs.Does.{Goes, Tested};
 ghost use Rattle.nb_state.specs.Turns.{GaveAtMost};
 ghost use Rattle.nb_engine.specs.Stays.{StaysOpen};
 ghost use Rattle.nb_copy.specs.FileCopying.{file_count, file_next, file_written};
-ghost use Rattle.nb_copy.specs.Making.{IsMade};
+ghost use Rattle.nb_gather.specs.Making.{IsMade};
 ghost use Rattle.nb_copy.specs.Reading.{asked_scn, page_reads};
 ghost use Rattle.nb_copy.specs.Starting.{StartsBackup, BeginsFor, IsBackingUp, IsNotMemory, KnowsFree, IsNineAtMost, IsItsLevel, ask_by, ask_in, earlier_cause, file_cause, turn_since};
 ghost use Rattle.nb_copy.specs.Closing.{BackupTurn, BackupCounts, Closes, GaveTimeAtMost, ReadsTwo};

@@ -25,7 +25,7 @@ use Rattle.nb_model.proofs.MadeLaws.{IsWholeFile, IsInMaking, is_free, unfinishe
 use Rattle.nb_model.proofs.OpeningLaws.{free_entry}
 use Rattle.nb_model.proofs.StandsLaws.{delta_named}
 use Rattle.nb_model.proofs.SteadyLaws.{WellAlong, kept_along}
-use Rattle.nb_copy.specs.Making.{IsUnfinishedOr}
+use Rattle.nb_gather.specs.Making.{IsUnfinishedOr}
 use Rattle.nb_session.specs.Acts.{MadeLeft}
 use Rattle.nb_top.specs.Standing.{HoldsKept, StandsFor}
 use Rattle.nb_top.proofs.MadeRuns.{no_file}

@@ -7,7 +7,7 @@ use Rattle.nb_session.specs.Says.{SaysLine}
 use Rattle.nb_change.specs.Changes.{Changes, Only, Remade}
 use Rattle.nb_model.specs.Generated.{generated}
 use Rattle.nb_model.specs.Lines.{line_text}
-use Rattle.nb_copy.specs.Making.{IsKept, IsUnfinishedOr}
+use Rattle.nb_gather.specs.Making.{IsKept, IsUnfinishedOr}
 use Rattle.nb_script.specs.Scripts.{IsAnswer, script_of}
 use Rattle.nb_session.proofs.GiftLaws.{grows_none, grows_joined}
 use Rattle.nb_gen.specs.Texts.{IsScriptText}
