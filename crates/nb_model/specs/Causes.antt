@@ -94,9 +94,9 @@ abbrev pub runs_any : Option ℕ → Cause
 runs_any None = None
 runs_any (Some other) = Some (BackupRunning other)
 
--- Nothing stands under the name that a new file would take the place of.
+-- Nothing stands under the name that a new file would take the place of, nor under the name of its difference file.
 unfoldable pub is_free_entry : Entry → Bool
-is_free_entry Missing = true
+is_free_entry (Missing delta) = is_none delta
 is_free_entry (Plain bytes delta) = is_none delta && is_free_file (Some bytes)
 is_free_entry (IsBase b) = false
 

@@ -50,7 +50,7 @@ module _ (files : Files) (names : HaveNames files) where
 
 module _ (files : Files) (names : HaveNames files) (account : Account) (stands : Stands files account) where
   known_names : KnowsNames files account
-  known_names name plain = free_named files names name ∙ sym (free_entry files account name stands.same_image stands.no_stray plain)
+  known_names name plain = free_named files names name ∙ sym (free_entry files account name stands.same_image plain)
 
   known_under : (name : List ℕ) → is_delta name ≡ false → HoldsUnder files account name
   known_under name plain = record { same = stands.same_image name plain; sound = λ b is. stands.sound_images.images b.image (to_base name b is refl) }

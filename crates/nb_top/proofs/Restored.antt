@@ -143,7 +143,7 @@ module _ (old : World) (account : Account) (db : List ℕ) (names : List (List �
 
     was_free : (is_free_file (old.files db) ≡ true) × (old.files (delta_name db) ≡ None)
     was_free =
-        let both = and_parts (is_free_file (old.files db)) (not (is_some (old.files (delta_name db)))) (sym (free_entry old.files account db stands.now.same_image stands.now.no_stray plain) ∙ free) in
+        let both = and_parts (is_free_file (old.files db)) (not (is_some (old.files (delta_name db)))) (sym (free_entry old.files account db stands.now.same_image plain) ∙ free) in
         (both.0, not_some (old.files (delta_name db)) both.1)
 
     half : (before files : Files) → LeavesAll old before → HoldsKept before account.kept → before db ≡ old.files db → ((m : List ℕ) → m ≢ db → files m ≡ before m) → is_free_file (files db) ≡ true → HoldsKept files account.kept

@@ -28,7 +28,7 @@ ArePlain files = (name bytes : List ℕ) → files name ≡ Some bytes → (is_d
 
 -- the account without entries and records
 abbrev pub empty : Account
-empty = record { entry = λ name. Missing; kept = [] }
+empty = record { entry = λ name. Missing None; kept = [] }
 
 -- the account that has under each name what the files hold, and these records
 abbrev pub account_of : Files → List Kept → Account
