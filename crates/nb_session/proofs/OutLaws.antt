@@ -157,12 +157,12 @@ whole_passed world old new before after t told now schedule (Ok refused) is w = 
   where
     no_err : IsErr {T = Bool} {E = Stop} (Ok refused) → ⊥
     no_err h = cc
-whole_passed world old new before after t told now schedule {e} (Err f) is w =
+whole_passed world old new before after t told now schedule (Err f) is w =
     let order : List ℕ = schedule ++ rounds w.whole.how_often in
     record {
       whole = record {
         how_often = w.whole.how_often;
-        plays = plays_other (world old) (world new) before after t now (told_turns told (play order now)) (files_made (play order now).0) e f w.whole.plays;
+        plays = plays_other (world old) (world new) before after t now (told_turns told (play order now)) (files_made (play order now).0) _ f w.whole.plays;
         finished = w.whole.finished;
       };
       in_turn = record {
@@ -172,7 +172,7 @@ whole_passed world old new before after t told now schedule {e} (Err f) is w =
         mid = w.in_turn.mid;
         between = w.in_turn.between;
         taken = w.in_turn.taken;
-        last = ends_other told w.in_turn.rest (world w.in_turn.mid) (world new) w.in_turn.between after (after_steps t (steps_of (play w.in_turn.front now).0)) (play w.in_turn.front now).1 e f w.in_turn.last;
+        last = ends_other told w.in_turn.rest (world w.in_turn.mid) (world new) w.in_turn.between after (after_steps t (steps_of (play w.in_turn.front now).0)) (play w.in_turn.front now).1 _ f w.in_turn.last;
       };
     }
 

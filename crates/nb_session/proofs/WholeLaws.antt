@@ -167,7 +167,7 @@ module _ {H : Type 0} (tells : Bool) (told : IsTrue tells) (world : H → World)
           | inr high ↦ get_or_past (play order now).1.todo i [] (omega (arith, high, todo_length))
         ]) in
         let p : Played = play order now in
-        let ready : IsReady (world after.host) after.shared (after_steps t (steps_of p.0)) p.1 =
+        let ready_then : IsReady (world after.host) after.shared (after_steps t (steps_of p.0)) p.1 =
         subst (λ (u : Trail). IsReady (world after.host) after.shared u p.1) (told_trail how t p) far.plays.done.ready in
         record {
           whole = record {
@@ -182,7 +182,7 @@ module _ {H : Type 0} (tells : Bool) (told : IsTrue tells) (world : H → World)
             mid = after.host;
             between = after.shared;
             taken = far.in_turn;
-            last = plays_none (world after.host) after.shared (after_steps t (steps_of p.0)) p.1 timely_then ready;
+            last = plays_none (world after.host) after.shared (after_steps t (steps_of p.0)) p.1 timely_then ready_then;
           };
         }
 
