@@ -86,7 +86,7 @@ told_reply e = by e.strokes
     by (s ∷ ss) told = absurd (true≢false (sym told))
 
 -- one event is all of them
-one_told : (e : Event) → list_all only_told (e ∷ []) ≡ true → only_told e ≡ true
+pub one_told : (e : Event) → list_all only_told (e ∷ []) ≡ true → only_told e ≡ true
 one_told e all = sym (and-true (only_told e)) ∙ all
 
 -- no event made a file
