@@ -1,5 +1,5 @@
 -- What a pass over the pages of an image, in rising order, has found so far.
-use Rattle.std.specs.Prelude.{◌≡◌, ◌⊎◌, ℕ, ◌<◌, ◌≤◌, List, length, Option, Some, None, Bool, true, false, ◌&&◌, nat_lt}
+use Rattle.std.specs.Prelude.{◌≡◌, ◌⊎◌, ℕ, ◌<◌, List, length, Option, Some, None, true, false, ◌&&◌, nat_lt}
 use Rattle.nb_model.specs.Image.{Page, Image, page_at, image_size, image_scn}
 use Rattle.nb_model.specs.Forms.{inventory_of, scn_page_of}
 use Rattle.nb_check.specs.declared.facts.Fact.{Fact}
@@ -33,6 +33,10 @@ IsFirstBelow image n (Some broken) =
 -- the data pages below n that are taken
 abbrev pub HoldsTaken : Image → (n : ℕ) → (set : List ℕ) → Type 0
 HoldsTaken image n set = (p : ℕ) → has set p ≡ (nat_lt p n && is_taken_data image p)
+
+-- the pages below n have that many bytes
+abbrev pub AreSized : Image → (n size : ℕ) → Type 0
+AreSized image n size = (p : ℕ) → p < n → length (page_at image p) ≡ size
 
 -- the page inventory page of page p, where the image has one
 abbrev pub IsMapOf : Image → (p : ℕ) → Page → Type 0

@@ -5,17 +5,16 @@ ghost use Rattle.nb_change.specs.Counts.{CountsDevice};
 ghost use Rattle.nb_page.specs.Quiet.{Quiet};
 ghost use Rattle.nb_model.specs.declared.reply.Reply.{Reply};
 ghost use Rattle.nb_model.specs.Chains.{Catalogue, found_pages};
-ghost use Rattle.nb_model.specs.Forms.{drafted};
+ghost use Rattle.nb_model.specs.Image.{image_size};
 ghost use Rattle.nb_model.specs.Outcomes.{Seen};
 ghost use Rattle.nb_model.specs.Sound.{IsSoundImage};
-ghost use Rattle.nb_model.specs.Tables.{all_given};
 ghost use Rattle.nb_model.specs.Trail.{Trail};
 ghost use Rattle.nb_state.specs.Open.{IsOpen, but_pages};
 ghost use Rattle.nb_state.specs.Does.{Does, Goes, Tested};
 ghost use Rattle.nb_engine.specs.Tries.{Tries};
 ghost use Rattle.nb_check.specs.Facts.{unsound};
 ghost use Rattle.nb_check.specs.Leaks.{leaked, reached};
-ghost use Rattle.nb_check.specs.Passes.{HoldsTaken};
+ghost use Rattle.nb_check.specs.Passes.{HoldsTaken, AreSized};
 ghost use Rattle.nb_check.specs.Sets.{room_of};
 ghost use Rattle.nb_check.specs.Turns.{check_cause, check_turn, reclaim_turn, reclaimed, unsound_by};
 
@@ -41,6 +40,7 @@ fn taken_data<H: Host>(
     ensures test { (t : Trail) → IsTrue H.tells → IsOpen (H.world host.old) engine.old t → Tested result (unsound_by (unsound t.base.image)) }
     ensures data { (t : Trail) → IsTrue H.tells → IsOpen (H.world host.old) engine.old t → 5 ≤ length t.base.image → IfOk result (HoldsTaken t.base.image (length t.base.image)) }
     ensures set_room { IfOk result (λ set. engine.old.files.count ≤ room_of set) }
+    ensures sizes { (t : Trail) → IsTrue H.tells → IsOpen (H.world host.old) engine.old t → OnOk result (AreSized t.base.image (length t.base.image) (image_size t.base.image)) }
     ensures open { (t : Trail) → IsTrue H.tells → IsOpen (H.world host.old) engine.old t → IsOpen (H.world host.new) engine.new t }
     ensures same { but_pages engine.new ≡ but_pages engine.old }
     ensures quiet { Quiet (H.world host.old) (H.world host.new) }
@@ -79,6 +79,7 @@ pub fn check<H: Host>(alloc: Global, host: &mut H, engine: &mut Engine) -> Resul
     ensures quiet { Quiet (H.world host.old) (H.world host.new) }
     ensures test { (t : Trail) → IsTrue H.tells → IsOpen (H.world host.old) engine.old t → Tested result (check_cause t.base.image) }
     ensures leaked { (t : Trail) → IsTrue H.tells → IsOpen (H.world host.old) engine.old t → IfOk result (λ report. report ≡ leaked t.base.image) }
+    ensures sound { (t : Trail) → IsTrue H.tells → IsOpen (H.world host.old) engine.old t → OnOk result (IsSoundImage t.base.image) }
     ensures once { (t : Trail) → IsTrue H.tells → IsOpen (H.world host.old) engine.old t
         → OnOk result ((H.world host.new).reads ≤ (H.world host.old).reads + engine.old.files.count + 3 + length (found_pages Catalogue t.base.image) + length (reached t.base.image)) }
     ensures cause { CountsDevice result (H.faults host.old) (H.faults host.new) }

@@ -7,7 +7,7 @@ ghost use Rattle.nb_model.specs.Image.{Image, page_at};
 ghost use Rattle.nb_model.specs.Trail.{Trail};
 ghost use Rattle.nb_state.specs.Open.{IsOpen, but_pages};
 ghost use Rattle.nb_check.specs.Facts.{covered};
-ghost use Rattle.nb_check.specs.Passes.{IsOf, IsFirstBelow, HoldsTaken, IsMapOf, HasEntryOf};
+ghost use Rattle.nb_check.specs.Passes.{IsOf, IsFirstBelow, HoldsTaken, AreSized, IsMapOf, HasEntryOf};
 ghost use Rattle.nb_check.specs.Sets.{room_of};
 
 use crate::facts::{Broken, Extent, fact_at, fact_past, first_of};
@@ -108,6 +108,7 @@ fn pass_page<H: Host>(
         → HoldsTaken t.base.image number found.old.data → OnOk result (HoldsTaken t.base.image (number + 1) found.new.data) }
     ensures map { (t : Trail) → IsTrue H.tells → IsOpen (H.world host.old) engine.old t → IsMapOf t.base.image number map.old → OnOk result (IsMapOf t.base.image (number + 1) map.new) }
     ensures entries { (t : Trail) → IsTrue H.tells → IsOpen (H.world host.old) engine.old t → HasEntryOf t.base.image (number - 1) entries.old → OnOk result (HasEntryOf t.base.image number entries.new) }
+    ensures sized { (t : Trail) → IsTrue H.tells → IsOpen (H.world host.old) engine.old t → OnOk result (length (page_at t.base.image number) ≡ length page.old) }
     ensures data_room { length found.new.data ≡ length found.old.data }
     ensures open { (t : Trail) → IsTrue H.tells → IsOpen (H.world host.old) engine.old t → IsOpen (H.world host.new) engine.new t }
     ensures same { but_pages engine.new ≡ but_pages engine.old }
@@ -170,6 +171,7 @@ fn pass_pages<H: Host>(
         → OnOk result (HoldsTaken t.base.image engine.old.files.count found.new.data) }
     ensures map { (t : Trail) → IsTrue H.tells → IsOpen (H.world host.old) engine.old t → IsMapOf t.base.image 0 map.old → OnOk result (IsMapOf t.base.image engine.old.files.count map.new) }
     ensures entries { (t : Trail) → IsTrue H.tells → IsOpen (H.world host.old) engine.old t → HasEntryOf t.base.image 0 entries.old → OnOk result (HasEntryOf t.base.image (engine.old.files.count - 1) entries.new) }
+    ensures sizes { (t : Trail) → IsTrue H.tells → IsOpen (H.world host.old) engine.old t → OnOk result (AreSized t.base.image engine.old.files.count (length page.old)) }
     ensures data_room { length found.new.data ≡ length found.old.data }
     ensures open { (t : Trail) → IsTrue H.tells → IsOpen (H.world host.old) engine.old t → IsOpen (H.world host.new) engine.new t }
     ensures same { but_pages engine.new ≡ but_pages engine.old }
@@ -203,6 +205,7 @@ pub(crate) fn pass<H: Host>(
         → OnOk result (IsFirstBelow t.base.image (covered t.base.image) found.new.broken) }
     ensures data { (t : Trail) → IsTrue H.tells → IsOpen (H.world host.old) engine.old t → 1 < length t.base.image → HoldsTaken t.base.image 0 found.old.data
         → OnOk result (HoldsTaken t.base.image (length t.base.image) found.new.data) }
+    ensures sizes { (t : Trail) → IsTrue H.tells → IsOpen (H.world host.old) engine.old t → OnOk result (AreSized t.base.image engine.old.files.count (length page.old)) }
     ensures data_room { length found.new.data ≡ length found.old.data }
     ensures open { (t : Trail) → IsTrue H.tells → IsOpen (H.world host.old) engine.old t → IsOpen (H.world host.new) engine.new t }
     ensures same { but_pages engine.new ≡ but_pages engine.old }
