@@ -1,6 +1,7 @@
 -- Which facts an image breaks, and the first of them.
 use Rattle.std.proofs.Common.{◌≡◌, inl, inr, ℕ, zero, suc, ◌+◌, ◌-◌, ◌*◌, ◌/◌, ◌<◌, ◌≤◌, List, [], ◌∷◌, length, refl, sym, ap, ◌∙◌, arith}
 use Rattle.std.specs.Prelude.{IsTrue, Bool, true, false, Option, Some, None, ◌&&◌, ◌||◌, ◌==◌, not, nat_lt, nat_le}
+use Rattle.std.proofs.Math.Nat.{lt-div-mul-add}
 use Rattle.std.proofs.lemmas.Bool.{and_parts, or_cases, ltb-true, eqb-true}
 use Rattle.nb_fields.specs.Places.{is_page_size, bits_in, entries_in, inventory_place, scn_place}
 use Rattle.nb_fields.proofs.PlaceLemmas.{entries-least, bits-least}
@@ -130,7 +131,7 @@ inventory_covers size p n valid below = by (p / bits_in size) refl
     least = bits-least size valid
 
     whole : p < (p / bits_in size) * bits_in size + bits_in size
-    whole = omega (arith, least)
+    whole = lt-div-mul-add {a = p} {b = bits_in size} (omega (arith, least))
 
     by : (k : ℕ) → p / bits_in size ≡ k → p < n + bits_in size
     by zero e = (let here = whole in let z : (p / bits_in size) * bits_in size ≡ 0 = ap (λ (j : ℕ). j * bits_in size) e in omega (arith, here, z))
@@ -147,7 +148,7 @@ entry_covers size p n valid below = by (p / entries_in size) refl
     least = entries-least size valid
 
     whole : p < (p / entries_in size) * entries_in size + entries_in size
-    whole = omega (arith, least)
+    whole = lt-div-mul-add {a = p} {b = entries_in size} (omega (arith, least))
 
     by : (k : ℕ) → p / entries_in size ≡ k → p < n + entries_in size
     by zero e = (let here = whole in let z : (p / entries_in size) * entries_in size ≡ 0 = ap (λ (j : ℕ). j * entries_in size) e in omega (arith, here, z))
