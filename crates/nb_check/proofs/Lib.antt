@@ -5,4 +5,5 @@ pub mod PassLaws
 pub mod SetLaws
 pub mod WalkLaws
 pub mod ListLaws
+pub mod LeakLaws
 pub mod NameLaws

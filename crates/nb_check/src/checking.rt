@@ -1,5 +1,5 @@
 // A check of an open database, and giving back the pages that it finds leaked.
-ghost use Rattle.std.specs.Prelude.{◌≡◌, ◌≢◌, ◌+◌, ◌≤◌, ℕ, List, IsTrue, IfErr, IfOk, OnOk, None, length};
+ghost use Rattle.std.specs.Prelude.{◌≡◌, ◌≢◌, ◌+◌, ◌≤◌, ℕ, List, IsTrue, IfErr, IfOk, IsSome, OnOk, None, length};
 ghost use Rattle.nb_host.specs.declared.faults.Fault.TheVariants.{Memory};
 ghost use Rattle.nb_change.specs.Counts.{CountsDevice};
 ghost use Rattle.nb_page.specs.Quiet.{Quiet};
@@ -53,13 +53,14 @@ fn taken_data<H: Host>(
         data: PageSet::new(alloc, engine.count())?,
     };
     pass(host, engine, page, map, entries.as_mut_slice(), &mut found)?;
-    if let Some(broken) = found.broken {
+    let Found { broken, data } = found;
+    if let Some(broken) = broken {
         return Err(Fault::Refused(Refusal::Unsound {
             fact: broken.fact.number(),
             page: broken.page,
         }));
     }
-    Ok(found.data)
+    Ok(data)
 }
 
 /// Tests whether the inventories, the chains and the pages of the database as it is seen agree, and answers its leaked pages: the data pages
@@ -82,6 +83,7 @@ pub fn check<H: Host>(alloc: Global, host: &mut H, engine: &mut Engine) -> Resul
     ensures sound { (t : Trail) → IsTrue H.tells → IsOpen (H.world host.old) engine.old t → OnOk result (IsSoundImage t.base.image) }
     ensures once { (t : Trail) → IsTrue H.tells → IsOpen (H.world host.old) engine.old t
         → OnOk result ((H.world host.new).reads ≤ (H.world host.old).reads + engine.old.files.count + 3 + length (found_pages Catalogue t.base.image) + length (reached t.base.image)) }
+    ensures early { (t : Trail) → IsTrue H.tells → IsOpen (H.world host.old) engine.old t → IsSome (unsound t.base.image) → (H.world host.new).reads ≤ (H.world host.old).reads + engine.old.files.count + 3 }
     ensures cause { CountsDevice result (H.faults host.old) (H.faults host.new) }
 {
     let size = engine.page_size() as usize;
