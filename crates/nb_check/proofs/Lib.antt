@@ -1,5 +1,6 @@
 pub mod FirstLaws
 pub mod BreakLaws
+pub mod FactLaws
 pub mod SoundLaws
 pub mod PassLaws
 pub mod SetLaws

@@ -1,6 +1,6 @@
 -- A pass goes on by one page.
 use Rattle.std.proofs.Common.{◌≡◌, inl, inr, ⊎_elim, ℕ, zero, suc, ◌+◌, ◌-◌, ◌*◌, ◌/◌, ◌%◌, ◌<◌, ◌≤◌, length, refl, sym, ap, subst, ◌∙◌, arith}
-use Rattle.std.specs.Prelude.{IsTrue, Bool, true, false, Option, Some, None, ◌⊎◌, ◌&&◌, ◌||◌, ◌==◌, nat_lt}
+use Rattle.std.specs.Prelude.{IsTrue, Bool, true, false, Option, Some, None, ◌⊎◌, ◌&&◌, ◌||◌, ◌==◌, nat_lt, min}
 use Rattle.std.proofs.Math.Nat.{mod-lt}
 use Rattle.std.proofs.lemmas.Nat.{div-mul-add, mod-mul-add, div-add-mod'}
 use Rattle.std.proofs.lemmas.Bool.{and_parts, or_cases, or_parts, or_left, or_right, and_from, true≢false, cases_lt, ltb-true, eqb-true}
@@ -13,7 +13,7 @@ use Rattle.nb_check.specs.declared.facts.Broken.{Broken}
 use Rattle.nb_check.specs.Facts.{breaks, number_of}
 use Rattle.nb_check.specs.Passes.{IsLowestAt, IsBefore, IsFirstBelow, IsMapOf, HasEntryOf}
 
-below_more : (p n : ℕ) → p < n + 1 → (p < n) ⊎ (p ≡ n)
+pub below_more : (p n : ℕ) → p < n + 1 → (p < n) ⊎ (p ≡ n)
 below_more p n low = elim (cases_lt p n) [ inl less ↦ inl less | inr other ↦ inr (omega (arith, low, other)) ]
 
 -- page n breaks nothing
@@ -192,3 +192,8 @@ entries_next image p entries valid no is more = is more ∙ ap (page_at image) (
 
 pub entries_here : (image : Image) (p : ℕ) (entries : Page) → IsTrue (is_page_size (image_size image)) → is_scn_place (image_size image) p ≡ true → entries ≡ page_at image p → HasEntryOf image p entries
 entries_here image p entries valid yes is more = is ∙ ap (page_at image) (sym (entry_made (image_size image) p valid yes))
+
+-- Each page took one read at most, page 0 two.
+pub page_read : (old loop new number : ℕ) → (0 < number → new ≤ loop + 1) → new ≤ loop + 2 → loop ≤ old + number + min number 1 → new ≤ old + (number + 1) + min (number + 1) 1
+page_read old loop new zero once twice so_far = omega (arith, twice, so_far)
+page_read old loop new (suc n) once twice so_far = (let one : new ≤ loop + 1 = once (omega arith) in omega (arith, one, so_far))

@@ -128,5 +128,5 @@ pub fn reclaim<H: Host>(alloc: Global, host: &mut H, engine: &mut Engine) -> Res
     }
     let report = check(alloc, host, engine)?;
     give_back(host, engine, &report)?;
-    Ok(report.len() as u32)
+    Ok(report.count())
 }

@@ -46,6 +46,13 @@ impl Report {
         Report { pages, len }
     }
 
+    /// How many pages are leaked, as a number of 32 bits.
+    pub(crate) fn count(&self) -> u32
+        ensures { result ≡ length self.now }
+    {
+        self.len
+    }
+
     /// How many pages are leaked.
     pub fn len(&self) -> usize
         ensures { result ≡ length self.now }
