@@ -6,5 +6,6 @@ pub mod PassLaws
 pub mod SetLaws
 pub mod WalkLaws
 pub mod ListLaws
+pub mod AmongLaws
 pub mod LeakLaws
 pub mod NameLaws

@@ -10,6 +10,14 @@ use Rattle.nb_model.specs.Forms.{inventory_of, scn_page_of, scn_entry, has_entry
 use Rattle.nb_model.specs.Sound.{SoundInventory, IsSoundImage, IsOfSize}
 use Rattle.nb_model.proofs.ReadLaws.{eq_yes, lt_yes, lt_no, le_no}
 use Rattle.nb_model.proofs.SoundLaws.{all_from, all_at}
+use Rattle.nb_host.specs.declared.refusals.Refusal.TheVariants.{Unsound}
+use Rattle.nb_model.specs.Causes.{broken_at}
+use Rattle.nb_model.specs.Chains.{History, pages_of}
+use Rattle.nb_model.specs.Rows.{chains}
+use Rattle.nb_model.proofs.PutSound.{no_first}
+use Rattle.nb_model.proofs.RoomLaws.{in_chain, first_found}
+use Rattle.nb_check.specs.Turns.{unsound_by, chains_cause, check_cause}
+use Rattle.nb_check.proofs.FirstLaws.{some_none}
 use Rattle.nb_check.specs.declared.facts.Fact.{Fact}
 use Rattle.nb_check.specs.declared.facts.Fact.TheVariants.{BlankPage, SystemPlace, TakenPast, LateStamp, WrongEntry, HeaderStamp}
 use Rattle.nb_check.specs.Facts.{breaks, unsound, covered, is_entry_low, is_entry_late}
@@ -156,3 +164,19 @@ module _ (image : Image) (sound : SoundInventory image) where
 
   pub facts_sound : unsound image ≡ None
   facts_sound = unsound_none image (λ f p below. false_from_ne_true (breaks image f p) (never f p))
+
+-- a check that isn't refused
+unsound_part : (o : Option (ℕ × ℕ)) → unsound_by o ≡ None → o ≡ None
+unsound_part None e = refl
+unsound_part (Some b) e = absurd (some_none (Unsound b.0 b.1) e)
+
+pub check_parts : (image : Image) → check_cause image ≡ None → (unsound image ≡ None) × (chains_cause image (chains image) ≡ None)
+check_parts image none = (let first = no_first _ _ none in (unsound_part (unsound image) first.0, (no_first _ _ first.1).0))
+
+pub sound_whole : (image : Image) → IsTrue (is_page_size (image_size image)) → check_cause image ≡ None → IsOfSize (image_size image) image → length image ≤ 1048576 → IsSoundImage image
+unfolding chains
+sound_whole image valid none sizes most =
+    let parts = check_parts image none in
+    let history : broken_at (pages_of History image) ≡ None = (no_first _ _ (no_first _ _ parts.1).1).0 in
+    let there : 4 < length image = (in_chain History image 4 (first_found History image history)).0 in
+    record { sound = sound_facts image valid parts.0; least = omega (arith, there); most = most; sizes = sizes }
