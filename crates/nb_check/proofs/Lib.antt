@@ -6,6 +6,7 @@ pub mod PassLaws
 pub mod SetLaws
 pub mod WalkLaws
 pub mod ListLaws
+pub mod SameLaws
 pub mod AmongLaws
 pub mod LeakLaws
 pub mod NameLaws
