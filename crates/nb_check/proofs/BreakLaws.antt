@@ -134,7 +134,7 @@ inventory_covers size p n valid below = by (p / bits_in size) refl
     whole = lt-div-mul-add {a = p} {b = bits_in size} (omega (arith, least))
 
     by : (k : ℕ) → p / bits_in size ≡ k → p < n + bits_in size
-    by zero e = (let here = whole in let z : (p / bits_in size) * bits_in size ≡ 0 = ap (λ (j : ℕ). j * bits_in size) e in omega (arith, here, z))
+    by zero e = (let here = whole in let z : (p / bits_in size) * bits_in size ≡ 0 * bits_in size = ap (λ (j : ℕ). j * bits_in size) e in omega (arith, here, z))
     by (suc k) e =
         let here = whole in
         let z : (p / bits_in size) * bits_in size ≡ suc k * bits_in size = ap (λ (j : ℕ). j * bits_in size) e in
@@ -151,7 +151,7 @@ entry_covers size p n valid below = by (p / entries_in size) refl
     whole = lt-div-mul-add {a = p} {b = entries_in size} (omega (arith, least))
 
     by : (k : ℕ) → p / entries_in size ≡ k → p < n + entries_in size
-    by zero e = (let here = whole in let z : (p / entries_in size) * entries_in size ≡ 0 = ap (λ (j : ℕ). j * entries_in size) e in omega (arith, here, z))
+    by zero e = (let here = whole in let z : (p / entries_in size) * entries_in size ≡ 0 * entries_in size = ap (λ (j : ℕ). j * entries_in size) e in omega (arith, here, z))
     by (suc k) e =
         let here = whole in
         let z : (p / entries_in size) * entries_in size ≡ suc k * entries_in size = ap (λ (j : ℕ). j * entries_in size) e in

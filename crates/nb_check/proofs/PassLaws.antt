@@ -1,5 +1,5 @@
 -- A pass goes on by one page.
-use Rattle.std.proofs.Common.{◌≡◌, inl, inr, ⊎_elim, ℕ, zero, suc, ◌+◌, ◌-◌, ◌*◌, ◌/◌, ◌%◌, ◌<◌, ◌≤◌, length, refl, sym, ap, subst, ◌∙◌, arith}
+use Rattle.std.proofs.Common.{◌≡◌, inl, inr, ℕ, zero, suc, ◌+◌, ◌-◌, ◌*◌, ◌/◌, ◌%◌, ◌<◌, ◌≤◌, length, refl, sym, ap, subst, ◌∙◌, arith}
 use Rattle.std.specs.Prelude.{IsTrue, Bool, true, false, Option, Some, None, ◌⊎◌, ◌&&◌, ◌||◌, ◌==◌, nat_lt, min}
 use Rattle.std.proofs.Math.Nat.{mod-lt}
 use Rattle.std.proofs.lemmas.Nat.{div-mul-add, mod-mul-add, div-add-mod'}
@@ -125,7 +125,8 @@ module _ (size p : ℕ) (valid : IsTrue (is_page_size size)) where
   first_map : p ≡ 1 → inventory_place size ((p + 1) / bits) ≡ p
   first_map e =
       let least = bits-least size valid in
-      let two : (p + 1) / bits ≡ 0 = ap (λ (n : ℕ). (n + 1) / bits) e ∙ div-mul-add 0 bits 2 (omega (arith, least)) in
+      let here : p + 1 ≡ 0 * bits + 2 = omega (arith, e) in
+      let two : (p + 1) / bits ≡ 0 = ap (λ (n : ℕ). n / bits) here ∙ div-mul-add 0 bits 2 (omega (arith, least)) in
       ap (inventory_place size) two ∙ sym e
 
   pub map_made : is_inventory_place size p ≡ true → inventory_place size ((p + 1) / bits) ≡ p
@@ -159,7 +160,8 @@ module _ (size p : ℕ) (valid : IsTrue (is_page_size size)) where
     | inl e ↦
         (let two : p ≡ 2 = eqb-true _ _ e in
         let least = entries-least size valid in
-        ap (λ (n : ℕ). scn_place size (n / each)) two ∙ ap (scn_place size) (div-mul-add 0 each 2 (omega (arith, least))) ∙ sym two)
+        let here : p ≡ 0 * each + 2 = omega (arith, two) in
+        ap (λ (n : ℕ). scn_place size (n / each)) here ∙ ap (scn_place size) (div-mul-add 0 each 2 (omega (arith, least))) ∙ sym two)
     | inr e ↦
         (let both = and_parts _ _ e in
         let rest : p % each ≡ 0 = eqb-true _ _ both.1 in
