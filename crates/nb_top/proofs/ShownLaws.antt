@@ -10,7 +10,7 @@ use Rattle.nb_session.specs.declared.stop.Stop.{Stop}
 use Rattle.nb_top.specs.declared.broken.Broken.{Broken}
 use Rattle.nb_top.specs.declared.status.Status.{Status}
 use Rattle.nb_top.specs.declared.status.Status.TheVariants.{Device, Memory}
-use Rattle.nb_top.specs.Requests.{Request, Deed, Asked, Runs, Does, to_run}
+use Rattle.nb_top.specs.Requests.{Request, Deed, Asked, Runs, Does, to_plan, to_run}
 use Rattle.nb_top.specs.Shown.{Names, BreaksAt, IfShown, IsShownOf, IsShown}
 
 -- it isn't refused for a line
@@ -22,6 +22,10 @@ run_unbroken r line h = cc
 
 pub deed_unbroken : (deed : Deed) → IsUnbroken (Does deed)
 deed_unbroken deed line h = cc
+
+-- a plan that is refused is refused for a line of its list or for another reason
+pub plan_unbroken : (keep : ℕ) (names : List (List ℕ)) → IsUnbroken (to_plan keep (Ok names))
+plan_unbroken keep names line h = cc
 
 -- nothing was noted
 pub unshown : (result : Result Status Stop) (broken : Option Broken) (asked : Asked) → broken ≡ None → IsUnbroken asked → IsShownOf result broken asked
