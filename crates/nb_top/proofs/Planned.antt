@@ -1,0 +1,81 @@
+-- The job of a plan: its call serves it, and it leaves all as it stands.
+use Rattle.std.proofs.Common.{true≢false, ◌≡◌, inl, inr, ℕ, List, [], true, false, refl, sym, ap, subst, ◌∙◌}
+use Rattle.std.specs.Prelude.{Option, Some, None, Result, Ok, Err}
+use Rattle.nb_host.specs.Files.{Files}
+use Rattle.nb_host.specs.World.{World}
+use Rattle.nb_host.specs.Crash.{Leaves}
+use Rattle.nb_host.specs.declared.faults.Fault.{Fault}
+use Rattle.nb_host.specs.declared.faults.Fault.TheVariants.{Refused, Device, Memory}
+use Rattle.nb_host.specs.declared.refusals.Refusal.{Refusal}
+use Rattle.nb_change.specs.Changes.{NoNames}
+use Rattle.nb_page.specs.Quiet.{Quiet}
+use Rattle.nb_model.specs.declared.reply.Reply.{Reply}
+use Rattle.nb_model.specs.Account.{Account}
+use Rattle.nb_model.specs.Jobs.{only_refusal, only_turn}
+use Rattle.nb_model.specs.Output.{status_after}
+use Rattle.nb_model.specs.Run.{Event}
+use Rattle.nb_catalog.specs.Answers.{Says}
+use Rattle.nb_catalog.specs.Plans.{Retention}
+use Rattle.nb_catalog.specs.Turns.{plan_reply, plan_turn, planned}
+use Rattle.nb_top.specs.OneTurn.{OneTurn, leaves_all, planning}
+use Rattle.nb_top.specs.Served.{ServedAs, Serves}
+use Rattle.nb_top.proofs.ChainRefusals.{refused_plan}
+use Rattle.nb_top.proofs.Turns.{served_as}
+use Rattle.nb_top.proofs.TurnsStand.{IsSoundJob}
+
+module _ (files : Files) (keep : ℕ) (names : List (List ℕ)) where
+  abbrev Turn : Result Retention Refusal → Event
+  Turn answer = elim answer [ Err refusal ↦ only_refusal refusal | Ok plan ↦ only_turn (plan_reply names plan) [] ]
+
+  turn_by : (answer : Result Retention Refusal) → planned files names keep ≡ answer → plan_turn files names keep ≡ Turn answer
+  unfolding plan_turn
+  turn_by answer is = ap Turn is
+
+  -- whatever it says, it changes nothing
+  pub plan_idle : leaves_all (plan_turn files names keep) ≡ true
+  plan_idle = by (planned files names keep) refl
+    where
+      by : (answer : Result Retention Refusal) → planned files names keep ≡ answer → leaves_all (plan_turn files names keep) ≡ true
+      by (Ok plan) is = ap leaves_all (turn_by (Ok plan) is)
+      by (Err refusal) is = ap leaves_all (turn_by (Err refusal) is)
+
+-- What is answered of a plan, where its reply names the files.
+pub data Answered (names : List (List ℕ)) (meant : Result Retention Refusal) : Result Reply Fault → Type 0 where
+  says_plan : (plan : Retention) (reply : Reply) → meant ≡ Ok plan → reply ≡ plan_reply names plan → Answered names meant (Ok reply)
+  says_refusal : (refusal : Refusal) → meant ≡ Err refusal → Answered names meant (Err (Refused refusal))
+  fails : Answered names meant (Err Device)
+  lacks : Answered names meant (Err Memory)
+
+module _ (old mid : World) (keep : ℕ) (names : List (List ℕ)) (quiet : Quiet old mid) where
+  abbrev job : OneTurn
+  job = planning old.files keep names
+
+  abbrev turn : Event
+  turn = plan_turn old.files names keep
+
+  answers : (result : Result Reply Fault) → Answered names (planned old.files names keep) result → ServedAs result old mid job turn
+  answers (Ok reply) (says_plan plan reply is said) =
+      served_as reply (only_turn (plan_reply names plan) []) mid job turn (turn_by old.files keep names (Ok plan) is) refl (ap (λ (r : Reply). Some r) (sym said)) (ap status_after said)
+      (λ some. absurd (true≢false (sym (plan_idle old.files keep names) ∙ some)))
+  answers (Err (Refused refusal)) (says_refusal refusal is) = record { is = turn_by old.files keep names (Err refusal) is; other = refused_plan old.files names keep refusal is; quiet = quiet }
+  answers (Err Device) fails = tt
+  answers (Err Memory) lacks = tt
+
+  pub plan_serves : (result : Result Reply Fault) → Answered names (planned old.files names keep) result → Serves result old mid job turn
+  plan_serves result answered = record {
+    answer = answers result answered;
+    left = changes_quiet old mid NoNames _ quiet (λ files. inl (inl tt));
+    reads = inl (inl tt);
+    gave = record { guids = quiet.guids; times = quiet.times };
+    idle = λ is. quiet;
+  }
+
+-- There is no file that it could change.
+pub plan_sound : (old : World) (account : Account) (keep : ℕ) (names : List (List ℕ)) → IsSoundJob old account (planning old.files keep names)
+plan_sound old account keep names = record {
+  plain = λ name is. absurd (none_named name is);
+  done = λ some. absurd (true≢false (sym (plan_idle old.files keep names) ∙ some));
+}
+  where
+    none_named : (name : List ℕ) → ◌≡◌ {A = Option (List ℕ)} None (Some name) → ⊥
+    none_named name h = cc
