@@ -1,5 +1,5 @@
 -- The files go on to stand for the account where a backup or a copy makes files.
-use Rattle.std.proofs.Common.{◌≡◌, ◌≢◌, ◌⊎◌, inl, inr, ℕ, zero, suc, List, [], ◌∷◌, length, take, refl, sym, ap, subst, ◌∙◌, arith}
+use Rattle.std.proofs.Common.{◌≡◌, ◌≢◌, ◌≤◌, ◌⊎◌, inl, inr, ℕ, zero, suc, List, [], ◌∷◌, length, take, refl, sym, ap, subst, ◌∙◌, arith}
 use Rattle.std.specs.Prelude.{Bool, true, false, if◌then◌else◌, ◌==◌, Option, Some, None, Result, Ok, Err, IsTrue, Contains}
 use Rattle.std.specs.Cmp.Lexicographic.{told_text}
 use Rattle.std.proofs.lemmas.Bool.{true≢false, and_parts}
@@ -20,7 +20,7 @@ use Rattle.nb_model.specs.Causes.{Cause, not_database}
 use Rattle.nb_model.specs.Levels.{Head, Contents, first_fault, head_for, head_in, head_then, joined, taken, level_bytes, file_for, file_of, read_level, read_pages, with_head}
 use Rattle.nb_model.specs.Making.{MadeFile, IsNoneOf, IsOfKept, its_file, its_pages, IsNoBackup}
 use Rattle.nb_model.specs.Owner.{delta_name, owner, owner_in, owner_with, entry_in, entry_of_files}
-use Rattle.nb_model.specs.Stands.{IsKeptAs, IsBegun, IsFileOf, IsCopyOf, HoldsItsRecord, is_applying, Stands}
+use Rattle.nb_model.specs.Stands.{IsKeptAs, IsBegun, IsFileOf, IsCopyOf, IsSpan, HoldsItsRecord, is_applying, Stands}
 use Rattle.nb_model.proofs.FreeLaws.{closed_under, free_under, stands_files}
 use Rattle.nb_model.proofs.FrontLaws.{owner_of_entry}
 use Rattle.nb_model.proofs.HeaderLaws.{header-long, same-header, same-number}
@@ -218,6 +218,11 @@ module _ (old new : Files) (account : Account) (name : List ℕ) (stands : Stand
   -- The files stand for the account with what they give under a name where a file is made.
   pub stands_making : IsInMaking account.kept (new name) → Stands new (with_entry name (entry_in new name) account)
   stands_making is = stands_with_both old new account name (entry_in new name) stands plain others (making_under is)
+
+  -- Where it is whole, they stand for it with that file: it is no database, and has no difference file beside it.
+  pub stands_closed : (bytes : List ℕ) → new name ≡ Some bytes → IsWholeFile account.kept bytes → Stands new (with_entry name (Plain bytes None) account)
+  stands_closed bytes there is =
+      subst (λ (e : Entry). Stands new (with_entry name e account)) (closed_entry name bytes (new name) (new (delta_name name)) there alone (is.closed name)) (stands_making (whole bytes there is))
 
   -- Whole, the file is neither a database nor has it a difference file beside it.
   pub whole_entry : (bytes : List ℕ) → new name ≡ Some bytes → IsOfKept account.kept bytes → entry_in new name ≡ Plain bytes None

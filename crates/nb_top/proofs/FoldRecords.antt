@@ -16,7 +16,7 @@ use Rattle.nb_model.proofs.ChainLaws.{taken_rise}
 use Rattle.nb_model.proofs.FollowsLaws.{Meets, follows_on, meets}
 use Rattle.nb_model.proofs.MadeLaws.{span_bytes}
 use Rattle.nb_model.proofs.ReadLaws.{eq_no, eq_yes, lt_no, lt_yes}
-use Rattle.nb_restore.proofs.LevelLaws.{is_read}
+use Rattle.nb_restore.proofs.ReadLaws.{is_read}
 use Rattle.nb_restore.proofs.ParentLaws.{LeadsTo}
 use Rattle.nb_inplace.proofs.KeptLaws.{IsOfRecord, of_record}
 use Rattle.nb_fold.specs.Folding.{bytes_for, first_head, folded, folded_head, folded_pages, last_head, last_page, or_before, page_of, pages_of_each}

@@ -1,6 +1,7 @@
 -- The job of a fold: its call serves it.
-use Rattle.std.proofs.Common.{true≢false, ◌≡◌, ◌⊎◌, inl, inr, ℕ, ◌≤◌, List, [], true, false, refl, sym, ap, subst, ◌∙◌}
-use Rattle.std.specs.Prelude.{Some, None, Result, Ok, Err}
+use Rattle.std.proofs.Common.{true≢false, ◌≡◌, ◌⊎◌, inl, inr, ℕ, ◌≤◌, List, [], ◌∷◌, length, true, false, refl, sym, ap, subst, ◌∙◌, arith}
+use Rattle.std.specs.Prelude.{nat_le, Some, None, Result, Ok, Err, IfOk}
+use Rattle.std.proofs.lemmas.Bool.{and_parts, leb-true}
 use Rattle.nb_host.specs.Files.{File, Files}
 use Rattle.nb_host.specs.World.{World}
 use Rattle.nb_host.specs.Crash.{Leaves, LeavesAll}
@@ -20,8 +21,10 @@ use Rattle.nb_model.specs.Run.{Event}
 use Rattle.nb_level.specs.Heads.{head_of}
 use Rattle.nb_fold.specs.declared.folded.Folded.{Folded}
 use Rattle.nb_fold.specs.Fold.{FoldAnswers, FoldLeft, Folds, IsFolded}
-use Rattle.nb_fold.specs.Folding.{bytes_for, folded}
+use Rattle.nb_fold.specs.Folding.{bytes_for, first_head, folded}
 use Rattle.nb_fold.specs.Verdict.{fold_turn, fold_verdict, made_turn}
+use Rattle.nb_fold.proofs.SameLaws.{next_files}
+use Rattle.nb_restore.proofs.ReadLaws.{is_read}
 use Rattle.nb_top.specs.OneTurn.{OneTurn, IsDoneFor, folding, leaves_all}
 use Rattle.nb_top.specs.Served.{ServedAs, Serves}
 use Rattle.nb_top.proofs.FoldTurns.{FoldTurn, WhyRefused, refuses, folds, accepted_is, done_turn, refused_fold, refused_turn, turn_is, verdict_refused, why_refused}
@@ -32,16 +35,25 @@ abbrev pub level_said : (level : ℕ) → Folded → Reply
 level_said level made = Level level made.head.scn made.pages made.head.guid
 
 -- what is answered, where the level of the file is said so
-abbrev pub fold_said : (Folded → ℕ) → Result Folded Fault → Result Reply Fault
-fold_said level (Ok made) = Ok (level_said (level made) made)
+abbrev pub fold_said : (level : ℕ) → Result Folded Fault → Result Reply Fault
+fold_said level (Ok made) = Ok (level_said level made)
 fold_said level (Err fault) = Err fault
 
--- the file of a fold has a level of 9 at most
-abbrev pub IsLow : (Folded → ℕ) → Type 0
-IsLow level = (made : Folded) → made.head.level ≤ 9 → level made ≡ made.head.level
+-- it is the level in the head, which is 9 at most
+abbrev pub IsLevel : (level : ℕ) → Result Folded Fault → Type 0
+IsLevel level result = IfOk result (λ made. made.head.level ≤ 9 → level ≡ made.head.level)
 
-module _ (old mid : World) (account : Account) (out : List ℕ) (names : List (List ℕ)) (knows : is_free_name old.files out ≡ is_free_entry (account.entry out)) (level : Folded → ℕ) (low : IsLow level)
-    (levels : (cs : List Contents) → fold_verdict old.files out names ≡ Ok cs → (folded cs).head.level ≤ 9) (result : Result Folded Fault) (does : Folds result old mid out names) where
+-- the first of files that go on from one another has a level of 9 at most, and so has the one that they are folded into
+pub fold_level : (files : Files) (out : List ℕ) (names : List (List ℕ)) → 1 ≤ length names → (cs : List Contents) → fold_verdict files out names ≡ Ok cs → (folded cs).head.level ≤ 9
+unfolding folded
+fold_level files out [] some cs e = absurd (omega (arith, some))
+fold_level files out (name ∷ names) some cs e =
+    let are = next_files files None name names cs (accepted_is files out (name ∷ names) cs e).1 in
+    let low = (and_parts (nat_le 1 are.first.head.level) (nat_le are.first.head.level 9) (is_read are.next.bytes are.first are.next.read).level).1 in
+    subst (λ (x : List Contents). (first_head x).level ≤ 9) (sym are.all) (leb-true are.first.head.level 9 low)
+
+module _ (old mid : World) (account : Account) (out : List ℕ) (names : List (List ℕ)) (knows : is_free_name old.files out ≡ is_free_entry (account.entry out)) (some : 1 ≤ length names) (result : Result Folded Fault) (level : ℕ)
+    (low : IsLevel level result) (does : Folds result old mid out names) where
   abbrev job : OneTurn
   job = folding old.files out names
 
@@ -62,30 +74,30 @@ module _ (old mid : World) (account : Account) (out : List ℕ) (names : List (L
       by (folds cs free accepted same) = absurd (true≢false (sym is ∙ ap leaves_all same))
 
   -- the reply is that of the turn
-  same_reply : (made : Folded) (c : Contents) (pages : ℕ) → head_of made.head ≡ c.head → c.head.level ≤ 9 → made.pages ≡ pages → Level c.head.level c.head.scn pages c.head.guid ≡ level_said (level made) made
-  same_reply made c pages head few count =
+  same_reply : (made : Folded) (c : Contents) (pages : ℕ) → (made.head.level ≤ 9 → level ≡ made.head.level) → head_of made.head ≡ c.head → c.head.level ≤ 9 → made.pages ≡ pages → Level c.head.level c.head.scn pages c.head.guid ≡ level_said level made
+  same_reply made c pages its_level head few count =
       ap (λ (h : Head). Level h.level h.scn pages h.guid) (sym head) ∙ ap (λ (n : ℕ). Level made.head.level made.head.scn n made.head.guid) (sym count)
-      ∙ ap (λ (n : ℕ). Level n made.head.scn made.pages made.head.guid) (sym (low made (subst (λ (h : Head). h.level ≤ 9) (sym head) few)))
+      ∙ ap (λ (n : ℕ). Level n made.head.scn made.pages made.head.guid) (sym (its_level (subst (λ (h : Head). h.level ≤ 9) (sym head) few)))
 
-  answers : (r : Result Folded Fault) → FoldAnswers r old mid out names → ServedAs (fold_said level r) old mid job turn
-  answers (Ok made) done =
+  answers : (r : Result Folded Fault) → IsLevel level r → FoldAnswers r old mid out names → ServedAs (fold_said level r) old mid job turn
+  answers (Ok made) its_level done =
       let c : Contents = folded done.files in
       let accepted = accepted_is old.files out names done.files done.accepted in
-      served_as (level_said (level made) made) (made_turn out c) mid job turn (done_turn old.files account out names done.files (sym knows ∙ accepted.0) accepted.1) refl
-      (ap (λ (reply : Reply). Some reply) (same_reply made c _ done.head (levels done.files done.accepted) done.pages)) refl
+      served_as (level_said level made) (made_turn out c) mid job turn (done_turn old.files account out names done.files (sym knows ∙ accepted.0) accepted.1) refl
+      (ap (λ (reply : Reply). Some reply) (same_reply made c _ its_level done.head (fold_level old.files out names some done.files done.accepted) done.pages)) refl
       (λ some. record {
         now = (done.files, accepted.1, done.kept.reads);
         left = λ files leaves. (done.files, accepted.1, done.kept.durable (files out) (leaves out));
       })
-  answers (Err (Refused refusal)) answer =
+  answers (Err (Refused refusal)) its_level answer =
       let why : WhyRefused old.files account out names refusal = why_refused old.files account out names knows refusal answer.1 in
       record { is = refused_turn old.files account out names refusal why; other = refused_fold old.files account out names refusal why; quiet = answer.0 }
-  answers (Err Device) answer = tt
-  answers (Err Memory) answer = tt
+  answers (Err Device) its_level answer = tt
+  answers (Err Memory) its_level answer = tt
 
   pub fold_serves : Serves (fold_said level result) old mid job turn
   fold_serves = record {
-    answer = answers result does.answer;
+    answer = answers result low does.answer;
     left = weaker_has old mid (Only out) _ _ does.left (λ files. on_way (Leaves old out) files);
     reads = on_way (λ file. file ≡ old.files out) mid.files does.reads;
     gave = does.gave;

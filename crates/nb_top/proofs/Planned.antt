@@ -8,6 +8,7 @@ use Rattle.nb_host.specs.declared.faults.Fault.{Fault}
 use Rattle.nb_host.specs.declared.faults.Fault.TheVariants.{Refused, Device, Memory}
 use Rattle.nb_host.specs.declared.refusals.Refusal.{Refusal}
 use Rattle.nb_change.specs.Changes.{NoNames}
+use Rattle.nb_change.proofs.ChangesLaws.{rested}
 use Rattle.nb_page.specs.Quiet.{Quiet}
 use Rattle.nb_model.specs.declared.reply.Reply.{Reply}
 use Rattle.nb_model.specs.Account.{Account}
@@ -64,11 +65,21 @@ module _ (old mid : World) (keep : ℕ) (names : List (List ℕ)) (quiet : Quiet
   pub plan_serves : (result : Result Reply Fault) → Answered names (planned old.files names keep) result → Serves result old mid job turn
   plan_serves result answered = record {
     answer = answers result answered;
-    left = changes_quiet old mid NoNames _ quiet (λ files. inl (inl tt));
+    left = rested old mid NoNames _ quiet.still quiet.said quiet.moments (λ files left. inl (inl tt));
     reads = inl (inl tt);
     gave = record { guids = quiet.guids; times = quiet.times };
     idle = λ is. quiet;
   }
+
+  -- it fails as the reading of the files does
+  pub failed_plan : (fault : Fault) → Says {T = Retention} (planned old.files names keep) (Err fault) → Serves (Err fault) old mid job turn
+  failed_plan (Refused refusal) is = plan_serves (Err (Refused refusal)) (says_refusal refusal is)
+  failed_plan Device is = plan_serves (Err Device) fails
+  failed_plan Memory is = plan_serves (Err Memory) lacks
+
+  -- or for want of memory
+  pub lacking_plan : (fault : Fault) → fault ≡ Memory → Serves (Err fault) old mid job turn
+  lacking_plan fault is = subst (λ (f : Fault). Serves (Err f) old mid job turn) (sym is) (plan_serves (Err Memory) lacks)
 
 -- There is no file that it could change.
 pub plan_sound : (old : World) (account : Account) (keep : ℕ) (names : List (List ℕ)) → IsSoundJob old account (planning old.files keep names)

@@ -26,7 +26,7 @@ use Rattle.nb_model.specs.Stands.{IsKeptAs, IsSpan, nil}
 use Rattle.nb_model.specs.Strokes.{fixed, as_standby}
 use Rattle.nb_model.specs.Trail.{ShowsIn}
 use Rattle.nb_catalog.specs.Turns.{plan_turn}
-use Rattle.nb_fold.specs.Folding.{bytes_for, folded}
+use Rattle.nb_fold.specs.Folding.{bytes_for, first_head, folded, last_head}
 use Rattle.nb_fold.specs.Verdict.{chained, fold_turn}
 use Rattle.nb_gather.specs.Making.{IsUnfinished}
 use Rattle.nb_fixup.specs.Fixup.{IsFixable, IsFixed}
@@ -123,6 +123,11 @@ merging files db name = record {
 abbrev pub AreOfKept : List Kept → List Contents → Type 0
 AreOfKept kept cs = AllByRecursion (λ (c : Contents). (r : Kept) × IsKeptAs kept c.head.guid r) cs
 
+-- so are those that are folded, and the first names the backup that it goes on from
+pub record TakesFiles (kept : List Kept) (cs : List Contents) : Type 0 where
+  pub of_kept : AreOfKept kept cs
+  pub goes_on : (first_head cs).previous ≢ nil
+
 -- under the name stands the level file of the kept backup of that GUID which goes on from an ancestor of it in one step
 pub record HoldsSpan (kept : List Kept) (guid : List ℕ) (name : List ℕ) (files : Files) : Type 0 where
   pub backup : Kept
@@ -140,8 +145,8 @@ folding files out names = record {
   turn = λ account. fold_turn files account out names;
   half = λ now. IsUnfinished (now out);
   done = λ now. (cs : List Contents) × (chained files names ≡ Ok cs) × (now out ≡ Some (bytes_for (folded cs)));
-  takes = λ kept. (cs : List Contents) → chained files names ≡ Ok cs → AreOfKept kept cs;
-  gives = λ kept now. (cs : List Contents) → chained files names ≡ Ok cs → HoldsSpan kept (folded cs).head.guid out now;
+  takes = λ kept. (cs : List Contents) → chained files names ≡ Ok cs → TakesFiles kept cs;
+  gives = λ kept now. (cs : List Contents) → chained files names ≡ Ok cs → HoldsSpan kept (last_head cs).guid out now;
 }
 
 -- Backup files are planned for: each is read, and nothing changes.
