@@ -50,3 +50,4 @@ pub mod Folded
 pub mod FoldRecords
 pub mod FoldStands
 pub mod Planned
+pub mod Lists

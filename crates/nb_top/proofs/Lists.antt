@@ -1,6 +1,6 @@
 -- A list of names is read, and its files are planned for.
-use Rattle.std.proofs.Common.{◌≡◌, ◌≢◌, ℕ, ◌+◌, List, [], ◌∷◌, length, refl, sym, ap, subst, ◌∙◌}
-use Rattle.std.specs.Prelude.{Bool, true, false, Some, None, Result, Ok, Err, IfOk, nat_lt}
+use Rattle.std.proofs.Common.{◌≡◌, ◌≢◌, ℕ, zero, suc, ◌+◌, List, [], ◌∷◌, length, refl, sym, ap, subst, ◌∙◌}
+use Rattle.std.specs.Prelude.{Bool, true, false, Some, None, Result, Ok, Err, IfOk, nat_lt, if◌then◌else◌}
 use Rattle.nb_host.specs.Files.{File}
 use Rattle.nb_host.specs.World.{World}
 use Rattle.nb_host.specs.declared.refusals.Refusal.{Refusal}
@@ -21,9 +21,60 @@ use Rattle.nb_top.specs.Goes.{Goes}
 use Rattle.nb_top.specs.Numbers.{number_of}
 use Rattle.nb_top.specs.Requests.{to_plan}
 use Rattle.nb_top.proofs.GoesLaws.{goes_quietly, goes_turn_quietly}
-use Rattle.nb_top.proofs.JobRuns.{refused_number}
+use Rattle.nb_model.proofs.TodoLaws.{status_refused}
 
 -- a plan that begins with calls that change nothing
 pub plan_quietly : (tells : Bool) (old mid new : World) (keep : ℕ) (names : Result (List (List ℕ)) Refusal) (result : Result Status Stop) → Quiet old mid → Goes tells result mid new (to_plan keep names) → Goes tells result old new (to_plan keep names)
 plan_quietly tells old mid new keep (Ok names) result quiet goes = goes_turn_quietly tells old mid new _ result quiet goes
 plan_quietly tells old mid new keep (Err refusal) result quiet goes = goes_quietly tells old mid new (Err refusal) result quiet goes
+
+-- ---- a list is never refused as words are that name no job
+
+abbrev IsFine : Result (List (List ℕ)) Refusal → Type 0
+IsFine (Ok names) = Unit {0}
+IsFine (Err refusal) = refusal ≢ Usage
+
+bad_line : (line : ℕ) → BadScript line ≢ Usage
+bad_line line h = cc
+
+too_long : (bytes : ℕ) → ScriptLong bytes ≢ Usage
+too_long bytes h = cc
+
+no_list : (name : List ℕ) → NoFile name ≢ Usage
+no_list name h = cc
+
+first_fine : (name : List ℕ) (rest : Result (List (List ℕ)) Refusal) → IsFine rest → IsFine (with_first name rest)
+first_fine name (Ok names) h = tt
+first_fine name (Err refusal) h = h
+
+names_fine : (most : ℕ) (lines : List Numbered) → IsFine (names_on most lines)
+unfolding names_on
+names_fine most [] = tt
+names_fine zero (line ∷ lines) = bad_line line.0
+names_fine (suc most) (line ∷ lines) = by (is_file line.1) (names_fine most lines)
+  where
+    by : (b : Bool) → IsFine (names_on most lines) → IsFine (if b then with_first line.1 (names_on most lines) else Err (BadScript line.0))
+    by true rest = first_fine line.1 (names_on most lines) rest
+    by false rest = bad_line line.0
+
+some_fine : (count : ℕ) (lines : List Numbered) → IsFine (some_names_on count lines)
+unfolding some_names_on
+some_fine count [] = bad_line (count + 1)
+some_fine count (line ∷ lines) = names_fine 1000 (line ∷ lines)
+
+list_fine : (bytes : List ℕ) → IsFine (list_of bytes)
+unfolding list_of
+list_fine bytes = by (nat_lt 1048576 (length bytes))
+  where
+    by : (b : Bool) → IsFine (if b then Err (ScriptLong (length bytes)) else some_names_on (length (lines_of bytes)) (left 0 bytes))
+    by true = too_long (length bytes)
+    by false = some_fine (length (lines_of bytes)) (left 0 bytes)
+
+in_fine : (list : List ℕ) (file : File) → IsFine (names_in list file)
+in_fine list None = no_list list
+in_fine list (Some bytes) = list_fine bytes
+
+-- so its status is that of a refusal
+pub list_number : (list : List ℕ) (file : File) (refusal : Refusal) → names_in list file ≡ Err refusal → (result : Result Status Stop) → IfOk result (λ status. status ≡ Refused) → IfOk result (λ status. number_of status ≡ status_after (RefusedReply refusal))
+list_number list file refusal is (Ok status) ended = ap number_of ended ∙ sym (status_refused refusal (subst IsFine is (in_fine list file)))
+list_number list file refusal is (Err e) ended = tt

@@ -8,7 +8,7 @@ use Rattle.nb_top.specs.Performed.{IsFileRead}
 use Rattle.nb_top.specs.Requests.{to_plan}
 use Rattle.nb_top.specs.Shown.{IsShownOf}
 use Rattle.nb_top.proofs.GoesLaws.{goes_quietly, goes_refused, goes_turn_quietly, goes_undone}
-use Rattle.nb_top.proofs.Lists.{list_number, plan_quietly, unread_list}
+use Rattle.nb_top.proofs.Lists.{list_number, plan_quietly}
 use Rattle.nb_top.proofs.RequestLaws.{plan_can}
 use Rattle.nb_top.proofs.ScriptRuns.{settled_refusal, settled_value}
 use Rattle.nb_top.proofs.program.plan_list.Goals as goal
