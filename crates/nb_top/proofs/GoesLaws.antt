@@ -26,7 +26,7 @@ use Rattle.nb_top.specs.OneTurn.{OfName, OneTurn, one_turn}
 use Rattle.nb_top.specs.Performed.{GoesTo, KnowsAsked, RunsTo}
 use Rattle.nb_top.specs.Requests.{Request, ToRun, ToGenerate, Deed, Asked, Runs, Does}
 use Rattle.nb_top.specs.Served.{TurnsTo}
-use Rattle.nb_top.specs.Touched.{IsWholeToMerge, MayTouch, OfAsked, TouchesOnly}
+use Rattle.nb_top.specs.Touched.{IsWholeAsked, IsWholeToMerge, MayTouch, OfAsked, TouchesOnly}
 use Rattle.nb_top.proofs.JobRuns.{job_refused, performs_device, performs_ended, performs_memory, undone_goes}
 use Rattle.nb_top.proofs.QuietRuns.{foretold_from, knows_quietly, quiet_gave, runs_quietly}
 use Rattle.nb_top.proofs.RequestLaws.{CanBeMet}
@@ -46,6 +46,15 @@ goes_quietly tells old mid new asked result quiet goes = record {
       (goes.touches told (subst (λ (files : Files). IsWholeToMerge files asked) (sym quiet.still.files) whole));
 }
 
+-- What is asked for is another thing, where the host tells, of which all of this is known.
+pub goes_same : (tells : Bool) (old new : World) (asked known : Asked) (result : Result Status Stop) → (IsTrue tells → asked ≡ known) → Goes tells result old new known → Goes tells result old new asked
+goes_same tells old new asked known result same goes = record {
+  does = λ told. ((goes.does told).0, λ account given knows may foretold. subst (λ (a : Asked). GoesTo result old new a account given) (sym (same told))
+      ((goes.does told).1 account given (subst (λ (a : Asked). KnowsAsked old.files account a) (same told) knows) may foretold));
+  grows = λ account told knows. goes.grows account told (subst (λ (a : Asked). KnowsAsked old.files account a) (same told) knows);
+  touches = λ told whole. subst (λ (a : Asked). TouchesOnly result old new (OfAsked old.files a)) (sym (same told)) (goes.touches told (subst (λ (a : Asked). IsWholeAsked old.files a) (same told) whole));
+}
+
 -- nothing was done
 pub goes_undone : (tells : Bool) (old new : World) (asked : Asked) (result : Result Status Stop) → CanBeMet asked → IsErr result → Quiet old new → Goes tells result old new asked
 goes_undone tells old new asked result can failed quiet = record {
@@ -56,9 +65,9 @@ goes_undone tells old new asked result can failed quiet = record {
 
 -- a refusal is said to session 0, and that is all
 pub goes_refused : (tells : Bool) (old new : World) (asked : Result Request Refusal) (refusal : Refusal) (result : Result Status Stop) → asked ≡ Err refusal → IsTimely old → IsTimely new → (IsTrue tells → LeavesAll new new.files)
-    → GaveNothing old new → (IsTrue tells → SaysLine result old new (line_text 0 (RefusedReply refusal))) → IfOk result (λ status. number_of status ≡ status_after (RefusedReply refusal)) → Goes tells result old new (Runs asked)
+    → GaveNothing old new → (IsTrue tells → SaysLine result old new (line_text 0 (RefusedReply refusal))) → (IsTrue tells → IfOk result (λ status. number_of status ≡ status_after (RefusedReply refusal))) → Goes tells result old new (Runs asked)
 goes_refused tells old new asked refusal result is begun timely reads gave says number = record {
-  does = λ tell. ([], λ account given knows may foretold. job_refused result result old new asked refusal account given is (says tell) number (says tell).said);
+  does = λ tell. ([], λ account given knows may foretold. job_refused result result old new asked refusal account given is (says tell) (number tell) (says tell).said);
   grows = λ account tell knows. grows_none old new gave;
   touches = λ tell whole. only_refused old old new (MayTouch asked) (leaves_quiet old old (MayTouch asked) (quiet_begun old begun)) timely (reads tell) result 0 refusal (says tell);
 }

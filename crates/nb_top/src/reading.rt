@@ -1,5 +1,7 @@
 // The script that a job names is read.
-ghost use Rattle.std.specs.Prelude.{IsTrue, IfOk};
+ghost use Rattle.std.specs.Prelude.{◌≢◌, ℕ, IsTrue, Err};
+ghost use Rattle.nb_host.specs.declared.faults.Fault.TheVariants.{Refused};
+ghost use Rattle.nb_host.specs.declared.refusals.Refusal.TheVariants.{BadScript};
 ghost use Rattle.nb_change.specs.Counts.{CountsDevice};
 ghost use Rattle.nb_page.specs.Quiet.{Quiet};
 ghost use Rattle.nb_top.specs.Performed.{IsFileRead};
@@ -11,6 +13,7 @@ use std::alloc::Global;
 /// Reads a file of a script whole. The refusals are `NoFile` and `ScriptLong`. It changes nothing.
 pub fn read_file<H: Host>(alloc: Global, host: &mut H, name: &Name) -> Result<Vec<u8>, Fault>
     ensures read { IsTrue H.tells → IsFileRead result name.now ((H.world host.old).files name.now) }
+    ensures unbroken { (line : ℕ) → result ≢ Err (Refused (BadScript line)) }
     ensures quiet { Quiet (H.world host.old) (H.world host.new) }
     ensures cause { CountsDevice result (H.faults host.old) (H.faults host.new) }
 {

@@ -31,7 +31,7 @@ returns-in-Err-Refused-clause-goes g c asked by =
     let is = subst (λ r. IsAskedBy r old.files asked) c.in-Err-Refused.is by in
     subst (λ a. Goes g.H.Host.tells c.refuse_words.result old new a) (sym is)
     (goes_refused g.H.Host.tells old new (Err Usage) Usage c.refuse_words.result refl (g.met.H.Host.timely c.args.host.now) (g.met.H.Host.timely c.refuse_words.new.host) (g.met.H.Host.reads_left c.refuse_words.new.host)
-    c.refuse_words.ensures.gave c.refuse_words.ensures.line (usage_number c.refuse_words.result c.refuse_words.ensures.usage))
+    c.refuse_words.ensures.gave c.refuse_words.ensures.line (λ told. usage_number c.refuse_words.result c.refuse_words.ensures.usage))
 
 pub returns-in-Err-Memory-clause-goes : goal.returns-in-Err-Memory-clause-goes
 returns-in-Err-Memory-clause-goes g c asked by =
