@@ -1,6 +1,6 @@
 -- A list of names is read, and its files are planned for.
 use Rattle.std.proofs.Common.{◌≡◌, ◌≢◌, ℕ, zero, suc, ◌+◌, List, [], ◌∷◌, length, refl, sym, ap, subst, ◌∙◌}
-use Rattle.std.specs.Prelude.{Bool, true, false, Some, None, Result, Ok, Err, IfOk, nat_lt, if◌then◌else◌}
+use Rattle.std.specs.Prelude.{Bool, true, false, Option, Some, None, Result, Ok, Err, IfOk, nat_lt, if◌then◌else◌}
 use Rattle.nb_host.specs.Files.{File}
 use Rattle.nb_host.specs.World.{World}
 use Rattle.nb_host.specs.declared.refusals.Refusal.{Refusal}
@@ -9,7 +9,10 @@ use Rattle.nb_page.specs.Quiet.{Quiet}
 use Rattle.nb_model.specs.declared.reply.Reply.TheVariants.{Refused as RefusedReply}
 use Rattle.nb_model.specs.Output.{status_after}
 use Rattle.nb_model.specs.Words.{is_file}
-use Rattle.nb_script.specs.Scripts.{Numbered}
+use Rattle.nb_model.specs.declared.statement.Statement.{Statement}
+use Rattle.nb_script.specs.FirstLine.{first_at}
+use Rattle.nb_script.specs.Statements.{statement_at}
+use Rattle.nb_script.specs.Scripts.{Plan, Numbered, started, with_statement, or_bad, with_lines, order_in, with_order, of_lines, script_of}
 use Rattle.nb_script.specs.Lines.{left, lines_of}
 use Rattle.nb_catalog.specs.Answers.{with_first}
 use Rattle.nb_catalog.specs.NameLists.{list_of, names_on, some_names_on}
@@ -19,7 +22,7 @@ use Rattle.nb_top.specs.declared.status.Status.{Status}
 use Rattle.nb_top.specs.declared.status.Status.TheVariants.{Refused}
 use Rattle.nb_top.specs.Goes.{Goes}
 use Rattle.nb_top.specs.Numbers.{number_of}
-use Rattle.nb_top.specs.Requests.{to_plan}
+use Rattle.nb_top.specs.Requests.{script_in, to_plan}
 use Rattle.nb_top.proofs.GoesLaws.{goes_quietly, goes_turn_quietly}
 use Rattle.nb_model.proofs.TodoLaws.{status_refused}
 
@@ -78,3 +81,41 @@ in_fine list (Some bytes) = list_fine bytes
 pub list_number : (list : List ℕ) (file : File) (refusal : Refusal) → names_in list file ≡ Err refusal → (result : Result Status Stop) → IfOk result (λ status. status ≡ Refused) → IfOk result (λ status. number_of status ≡ status_after (RefusedReply refusal))
 list_number list file refusal is (Ok status) ended = ap number_of ended ∙ sym (status_refused refusal (subst IsFine is (in_fine list file)))
 list_number list file refusal is (Err e) ended = tt
+
+-- ---- a file that can't be read, as a script or as a list
+
+-- a script is broken at a line, or spelled
+abbrev IsBroken : Result Plan Refusal → Type 0
+IsBroken (Ok plan) = Unit {0}
+IsBroken (Err refusal) = (line : ℕ) × (refusal ≡ BadScript line)
+
+read_broken : (line : Numbered) (o : Option (ℕ × Statement)) (next : ℕ × Statement → Result Plan Refusal) → ((read : ℕ × Statement) → IsBroken (next read)) → IsBroken (or_bad line o next)
+read_broken line None next all = (line.0, refl)
+read_broken line (Some read) next all = all read
+
+lines_broken : (taken : ℕ) (plan : Plan) (lines : List Numbered) → IsBroken (with_lines taken plan lines)
+unfolding with_lines
+lines_broken taken plan [] = tt
+lines_broken taken plan (line ∷ lines) = read_broken line (if nat_lt taken 10000 then statement_at line.1 else None) _ (λ read. lines_broken (taken + 1) (with_statement plan read) lines)
+
+all_broken : (count : ℕ) (lines : List Numbered) → IsBroken (of_lines count lines)
+unfolding of_lines with_order
+all_broken count [] = (count + 1, refl)
+all_broken count (line ∷ lines) = read_broken line (first_at line.1) _ (λ first. lines_broken 1 (started first.0 first.1 (order_in lines).0) (order_in lines).1)
+
+-- what isn't refused for a line is refused for both alike
+pub unread_list : (name : List ℕ) (file : File) (refusal : Refusal) → ((line : ℕ) → refusal ≢ BadScript line) → script_in name file ≡ Err refusal → names_in name file ≡ Err refusal
+unfolding script_of list_of
+unread_list name None refusal other is = no_file is
+  where
+    no_file : ◌≡◌ {A = Result Plan Refusal} (Err (NoFile name)) (Err refusal) → ◌≡◌ {A = Result (List (List ℕ)) Refusal} (Err (NoFile name)) (Err refusal)
+    no_file h = cc
+unread_list name (Some bytes) refusal other is = by (nat_lt 1048576 (length bytes)) is
+  where
+    by : (b : Bool) → (if b then Err (ScriptLong (length bytes)) else of_lines (length (lines_of bytes)) (left 0 bytes)) ≡ Err refusal
+        → (if b then Err (ScriptLong (length bytes)) else some_names_on (length (lines_of bytes)) (left 0 bytes)) ≡ Err refusal
+    by true long = too_long_both long
+      where
+        too_long_both : ◌≡◌ {A = Result Plan Refusal} (Err (ScriptLong (length bytes))) (Err refusal) → ◌≡◌ {A = Result (List (List ℕ)) Refusal} (Err (ScriptLong (length bytes))) (Err refusal)
+        too_long_both h = cc
+    by false broken = let line = subst IsBroken broken (all_broken (length (lines_of bytes)) (left 0 bytes)) in absurd (other line.0 line.1)
