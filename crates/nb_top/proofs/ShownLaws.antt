@@ -37,7 +37,7 @@ pub unshown_early : (result : Result Status Stop) (broken : Option Broken) (aske
 unshown_early (Ok status) broken asked none failed = absurd (cc failed)
 unshown_early (Err e) broken asked none failed = subst (λ (b : Option Broken). IfShown b asked) (sym none) tt
 
-same_refusal : (r q : Refusal) → Runs (Err r) ≡ Runs (Err q) → r ≡ q
+pub same_refusal : (r q : Refusal) → Runs (Err r) ≡ Runs (Err q) → r ≡ q
 same_refusal r q h = cc
 
 -- what was noted is the line of the refusal
