@@ -25,12 +25,12 @@ use Rattle.nb_top.proofs.Turns.{served_as}
 use Rattle.nb_top.proofs.TurnsStand.{IsSoundJob}
 
 module _ (files : Files) (keep : ℕ) (names : List (List ℕ)) where
-  abbrev Turn : Result Retention Refusal → Event
-  Turn answer = elim answer [ Err refusal ↦ only_refusal refusal | Ok plan ↦ only_turn (plan_reply names plan) [] ]
+  abbrev Meant : Result Retention Refusal → Event
+  Meant answer = elim answer [ Err refusal ↦ only_refusal refusal | Ok plan ↦ only_turn (plan_reply names plan) [] ]
 
-  turn_by : (answer : Result Retention Refusal) → planned files names keep ≡ answer → plan_turn files names keep ≡ Turn answer
+  turn_by : (answer : Result Retention Refusal) → planned files names keep ≡ answer → plan_turn files names keep ≡ Meant answer
   unfolding plan_turn
-  turn_by answer is = ap Turn is
+  turn_by answer is = ap Meant is
 
   -- whatever it says, it changes nothing
   pub plan_idle : leaves_all (plan_turn files names keep) ≡ true
@@ -40,12 +40,12 @@ module _ (files : Files) (keep : ℕ) (names : List (List ℕ)) where
       by (Ok plan) is = ap leaves_all (turn_by (Ok plan) is)
       by (Err refusal) is = ap leaves_all (turn_by (Err refusal) is)
 
--- What is answered of a plan, where its reply names the files.
-pub data Answered (names : List (List ℕ)) (meant : Result Retention Refusal) : Result Reply Fault → Type 0 where
-  says_plan : (plan : Retention) (reply : Reply) → meant ≡ Ok plan → reply ≡ plan_reply names plan → Answered names meant (Ok reply)
-  says_refusal : (refusal : Refusal) → meant ≡ Err refusal → Answered names meant (Err (Refused refusal))
-  fails : Answered names meant (Err Device)
-  lacks : Answered names meant (Err Memory)
+-- what is answered of a plan, where its reply names the files
+abbrev pub Answered : (names : List (List ℕ)) → (meant : Result Retention Refusal) → Result Reply Fault → Type 0
+Answered names meant (Ok reply) = (plan : Retention) × (meant ≡ Ok plan) × (reply ≡ plan_reply names plan)
+Answered names meant (Err (Refused refusal)) = meant ≡ Err refusal
+Answered names meant (Err Device) = Unit {0}
+Answered names meant (Err Memory) = Unit {0}
 
 module _ (old mid : World) (keep : ℕ) (names : List (List ℕ)) (quiet : Quiet old mid) where
   abbrev job : OneTurn
@@ -55,12 +55,12 @@ module _ (old mid : World) (keep : ℕ) (names : List (List ℕ)) (quiet : Quiet
   turn = plan_turn old.files names keep
 
   answers : (result : Result Reply Fault) → Answered names (planned old.files names keep) result → ServedAs result old mid job turn
-  answers (Ok reply) (says_plan plan reply is said) =
-      served_as reply (only_turn (plan_reply names plan) []) mid job turn (turn_by old.files keep names (Ok plan) is) refl (ap (λ (r : Reply). Some r) (sym said)) (ap status_after said)
+  answers (Ok reply) answered =
+      served_as reply (only_turn (plan_reply names answered.0) []) mid job turn (turn_by old.files keep names (Ok answered.0) answered.1) refl (ap (λ (r : Reply). Some r) (sym answered.2)) (ap status_after answered.2)
       (λ some. absurd (true≢false (sym (plan_idle old.files keep names) ∙ some)))
-  answers (Err (Refused refusal)) (says_refusal refusal is) = record { is = turn_by old.files keep names (Err refusal) is; other = refused_plan old.files names keep refusal is; quiet = quiet }
-  answers (Err Device) fails = tt
-  answers (Err Memory) lacks = tt
+  answers (Err (Refused refusal)) is = record { is = turn_by old.files keep names (Err refusal) is; other = refused_plan old.files names keep refusal is; quiet = quiet }
+  answers (Err Device) answered = tt
+  answers (Err Memory) answered = tt
 
   pub plan_serves : (result : Result Reply Fault) → Answered names (planned old.files names keep) result → Serves result old mid job turn
   plan_serves result answered = record {
@@ -73,13 +73,13 @@ module _ (old mid : World) (keep : ℕ) (names : List (List ℕ)) (quiet : Quiet
 
   -- it fails as the reading of the files does
   pub failed_plan : (fault : Fault) → Says {T = Retention} (planned old.files names keep) (Err fault) → Serves (Err fault) old mid job turn
-  failed_plan (Refused refusal) is = plan_serves (Err (Refused refusal)) (says_refusal refusal is)
-  failed_plan Device is = plan_serves (Err Device) fails
-  failed_plan Memory is = plan_serves (Err Memory) lacks
+  failed_plan (Refused refusal) is = plan_serves (Err (Refused refusal)) is
+  failed_plan Device is = plan_serves (Err Device) tt
+  failed_plan Memory is = plan_serves (Err Memory) tt
 
   -- or for want of memory
   pub lacking_plan : (fault : Fault) → fault ≡ Memory → Serves (Err fault) old mid job turn
-  lacking_plan fault is = subst (λ (f : Fault). Serves (Err f) old mid job turn) (sym is) (plan_serves (Err Memory) lacks)
+  lacking_plan fault is = subst (λ (f : Fault). Serves (Err f) old mid job turn) (sym is) (plan_serves (Err Memory) tt)
 
 -- There is no file that it could change.
 pub plan_sound : (old : World) (account : Account) (keep : ℕ) (names : List (List ℕ)) → IsSoundJob old account (planning old.files keep names)

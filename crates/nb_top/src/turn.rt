@@ -135,9 +135,9 @@ fn say_taken<H: Host>(
     host: &mut H,
     taken: Result<Reply, Fault>,
 ) -> Result<Status, Stop>
-    ensures goes { (begun : World) (deed : Deed) → IsTaken H.tells taken.entry begun (H.world host.old) deed → Goes H.tells result begun (H.world host.new) (Does deed) }
+    ensures goes { (begun : World) (deed : Deed) → IsTaken H.tells taken begun (H.world host.old) deed → Goes H.tells result begun (H.world host.new) (Does deed) }
     ensures done { IfOk result (λ status. (status ≡ Status.Done) ⊎ (status ≡ Status.Refused)) }
-    ensures cause { (before : ℕ) → CountsDevice taken.entry before (H.faults host.old) → CountsStop result before (H.faults host.new) }
+    ensures cause { (before : ℕ) → CountsDevice taken before (H.faults host.old) → CountsStop result before (H.faults host.new) }
 {
     match settled(taken)? {
         Ok(reply) => {

@@ -7,7 +7,7 @@ use Rattle.nb_catalog.specs.Turns.{plan_turn, planned}
 use Rattle.nb_model.specs.declared.reply.Reply.TheVariants.{Planned}
 use Rattle.nb_top.specs.OneTurn.{planning}
 use Rattle.nb_top.specs.Served.{Serves}
-use Rattle.nb_top.proofs.Planned.{failed_plan, lacking_plan, plan_serves, says_plan}
+use Rattle.nb_top.proofs.Planned.{failed_plan, lacking_plan, plan_serves}
 use Rattle.nb_top.proofs.turn.planned.Goals as goal
 
 pub returns-in_err-plan-clause-serves : goal.returns-in_err-plan-clause-serves
@@ -43,4 +43,4 @@ returns-clause-serves g c tells =
     let dropped = c.in_ok-dropped.ensures.exact ∙ ap (names_at names) c.dropped.ensures in
     let orphans = c.in_ok-orphans.ensures.exact ∙ ap (names_at names) c.orphans.ensures in
     plan_serves old mid c.args.keep names c.plan_files.ensures.quiet _
-    (says_plan plan _ (c.in_ok-plan.ensures.answer tells) (ap₂ (λ (d o : List (List ℕ)). Planned c.kept.result d o) dropped orphans ∙ ap (λ (n : ℕ). Planned n (names_at names plan.dropped) (names_at names plan.orphans)) c.kept.ensures))
+    (plan, c.in_ok-plan.ensures.answer tells, ap₂ (λ (d o : List (List ℕ)). Planned c.kept.result d o) dropped orphans ∙ ap (λ (n : ℕ). Planned n (names_at names plan.dropped) (names_at names plan.orphans)) c.kept.ensures)
