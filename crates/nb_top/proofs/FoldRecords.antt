@@ -2,7 +2,7 @@
 use Rattle.std.proofs.Common.{◌≡◌, ◌≢◌, ◌⊎◌, inl, inr, ℕ, suc, ◌+◌, ◌<◌, ◌≤◌, List, [], ◌∷◌, ◌++◌, length, refl, sym, ap, ap₂, subst, ◌∙◌, arith}
 use Rattle.std.specs.Prelude.{Bool, true, false, ◌==◌, nat_lt, nat_le, Option, Some, None, Result, Ok, Err, Contains}
 use Rattle.std.specs.List.{AllByRecursion}
-use Rattle.std.proofs.lemmas.Bool.{and_parts, leb-true}
+use Rattle.std.proofs.lemmas.Bool.{and_from, and_parts, leb-true, le-leb}
 use Rattle.std.proofs.lemmas.Bool.Decides.{eqb_tells, leb_tells}
 use Rattle.nb_fields.specs.Page.{stamp_of}
 use Rattle.nb_host.specs.Files.{Files}
@@ -235,15 +235,13 @@ module _ (files : Files) (account : Account) (stands : Stands files account) whe
     span_ask = record { level = (first_head cs).level; previous = line.from.guid; previous_scn = line.from.scn }
 
     pub is_span : IsSpan account.kept line.last span_ask
-    is_span = record { from = line.from; ancestor = line.ancestor; guid = refl; scn = refl; level = both (nat_le 1 (first_head cs).level) (nat_le (first_head cs).level 9) (low 1 (first_head cs).level line.level) (low (first_head cs).level 9 line.low) }
-      where
-        low : (a b : ℕ) → a ≤ b → nat_le a b ≡ true
-        low a b le = elim (leb_tells a b) [ inl w ↦ w.0 | inr w ↦ absurd (omega (arith, le, w.1)) ]
-
-        both : (a b : Bool) → a ≡ true → b ≡ true → (elim a as (λ z. Bool) [ true ↦ b | false ↦ false ]) ≡ true
-        both true true e f = refl
-        both true false e f = f
-        both false b e f = e
+    is_span = record {
+      from = line.from;
+      ancestor = line.ancestor;
+      guid = refl;
+      scn = refl;
+      level = and_from (nat_le 1 (first_head cs).level) (nat_le (first_head cs).level 9) (le-leb 1 (first_head cs).level line.level) (le-leb (first_head cs).level 9 line.low);
+    }
 
     sound : IsSoundImage line.last.image
     sound = stands.sound_images.images line.last.image (to_record line.last line.kept_as.there refl)

@@ -1,5 +1,5 @@
 -- The job of a fold: its call serves it.
-use Rattle.std.proofs.Common.{true≢false, ◌≡◌, ◌⊎◌, inl, inr, ℕ, ◌≤◌, List, [], ◌∷◌, length, true, false, refl, sym, ap, subst, ◌∙◌, arith}
+use Rattle.std.proofs.Common.{true≢false, ◌≡◌, ◌⊎◌, ⊎_elim, inl, inr, ℕ, ◌≤◌, List, [], ◌∷◌, length, true, false, refl, sym, ap, subst, ◌∙◌, arith}
 use Rattle.std.specs.Prelude.{nat_le, Some, None, Result, Ok, Err, IfOk}
 use Rattle.std.proofs.lemmas.Bool.{and_parts, leb-true}
 use Rattle.nb_host.specs.Files.{File, Files}
@@ -87,7 +87,7 @@ module _ (old mid : World) (account : Account) (out : List ℕ) (names : List (L
       (ap (λ (reply : Reply). Some reply) (same_reply made c _ its_level done.head (fold_level old.files out names some done.files done.accepted) done.pages)) refl
       (λ some. record {
         now = (done.files, accepted.1, done.kept.reads);
-        left = λ files leaves. (done.files, accepted.1, done.kept.durable (files out) (leaves out));
+        left = λ files leaves. (done.files, accepted.1, ⊎_elim (λ was. done.kept.durable.none_back (files out) was) (λ now. done.kept.durable.only (files out) now) (leaves out));
       })
   answers (Err (Refused refusal)) its_level answer =
       let why : WhyRefused old.files account out names refusal = why_refused old.files account out names knows refusal answer.1 in
