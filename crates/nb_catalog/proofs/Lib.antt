@@ -10,3 +10,4 @@ pub mod ReadLaws
 pub mod ChainLaws
 pub mod TurnLemmas
 pub mod WholeLaws
+pub mod PlaceLaws

@@ -1,5 +1,5 @@
 -- A plan by what the files are read as.
-use Rattle.std.proofs.Common.{◌≡◌, ℕ, List, sym, ap, ◌∙◌}
+use Rattle.std.proofs.Common.{◌≡◌, ℕ, List, refl, sym, ap, ◌∙◌}
 use Rattle.std.specs.Prelude.{Result, Ok, Err}
 use Rattle.nb_host.specs.Files.{Files}
 use Rattle.nb_host.specs.declared.faults.Fault.{Fault}
@@ -9,7 +9,16 @@ use Rattle.nb_level.specs.declared.head.LevelHead.{LevelHead}
 use Rattle.nb_catalog.specs.Answers.{Says}
 use Rattle.nb_catalog.specs.Heads.{read_files}
 use Rattle.nb_catalog.specs.Plans.{Retention, plan_of}
+use Rattle.nb_catalog.specs.Chained.{IsSafe, KeepsChains}
 use Rattle.nb_catalog.specs.Turns.{planned}
+use Rattle.nb_catalog.proofs.ChainLaws.{points_chained}
+use Rattle.nb_catalog.proofs.KeptLaws.{is_safe}
+
+err_ok : (refusal : Refusal) (plan : Retention) → Err refusal ≡ Ok plan → ⊥
+err_ok refusal plan h = cc
+
+same_plan : (a b : Retention) → ◌≡◌ {A = Result Retention Refusal} (Ok a) (Ok b) → a ≡ b
+same_plan a b h = cc
 
 module _ (files : Files) (names : List (List ℕ)) (keep : ℕ) where
   by_heads : (r : Result (List LevelHead) Refusal) → read_files files names ≡ r → planned files names keep ≡ elim r [ Err refusal ↦ Err refusal | Ok heads ↦ Ok (plan_of heads keep) ]
@@ -23,3 +32,13 @@ module _ (files : Files) (names : List (List ℕ)) (keep : ℕ) where
   planned_fault (Refused r) is = by_heads (Err r) is
   planned_fault Device is = tt
   planned_fault Memory is = tt
+
+  -- what a plan keeps
+  pub keeps_chains : (plan : Retention) → planned files names keep ≡ Ok plan → KeepsChains files names keep plan
+  keeps_chains plan is = by (read_files files names) refl
+    where
+      by : (r : Result (List LevelHead) Refusal) → read_files files names ≡ r → KeepsChains files names keep plan
+      by (Err refusal) read = absurd (err_ok refusal plan (sym (by_heads (Err refusal) read) ∙ is))
+      by (Ok heads) read =
+          let safe : IsSafe heads keep plan = is_safe heads keep plan (same_plan plan (plan_of heads keep) (sym is ∙ by_heads (Ok heads) read)) in
+          record { heads = heads; read = read; chained = λ e kept. points_chained files names heads read e (safe.points e kept); safe = safe }

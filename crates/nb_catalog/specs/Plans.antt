@@ -1,6 +1,6 @@
 -- Which files of a catalogue the last restore points need.
-use Rattle.std.specs.Prelude.{ℕ, ◌+◌, Bool, ◌&&◌, ◌||◌, ◌==◌, not, nat_lt, List, [], ◌∷◌, Option, map, option_map, filter, count_by, is_some, unwrap_or, false}
-use Rattle.std.specs.List.{list_any}
+use Rattle.std.specs.Prelude.{ℕ, ◌+◌, ◌<◌, Bool, ◌&&◌, ◌||◌, ◌==◌, not, nat_lt, List, [], ◌∷◌, Option, map, option_map, filter, count_by, is_some, unwrap_or, false}
+use Rattle.std.specs.List.{AllByRecursion, list_any}
 use Rattle.nb_level.specs.declared.head.LevelHead.{LevelHead}
 use Rattle.nb_catalog.specs.Lines.{parents_of, line_at, is_among}
 use Rattle.nb_catalog.specs.declared.entry.Entry.{Entry}
@@ -61,6 +61,10 @@ dropped heads keep = places (filter (λ e. not (is_needed heads keep e)) (points
 abbrev pub orphans : List LevelHead → List ℕ
 orphans heads = places (filter (λ e. not (is_point heads e)) (entries_of heads))
 
+-- these are places of a list of that length
+abbrev pub ArePlaces : (count : ℕ) → (places : List ℕ) → Type 0
+ArePlaces count places = AllByRecursion (λ (place : ℕ). place < count) places
+
 -- how many files are needed, and the places of the others
 pub record Retention : Type 0 where
   pub kept : ℕ
@@ -69,3 +73,8 @@ pub record Retention : Type 0 where
 
 abbrev pub plan_of : List LevelHead → (keep : ℕ) → Retention
 plan_of heads keep = record { kept = count_by (is_needed heads keep) (entries_of heads); dropped = dropped heads keep; orphans = orphans heads }
+
+-- each place is one of a list of that length
+pub record IsWithin (count : ℕ) (plan : Retention) : Type 0 where
+  pub dropped : ArePlaces count plan.dropped
+  pub orphans : ArePlaces count plan.orphans

@@ -1,9 +1,12 @@
--- What a plan of a list of files says, and why it is refused.
-use Rattle.std.specs.Prelude.{ℕ, List, ◌∷◌, ◌++◌, length, map, Some, None, Result, Ok, Err, codes}
+-- The turn of a plan of backup files, and the list that names them.
+use Rattle.std.specs.Prelude.{ℕ, List, [], Some, None, Result, Ok, Err}
 use Rattle.nb_host.specs.Files.{File, Files}
 use Rattle.nb_host.specs.declared.refusals.Refusal.{Refusal}
 use Rattle.nb_host.specs.declared.refusals.Refusal.TheVariants.{NoFile}
-use Rattle.nb_model.specs.Lines.{Word, is, number, refusal_words}
+use Rattle.nb_model.specs.declared.reply.Reply.{Reply}
+use Rattle.nb_model.specs.declared.reply.Reply.TheVariants.{Planned}
+use Rattle.nb_model.specs.Jobs.{only_turn, only_refusal}
+use Rattle.nb_model.specs.Run.{Event}
 use Rattle.nb_catalog.specs.Heads.{read_files}
 use Rattle.nb_catalog.specs.Plans.{Retention, plan_of}
 use Rattle.nb_catalog.specs.Chained.{names_at}
@@ -18,20 +21,10 @@ abbrev pub names_in : (list : List ℕ) → File → Result (List (List ℕ)) Re
 names_in list None = Err (NoFile list)
 names_in list (Some bytes) = list_of bytes
 
-abbrev pub names_words : List (List ℕ) → List Word
-names_words names = map is names
+-- what a plan of these files says: how many are needed, and the names of those that are dropped and of the orphans
+abbrev pub plan_reply : (names : List (List ℕ)) → Retention → Reply
+plan_reply names plan = Planned plan.kept (names_at names plan.dropped) (names_at names plan.orphans)
 
--- `ok keep A drop B orphan C`, the names that are dropped, and those of the orphans
-abbrev pub plan_words : (names : List (List ℕ)) → Retention → List Word
-plan_words names plan = is (codes "ok") ∷ is (codes "keep") ∷ number plan.kept ∷ is (codes "drop") ∷ number (length plan.dropped) ∷ is (codes "orphan") ∷ number (length plan.orphans)
-    ∷ (names_words (names_at names plan.dropped) ++ names_words (names_at names plan.orphans))
-
-abbrev pub refused_words : Refusal → List Word
-refused_words refusal = is (codes "refused") ∷ refusal_words refusal
-
--- the session and the words of the one line that a plan says: a list that is refused is no session's
-unfoldable pub plan_turn : Files → (list : List ℕ) → (keep : ℕ) → ℕ × List Word
-plan_turn files list keep = elim (names_in list (files list)) [
-  | Err refusal ↦ (0, refused_words refusal)
-  | Ok names ↦ (1, elim (planned files names keep) [ Err refusal ↦ refused_words refusal | Ok plan ↦ plan_words names plan ])
-]
+-- the turn of the job: each file has to be there and whole, and nothing is changed
+unfoldable pub plan_turn : Files → (names : List (List ℕ)) → (keep : ℕ) → Event
+plan_turn files names keep = elim (planned files names keep) [ Err refusal ↦ only_refusal refusal | Ok plan ↦ only_turn (plan_reply names plan) [] ]

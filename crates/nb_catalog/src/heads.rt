@@ -1,7 +1,7 @@
 ghost use Rattle.std.specs.Prelude.{◌≡◌, ◌<◌, ◌^◌, ◌+◌, ◌++◌, [], ◌∷◌, length, OnOk, IfOk, IfErr};
 ghost use Rattle.nb_host.specs.declared.faults.Fault.TheVariants.{Memory};
 ghost use Rattle.nb_catalog.specs.Chained.{IsSafe};
-ghost use Rattle.nb_catalog.specs.Plans.{plan_of};
+ghost use Rattle.nb_catalog.specs.Plans.{IsWithin, plan_of};
 
 use crate::Plan;
 use crate::lines::parents;
@@ -52,7 +52,8 @@ impl Catalogue {
     pub fn plan(&self, keep: u32) -> Result<Plan, Fault>
         ensures exact { IfOk result (λ plan. plan ≡ plan_of self.now keep) }
         ensures whole { IfOk result (λ plan. plan.kept + length plan.dropped + length plan.orphans ≡ length self.now) }
-        ensures safe { IfOk result (λ plan. IsSafe self.now keep plan) }
+        ensures within { IfOk result (λ plan. IsWithin (length self.now) plan) }
+    ensures safe { IfOk result (λ plan. IsSafe self.now keep plan) }
         ensures only_memory { IfErr result (λ fault. fault ≡ Memory) }
     {
         let alloc = *self.heads.allocator();

@@ -1,4 +1,4 @@
-ghost use Rattle.std.specs.Prelude.{◌≡◌, ◌≤◌, ◌++◌, ℕ, [], ◌∷◌, length, is_some, IfSome, IfNone, IfOk, OnOk};
+ghost use Rattle.std.specs.Prelude.{◌≡◌, ◌≤◌, ℕ, length, is_some, IfSome, IfNone, IfOk};
 ghost use Rattle.std.specs.Str.{IsUtf8};
 ghost use Rattle.nb_host.specs.declared.faults.Fault.TheVariants.{Refused};
 ghost use Rattle.nb_host.specs.declared.refusals.Refusal.TheVariants.{BadScript};
@@ -9,59 +9,12 @@ ghost use Rattle.nb_catalog.specs.Answers.{Says};
 ghost use Rattle.nb_catalog.specs.NameLists.{names_on, list_of};
 
 use nb_host::{Fault, Name, Refusal};
+use nb_model::NameList;
 use nb_script::{Lines, MOST_BYTES};
-use std::alloc::{AllocError, Global};
-use std::marker::Model;
+use std::alloc::Global;
 
 /// How many names a list has at most.
 pub const MOST_NAMES: usize = 1000;
-
-/// Names of files, 1 to 1,000 of them.
-///
-/// Contracts see it as the list of the names.
-#[derive(Drop)]
-pub struct NameList {
-    names: Vec<Name>,
-}
-
-impl Model for NameList {
-    ghost use Rattle.std.specs.Prelude.{List, ℕ};
-
-    ghost Value = { List (List ℕ) };
-
-    ghost view = { λ l. l.names.items };
-}
-
-impl NameList {
-    fn new(alloc: Global) -> NameList
-        ensures { result ≡ [] }
-    {
-        NameList {
-            names: Vec::new(alloc),
-        }
-    }
-
-    fn len(&self) -> usize
-        ensures { result ≡ length self.now }
-    {
-        self.names.len()
-    }
-
-    /// One name more, the last of the list.
-    fn add(&mut self, name: Name) -> Result<(), AllocError>
-        ensures { OnOk result (self.new ≡ self.old ++ name ∷ []) }
-    {
-        self.names.push(name)?;
-        Ok(())
-    }
-
-    /// The names in their order.
-    pub fn names(&self) -> &[Name]
-        ensures { result.now ≡ self.now }
-    {
-        &self.names
-    }
-}
 
 fn as_text(bytes: &[u8]) -> Option<&str>
     ensures same { IfSome result (λ text. text.now ≡ bytes.now) }
@@ -103,7 +56,7 @@ fn names_on(alloc: Global, mut lines: Lines<'_>) -> Result<NameList, Fault>
         let Some(name) = name_on(line) else {
             return Err(bad(lines.passed()));
         };
-        names.add(name)?;
+        names.push(name)?;
     }
     Ok(names)
 }

@@ -3,6 +3,7 @@ ghost use Rattle.nb_page.specs.Quiet.{Quiet};
 ghost use Rattle.nb_level.specs.Answers.{CountsDevice};
 ghost use Rattle.nb_catalog.specs.Answers.{Says};
 ghost use Rattle.nb_catalog.specs.Chained.{KeepsChains};
+ghost use Rattle.nb_catalog.specs.Plans.{IsWithin};
 ghost use Rattle.nb_catalog.specs.Reads.{all_reads};
 ghost use Rattle.nb_catalog.specs.Turns.{planned};
 
@@ -22,6 +23,7 @@ pub fn plan_files<H: Host>(
 ) -> Result<Plan, Fault>
     requires few { length files.now < 2 ^ 32 }
     ensures answer { IsTrue H.tells → Says (planned (H.world host.old).files files.now keep) result }
+    ensures within { IfOk result (λ plan. IsWithin (length files.now) plan) }
     ensures chains { IsTrue H.tells → IfOk result (KeepsChains (H.world host.old).files files.now keep) }
     ensures reads { IsTrue H.tells → IfOk result (λ plan. (H.world host.new).reads ≤ (H.world host.old).reads + all_reads (H.world host.old).files files.now) }
     ensures quiet { Quiet (H.world host.old) (H.world host.new) }

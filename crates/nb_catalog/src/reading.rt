@@ -100,6 +100,7 @@ fn read_head<H: Host>(alloc: Global, host: &mut H, name: &Name) -> Result<LevelH
 pub fn catalogue<H: Host>(alloc: Global, host: &mut H, files: &[Name]) -> Result<Catalogue, Fault>
     requires few { length files.now < 2 ^ 32 }
     ensures answer { IsTrue H.tells → Says (read_files (H.world host.old).files files.now) result }
+    ensures each { IfOk result (λ heads. length heads ≡ length files.now) }
     ensures chained { IsTrue H.tells → IfOk result (λ heads. (e : Entry) → Contains (points heads) e → IsChained (H.world host.old).files files.now heads e) }
     ensures quiet { Quiet (H.world host.old) (H.world host.new) }
     ensures reads { IsTrue H.tells → IfOk result (λ heads. (H.world host.new).reads ≤ (H.world host.old).reads + all_reads (H.world host.old).files files.now) }

@@ -85,7 +85,8 @@ last_above : (p : ℕ) (rss : List (List Numbered)) → AllRise 0 rss → 104857
 last_above p [] rise high = refl
 last_above p (rs ∷ rss) rise high = ap (λ o. or_before o (page_of p rs)) (last_above p rss rise.1 high) ∙ none_above p 0 rs rise.0 high
 
-folded_page : (p : ℕ) (rss : List (List Numbered)) → AllRise 0 rss → page_of p (folded_pages rss) ≡ last_page p rss
+-- the page of a number in the fold is that of the last file that has it
+pub folded_page : (p : ℕ) (rss : List (List Numbered)) → AllRise 0 rss → page_of p (folded_pages rss) ≡ last_page p rss
 folded_page p rss rise = elim (leb_tells (suc p) 1048576) [
   | inl w ↦ folded_has 1048576 0 p rss (omega arith) (omega arith) (omega (arith, w.1))
   | inr w ↦ none_above p 0 (folded_pages rss) (folded_rises 1048576 0 rss (omega arith)) (omega (arith, w.1)) ∙ sym (last_above p rss rise (omega (arith, w.1)))

@@ -6,7 +6,6 @@ use Rattle.nb_host.specs.World.{World}
 use Rattle.nb_host.specs.Crash.{Leaves, LeavesAll}
 use Rattle.nb_host.specs.Moments.{IsTimely}
 use Rattle.nb_host.specs.declared.refusals.Refusal.{Refusal}
-use Rattle.nb_change.specs.Changes.{Only}
 use Rattle.nb_change.specs.Gave.{GaveNothing}
 use Rattle.nb_page.specs.Quiet.{Quiet}
 use Rattle.nb_page.proofs.QuietLemmas.{quiet_begun}
@@ -23,7 +22,7 @@ use Rattle.nb_top.specs.declared.status.Status.{Status}
 use Rattle.nb_top.specs.declared.status.Status.TheVariants.{Device, Memory}
 use Rattle.nb_top.specs.Goes.{Goes, IsRun}
 use Rattle.nb_top.specs.Numbers.{number_of}
-use Rattle.nb_top.specs.OneTurn.{one_turn}
+use Rattle.nb_top.specs.OneTurn.{OfName, OneTurn, one_turn}
 use Rattle.nb_top.specs.Performed.{GoesTo, KnowsAsked, RunsTo}
 use Rattle.nb_top.specs.Requests.{Request, ToRun, ToGenerate, Deed, Asked, Runs, Does}
 use Rattle.nb_top.specs.Served.{TurnsTo}
@@ -32,7 +31,8 @@ use Rattle.nb_top.proofs.JobRuns.{job_refused, performs_device, performs_ended, 
 use Rattle.nb_top.proofs.QuietRuns.{foretold_from, knows_quietly, quiet_gave, runs_quietly}
 use Rattle.nb_top.proofs.RequestLaws.{CanBeMet}
 use Rattle.nb_top.proofs.ScriptRuns.{runs_err}
-use Rattle.nb_top.proofs.TouchLaws.{only_err, only_refused, only_stopped, touches_then}
+use Rattle.nb_top.proofs.TouchLaws.{only_err, only_refused, only_stopped, touches_quietly, touches_then}
+use Rattle.nb_top.proofs.Turns.{turn_quietly}
 
 -- a run that begins with calls that change nothing
 pub goes_quietly : (tells : Bool) (old mid new : World) (asked : Result Request Refusal) (result : Result Status Stop) → Quiet old mid → Goes tells result mid new (Runs asked) → Goes tells result old new (Runs asked)
@@ -74,13 +74,29 @@ goes_refused tells old new asked refusal result is begun timely reads gave says 
 
 -- a job of one turn
 pub turn_goes : (tells : Bool) (old new : World) (deed : Deed) (result : Result Status Stop)
-    → ((account : Account) → IsTrue tells → (one_turn old.files deed).knows account → TurnsTo result old new (one_turn old.files deed) account) → (IsTrue tells → TouchesOnly result old new (Only (one_turn old.files deed).name))
+    → ((account : Account) → IsTrue tells → (one_turn old.files deed).knows account → TurnsTo result old new (one_turn old.files deed) account) → (IsTrue tells → TouchesOnly result old new (OfName (one_turn old.files deed).name))
     → Goes tells result old new (Does deed)
 turn_goes tells old new deed result turns touches = record {
   does = λ told. ([], λ account given knows may foretold. turns account told knows);
   grows = λ account told knows. grows_none old new (turns account told knows).gave;
   touches = λ told whole. touches told;
 }
+
+-- The files that a job of one turn reads are those that stood before calls that change nothing.
+pub goes_turn_quietly : (tells : Bool) (old mid new : World) (deed : Deed) (result : Result Status Stop) → Quiet old mid → Goes tells result mid new (Does deed) → Goes tells result old new (Does deed)
+goes_turn_quietly tells old mid new deed result quiet goes = record {
+  does = λ told. ((goes.does told).0, λ account given knows may foretold.
+      turn_quietly old mid new quiet (job old.files) account result
+      (subst (λ (f : Files). TurnsTo result mid new (job f) account) same ((goes.does told).1 account given (subst (λ (f : Files). (job f).knows account) (sym same) knows) may (foretold_from old mid new given _ (quiet_gave old mid quiet) foretold))));
+  grows = λ account told knows. grows_joined old mid new (grows_none old mid (quiet_gave old mid quiet)) (goes.grows account told (subst (λ (f : Files). (job f).knows account) (sym same) knows));
+  touches = λ told whole. touches_quietly old mid new (OfName (job old.files).name) result (leaves_quiet old mid (OfName (job old.files).name) quiet) (subst (λ (f : Files). TouchesOnly result mid new (OfName (job f).name)) same (goes.touches told whole));
+}
+  where
+    job : Files → OneTurn
+    job files = one_turn files deed
+
+    same : mid.files ≡ old.files
+    same = quiet.still.files
 
 -- What a run does that ends so.
 module _ (tells : Bool) (old new : World) (asked : Asked) (can : CanBeMet asked) (before : IsTrue tells → (name : List ℕ) → Leaves old name (old.files name)) (timely : IsTimely new) (reads : IsTrue tells → (name : List ℕ) → Leaves new name (new.files name)) where

@@ -27,10 +27,12 @@ use Rattle.nb_top.specs.Numbers.{number_of}
 use Rattle.nb_top.specs.Performed.{HasSmallScn, RunLeft, RunStands, RunsTo, GoesTo, KnowsAsked, Performs, PerformsRun, Finished, IsPerformed, IsSure, IsUndone, Knows, MayBeGiven, kept_after, target_of, first_event, refused_job}
 use Rattle.nb_top.specs.Standing.{HoldsKept, StandsFor}
 use Rattle.nb_top.specs.declared.telling.Telling.TheVariants.{All}
-use Rattle.nb_top.specs.Requests.{Request, ToRun, ToGenerate, Deed, ToRestore, ToFix, ToMerge, Asked, Runs, Does, request_asked, script_in, to_run}
+use Rattle.nb_top.specs.Requests.{Request, ToRun, ToGenerate, Deed, ToRestore, ToFix, ToMerge, ToFold, ToPlan, Asked, Runs, Does, request_asked, script_in, to_run}
 use Rattle.nb_top.specs.OneTurn.{DoesTurn, TurnEnded, leaves_all, one_turn}
 use Rattle.nb_top.specs.Served.{TurnsTo}
 use Rattle.nb_top.proofs.Fixed.{fix_sound}
+use Rattle.nb_top.proofs.FoldStands.{fold_sound}
+use Rattle.nb_top.proofs.Planned.{plan_sound}
 use Rattle.nb_top.proofs.Merged.{merge_sound}
 use Rattle.nb_top.proofs.GeneratedRuns.{generated_unbegun}
 use Rattle.nb_top.proofs.GeneratedSure.{generated_left, generated_end}
@@ -174,6 +176,8 @@ sound_deed : (old : World) (account : Account) (deed : Deed) → CanBeDone deed 
 sound_deed old account (ToRestore db names) can stands takes = restore_sound old account db names stands can.0 can.1 can.2 takes
 sound_deed old account (ToFix db) can stands takes = fix_sound old account db stands can takes
 sound_deed old account (ToMerge db name) can stands takes = merge_sound old account db name stands can.0 can.1 takes
+sound_deed old account (ToFold out names) can stands takes = fold_sound old account out names stands can.0 can.1 can.2 takes
+sound_deed old account (ToPlan keep names) can stands takes = plan_sound old account keep names
 
 -- What is done of what is asked for, by the status that ends it.
 module _ (old new : World) (account : Account) (given : Given) (sixteen : MayBeGiven given) (before : (name : List ℕ) → Leaves old name (old.files name)) (timely : IsTimely new) (reads : (name : List ℕ) → Leaves new name (new.files name)) where

@@ -10,7 +10,7 @@ use Rattle.nb_host.specs.declared.refusals.Refusal.{Refusal}
 use Rattle.nb_host.specs.declared.refusals.Refusal.TheVariants.{Usage}
 use Rattle.nb_page.specs.Free.{has_delta, is_free_name}
 use Rattle.nb_model.specs.declared.job.Job.{Job}
-use Rattle.nb_model.specs.declared.job.Job.TheVariants.{Run, Stat, Gen, Backup, BackupSince, Restore, Apply, Lock, LockWithSize, Unlock, Fixup}
+use Rattle.nb_model.specs.declared.job.Job.TheVariants.{Run, Stat, Gen, Backup, BackupSince, Restore, Apply, Lock, LockWithSize, Unlock, Fixup, Fold, Plan as PlanOf}
 use Rattle.nb_model.specs.declared.statement.Statement.{Statement}
 use Rattle.nb_model.specs.declared.statement.Statement.TheVariants.{OpenDb}
 use Rattle.nb_model.specs.Account.{Account}
@@ -20,10 +20,11 @@ use Rattle.nb_model.specs.Stands.{Stands, to_base}
 use Rattle.nb_model.specs.Words.{is_file, job_of}
 use Rattle.nb_model.proofs.GoingLaws.{name_short}
 use Rattle.nb_model.proofs.OpeningLaws.{free_entry}
+use Rattle.nb_catalog.specs.Turns.{names_in}
 use Rattle.nb_script.specs.Fits.{FitsFirst}
 use Rattle.nb_script.specs.Scripts.{Plan}
 use Rattle.nb_top.specs.Performed.{HoldsUnder, Knows, KnowsAsked, KnowsNames, KnowsOpened}
-use Rattle.nb_top.specs.Requests.{Asked, Runs, FitsJob, request_asked, request_of, script_in, to_run}
+use Rattle.nb_top.specs.Requests.{Asked, Runs, FitsJob, request_asked, request_of, script_in, to_plan, to_run}
 use Rattle.nb_top.specs.Worlds.{HaveNames}
 use Rattle.nb_top.proofs.FirstReady.{base_name}
 use Rattle.nb_top.proofs.RequestLaws.{askable_in, backup_askable, since_askable, begin_askable, end_askable, stat_askable, fits_words, plain_file}
@@ -66,6 +67,10 @@ module _ (files : Files) (names : HaveNames files) (account : Account) (stands :
   known_script name (Ok plan) is = known_first plan.first (askable_in name (files name) plan is).first.fits
   known_script name (Err refusal) is = tt
 
+  known_plan : (keep : ℕ) (names : Result (List (List ℕ)) Refusal) → KnowsAsked files account (to_plan keep names)
+  known_plan keep (Ok names) = tt
+  known_plan keep (Err refusal) = tt
+
   known_job : (job : Job) → FitsJob job → KnowsAsked files account (request_of files job)
   known_job (Run name) fits = known_script name (script_in name (files name)) refl
   known_job (Backup level db file) fits = known_first (OpenDb db usual_cache) (backup_askable level db file fits).first.fits
@@ -77,6 +82,8 @@ module _ (files : Files) (names : HaveNames files) (account : Account) (stands :
   known_job (Gen number name) fits = known_names
   known_job (Fixup db) fits = stands.same_image db (plain_file db (and_parts (is_file db) (nat_le (length db) 94) fits).0)
   known_job (Restore db names) fits = known_names db (plain_file db (and_parts (is_file db) (nat_le (length db) 94) fits.0).0)
+  known_job (Fold out names) fits = known_names out (plain_file out fits.0)
+  known_job (PlanOf keep list) fits = known_plan keep (names_in list (files list))
   known_job (Apply db file) fits = stands.same_image db (plain_file db (and_parts (is_file db) (nat_le (length db) 94) fits.0).0)
 
   pub known_asked : (words : List (List ℕ)) → KnowsAsked files account (request_asked files words)

@@ -45,3 +45,9 @@ pub mod MergeTurns
 pub mod Merged
 pub mod GoesLaws
 pub mod ShownLaws
+pub mod FoldTurns
+pub mod Folded
+pub mod FoldRecords
+pub mod FoldStands
+pub mod Planned
+pub mod Lists

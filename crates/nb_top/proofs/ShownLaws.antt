@@ -10,7 +10,7 @@ use Rattle.nb_session.specs.declared.stop.Stop.{Stop}
 use Rattle.nb_top.specs.declared.broken.Broken.{Broken}
 use Rattle.nb_top.specs.declared.status.Status.{Status}
 use Rattle.nb_top.specs.declared.status.Status.TheVariants.{Device, Memory}
-use Rattle.nb_top.specs.Requests.{Request, Deed, Asked, Runs, Does, to_run}
+use Rattle.nb_top.specs.Requests.{Request, Deed, Asked, Runs, Does, to_plan, to_run}
 use Rattle.nb_top.specs.Shown.{Names, BreaksAt, IfShown, IsShownOf, IsShown}
 
 -- it isn't refused for a line
@@ -23,6 +23,10 @@ run_unbroken r line h = cc
 pub deed_unbroken : (deed : Deed) → IsUnbroken (Does deed)
 deed_unbroken deed line h = cc
 
+-- a plan that is refused is refused for a line of its list or for another reason
+pub plan_unbroken : (keep : ℕ) (names : List (List ℕ)) → IsUnbroken (to_plan keep (Ok names))
+plan_unbroken keep names line h = cc
+
 -- nothing was noted
 pub unshown : (result : Result Status Stop) (broken : Option Broken) (asked : Asked) → broken ≡ None → IsUnbroken asked → IsShownOf result broken asked
 unshown (Ok status) broken asked none other = subst (λ (b : Option Broken). BreaksAt b asked) (sym none) other
@@ -33,7 +37,7 @@ pub unshown_early : (result : Result Status Stop) (broken : Option Broken) (aske
 unshown_early (Ok status) broken asked none failed = absurd (cc failed)
 unshown_early (Err e) broken asked none failed = subst (λ (b : Option Broken). IfShown b asked) (sym none) tt
 
-same_refusal : (r q : Refusal) → Runs (Err r) ≡ Runs (Err q) → r ≡ q
+pub same_refusal : (r q : Refusal) → Runs (Err r) ≡ Runs (Err q) → r ≡ q
 same_refusal r q h = cc
 
 -- what was noted is the line of the refusal

@@ -1,4 +1,4 @@
-// The line of a script that breaks its form, for a reader.
+// The line of a script, or of a list of names, that breaks its form, for a reader.
 ghost use Rattle.std.specs.Prelude.{IfOk};
 ghost use Rattle.nb_top.specs.Shown.{Names};
 
@@ -8,7 +8,7 @@ use std::alloc::{AllocError, Global};
 /// How many bytes of a line are shown at most.
 const MOST_SHOWN: usize = 200;
 
-/// A line that breaks the form of its script.
+/// A line that breaks the form of its file.
 #[derive(Drop)]
 pub struct Broken {
     /// Its number, from 1.
@@ -33,29 +33,30 @@ fn shown(alloc: Global, line: &[u8]) -> Result<String, AllocError> {
     Ok(text)
 }
 
-/// What is shown of the line of that number, from 1, of these bytes.
-fn text_of(alloc: Global, bytes: &[u8], line: u32) -> Result<String, AllocError> {
+/// What is shown of the line of that number, from 1, of these bytes, or what is wanted where they end before it.
+fn text_of(alloc: Global, bytes: &[u8], line: u32, wanted: &str) -> Result<String, AllocError> {
     match bytes
         .split(|byte| *byte == b'\n')
         .nth(line.saturating_sub(1) as usize)
     {
         Some(line) if !line.is_empty() => shown(alloc, line),
         // A line without bytes is skipped, so only one behind the last breaks the form.
-        _ => String::from_str(alloc, "there is no first statement"),
+        _ => String::from_str(alloc, wanted),
     }
 }
 
-/// The line that the refusal of a script of these bytes names, where it is refused for its form.
+/// The line that the refusal of these bytes names, where they are refused for their form. Where they end before it the text says what is `wanted`.
 pub(crate) fn broken_by(
     alloc: Global,
     bytes: &[u8],
     refusal: &Refusal,
+    wanted: &str,
 ) -> Result<Option<Broken>, AllocError>
     ensures { IfOk result (λ found. Names found refusal.now) }
 {
     match refusal {
         Refusal::BadScript { line } => {
-            let text = text_of(alloc, bytes, *line)?;
+            let text = text_of(alloc, bytes, *line, wanted)?;
             Ok(Some(Broken { line: *line, text }))
         }
         _ => Ok(None),

@@ -68,5 +68,5 @@ pub fn a_job_attaches()
 /// A job that neither attaches nor runs a script is a job of one turn, on its database.
 pub fn a_job_takes_its_turn()
     ensures { (files : Files) (job : Job) (name : List ℕ) (turn : Event) (account : Account) → turn_of files account job ≡ Some (name, turn)
-        → (deed : Deed) × (request_of files job ≡ Does deed) × ((one_turn files deed).name ≡ name) × ((one_turn files deed).turn account ≡ turn) }
+        → (deed : Deed) × (request_of files job ≡ Does deed) × ((one_turn files deed).name ≡ Some name) × ((one_turn files deed).turn account ≡ turn) }
 {}

@@ -1,5 +1,7 @@
 // A job, from the words to the last reply.
 ghost use Rattle.std.specs.Prelude.{◌≡◌, ◌≢◌, ◌⊎◌, [], ◌∷◌, None, Ok, Err, IsErr, map, string_bytes, IsTrue, IfOk};
+ghost use Rattle.nb_catalog.specs.NameLists.{list_of};
+ghost use Rattle.nb_catalog.specs.Turns.{names_in};
 ghost use Rattle.nb_host.specs.Causes.{Rose};
 ghost use Rattle.nb_host.specs.declared.refusals.Refusal.TheVariants.{Usage as UsageRefusal};
 ghost use Rattle.nb_change.specs.Gave.{GaveNothing};
@@ -12,7 +14,7 @@ ghost use Rattle.nb_script.specs.Scripts.{script_of};
 ghost use Rattle.nb_session.specs.Causes.{CountsStop};
 ghost use Rattle.nb_session.specs.Says.{SaysLine};
 ghost use Rattle.nb_top.specs.Goes.{Goes, IsRun};
-ghost use Rattle.nb_top.specs.Requests.{Asked, FitsJob, IsAskedBy, IsReadJob, NamesNone, Runs, ToRun, plan_of, request_asked, request_of, script_in, to_run};
+ghost use Rattle.nb_top.specs.Requests.{Asked, FitsJob, IsAskedBy, IsReadJob, NamesNone, Runs, ToRun, plan_of, request_asked, request_of, script_in, to_plan, to_run};
 ghost use Rattle.nb_top.specs.Shown.{IsShown, IsShownOf};
 
 use crate::Status;
@@ -22,7 +24,8 @@ use crate::reading::read_file;
 use crate::request::{script_asking, script_showing};
 use crate::script::{refuse, run_script, settled};
 use crate::telling::Telling;
-use crate::turn::run_turn;
+use crate::turn::{run_plan, run_turn};
+use nb_catalog::read_list;
 use nb_host::{Fault, Host, Name, Refusal};
 use nb_model::{Job, Statement};
 use nb_script::parse;
@@ -46,7 +49,7 @@ fn run_bytes<H: Host>(
     match settled(parse(alloc, bytes))? {
         Ok(script) => run_script(alloc, host, &script, Telling::All),
         Err(refusal) => {
-            *broken = broken_by(alloc, bytes, &refusal)?;
+            *broken = broken_by(alloc, bytes, &refusal, "there is no first statement")?;
             refuse(alloc, host, 0, refusal)
         }
     }
@@ -67,6 +70,49 @@ fn run_file<H: Host>(
 {
     match settled(read_file(alloc, host, name))? {
         Ok(bytes) => run_bytes(alloc, host, &bytes, broken),
+        Err(refusal) => refuse(alloc, host, 0, refusal),
+    }
+}
+
+/// Plans for the files that these bytes name. Where a line of them is no name, that is `broken` then.
+fn plan_bytes<H: Host>(
+    alloc: Global,
+    host: &mut H,
+    keep: u32,
+    bytes: &[u8],
+    broken: &mut Option<Broken>,
+) -> Result<Status, Stop>
+    requires { broken.old ≡ None }
+    ensures goes { Goes H.tells result (H.world host.old) (H.world host.new) (to_plan keep (list_of bytes.now)) }
+    ensures shown { IsShownOf result broken.new (to_plan keep (list_of bytes.now)) }
+    ensures done { IfOk result (λ status. (status ≡ Status.Done) ⊎ (status ≡ Status.Refused)) }
+    ensures cause { CountsStop result (H.faults host.old) (H.faults host.new) }
+{
+    match settled(read_list(alloc, bytes))? {
+        Ok(names) => run_plan(alloc, host, keep, names.as_slice()),
+        Err(refusal) => {
+            *broken = broken_by(alloc, bytes, &refusal, "there is no name")?;
+            refuse(alloc, host, 0, refusal)
+        }
+    }
+}
+
+/// Plans for the files of the list of that name. Where a line of it is no name, that is `broken` then.
+fn plan_list<H: Host>(
+    alloc: Global,
+    host: &mut H,
+    keep: u32,
+    list: &Name,
+    broken: &mut Option<Broken>,
+) -> Result<Status, Stop>
+    requires { broken.old ≡ None }
+    ensures goes { Goes H.tells result (H.world host.old) (H.world host.new) (to_plan keep (names_in list.now ((H.world host.old).files list.now))) }
+    ensures shown { IsTrue H.tells → IsShownOf result broken.new (to_plan keep (names_in list.now ((H.world host.old).files list.now))) }
+    ensures done { IfOk result (λ status. (status ≡ Status.Done) ⊎ (status ≡ Status.Refused)) }
+    ensures cause { CountsStop result (H.faults host.old) (H.faults host.new) }
+{
+    match settled(read_file(alloc, host, list))? {
+        Ok(bytes) => plan_bytes(alloc, host, keep, &bytes, broken),
         Err(refusal) => refuse(alloc, host, 0, refusal),
     }
 }
@@ -103,7 +149,7 @@ fn run_stat<H: Host>(alloc: Global, host: &mut H, db: &Name) -> Result<Status, S
     }
 }
 
-/// Does a job. Where it is a script and a line of it breaks its form, that is `broken` then.
+/// Does a job. Where it is a script or a plan and a line of its file breaks its form, that is `broken` then.
 fn run_job<H: Host>(
     alloc: Global,
     host: &mut H,
@@ -123,6 +169,8 @@ fn run_job<H: Host>(
         Job::Restore { .. } => run_turn(alloc, host, job),
         Job::Fixup { .. } => run_turn(alloc, host, job),
         Job::Apply { .. } => run_turn(alloc, host, job),
+        Job::Fold { .. } => run_turn(alloc, host, job),
+        Job::Plan { keep, list } => plan_list(alloc, host, *keep, list, broken),
         Job::Backup { level, db, file } => {
             let name = file.copied();
             run_asking(

@@ -33,10 +33,10 @@ loop-line-preserved c =
     let behind = left c.next.new.self.passed c.next.new.self.rest.now in
     let loop = c.loop-line.invariant in
     let room : length c.loop-line.names ≢ 1000 = λ full. c.if-len-eq-MOST_NAMES.false (c.len.ensures ∙ full) in
-    let added = c.in_ok-add.ensures ∙ ap (λ (name : Bytes). c.loop-line.names ++ name ∷ []) c.in-Some-name_on.ensures.same in
+    let added = c.in_ok-push.ensures.ok ∙ ap (λ (name : Bytes). c.loop-line.names ++ name ∷ []) c.in-Some-name_on.ensures.same in
     record {
-      so_far = names_more meant c.loop-line.names _ loop.so_far line behind c.in-Some.ensures.line loop.most room c.add.new.self (sym c.in-Some-name_on.ensures.exact) added;
-      most = names_few meant c.loop-line.names _ loop.so_far line behind c.in-Some.ensures.line loop.most room c.add.new.self added;
+      so_far = names_more meant c.loop-line.names _ loop.so_far line behind c.in-Some.ensures.line loop.most room c.push.new.self (sym c.in-Some-name_on.ensures.exact) added;
+      most = names_few meant c.loop-line.names _ loop.so_far line behind c.in-Some.ensures.line loop.most room c.push.new.self added;
     }
 
 pub returns-clause-exact : goal.returns-clause-exact

@@ -4,7 +4,7 @@ use Rattle.nb_model.specs.declared.statement.Statement.TheVariants.{Backup, Back
 use Rattle.nb_script.specs.Asked.{IsAskable}
 use Rattle.nb_top.specs.declared.telling.Telling.TheVariants.{Quietly}
 use Rattle.nb_top.specs.Goes.{Goes}
-use Rattle.nb_top.specs.Requests.{FitsJob, Runs, ToRun, ToRestore, ToFix, ToMerge, deed_of, plan_of, request_of}
+use Rattle.nb_top.specs.Requests.{FitsJob, Runs, ToRun, ToRestore, ToFix, ToMerge, ToFold, deed_of, plan_of, request_of}
 use Rattle.nb_top.specs.Shown.{IsShownOf}
 use Rattle.nb_top.proofs.RequestLaws.{backup_askable, since_askable}
 use Rattle.nb_top.proofs.ShownLaws.{deed_unbroken, run_unbroken, unshown}
@@ -32,6 +32,9 @@ run_turn-requires-in-Fixup g c = record { deed = (ToFix c.in-Fixup.db, ap deed_o
 
 pub run_turn-requires-in-Apply : goal.run_turn-requires-in-Apply
 run_turn-requires-in-Apply g c = record { deed = (ToMerge c.in-Apply.db c.in-Apply.file, ap deed_of c.in-Apply.is); fits = c.requires.fits }
+
+pub run_turn-requires-in-Fold : goal.run_turn-requires-in-Fold
+run_turn-requires-in-Fold g c = record { deed = (ToFold c.in-Fold.out c.in-Fold.files, ap deed_of c.in-Fold.is); fits = c.requires.fits }
 
 pub returns-in-Run-clause-goes : goal.returns-in-Run-clause-goes
 returns-in-Run-clause-goes g c =
@@ -174,3 +177,28 @@ returns-in-Apply-clause-shown g c tells =
     let old = g.H.Host.world c.args.host.now in
     subst (λ job. IsShownOf c.run_turn-in-Apply.result c.args.broken.now (request_of old.files job)) (sym c.in-Apply.is)
     (unshown c.run_turn-in-Apply.result c.args.broken.now _ c.requires.none (deed_unbroken _))
+
+pub returns-in-Fold-clause-goes : goal.returns-in-Fold-clause-goes
+returns-in-Fold-clause-goes g c =
+    let old = g.H.Host.world c.args.host.now in
+    let new = g.H.Host.world c.run_turn-in-Fold.new.host in
+    subst (λ job. Goes g.H.Host.tells c.run_turn-in-Fold.result old new (request_of old.files job)) (sym c.in-Fold.is)
+    (c.run_turn-in-Fold.ensures.goes (ToFold c.in-Fold.out c.in-Fold.files) (ap deed_of c.in-Fold.is))
+
+pub returns-in-Fold-clause-shown : goal.returns-in-Fold-clause-shown
+returns-in-Fold-clause-shown g c tells =
+    let old = g.H.Host.world c.args.host.now in
+    subst (λ job. IsShownOf c.run_turn-in-Fold.result c.args.broken.now (request_of old.files job)) (sym c.in-Fold.is)
+    (unshown c.run_turn-in-Fold.result c.args.broken.now _ c.requires.none (deed_unbroken _))
+
+pub returns-in-Plan-clause-goes : goal.returns-in-Plan-clause-goes
+returns-in-Plan-clause-goes g c =
+    let old = g.H.Host.world c.args.host.now in
+    let new = g.H.Host.world c.plan_list.new.host in
+    subst (λ job. Goes g.H.Host.tells c.plan_list.result old new (request_of old.files job)) (sym c.in-Plan.is)
+    c.plan_list.ensures.goes
+
+pub returns-in-Plan-clause-shown : goal.returns-in-Plan-clause-shown
+returns-in-Plan-clause-shown g c tells =
+    let old = g.H.Host.world c.args.host.now in
+    subst (λ job. IsShownOf c.plan_list.result c.plan_list.new.broken (request_of old.files job)) (sym c.in-Plan.is) (c.plan_list.ensures.shown tells)

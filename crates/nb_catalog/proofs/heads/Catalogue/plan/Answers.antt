@@ -3,6 +3,7 @@ use Rattle.nb_catalog.specs.Lines.{parents_of}
 use Rattle.nb_catalog.specs.Plans.{entries_of}
 use Rattle.nb_catalog.proofs.EntryLemmas.{length-entries}
 use Rattle.nb_catalog.proofs.KeptLaws.{is_safe}
+use Rattle.nb_catalog.proofs.PlaceLaws.{plan_within}
 use Rattle.nb_catalog.proofs.WholeLaws.{plan_whole}
 use Rattle.nb_catalog.proofs.heads.Catalogue.plan.Goals as goal
 
@@ -19,5 +20,10 @@ returns-clause-safe c = is_safe c.args.self.now c.args.keep _ (
 
 pub returns-clause-whole : goal.returns-clause-whole
 returns-clause-whole c = plan_whole c.args.self.now c.args.keep _ (
+    c.in_ok-plan.ensures c.args.self.now (c.deref-3.ensures.value ∙ c.in_ok-parents.ensures ∙ ap parents_of (c.deref.ensures.value ∙ c.self.view_is))
+    (c.deref-4.ensures.value ∙ c.in_ok-entries.ensures ∙ ap entries_of (c.deref-2.ensures.value ∙ c.self.view_is)))
+
+pub returns-clause-within : goal.returns-clause-within
+returns-clause-within c = plan_within c.args.self.now c.args.keep _ (
     c.in_ok-plan.ensures c.args.self.now (c.deref-3.ensures.value ∙ c.in_ok-parents.ensures ∙ ap parents_of (c.deref.ensures.value ∙ c.self.view_is))
     (c.deref-4.ensures.value ∙ c.in_ok-entries.ensures ∙ ap entries_of (c.deref-2.ensures.value ∙ c.self.view_is)))
