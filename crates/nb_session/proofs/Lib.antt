@@ -32,3 +32,4 @@ pub mod WholeLaws
 pub mod SceneStays
 pub mod OutLaws
 pub mod HeaderLaws
+pub mod ByTurnsLaws
