@@ -33,3 +33,4 @@ pub mod SceneStays
 pub mod OutLaws
 pub mod HeaderLaws
 pub mod ByTurnsLaws
+pub mod GuidsTaken
