@@ -1,6 +1,6 @@
 -- What turns taken one by one leave of the files.
 use Rattle.std.proofs.Common.{◌≡◌, inl, inr, ℕ, List, [], ◌∷◌, ◌++◌, sym, ap, subst, ◌∙◌}
-use Rattle.std.specs.Prelude.{Bool, Result, Ok, Err, Contains}
+use Rattle.std.specs.Prelude.{Bool, false, Result, Ok, Err, Contains}
 use Rattle.nb_host.specs.World.{World}
 use Rattle.nb_host.specs.Crash.{LeavesAll}
 use Rattle.nb_host.specs.Moments.{IsTimely}
@@ -66,18 +66,20 @@ module _ {H : Type 0} (world : H → World) (timely : (h : H) → IsTimely (worl
     turns_by order taken.0 new taken.1 after (after_steps t (steps_of (one_turn x now).0)) (one_turn x now).1 taken.2.plays.done.ready.named taken.3,
   )
 
+  -- what waits is written out
+  out_leaves : (result : Result Bool Stop) (old new : H) (before after : Held) (t : Trail) (now : Now) → name_of before ≡ now.name → Plays result (world old) (world new) before after t now ([], now) []
+      → LeavesOthers (world old) (world new) (OfFiles now.name)
+  out_leaves result old new before after t now named plays =
+      subst (λ (n : List ℕ). LeavesOthers (world old) (world new) (OfFiles n)) named
+      (leaves_among (world old) (world new) (Touched (name_of before) []) (OfFiles (name_of before)) (none_touched (name_of before))
+      (plays_leave result (world old) (world new) before after t now ([], now) [] (timely new) (reads new) plays))
+
   -- the last thing that is done
   last_leaves : (result : Result Bool Stop) (rest : List ℕ) (old new : H) (before after : Held) (t : Trail) (now : Now) → name_of before ≡ now.name → EndsBy result how rest (world old) (world new) before after t now
       → LeavesOthers (world old) (world new) (OfLast rest now)
-  last_leaves (Ok refused) [] old new before after t now named plays = leaves_out (Ok false) plays
-    where
-      leaves_out : (r : Result Bool Stop) → Plays r (world old) (world new) before after t now ([], now) [] → LeavesOthers (world old) (world new) (OfFiles now.name)
-      leaves_out r out = subst (λ (n : List ℕ). LeavesOthers (world old) (world new) (OfFiles n)) named
-          (leaves_among (world old) (world new) (Touched (name_of before) []) (OfFiles (name_of before)) (none_touched (name_of before)) (plays_leave r (world old) (world new) before after t now ([], now) [] (timely new) (reads new) out))
+  last_leaves (Ok refused) [] old new before after t now named plays = out_leaves (Ok false) old new before after t now named plays
   last_leaves (Ok refused) (x ∷ rest) old new before after t now named plays = absurd plays
-  last_leaves (Err stop) [] old new before after t now named plays =
-      subst (λ (n : List ℕ). LeavesOthers (world old) (world new) (OfFiles n)) named
-      (leaves_among (world old) (world new) (Touched (name_of before) []) (OfFiles (name_of before)) (none_touched (name_of before)) (plays_leave (Err stop) (world old) (world new) before after t now ([], now) [] (timely new) (reads new) plays))
+  last_leaves (Err stop) [] old new before after t now named plays = out_leaves (Err stop) old new before after t now named plays
   last_leaves (Err stop) (x ∷ rest) old new before after t now named plays =
       subst (λ (n : List ℕ). LeavesOthers (world old) (world new) (Touched n (touching_by x now))) named
       (plays_leave (Err stop) (world old) (world new) before after t now (told_turns how (one_turn x now)) (touching_by x now) (timely new) (reads new) plays)

@@ -6,3 +6,4 @@ pub mod Served
 pub mod Performed
 pub mod Worlds
 pub mod Touched
+pub mod ByTurns
