@@ -151,18 +151,18 @@ none_left told (session ∷ rest) old mid new a b c t now refused result last go
 
 -- and behind all turns of a script
 -- what stood at a failure stands where it is passed on
-pub whole_passed : {H : Type 0} (world : H → World) (old new : H) (before after : Held) (t : Trail) (told : Told) (now : Now) (schedule : List ℕ) {e : Stop} (result : Result Bool Stop) → IsErr result
+pub whole_passed : {H : Type 0} (world : H → World) (old new : H) (before after : Held) (t : Trail) (told : Told) (now : Now) (schedule : List ℕ) (e : Stop) (result : Result Bool Stop) → IsErr result
     → PlaysInTurn world (Err e) old new before after t told now schedule → PlaysInTurn world result old new before after t told now schedule
-whole_passed world old new before after t told now schedule (Ok refused) is w = absurd (no_err is)
+whole_passed world old new before after t told now schedule e (Ok refused) is w = absurd (no_err is)
   where
     no_err : IsErr {T = Bool} {E = Stop} (Ok refused) → ⊥
     no_err h = cc
-whole_passed world old new before after t told now schedule (Err f) is w =
+whole_passed world old new before after t told now schedule e (Err f) is w =
     let order : List ℕ = schedule ++ rounds w.whole.how_often in
     record {
       whole = record {
         how_often = w.whole.how_often;
-        plays = plays_other (world old) (world new) before after t now (told_turns told (play order now)) (files_made (play order now).0) _ f w.whole.plays;
+        plays = plays_other (world old) (world new) before after t now (told_turns told (play order now)) (files_made (play order now).0) e f w.whole.plays;
         finished = w.whole.finished;
       };
       in_turn = record {
@@ -172,7 +172,7 @@ whole_passed world old new before after t told now schedule (Err f) is w =
         mid = w.in_turn.mid;
         between = w.in_turn.between;
         taken = w.in_turn.taken;
-        last = ends_other told w.in_turn.rest (world w.in_turn.mid) (world new) w.in_turn.between after (after_steps t (steps_of (play w.in_turn.front now).0)) (play w.in_turn.front now).1 _ f w.in_turn.last;
+        last = ends_other told w.in_turn.rest (world w.in_turn.mid) (world new) w.in_turn.between after (after_steps t (steps_of (play w.in_turn.front now).0)) (play w.in_turn.front now).1 e f w.in_turn.last;
       };
     }
 

@@ -9,7 +9,7 @@ returns-in_err-refused-clause-plays g c tells =
     let played = c.in_err-refused.ensures.plays tells in (
       played.0,
       λ now t ready begins making foretold.
-          whole_passed g.H.Host.world c.args.host.now c.play.new.host c.args.engine.now c.play.new.engine t c.args.told now c.args.script.now.schedule c.from_residual.result c.from_residual.ensures.0
+          whole_passed g.H.Host.world c.args.host.now c.play.new.host c.args.engine.now c.play.new.engine t c.args.told now c.args.script.now.schedule _ c.from_residual.result c.from_residual.ensures.0
           (played.1 now t ready begins making foretold),
     )
 
