@@ -9,4 +9,4 @@ unfolding spaced
 loop-name-init c = sym (append-nil c.args.line.now.items)
 
 pub loop-name-preserved : goal.loop-name-preserved
-loop-name-preserved c = one_name_more c.args.names.now c.loop-name.name-index _ c.args.line.now.items c.loop-name.line.items c.push_words.new.line.items (omega arith) c.loop-name.invariant c.in_ok-push_words.ensures
+loop-name-preserved c = one_name_more c.args.names.now c.loop-name.name-index c.name-item.result c.args.line.now.items c.loop-name.line.items c.push_words.new.line.items (omega arith) c.name-item.is c.loop-name.invariant c.in_ok-push_words.ensures
