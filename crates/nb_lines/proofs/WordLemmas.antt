@@ -42,10 +42,10 @@ one_row_more rows i row start here next low at so_far put =
     row_words-append (r ∷ a) b = ap (λ (ws : List Word). number r.0 ∷ quoted r.1 ∷ ws) (row_words-append a b)
 
 -- one name more
-pub one_name_more : (names : List (List ℕ)) (i : ℕ) (name start here next : List ℕ) → i < length names → name ≡ get_or names i name → here ≡ start ++ spaced (name_words (take i names)) → next ≡ here ++ spaced (is name ∷ []) → next ≡ start ++ spaced (name_words (take (i + 1) names))
-one_name_more names i name start here next low at so_far put =
-    words_then (name_words (take i names)) (is name ∷ []) start here next so_far put
-    ∙ ap (λ (ws : List Word). start ++ spaced ws) (ap (λ (n : List ℕ). name_words (take i names) ++ is n ∷ []) at ∙ sym (ap name_words (take_more names i name low) ∙ map-append is (take i names) (get_or names i name ∷ [])))
+pub one_name_more : (names : List (List ℕ)) (i : ℕ) (name start here next : List ℕ) → i < length names → here ≡ start ++ spaced (name_words (take i names)) → next ≡ here ++ spaced (is (get_or names i name) ∷ []) → next ≡ start ++ spaced (name_words (take (i + 1) names))
+one_name_more names i name start here next low so_far put =
+    words_then (name_words (take i names)) (is (get_or names i name) ∷ []) start here next so_far put
+    ∙ ap (λ (ws : List Word). start ++ spaced ws) (sym (ap name_words (take_more names i name low) ∙ map-append is (take i names) (get_or names i name ∷ [])))
 
 -- numbers, and then two lists of names
 pub plan_said : (front dropped orphans : List Word) (start first second end : List ℕ) → first ≡ start ++ spaced front → second ≡ first ++ spaced dropped → end ≡ second ++ spaced orphans → end ≡ start ++ spaced (front ++ (dropped ++ orphans))
