@@ -43,7 +43,7 @@ module _ (files : Files) (names : List (List ℕ)) (keep : ℕ) where
       by (Err refusal) read = absurd (err_ok refusal plan (sym (by_heads (Err refusal) read) ∙ is))
       by (Ok heads) read =
           let safe : IsSafe heads keep plan = is_safe heads keep plan (same_plan plan (plan_of heads keep) (sym is ∙ by_heads (Ok heads) read)) in
-          record { heads = heads; read = read; chained = λ e kept. points_chained files names heads read e (safe.points e kept); safe = safe; files = keeps_files files names heads keep plan read (same_plan plan (plan_of heads keep) (sym is ∙ by_heads (Ok heads) read)) }
+          record { heads = heads; read = read; chained = λ e kept. points_chained files names heads read e (safe.points e kept); safe = safe; by_name = keeps_files files names heads keep plan read (same_plan plan (plan_of heads keep) (sym is ∙ by_heads (Ok heads) read)) }
 
   -- so no file of a kept line by its name, where no name stands twice
   pub keeps_listed : (heads : List LevelHead) (plan : Retention) → planned files names keep ≡ Ok plan → read_files files names ≡ Ok heads → AreDistinct names → KeepsFiles names heads keep plan

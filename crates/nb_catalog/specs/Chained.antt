@@ -37,4 +37,4 @@ pub record KeepsChains (files : Files) (names : List (List ℕ)) (keep : ℕ) (p
   pub read : read_files files names ≡ Ok heads
   pub chained : (e : Entry) → Contains (kept heads keep) e → IsChained files names heads e
   pub safe : IsSafe heads keep plan
-  pub files : AreDistinct names → KeepsFiles names heads keep plan
+  pub by_name : AreDistinct names → KeepsFiles names heads keep plan

@@ -126,6 +126,11 @@ begins page (r ∷ rs) rise there = elim (eqb_tells r.0 0) [
 
 -- ---- the fold is read
 
+-- page 0 is told by the size, the GUID and the SCN
+of_first : (c : Contents) (cs : List Contents) (page : Page) → is_first_page (record (last_head (c ∷ cs)) { size = c.head.size }) page ≡ true → is_first_page (folded_head (c ∷ cs)) page ≡ true
+unfolding is_first_page
+of_first c cs page is = is
+
 read_of : (c : Contents) (cs : List Contents) → AllHave (c ∷ cs) → AreOf c.head.size (c ∷ cs) → AreRising 0 (folded_pages (pages_of_each (c ∷ cs))) → page_of 0 (folded_pages (pages_of_each (c ∷ cs))) ≡ last_page 0 (pages_of_each (c ∷ cs))
     → c.head.previous_scn < (last_head (c ∷ cs)).scn → read_level (bytes_for (folded (c ∷ cs))) ≡ Ok (folded (c ∷ cs))
 unfolding folded
@@ -152,11 +157,10 @@ read_of c cs have same rise zero_is later =
       sizes = subst (AreOfSize h.size) begin.is sizes;
     })
     ∙ ap (λ (rs : List Numbered). Ok (record { version = 102; head = h; pages = rs })) (sym begin.is)
-  where
-    -- the first page is told by the size, the GUID and the SCN
-    of_first : (c : Contents) (cs : List Contents) (page : Page) → is_first_page (record (last_head (c ∷ cs)) { size = c.head.size }) page ≡ true → is_first_page (folded_head (c ∷ cs)) page ≡ true
-    unfolding is_first_page
-    of_first c cs page is = is
+
+same : (c : Contents) (cs : List Contents) → AreOf (folded (c ∷ cs)).head.size (c ∷ cs) → AreOf c.head.size (c ∷ cs)
+unfolding folded
+same c cs are = are
 
 pub fold_read : (files : Files) (name : List ℕ) (names : List (List ℕ)) (cs : List Contents) → chained files (name ∷ names) ≡ Ok cs → read_level (bytes_for (folded cs)) ≡ Ok (folded cs)
 fold_read files name names cs e =
@@ -168,10 +172,6 @@ fold_read files name names cs e =
     subst (λ (x : List Contents). read_level (bytes_for (folded x)) ≡ Ok (folded x)) (sym are.all)
     (read_of are.first are.rest have (same are.first are.rest (sizes_alike files (name ∷ names) (are.first ∷ are.rest) all)) (folded_rises 1048576 0 (pages_of_each (are.first ∷ are.rest)) (omega arith))
     (folded_page 0 (pages_of_each (are.first ∷ are.rest)) rise) (let low = have.0.later in omega (arith, low, later)))
-  where
-    same : (c : Contents) (cs : List Contents) → AreOf (folded (c ∷ cs)).head.size (c ∷ cs) → AreOf c.head.size (c ∷ cs)
-    unfolding folded
-    same c cs are = are
 
 -- ---- what goes on from a link
 
@@ -278,8 +278,8 @@ alike_more cs l (Ok ls) (Err r) is = absurd is
 alike_more cs l (Err r) (Ok ms) is = absurd is
 alike_more cs l (Err r) (Err q) is = tt
 
-alike_are : (cs : List Contents) (many one as bs : Result (List Link) Refusal) → many ≡ as → one ≡ bs → Alike cs as bs → Alike cs many one
-alike_are cs many one as bs e f is = subst (λ (x : Result (List Link) Refusal). Alike cs x one) (sym e) (subst (λ (x : Result (List Link) Refusal). Alike cs as x) (sym f) is)
+alike_are : (cs : List Contents) (many one xs ys : Result (List Link) Refusal) → many ≡ xs → one ≡ ys → Alike cs xs ys → Alike cs many one
+alike_are cs many one xs ys e f is = subst (λ (x : Result (List Link) Refusal). Alike cs x one) (sym e) (subst (λ (x : Result (List Link) Refusal). Alike cs xs x) (sym f) is)
 
 module _ (files : Files) (name : List ℕ) (names : List (List ℕ)) (out : List ℕ) (cs : List Contents) (fold : IsFoldOf files name names out cs) where
   are : AreNextFiles files None name names cs
@@ -353,18 +353,20 @@ module _ (files : Files) (name : List ℕ) (names : List (List ℕ)) (out : List
 
   links_alike : (before : List (List ℕ)) (k : ℕ) (last : Link) → Alike cs (next_links files k last (before ++ name ∷ names)) (next_links files k last (before ++ out ∷ []))
   links_alike [] k last = ends_alike k last
-  links_alike (b ∷ bs) k last = by (files b) refl
+  links_alike (b ∷ bs) k last = by (files b) refl (λ l. links_alike bs (k + 1) l)
     where
-      by_link : (bytes : List ℕ) → files b ≡ Some bytes → (r : Result Link Refusal) → next_link k last b bytes ≡ r → Alike cs (next_links files k last (b ∷ bs ++ name ∷ names)) (next_links files k last (b ∷ bs ++ out ∷ []))
-      by_link bytes there (Err r) is =
+      by_link : (bytes : List ℕ) → files b ≡ Some bytes → (r : Result Link Refusal) → next_link k last b bytes ≡ r → ((l : Link) → Alike cs (next_links files (k + 1) l (bs ++ name ∷ names)) (next_links files (k + 1) l (bs ++ out ∷ [])))
+          → Alike cs (next_links files k last (b ∷ bs ++ name ∷ names)) (next_links files k last (b ∷ bs ++ out ∷ []))
+      by_link bytes there (Err r) is further =
           alike_are cs _ _ (Err r) (Err r) (next_broken files k last b (bs ++ name ∷ names) bytes r there is) (next_broken files k last b (bs ++ out ∷ []) bytes r there is) tt
-      by_link bytes there (Ok l) is =
+      by_link bytes there (Ok l) is further =
           alike_are cs _ _ (linked l (next_links files (k + 1) l (bs ++ name ∷ names))) (linked l (next_links files (k + 1) l (bs ++ out ∷ []))) (next_there files k last b (bs ++ name ∷ names) bytes l there is)
-          (next_there files k last b (bs ++ out ∷ []) bytes l there is) (alike_more cs l _ _ (links_alike bs (k + 1) l))
+          (next_there files k last b (bs ++ out ∷ []) bytes l there is) (alike_more cs l _ _ (further l))
 
-      by : (file : File) → files b ≡ file → Alike cs (next_links files k last (b ∷ bs ++ name ∷ names)) (next_links files k last (b ∷ bs ++ out ∷ []))
-      by None is = alike_are cs _ _ (Err (NoFile b)) (Err (NoFile b)) (next_missing files k last b (bs ++ name ∷ names) is) (next_missing files k last b (bs ++ out ∷ []) is) tt
-      by (Some bytes) is = by_link bytes is (next_link k last b bytes) refl
+      by : (file : File) → files b ≡ file → ((l : Link) → Alike cs (next_links files (k + 1) l (bs ++ name ∷ names)) (next_links files (k + 1) l (bs ++ out ∷ [])))
+          → Alike cs (next_links files k last (b ∷ bs ++ name ∷ names)) (next_links files k last (b ∷ bs ++ out ∷ []))
+      by None is further = alike_are cs _ _ (Err (NoFile b)) (Err (NoFile b)) (next_missing files k last b (bs ++ name ∷ names) is) (next_missing files k last b (bs ++ out ∷ []) is) tt
+      by (Some bytes) is further = by_link bytes is (next_link k last b bytes) refl further
 
   verdicts_alike : (before : List (List ℕ)) → Alike cs (verdict files (before ++ name ∷ names)) (verdict files (before ++ out ∷ []))
   verdicts_alike [] =

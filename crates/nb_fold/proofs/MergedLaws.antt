@@ -114,7 +114,7 @@ merged_over size c (d ∷ ds) image have of named sizes =
     let rise = all_rise (d ∷ ds) have.1 in
     merged_over size d ds (merged c.pages image) have.1 of.1 step.size_is step.sizes
     ∙ ap as_standby (trimmed_alike size (over_each size (pages_of_each (d ∷ ds)) (merged c.pages image)) (over_each size (pages_of_each (d ∷ ds)) (overwritten size c.pages image)) (λ p.
-      page_each size (pages_of_each (d ∷ ds)) (merged c.pages image) p rise ∙ alike step p ∙ sym (page_each size (pages_of_each (d ∷ ds)) (overwritten size c.pages image) p rise)))
+    page_each size (pages_of_each (d ∷ ds)) (merged c.pages image) p rise ∙ alike step p ∙ sym (page_each size (pages_of_each (d ∷ ds)) (overwritten size c.pages image) p rise)))
   where
     alike : IsOne size c image → (p : ℕ) → seen (last_page p (pages_of_each (d ∷ ds))) (main_page size (merged c.pages image) p) ≡ seen (last_page p (pages_of_each (d ∷ ds))) (main_page size (overwritten size c.pages image) p)
     alike step zero =

@@ -1,4 +1,4 @@
-use Rattle.std.proofs.Common.{◌≢◌, ℕ, [], ◌∷◌, ◌++◌, length, ap, sym, ◌∙◌}
+use Rattle.std.proofs.Common.{◌≢◌, ℕ, List, [], ◌∷◌, ◌++◌, length, ap, sym, ◌∙◌}
 use Rattle.std.specs.Prelude.{Err}
 use Rattle.nb_host.specs.declared.refusals.Refusal.TheVariants.{BadScript}
 use Rattle.nb_script.specs.Words.{Bytes}
@@ -23,7 +23,7 @@ returns-in_default-next_name-clause-exact c =
     let line : Numbered = (c.next.new.self.passed, c.in-Some.line.now) in
     let loop = c.loop-line.invariant in
     refused meant c.bad-in_default-next_name.result (BadScript c.passed-in_default-next_name.result) c.bad-in_default-next_name.ensures
-    (names_bad meant c.loop-line.names _ loop.so_far line (left c.next.new.self.passed c.next.new.self.rest.now) c.in-Some.ensures.line loop.most (λ full. c.if-len-eq-MOST_NAMES.false (c.len.ensures ∙ full)) (sym c.in_default-next_name.ensures.exact)
+    (names_bad meant c.loop-line.names _ loop.so_far line (left c.next.new.self.passed c.next.new.self.rest.now) c.in-Some.ensures.line loop.most (λ full. c.if-len-eq-MOST_NAMES.false (c.len.ensures ∙ full)) (ap (λ (ns : List Bytes). is_next ns c.in-Some.line.now) (sym c.as_slice.ensures) ∙ sym c.in_default-next_name.ensures.exact)
     ∙ ap (λ (n : ℕ). Err (BadScript n)) (sym c.passed-in_default-next_name.ensures))
 
 pub loop-line-preserved : goal.loop-line-preserved
@@ -35,7 +35,7 @@ loop-line-preserved c =
     let room : length c.loop-line.names ≢ 1000 = λ full. c.if-len-eq-MOST_NAMES.false (c.len.ensures ∙ full) in
     let added = c.in_ok-push.ensures.ok ∙ ap (λ (name : Bytes). c.loop-line.names ++ name ∷ []) c.in-Some-next_name.ensures.same in
     record {
-      so_far = names_more meant c.loop-line.names _ loop.so_far line behind c.in-Some.ensures.line loop.most room c.push.new.self (sym c.in-Some-next_name.ensures.exact) added;
+      so_far = names_more meant c.loop-line.names _ loop.so_far line behind c.in-Some.ensures.line loop.most room c.push.new.self (ap (λ (ns : List Bytes). is_next ns c.in-Some.line.now) (sym c.as_slice.ensures) ∙ sym c.in-Some-next_name.ensures.exact) added;
       most = names_few meant c.loop-line.names _ loop.so_far line behind c.in-Some.ensures.line loop.most room c.push.new.self added;
     }
 

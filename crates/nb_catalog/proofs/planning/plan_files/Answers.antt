@@ -26,5 +26,5 @@ returns-clause-chains g c tells =
       read = c.in_ok-catalogue.ensures.answer tells;
       chained = λ e kept. c.in_ok-catalogue.ensures.chained tells e (safe.points e kept);
       safe = safe;
-      files = keeps_files (g.H.Host.world c.args.host.now).files c.args.files.now c.in_ok-catalogue.catalogue c.args.keep c.in_ok-plan.plan (c.in_ok-catalogue.ensures.answer tells) c.in_ok-plan.ensures.exact;
+      by_name = keeps_files (g.H.Host.world c.args.host.now).files c.args.files.now c.in_ok-catalogue.catalogue c.args.keep c.in_ok-plan.plan (c.in_ok-catalogue.ensures.answer tells) c.in_ok-plan.ensures.exact;
     }
