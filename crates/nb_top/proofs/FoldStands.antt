@@ -76,7 +76,7 @@ module _ (old : World) (account : Account) (out : List ℕ) (names : List (List 
 
     was_free : (is_free_file (old.files out) ≡ true) × (old.files (delta_name out) ≡ None)
     was_free =
-        let both = and_parts (is_free_file (old.files out)) (not (is_some (old.files (delta_name out)))) (sym (free_entry old.files account out stands.now.same_image stands.now.no_stray plain) ∙ free) in
+        let both = and_parts (is_free_file (old.files out)) (not (is_some (old.files (delta_name out)))) (sym (free_entry old.files account out stands.now.same_image plain) ∙ free) in
         (both.0, not_some (old.files (delta_name out)) both.1)
 
     -- no difference file stands beside it

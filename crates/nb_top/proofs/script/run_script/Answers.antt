@@ -71,7 +71,7 @@ returns-in_err-refused-in-Ok-clause-goes g c = record {
     let held = c.in-Ok.engine in
     let done = begins.done held (settled_value c.in_ok-engine.field-0 held (λ value. c.open.result ≡ Ok value) c.in-Ok.is c.in_ok-engine.ensures.value) in
     grows_joined old mid new (grows_none old mid done.gave)
-    (c.in_err-refused-in-Ok.ensures.goes.grows (script_now old account no_given plan c.args.telling c.requires.askable mid held done) tells
+    (c.in_err-refused-in-Ok.ensures.grows (script_now old account no_given plan c.args.telling c.requires.askable mid held done) tells
     (script_ready old account no_given plan c.args.telling c.requires.askable mid held done) (script_todo old account no_given plan c.args.telling c.requires.askable mid held done)
     (script_making old account no_given plan c.args.telling c.requires.askable mid held done));
   touches = λ tells whole. let old = g.H.Host.world c.args.host.now in
@@ -119,7 +119,7 @@ returns-in_ok-refused-in-Ok-clause-goes g c = record {
     let held = c.in-Ok.engine in
     let done = begins.done held (settled_value c.in_ok-engine.field-0 held (λ value. c.open.result ≡ Ok value) c.in-Ok.is c.in_ok-engine.ensures.value) in
     grows_joined old mid new (grows_none old mid done.gave)
-    (c.in_ok-refused-in-Ok.ensures.goes.grows (script_now old account no_given plan c.args.telling c.requires.askable mid held done) tells
+    (c.in_ok-refused-in-Ok.ensures.grows (script_now old account no_given plan c.args.telling c.requires.askable mid held done) tells
     (script_ready old account no_given plan c.args.telling c.requires.askable mid held done) (script_todo old account no_given plan c.args.telling c.requires.askable mid held done)
     (script_making old account no_given plan c.args.telling c.requires.askable mid held done));
   touches = λ tells whole. let old = g.H.Host.world c.args.host.now in
