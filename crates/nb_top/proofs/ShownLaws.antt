@@ -4,7 +4,7 @@ use Rattle.std.specs.Prelude.{Option, Some, None, Result, Ok, Err, IsErr}
 use Rattle.nb_host.specs.Files.{File}
 use Rattle.nb_host.specs.declared.faults.Fault.{Fault}
 use Rattle.nb_host.specs.declared.refusals.Refusal.{Refusal}
-use Rattle.nb_host.specs.declared.refusals.Refusal.TheVariants.{BadScript}
+use Rattle.nb_host.specs.declared.refusals.Refusal.TheVariants.{BadScript, Usage}
 use Rattle.nb_script.specs.Scripts.{Plan}
 use Rattle.nb_session.specs.declared.stop.Stop.{Stop}
 use Rattle.nb_top.specs.declared.broken.Broken.{Broken}
@@ -26,6 +26,10 @@ deed_unbroken deed line h = cc
 -- a plan that is refused is refused for a line of its list or for another reason
 pub plan_unbroken : (keep : ℕ) (names : List (List ℕ)) → IsUnbroken (to_plan keep (Ok names))
 plan_unbroken keep names line h = cc
+
+-- nor are words that name no job
+pub usage_unbroken : IsUnbroken (Runs (Err Usage))
+usage_unbroken line h = cc
 
 -- nothing was noted
 pub unshown : (result : Result Status Stop) (broken : Option Broken) (asked : Asked) → broken ≡ None → IsUnbroken asked → IsShownOf result broken asked
