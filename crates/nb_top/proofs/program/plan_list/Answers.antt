@@ -5,6 +5,7 @@ use Rattle.nb_host.specs.declared.refusals.Refusal.{Refusal}
 use Rattle.nb_host.specs.declared.refusals.Refusal.TheVariants.{BadScript}
 use Rattle.nb_catalog.specs.NameLists.{list_of}
 use Rattle.nb_catalog.specs.Turns.{names_in}
+use Rattle.nb_top.specs.Goes.{Goes}
 use Rattle.nb_top.specs.Performed.{IsFileRead}
 use Rattle.nb_top.specs.Requests.{Runs, to_plan}
 use Rattle.nb_top.specs.Shown.{IsShownOf}
