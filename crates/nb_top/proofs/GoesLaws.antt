@@ -1,6 +1,6 @@
 -- What is done of what is asked for, put together.
 use Rattle.std.proofs.Common.{◌≡◌, List, [], ℕ, refl, sym, subst}
-use Rattle.std.specs.Prelude.{Bool, IsTrue, Result, Ok, Err, IsErr, IfErr, IfOk, OnOk}
+use Rattle.std.specs.Prelude.{Bool, IsTrue, Result, Ok, Err, IsErr, IfErr, IfOk}
 use Rattle.nb_host.specs.Files.{Files}
 use Rattle.nb_host.specs.World.{World}
 use Rattle.nb_host.specs.Crash.{Leaves, LeavesAll}
@@ -15,7 +15,6 @@ use Rattle.nb_model.specs.declared.reply.Reply.{Reply}
 use Rattle.nb_model.specs.declared.reply.Reply.TheVariants.{Refused as RefusedReply}
 use Rattle.nb_model.specs.Account.{Account}
 use Rattle.nb_model.specs.Lines.{line_text}
-use Rattle.nb_model.specs.Outcomes.{Given}
 use Rattle.nb_model.specs.Output.{status_after}
 use Rattle.nb_session.specs.declared.stop.Stop.{Stop}
 use Rattle.nb_session.specs.Says.{SaysLine}
@@ -26,8 +25,8 @@ use Rattle.nb_top.specs.declared.status.Status.TheVariants.{Done, Device, Memory
 use Rattle.nb_top.specs.Goes.{Goes, IsRun}
 use Rattle.nb_top.specs.Numbers.{number_of}
 use Rattle.nb_top.specs.OneTurn.{OfName, OneTurn, one_turn}
-use Rattle.nb_top.specs.Performed.{GoesTo, KnowsAsked, RunsTo}
-use Rattle.nb_top.specs.Requests.{Request, ToRun, ToGenerate, Deed, Asked, Runs, Does}
+use Rattle.nb_top.specs.Performed.{GoesTo, KnowsAsked}
+use Rattle.nb_top.specs.Requests.{Request, Deed, Asked, Runs, Does}
 use Rattle.nb_top.specs.Served.{IsTaken, TurnsTo, reply_told, status_told}
 use Rattle.nb_top.specs.Touched.{IsWholeAsked, IsWholeToMerge, MayTouch, OfAsked, TouchesOnly}
 use Rattle.nb_top.proofs.JobRuns.{job_refused, performs_device, performs_ended, performs_memory, undone_goes}
