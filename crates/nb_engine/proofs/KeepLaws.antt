@@ -182,17 +182,17 @@ module _ (image : Image) where
       long = let least = is.sound.least in rests _ _ (lt_no (length image) 5 (omega (arith, least)))
 
       -- the last page is a data page still
-      data : IsData image last
-      data = last_data image linked
+      there : IsData image last
+      there = last_data image linked
 
       data_plain : is_system_place (image_size image) last ≡ false
-      data_plain = data_place image last is.sound data.low data.kind
+      data_plain = data_place image last is.sound there.low there.kind
 
       still : other_kind y 5 last ≡ []
       unfolding other_kind
       still =
           ap (λ (t : Bool). elim t as (λ z. List ℕ) [ true ↦ [] | false ↦ last ∷ [] ])
-          (rounds.kind_found y 5 last (let there = data.low in omega (arith, there, new_long 5 (told no_rows) refl (λ p. no_rows_short) (length image + 4) image)) (kind_stays 5 (told no_rows) refl (λ p. no_rows_short) last (length image + 4) image (well image is) data_plain data.kind))
+          (rounds.kind_found y 5 last (let low = there.low in omega (arith, low, new_long 5 (told no_rows) refl (λ p. no_rows_short) (length image + 4) image)) (kind_stays 5 (told no_rows) refl (λ p. no_rows_short) last (length image + 4) image (well image is) data_plain there.kind))
 
       unbroken : grows.0.broken ≡ []
       unfolding grown

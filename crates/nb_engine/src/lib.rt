@@ -29,7 +29,6 @@ mod reads;
 mod room;
 mod rows;
 mod walk;
-mod way;
 mod write;
 
 pub use engine::Engine;

@@ -68,8 +68,7 @@ loop-page-preserved g c = record {
       read_next t.base.image c.args.from c.loop-page.page one_of c.loop-page.invariant.behind (c.loop-page.invariant.maps t tells is) (c.in_ok-free.ensures.reads t tells still).test k low (omega (arith, high, group));
   whole = λ more.
       let some : 0 < bits_in c.page_size-page_size.result = omega (arith, bits-least c.page_size-page_size.result c.page_size-page_size.ensures.one_of) in
-      let same = c.page_size-page_size.ensures.value ∙ ap (λ (h : Held). h.files.page_size) (sym c.loop-page.invariant.same) in
-      subst (λ (s : ℕ). c.behind_bits-page.result / bits_in s * bits_in s ≡ c.behind_bits-page.result) same (next_whole c.loop-page.page (bits_in c.page_size-page_size.result) c.behind_bits-page.result some c.behind_bits-page.ensures);
+      subst (λ (s : ℕ). c.behind_bits-page.result / bits_in s * bits_in s ≡ c.behind_bits-page.result) c.page_size-page_size.ensures.value (next_whole c.loop-page.page (bits_in c.page_size-page_size.result) c.behind_bits-page.result some c.behind_bits-page.ensures);
   room = c.in_ok-free.ensures.room ∙ c.loop-page.invariant.room;
   opened = λ t tells is. c.in_ok-free.ensures.open t tells (c.loop-page.invariant.opened t tells is);
   same = c.in_ok-free.ensures.same ∙ c.loop-page.invariant.same;
