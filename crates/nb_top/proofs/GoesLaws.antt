@@ -39,9 +39,12 @@ use Rattle.nb_top.proofs.Turns.{turn_done, turn_fails, turn_quietly, turn_refuse
 -- a run that begins with calls that change nothing
 pub goes_quietly : (tells : Bool) (old mid new : World) (asked : Result Request Refusal) (result : Result Status Stop) → Quiet old mid → Goes tells result mid new (Runs asked) → Goes tells result old new (Runs asked)
 goes_quietly tells old mid new asked result quiet goes = record {
-  does = λ told. ((goes.does told).0, λ account given knows may foretold.
-      runs_quietly result old mid new asked account given quiet
-      ((goes.does told).1 account given (knows_quietly old mid account asked quiet knows) may (foretold_from old mid new given _ (quiet_gave old mid quiet) foretold)));
+  does = λ told. (
+    (goes.does told).0,
+    λ account given knows may foretold.
+        runs_quietly result old mid new asked account given quiet
+        ((goes.does told).1 account given (knows_quietly old mid account asked quiet knows) may (foretold_from old mid new given _ (quiet_gave old mid quiet) foretold)),
+  );
   grows = λ account told knows. grows_joined old mid new (grows_none old mid (quiet_gave old mid quiet)) (goes.grows account told (knows_quietly old mid account asked quiet knows));
   touches = λ told whole.
       touches_then old mid new asked (leaves_quiet old mid (MayTouch asked) quiet) result asked (λ m may. may)
@@ -51,8 +54,11 @@ goes_quietly tells old mid new asked result quiet goes = record {
 -- What is asked for is another thing, where the host tells, of which all of this is known.
 pub goes_same : (tells : Bool) (old new : World) (asked known : Asked) (result : Result Status Stop) → (IsTrue tells → asked ≡ known) → Goes tells result old new known → Goes tells result old new asked
 goes_same tells old new asked known result same goes = record {
-  does = λ told. ((goes.does told).0, λ account given knows may foretold. subst (λ (a : Asked). GoesTo result old new a account given) (sym (same told))
-      ((goes.does told).1 account given (subst (λ (a : Asked). KnowsAsked old.files account a) (same told) knows) may foretold));
+  does = λ told. (
+    (goes.does told).0,
+    λ account given knows may foretold. subst (λ (a : Asked). GoesTo result old new a account given) (sym (same told))
+        ((goes.does told).1 account given (subst (λ (a : Asked). KnowsAsked old.files account a) (same told) knows) may foretold),
+  );
   grows = λ account told knows. goes.grows account told (subst (λ (a : Asked). KnowsAsked old.files account a) (same told) knows);
   touches = λ told whole. subst (λ (a : Asked). TouchesOnly result old new (OfAsked old.files a)) (sym (same told)) (goes.touches told (subst (λ (a : Asked). IsWholeAsked old.files a) (same told) whole));
 }
@@ -114,9 +120,12 @@ module _ (tells : Bool) (old mid : World) (deed : Deed) (taken : Result Reply Fa
 -- The files that a job of one turn reads are those that stood before calls that change nothing.
 pub goes_turn_quietly : (tells : Bool) (old mid new : World) (deed : Deed) (result : Result Status Stop) → Quiet old mid → Goes tells result mid new (Does deed) → Goes tells result old new (Does deed)
 goes_turn_quietly tells old mid new deed result quiet goes = record {
-  does = λ told. ((goes.does told).0, λ account given knows may foretold.
-      turn_quietly old mid new quiet (job old.files) account result
-      (subst (λ (f : Files). TurnsTo result mid new (job f) account) same ((goes.does told).1 account given (subst (λ (f : Files). (job f).knows account) (sym same) knows) may (foretold_from old mid new given _ (quiet_gave old mid quiet) foretold))));
+  does = λ told. (
+    (goes.does told).0,
+    λ account given knows may foretold.
+        turn_quietly old mid new quiet (job old.files) account result
+        (subst (λ (f : Files). TurnsTo result mid new (job f) account) same ((goes.does told).1 account given (subst (λ (f : Files). (job f).knows account) (sym same) knows) may (foretold_from old mid new given _ (quiet_gave old mid quiet) foretold))),
+  );
   grows = λ account told knows. grows_joined old mid new (grows_none old mid (quiet_gave old mid quiet)) (goes.grows account told (subst (λ (f : Files). (job f).knows account) (sym same) knows));
   touches = λ told whole. touches_quietly old mid new (OfName (job old.files).name) result (leaves_quiet old mid (OfName (job old.files).name) quiet) (subst (λ (f : Files). TouchesOnly result mid new (OfName (job f).name)) same (goes.touches told whole));
 }

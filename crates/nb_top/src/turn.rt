@@ -90,12 +90,7 @@ fn folded<H: Host>(alloc: Global, host: &mut H, out: &Name, files: &[Name]) -> R
 
 /// Plans which of these backup files the last restore points need, so many of them, and answers how many files those are, and the names of the
 /// others: those that may go, and those from which no chain leads down to level 0.
-fn planned<H: Host>(
-    alloc: Global,
-    host: &mut H,
-    keep: u32,
-    files: &[Name],
-) -> Result<Reply, Fault>
+fn planned<H: Host>(alloc: Global, host: &mut H, keep: u32, files: &[Name]) -> Result<Reply, Fault>
     requires few { length files.now < 2 ^ 32 }
     ensures serves { IsTrue H.tells
         → Serves result (H.world host.old) (H.world host.new) (planning (H.world host.old).files keep files.now) (plan_turn (H.world host.old).files files.now keep) }
