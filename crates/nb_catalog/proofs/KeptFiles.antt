@@ -31,15 +31,15 @@ no_heads r heads e = cc
 
 heads_counted : (files : Files) (names : List (List ℕ)) (heads : List LevelHead) → read_files files names ≡ Ok heads → length heads ≡ length names
 heads_counted files [] heads is = sym (ap length (heads_ok [] heads (sym (none_left files) ∙ is)))
-heads_counted files (name ∷ names) heads is = by (read_file name (files name)) refl
+heads_counted files (name ∷ names) heads is = by (read_file name (files name)) refl (heads_counted files names)
   where
-    further : (head : LevelHead) (rest : Result (List LevelHead) Refusal) → read_files files names ≡ rest → with_first head rest ≡ Ok heads → length heads ≡ length (name ∷ names)
-    further head (Err r) read e = absurd (no_heads r heads e)
-    further head (Ok hs) read e = sym (ap length (heads_ok (head ∷ hs) heads e)) ∙ ap suc (heads_counted files names hs read)
+    further : (head : LevelHead) (rest : Result (List LevelHead) Refusal) → read_files files names ≡ rest → with_first head rest ≡ Ok heads → ((hs : List LevelHead) → read_files files names ≡ Ok hs → length hs ≡ length names) → length heads ≡ length (name ∷ names)
+    further head (Err r) read e behind = absurd (no_heads r heads e)
+    further head (Ok hs) read e behind = sym (ap length (heads_ok (head ∷ hs) heads e)) ∙ ap suc (behind hs read)
 
-    by : (r : Result LevelHead Refusal) → read_file name (files name) ≡ r → length heads ≡ length (name ∷ names)
-    by (Err r) read = absurd (no_heads r heads (sym (by_first files name names (Err r) read) ∙ is))
-    by (Ok head) read = further head (read_files files names) refl (sym (by_first files name names (Ok head) read) ∙ is)
+    by : (r : Result LevelHead Refusal) → read_file name (files name) ≡ r → ((hs : List LevelHead) → read_files files names ≡ Ok hs → length hs ≡ length names) → length heads ≡ length (name ∷ names)
+    by (Err r) read behind = absurd (no_heads r heads (sym (by_first files name names (Err r) read) ∙ is))
+    by (Ok head) read behind = further head (read_files files names) refl (sym (by_first files name names (Ok head) read) ∙ is) behind
 
 -- a place among some
 place_in : (count : ℕ) (places : List ℕ) (p : ℕ) → ArePlaces count places → In places p → p < count

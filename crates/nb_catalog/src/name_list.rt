@@ -49,7 +49,11 @@ fn next_name(before: &[Name], line: &[u8]) -> Option<Name>
     ensures same { IfSome result (λ name. name ≡ line.now) }
 {
     let name = name_on(line)?;
-    if is_listed(before, &name) { None } else { Some(name) }
+    if is_listed(before, &name) {
+        None
+    } else {
+        Some(name)
+    }
 }
 
 fn bad(line: u32) -> Fault
