@@ -1,4 +1,4 @@
-// A chain that wasn't restored.
+// A chain that wasn't restored, levels that weren't folded, and backup files that weren't planned for.
 use crate::backup::not_free;
 use crate::opening::no_file;
 use crate::refused::Refused;
@@ -49,22 +49,15 @@ pub(crate) fn broken_file(
     Ok(Some(text))
 }
 
-/// What is to be said where a chain is not restored, `-R`.
-pub(crate) fn restore(
+/// Why a level file doesn't go on from the one before it.
+fn not_behind(
     alloc: Global,
     files: &[Name],
     refused: &Refused<'_>,
-    seen: &Seen,
 ) -> Result<Option<String>, AllocError> {
     let [file, found, wanted] = refused.values;
     let before = before(files, file);
     let text = match refused.name {
-        "FileExists" => return not_free(alloc, file, seen),
-        "NoFile" => return no_file(alloc, file),
-        "BadLevel" => return broken_file(alloc, file, found, seen),
-        "ChainLevel" => format!(in alloc;
-            "{file} is of level {found}, and one of level {wanted} has to stand in its place: give a file of each level, that of level 0 first"
-        )?,
         "ChainGuid" => format!(in alloc;
             "{file} doesn't go on from {before}, which is the backup {wanted}, but from the backup {found}: give the file of that one before it"
         )?,
@@ -77,4 +70,70 @@ pub(crate) fn restore(
         _ => return Ok(None),
     };
     Ok(Some(text))
+}
+
+/// What is to be said where a chain is not restored, `-R`.
+pub(crate) fn restore(
+    alloc: Global,
+    files: &[Name],
+    refused: &Refused<'_>,
+    seen: &Seen,
+) -> Result<Option<String>, AllocError> {
+    let [file, found, wanted] = refused.values;
+    match refused.name {
+        "FileExists" => not_free(alloc, file, seen),
+        "NoFile" => no_file(alloc, file),
+        "BadLevel" => broken_file(alloc, file, found, seen),
+        "ChainLevel" => Ok(Some(format!(in alloc;
+            "{file} is of level {found}, and one of level {wanted} has to stand in its place: give a file of each level, that of level 0 first"
+        )?)),
+        _ => not_behind(alloc, files, refused),
+    }
+}
+
+/// What is to be said where level files are not folded, `fold`.
+pub(crate) fn fold(
+    alloc: Global,
+    files: &[Name],
+    refused: &Refused<'_>,
+    seen: &Seen,
+) -> Result<Option<String>, AllocError> {
+    let [file, found, wanted] = refused.values;
+    match refused.name {
+        "FileExists" => not_free(alloc, file, seen),
+        "NoFile" => no_file(alloc, file),
+        "BadLevel" if found == "0" => Ok(Some(format!(in alloc;
+            "{file} is no level file: give those that -B 1 to -B 9 made, and restore one of level 0 with the file that they are folded into"
+        )?)),
+        "BadLevel" => broken_file(alloc, file, found, seen),
+        "ChainLevel" => Ok(Some(format!(in alloc;
+            "{file} is of level {found}, and one of level {wanted} has to follow {}: give consecutive levels, the lowest first",
+            before(files, file)
+        )?)),
+        _ => not_behind(alloc, files, refused),
+    }
+}
+
+/// What is to be said where backup files are not planned for, `plan`.
+pub(crate) fn plan(
+    alloc: Global,
+    list: &Name,
+    refused: &Refused<'_>,
+    seen: &Seen,
+) -> Result<Option<String>, AllocError> {
+    let [file, found, _] = refused.values;
+    match refused.name {
+        "NoFile" if file == list.as_str() => no_file(alloc, file),
+        "NoFile" => Ok(Some(format!(in alloc;
+            "{file} is in {list}, and isn't there: take its line out, or bring the file back"
+        )?)),
+        "BadLevel" => broken_file(alloc, file, found, seen),
+        "ScriptLong" => Ok(Some(format!(in alloc;
+            "{list} is too long: a list has 1,000 names and 1,048,576 bytes at most"
+        )?)),
+        "BadScript" => Ok(Some(format!(in alloc;
+            "{list} has to name a file in each line, each of them once, and 1,000 at most"
+        )?)),
+        _ => Ok(None),
+    }
 }

@@ -50,6 +50,20 @@ fn of_database(
     Ok(Some(text))
 }
 
+/// What stands of a fold.
+fn of_fold(alloc: Global, out: &Name, seen: &Seen) -> Result<Option<String>, AllocError> {
+    let text = match seen.there {
+        There::Unfinished => format!(in alloc;
+            "{out} isn't whole, and its name is free: give the same words again"
+        )?,
+        There::PartOfLevel => format!(in alloc;
+            "{out} isn't whole: remove it, and give the same words again"
+        )?,
+        _ => return Ok(None),
+    };
+    Ok(Some(text))
+}
+
 /// What is to be said behind a run of a job by words that ended early, by what is seen then and by the backup state that was seen before it.
 /// None where nothing is left to do but to give the words again.
 pub fn standing(
@@ -73,6 +87,7 @@ pub fn standing(
         Job::Restore { db, .. } if seen.there == There::Unfinished => Ok(Some(format!(in alloc;
             "{db} isn't whole, and its name is free: give the same words again"
         )?)),
+        Job::Fold { out, .. } => of_fold(alloc, out, seen),
         Job::Apply { db, .. } if seen.state == Some(3) => Ok(Some(format!(in alloc;
             "{db} is half merged: give the same words again, with the same file"
         )?)),

@@ -1,6 +1,6 @@
 // What to do about a refusal.
 use crate::backup::{backup, lock, not_free, unlock};
-use crate::chain::restore;
+use crate::chain::{fold, plan, restore};
 use crate::fixup::fixup;
 use crate::opening::opening;
 use crate::refused::Refused;
@@ -24,6 +24,8 @@ pub fn advice(
         Job::Restore { files, .. } => restore(alloc, files.as_slice(), refused, seen),
         Job::Fixup { db } => fixup(alloc, db, refused, seen),
         Job::Apply { db, .. } => merge(alloc, db, refused, seen),
+        Job::Fold { files, .. } => fold(alloc, files.as_slice(), refused, seen),
+        Job::Plan { list, .. } => plan(alloc, list, refused, seen),
         Job::Gen { .. } if refused.name == "FileExists" => {
             not_free(alloc, refused.values[0], &Seen::nothing())
         }

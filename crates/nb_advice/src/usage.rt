@@ -150,6 +150,35 @@ fn wrong_restore(alloc: Global, plain: &[&str]) -> Result<Option<String>, AllocE
     }
 }
 
+/// What is wrong with the words of a plan.
+fn wrong_plan(alloc: Global, keep: &str, list: &str) -> Result<Option<String>, AllocError> {
+    let wrong = wrong_number(alloc, keep)?;
+    if wrong.is_some() {
+        return Ok(wrong);
+    }
+    if keep.parse::<u32>().is_err() {
+        return Ok(Some(String::from_str(alloc, "4294967295 restore points are kept at most")?));
+    }
+    wrong_name(alloc, list, Kind::File)
+}
+
+/// What is wrong with the words of a fold, of which these are the names.
+fn wrong_fold(alloc: Global, names: &[&str]) -> Result<Option<String>, AllocError> {
+    if names.len() < 3 {
+        return wrong_count(alloc, "fold OUT FILE FILE..", true);
+    }
+    if names.len() > 10 {
+        return Ok(Some(String::from_str(alloc, "9 levels are folded at most")?));
+    }
+    for name in names {
+        let wrong = wrong_name(alloc, name, Kind::File)?;
+        if wrong.is_some() {
+            return Ok(wrong);
+        }
+    }
+    Ok(None)
+}
+
 /// What is wrong with words that have no flag.
 fn wrong_plain(alloc: Global, plain: &[&str]) -> Result<Option<String>, AllocError> {
     match plain {
@@ -166,6 +195,9 @@ fn wrong_plain(alloc: Global, plain: &[&str]) -> Result<Option<String>, AllocErr
             wrong_name(alloc, script, Kind::File)
         }
         ["gen", ..] => wrong_count(alloc, "gen N SCRIPT", plain.len() < 3),
+        ["plan", keep, list] => wrong_plan(alloc, keep, list),
+        ["plan", ..] => wrong_count(alloc, "plan K LIST", plain.len() < 3),
+        ["fold", names @ ..] => wrong_fold(alloc, names),
         [verb, ..] => {
             let verb = shown(alloc, verb)?;
             Ok(Some(format!(in alloc; "{verb} is no job")?))

@@ -1,7 +1,7 @@
 -- The database that a run changes.
 use Rattle.std.specs.Prelude.{ℕ, List, Option, Some, None, codes}
 use Rattle.nb_model.specs.declared.job.Job.{Job}
-use Rattle.nb_model.specs.declared.job.Job.TheVariants.{Run, Stat, Gen, Backup, BackupSince, Restore, Apply, Lock, LockWithSize, Unlock, Fixup}
+use Rattle.nb_model.specs.declared.job.Job.TheVariants.{Run, Stat, Gen, Backup, BackupSince, Restore, Apply, Lock, LockWithSize, Unlock, Fixup, Fold, Plan}
 use Rattle.nb_model.specs.declared.statement.Statement.{Statement}
 use Rattle.nb_model.specs.declared.statement.Statement.TheVariants.{CreateDb, OpenDb}
 
@@ -18,6 +18,8 @@ changed_by_words (Lock db) = Some db
 changed_by_words (LockWithSize db) = Some db
 changed_by_words (Unlock db) = Some db
 changed_by_words (Fixup db) = Some db
+changed_by_words (Fold out files) = None
+changed_by_words (Plan keep list) = None
 
 -- the database that a first statement creates or opens
 abbrev pub database_in : Statement → Option (List ℕ)

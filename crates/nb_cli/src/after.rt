@@ -1,4 +1,5 @@
 // What the standard error says behind a run.
+use crate::beside::End;
 use crate::changed::script_in;
 use crate::look::look_at;
 use crate::seeing::{database_of, seen, seen_of};
@@ -7,7 +8,7 @@ use nb_file::{Disk, FileHost};
 use nb_host::Name;
 use nb_model::{Job, Statement};
 use nb_top::Status;
-use nb_top::broken::broken_line;
+use nb_top::broken::Broken;
 use std::alloc::{AllocError, Global};
 use std::io;
 use std::os::fd::AsRawFd;
@@ -27,6 +28,8 @@ usage: nehumiro run SCRIPT          runs the statements of a script
        nehumiro -R DB FILE..        restores a new database from a chain of backup files, that of level 0 first
        nehumiro -I -R DB FILE       merges a level into a read-only standby, in place: the next one since its backup
        nehumiro -F FILE             makes a copy of a locked database a database of its own
+       nehumiro fold OUT FILE..     makes one new level file of 2 to 9 consecutive ones, the lowest level first
+       nehumiro plan K LIST         says which of the backup files that a list names the last K restore points need
        nehumiro gen N SCRIPT        writes the script of the number N to a new file, and runs it: for trials
 ";
 
@@ -48,19 +51,9 @@ fn show_usage<R: Eprint>(alloc: Global, rt: &R, words: &io::Result<Vec<String>>)
     let _ = eprint!(rt; "{USAGE}");
 }
 
-/// The line that breaks the form of a script, where that is why it was refused.
-fn show_broken<R: Files + Print + Eprint + Clock + Drop>(
-    alloc: Global,
-    rt: &R,
-    host: &mut FileHost<R>,
-    script: &Name,
-)
-where
-    R::File: Disk + AsRawFd,
-{
-    if let Ok(Some(broken)) = broken_line(alloc, host, script) {
-        let _ = eprintln!(rt; "nehumiro: {script}:{}: {}", broken.line, broken.text);
-    }
+/// The line of a file that breaks its form.
+fn show_line<R: Eprint>(rt: &R, name: &Name, broken: &Broken) {
+    let _ = eprintln!(rt; "nehumiro: {name}:{}: {}", broken.line, broken.text);
 }
 
 /// What to do about the reply that refused a job by words.
@@ -86,13 +79,13 @@ fn show_standing<R: Files + Print + Eprint + Clock + Drop>(
 where
     R::File: Disk + AsRawFd + FileExt,
 {
-    let Some(db) = database_of(job) else {
-        return;
-    };
-    if host.holds_alone(db) {
-        let seen = seen(rt, job);
-        say(rt, standing(alloc, job, before, &seen));
+    if let Some(db) = database_of(job) {
+        if !host.holds_alone(db) {
+            return;
+        }
     }
+    let seen = seen(rt, job);
+    say(rt, standing(alloc, job, before, &seen));
 }
 
 /// What the cache of a script asks for, where it can be read.
@@ -128,29 +121,34 @@ fn show_shortage<R: Eprint>(rt: &R, asked: Option<String>) {
     }
 }
 
-/// What is to be said behind a run: why its words name no job, why a script wasn't read, what to do about a refusal, what stands where it ended
+/// What is to be said behind a run: why its words name no job, why a script or a list wasn't read, what to do about a refusal, what stands where it ended
 /// early.
 pub fn explain<R: Files + Print + Eprint + Clock + Drop>(
     alloc: Global,
     rt: &R,
-    host: &mut FileHost<R>,
+    host: &FileHost<R>,
     words: &io::Result<Vec<String>>,
     job: Option<&Job>,
-    status: Status,
-    before: Option<u16>,
+    end: &End,
 )
 where
     R::File: Disk + AsRawFd + FileExt,
 {
-    match (status, job) {
+    match (end.status, job) {
         (Status::Done, _) => {}
         (Status::Usage, _) => show_usage(alloc, rt, words),
-        (Status::Refused, Some(Job::Run { script })) => show_broken(alloc, rt, host, script),
-        (Status::Refused, Some(job)) => show_advice(alloc, rt, job, host.last_said()),
-        (Status::Device, Some(job)) => show_standing(alloc, rt, host, job, before),
+        (Status::Refused, Some(job)) => match (job, &end.broken) {
+            (Job::Run { script }, Some(broken)) => show_line(rt, script, broken),
+            (Job::Plan { list, .. }, Some(broken)) => {
+                show_line(rt, list, broken);
+                show_advice(alloc, rt, job, host.last_said());
+            }
+            _ => show_advice(alloc, rt, job, host.last_said()),
+        },
+        (Status::Device, Some(job)) => show_standing(alloc, rt, host, job, end.before),
         (Status::Memory, Some(job)) => {
             show_shortage(rt, shortage_of(alloc, rt, job));
-            show_standing(alloc, rt, host, job, before);
+            show_standing(alloc, rt, host, job, end.before);
         }
         (Status::Memory, None) => show_shortage(rt, None),
         (Status::Refused | Status::Device, None) => {}

@@ -85,7 +85,7 @@ fn changed_by_words(job: &Job) -> Option<Name>
     ensures { result ≡ changed_by_words job.now }
 {
     match job {
-        Job::Run { .. } | Job::Stat { .. } => None,
+        Job::Run { .. } | Job::Stat { .. } | Job::Fold { .. } | Job::Plan { .. } => None,
         Job::Gen { .. } => Name::read(GENERATED),
         Job::Backup { db, .. }
         | Job::BackupSince { db, .. }

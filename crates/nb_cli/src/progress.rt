@@ -21,7 +21,7 @@ fn one(alloc: Global, name: &Name) -> Result<Vec<Name>, AllocError> {
     Ok(names)
 }
 
-/// The names of a chain.
+/// The names of a chain, or of levels.
 fn copied(alloc: Global, files: &NameList) -> Result<Vec<Name>, AllocError> {
     let mut names = Vec::new(alloc);
     for name in files.as_slice() {
@@ -79,6 +79,13 @@ pub fn progress_of(
             Counted::WrittenTo(db.copied()),
             one(alloc, file)?,
         ),
+        Job::Fold { out, files } => (
+            "folding into",
+            out,
+            Counted::WrittenTo(out.copied()),
+            copied(alloc, files)?,
+        ),
+        Job::Plan { list, .. } => ("planning for", list, Counted::All, Vec::new(alloc)),
         Job::Unlock { db } => return merging(alloc, db, manner),
         Job::Lock { .. } | Job::LockWithSize { .. } | Job::Fixup { .. } => {
             return Ok(None);

@@ -11,7 +11,7 @@ use std::rt::Files;
 /// The database that a job by words names.
 pub fn database_of(job: &Job) -> Option<&Name> {
     match job {
-        Job::Run { .. } | Job::Gen { .. } => None,
+        Job::Run { .. } | Job::Gen { .. } | Job::Fold { .. } | Job::Plan { .. } => None,
         Job::Stat { db }
         | Job::Backup { db, .. }
         | Job::BackupSince { db, .. }
@@ -28,6 +28,7 @@ pub fn database_of(job: &Job) -> Option<&Name> {
 fn file_of(job: &Job) -> Option<&Name> {
     match job {
         Job::Backup { file, .. } | Job::BackupSince { file, .. } => Some(file),
+        Job::Fold { out, .. } => Some(out),
         _ => database_of(job),
     }
 }

@@ -16,7 +16,7 @@ use Rattle.nb_model.specs.Trail.{Trail, StandsIn, StandsOn, after_stroke}
 use Rattle.nb_base.specs.Open.{OfFiles}
 use Rattle.nb_base.specs.Takes.{Strikes, after_strokes}
 use Rattle.nb_state.specs.Open.{Held, IsOpen, name_of}
-use Rattle.nb_copy.specs.Making.{IsEmpty, IsMade}
+use Rattle.nb_gather.specs.Making.{IsEmpty, IsMade}
 use Rattle.nb_copy.specs.Starting.{OfStart, StartLeft, StartMakes}
 
 -- what stands is a matter of the two files

@@ -41,7 +41,7 @@ use Rattle.nb_engine.proofs.DoesLaws.{unless_none}
 use Rattle.nb_engine.proofs.MakeLaws.{entry_none, from_well}
 use Rattle.nb_engine.proofs.WhereLaws.{sure_of}
 use Rattle.nb_model.specs.Making.{kept_of}
-use Rattle.nb_copy.specs.Making.{IsKept, IsUnfinishedOr}
+use Rattle.nb_gather.specs.Making.{IsKept, IsUnfinishedOr}
 use Rattle.nb_copy.proofs.LevelLaws.{below_all}
 use Rattle.nb_copy.specs.declared.file_copy.FileCopy.{FileCopy}
 use Rattle.nb_copy.specs.declared.file_copy.FileCopy.TheVariants.{Pages, Level}

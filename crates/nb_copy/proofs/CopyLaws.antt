@@ -12,10 +12,10 @@ use Rattle.nb_change.proofs.MovedLaws.{remade_begun}
 use Rattle.nb_page.specs.Quiet.{Quiet}
 use Rattle.nb_model.specs.Image.{Page, Image, page_at, first_page}
 use Rattle.nb_model.specs.Levels.{joined}
-use Rattle.nb_copy.specs.Making.{IsBlank, IsFreeOr, IsKept, IsMade}
+use Rattle.nb_gather.specs.Making.{IsBlank, IsFreeOr, IsKept, IsMade}
 use Rattle.nb_copy.specs.Copying.{Copying, front_pages, IsOf, IsBegun}
-use Rattle.nb_copy.proofs.QuietLaws.{quiet_then, sync_then, sync_kept, named}
-use Rattle.nb_copy.proofs.BlankLaws.{zeros-grown, blank_empty, blank_free, blank_left}
+use Rattle.nb_gather.proofs.QuietLaws.{quiet_then, sync_then, sync_kept, named}
+use Rattle.nb_gather.proofs.BlankLaws.{zeros-grown, blank_empty, blank_free, blank_left}
 use Rattle.nb_copy.proofs.FrontLaws.{front_next, front_whole, front_blank}
 
 -- and calls that change nothing

@@ -31,11 +31,11 @@ use Rattle.nb_state.specs.Open.{Held, IsOpen, name_of}
 use Rattle.nb_state.specs.declared.turns.Progress.{Progress}
 use Rattle.nb_copy.specs.Copying.{Copying}
 use Rattle.nb_copy.specs.FileCopies.{CopiesFile, StartsCopy, copy_cause}
-use Rattle.nb_copy.specs.Making.{IsBlank, IsFreeOr, IsUnfinishedOr}
+use Rattle.nb_gather.specs.Making.{IsBlank, IsFreeOr, IsUnfinishedOr}
 use Rattle.nb_copy.specs.Turns.{CopyTurn}
-use Rattle.nb_copy.proofs.BlankLaws.{blank_free}
+use Rattle.nb_gather.proofs.BlankLaws.{blank_free}
 use Rattle.nb_copy.proofs.ClosingLaws.{open_other}
-use Rattle.nb_copy.proofs.QuietLaws.{remade_twice}
+use Rattle.nb_gather.proofs.QuietLaws.{remade_twice}
 
 all_front : {A : Type 0} (P : A → Type 0) (xs ys : List A) → Rattle.std.specs.List.AllByRecursion P (xs ++ ys) → Rattle.std.specs.List.AllByRecursion P xs
 all_front P [] ys all = tt

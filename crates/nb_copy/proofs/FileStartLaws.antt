@@ -14,8 +14,8 @@ use Rattle.nb_copy.specs.declared.file_copy.FileCopy.{FileCopy}
 use Rattle.nb_copy.specs.declared.file_copy.FileCopy.TheVariants.{Pages, Level}
 use Rattle.nb_copy.specs.Copying.{Copying}
 use Rattle.nb_copy.specs.LevelCopying.{LevelCopying}
-use Rattle.nb_copy.specs.Gathering.{IsHeaded}
-use Rattle.nb_copy.specs.Making.{IsMade}
+use Rattle.nb_gather.specs.Gathering.{IsHeaded}
+use Rattle.nb_gather.specs.Making.{IsMade}
 use Rattle.nb_copy.specs.FileStarting.{IsNewFile, IsStartedFile}
 use Rattle.nb_copy.specs.FileCopying.{file_count, file_next}
 use Rattle.nb_copy.specs.Starting.{Backed, IsBackingUp, ask_by}

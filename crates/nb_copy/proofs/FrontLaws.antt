@@ -9,9 +9,9 @@ use Rattle.nb_model.specs.Levels.{joined}
 use Rattle.nb_model.specs.Sound.{IsOfSize}
 use Rattle.nb_model.proofs.ImageLaws.{all-take}
 use Rattle.nb_model.proofs.PutLaws.{put-second, put-next, put-first}
-use Rattle.nb_copy.specs.Making.{IsBlank}
+use Rattle.nb_gather.specs.Making.{IsBlank}
 use Rattle.nb_copy.specs.Copying.{front_pages}
-use Rattle.nb_copy.proofs.BlankLaws.{zeros-take}
+use Rattle.nb_gather.proofs.BlankLaws.{zeros-take}
 
 -- one page more of a list
 take-more : (k : ℕ) (ps : List Page) → k < length ps → take (suc k) ps ≡ take k ps ++ page_at ps k ∷ []

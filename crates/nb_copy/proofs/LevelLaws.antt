@@ -10,11 +10,11 @@ use Rattle.nb_model.proofs.ImageLaws.{all-take}
 use Rattle.nb_host.specs.Files.{Files}
 use Rattle.nb_host.specs.World.{World}
 use Rattle.nb_page.specs.Quiet.{Quiet}
-use Rattle.nb_copy.specs.Gathering.{LevelWriting, HasTaken, MayHave}
+use Rattle.nb_gather.specs.Gathering.{LevelWriting, HasTaken, MayHave}
 use Rattle.nb_model.specs.Forms.{scn_page_of}
 use Rattle.nb_copy.specs.LevelCopying.{LevelCopying, IsLevelOf, IsLevelCopying, taken_below}
-use Rattle.nb_copy.proofs.RunLaws.{tells}
-use Rattle.nb_copy.proofs.CloseLaws.{taken_none}
+use Rattle.nb_gather.proofs.RunLaws.{tells}
+use Rattle.nb_gather.proofs.CloseLaws.{taken_none}
 
 weaker : (n : ℕ) (rs : List Numbered) → AreRising (n + 1) rs → AreRising n rs
 weaker n [] is = tt

@@ -1,18 +1,5 @@
-pub mod QuietLaws
-pub mod BlankLaws
 pub mod FrontLaws
 pub mod CopyLaws
-pub mod TornLaws
-pub mod RunLaws
-pub mod ReadAgain
-pub mod UnfinishedLaws
-pub mod NoLevelLaws
-pub mod AppendLaws
-pub mod FitLaws
-pub mod WaitingLaws
-pub mod GatherLaws
-pub mod HeadLaws
-pub mod CloseLaws
 pub mod PlaceLaws
 pub mod LevelLaws
 pub mod StartCauses
@@ -27,5 +14,4 @@ pub mod BesideLaws
 pub mod StartLaws
 pub mod RoomStartLaws
 pub mod FileCopyLaws
-pub mod TouchLaws
 pub mod ReadLaws

@@ -12,7 +12,7 @@ use Rattle.nb_scn.specs.Entries.{entries}
 use Rattle.nb_engine.proofs.PutLaws.{other-with}
 use Rattle.nb_model.specs.Forms.{scn_page_of, scn_entry}
 use Rattle.nb_engine.proofs.RaiseLaws.{scn_page-is, entry-is}
-use Rattle.nb_copy.proofs.FitLaws.{lt_tells}
+use Rattle.nb_gather.proofs.FitLaws.{lt_tells}
 
 -- an SCN page that isn't the first stands at the first page that it has an entry for
 pub own_place : (size p : ℕ) → 1 ≤ p → p % entries_in size ≡ 0 → scn_place size (p / entries_in size) ≡ p

@@ -14,7 +14,7 @@ use Rattle.nb_state.specs.Open.{Held, IsOpen, name_of}
 use Rattle.nb_state.specs.declared.turns.Progress.{Progress}
 use Rattle.nb_state.specs.declared.turns.Progress.TheVariants.{More, Finished}
 use Rattle.nb_model.specs.Making.{kept_of}
-use Rattle.nb_copy.specs.Making.{IsKept, IsUnfinishedOr}
+use Rattle.nb_gather.specs.Making.{IsKept, IsUnfinishedOr}
 use Rattle.nb_copy.specs.FileCopying.{file_count, file_next, file_written, whole_file}
 use Rattle.nb_copy.specs.Starting.{Backed, IsBackingUp}
 

@@ -6,7 +6,7 @@ use Rattle.nb_host.specs.World.{World}
 use Rattle.nb_model.specs.Image.{Page, Image, first_page}
 use Rattle.nb_model.specs.Levels.{joined}
 use Rattle.nb_model.specs.Sound.{IsOfSize}
-use Rattle.nb_copy.specs.Making.{IsBlank}
+use Rattle.nb_gather.specs.Making.{IsBlank}
 
 -- What a contract sees of such a copier: its file, the size of a page, how many pages the frozen image has, which one the next turn
 -- deals with, and page 0, which waits from the first turn on.

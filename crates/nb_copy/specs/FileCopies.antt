@@ -18,7 +18,7 @@ use Rattle.nb_state.specs.Does.{WhereEnded}
 use Rattle.nb_state.specs.declared.turns.Progress.{Progress}
 use Rattle.nb_engine.specs.Turns.{SaysNone}
 use Rattle.nb_copy.specs.Copying.{Copying, IsOf, IsBegun}
-use Rattle.nb_copy.specs.Making.{IsUnfinishedOr}
+use Rattle.nb_gather.specs.Making.{IsUnfinishedOr}
 use Rattle.nb_copy.specs.Turns.{CopyTurn}
 
 -- why no copy into a file of that name may begin

@@ -8,7 +8,7 @@ use Rattle.nb_model.specs.Image.{Image}
 use Rattle.nb_model.specs.Levels.{joined, taken}
 use Rattle.nb_copy.specs.declared.file_copy.FileCopy.{FileCopy}
 use Rattle.nb_copy.specs.declared.file_copy.FileCopy.TheVariants.{Pages, Level}
-use Rattle.nb_copy.specs.Making.{IsKept}
+use Rattle.nb_gather.specs.Making.{IsKept}
 use Rattle.nb_copy.specs.Copying.{IsCopying}
 use Rattle.nb_copy.specs.LevelCopying.{IsLevelCopying, whole_level}
 

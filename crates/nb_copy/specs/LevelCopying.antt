@@ -7,8 +7,8 @@ use Rattle.nb_model.specs.Image.{Page, Image, Numbered, page_at, image_size}
 use Rattle.nb_model.specs.Forms.{scn_page_of}
 use Rattle.nb_model.specs.Levels.{level_bytes, taken}
 use Rattle.nb_model.specs.Sound.{IsSoundImage}
-use Rattle.nb_copy.specs.Gathering.{LevelWriting, IsHeaded, HasTaken}
-use Rattle.nb_copy.specs.Making.{IsMade}
+use Rattle.nb_gather.specs.Gathering.{LevelWriting, IsHeaded, HasTaken}
+use Rattle.nb_gather.specs.Making.{IsMade}
 
 -- What a contract sees of such a copier: its file, how many pages the frozen image has, which one the next turn deals with, the SCN page
 -- that was read last, and the page that was dealt with last.

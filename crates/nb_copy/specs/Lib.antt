@@ -1,6 +1,4 @@
-pub mod Making
 pub mod Copying
-pub mod Gathering
 pub mod LevelCopying
 pub mod Turns
 pub mod FileStarting

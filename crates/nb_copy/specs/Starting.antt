@@ -30,7 +30,7 @@ use Rattle.nb_copy.specs.declared.file_copy.FileCopy.{FileCopy}
 use Rattle.nb_copy.specs.declared.since.Since.{Since}
 use Rattle.nb_copy.specs.declared.since.Since.TheVariants.{Level, Guid}
 use Rattle.nb_copy.specs.FileCopying.{file_name, file_count, file_next, whole_file, whole_count, IsFileCopying}
-use Rattle.nb_copy.specs.Making.{IsEmpty, IsMade}
+use Rattle.nb_gather.specs.Making.{IsEmpty, IsMade}
 
 -- What a contract sees of a copier: what its close needs, the size of each page, and the file that it makes.
 pub record Backed : Type 0 where

@@ -7,7 +7,7 @@ use Rattle.nb_state.specs.declared.turns.Progress.{Progress}
 use Rattle.nb_state.specs.declared.turns.Progress.TheVariants.{More, Finished}
 use Rattle.nb_model.specs.Image.{Page, Image, page_at}
 use Rattle.nb_model.specs.Levels.{joined}
-use Rattle.nb_copy.specs.Making.{IsKept}
+use Rattle.nb_gather.specs.Making.{IsKept}
 use Rattle.nb_copy.specs.Copying.{Copying, IsCopying}
 use Rattle.nb_copy.specs.LevelCopying.{LevelCopying, IsLevelCopying, whole_level}
 

@@ -19,7 +19,7 @@ ghost use Rattle.nb_state.specs.declared.turns.Progress.{Progress};
 ghost use Rattle.nb_engine.specs.Stays.{StaysOpen};
 ghost use Rattle.nb_copy.specs.Copying.{IsCopying};
 ghost use Rattle.nb_copy.specs.FileCopies.{CopiesFile, IsCopyingTo, KnowsUnused, StartsCopy, copy_cause};
-ghost use Rattle.nb_copy.specs.Making.{IsBlank};
+ghost use Rattle.nb_gather.specs.Making.{IsBlank};
 ghost use Rattle.nb_copy.specs.Turns.{CopyCounts};
 
 use crate::page_copy::PageCopy;

@@ -9,7 +9,7 @@ ghost use Rattle.nb_model.specs.Trail.{Trail};
 ghost use Rattle.nb_state.specs.Open.{IsOpen};
 ghost use Rattle.nb_copy.specs.FileCopying.{file_name, file_page_size, file_count, file_next, file_written, whole_file, IsFileCopying, IsSameFile, FileTurn, FileCounts};
 ghost use Rattle.nb_copy.specs.FileStarting.{IsNewFile, IsStartedFile};
-ghost use Rattle.nb_copy.specs.Making.{IsUnfinishedOr};
+ghost use Rattle.nb_gather.specs.Making.{IsUnfinishedOr};
 ghost use Rattle.nb_copy.specs.Reading.{earlier_scn, page_reads};
 ghost use Rattle.nb_base.specs.Touches.{Touches};
 

@@ -8,15 +8,15 @@ ghost use Rattle.nb_model.specs.Forms.{scn_page_of};
 ghost use Rattle.nb_model.specs.Image.{page_at};
 ghost use Rattle.nb_model.specs.Trail.{Trail};
 ghost use Rattle.nb_state.specs.Open.{IsOpen};
-ghost use Rattle.nb_copy.specs.Gathering.{HasTaken};
+ghost use Rattle.nb_gather.specs.Gathering.{HasTaken};
 ghost use Rattle.nb_copy.specs.LevelCopying.{HasEntriesOf, IsFresh, IsLevelBegun, IsLevelCopying, IsLevelOf, taken_below, whole_level};
-ghost use Rattle.nb_copy.specs.Making.{IsMade, IsUnfinished, IsUnfinishedOr};
+ghost use Rattle.nb_gather.specs.Making.{IsMade, IsUnfinished, IsUnfinishedOr};
 ghost use Rattle.nb_base.specs.Touches.{Touches};
 ghost use Rattle.nb_copy.specs.Reading.{loads_entries, one_if, reads_at};
 ghost use Rattle.nb_copy.specs.Turns.{Fetched, LevelTurn, LevelCounts};
 
-use crate::level_file::LevelFile;
 use nb_engine::Engine;
+use nb_gather::LevelFile;
 use nb_host::{Host, HostFault, Name};
 use nb_level::LevelHead;
 use nb_scn::{covers, entry, is_place, place_of};

@@ -1,8 +1,8 @@
 //! Copying the frozen main file of a stalled database into a backup file, one page a turn, while other sessions' writes go to the
 //! difference file.
 //!
-//! It rests on `nb_engine`, which reads the frozen main file, makes room in the history and begins the backup, and on `nb_level`,
-//! which writes the pieces of a level file. A layer above may rely on this: each turn deals with one page of the frozen image and
+//! It rests on `nb_engine`, which reads the frozen main file, makes room in the history and begins the backup, and on `nb_gather`,
+//! which writes a level file page by page. A layer above may rely on this: each turn deals with one page of the frozen image and
 //! touches no file but the one that is made; a stop leaves that file as it was before it was made, or unfinished, so that nothing
 //! takes it for a backup, or whole; and once a copier has answered that it is finished, the file has exactly the bytes of its backup
 //! and is kept for good. `Copier` is the backup from its begin to its row in the history, which is written only behind that; what
@@ -16,9 +16,7 @@ mod file_copier;
 mod file_copy;
 pub mod laws;
 mod level_copy;
-mod level_file;
 mod page_copy;
-mod run;
 mod since;
 
 pub use copier::Copier;

@@ -12,7 +12,7 @@ ghost use Rattle.nb_page.specs.Quiet.{Quiet};
 ghost use Rattle.nb_state.specs.Open.{IsOpen};
 ghost use Rattle.nb_copy.specs.Copying.{IsOf, IsBegun, IsCopying};
 ghost use Rattle.nb_copy.specs.Turns.{CopyTurn, CopyCounts};
-ghost use Rattle.nb_copy.specs.Making.{IsBlank, IsFreeOr, IsKept};
+ghost use Rattle.nb_gather.specs.Making.{IsBlank, IsFreeOr, IsKept};
 ghost use Rattle.nb_base.specs.Touches.{Touches};
 
 use nb_engine::Engine;

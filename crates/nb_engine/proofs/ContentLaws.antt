@@ -1,5 +1,5 @@
 -- What a new page has behind its head, by its number.
-use Rattle.std.proofs.Common.{◌≡◌, ℕ, zero, suc, ◌+◌, ◌-◌, ◌≤◌, List, ◌++◌, length, take, drop, replicate, refl, sym, ap, ◌∙◌, arith, append_assoc, length-append, length-drop}
+use Rattle.std.proofs.Common.{◌≡◌, ℕ, zero, suc, ◌+◌, ◌-◌, ◌≤◌, List, ◌∷◌, ◌++◌, length, take, drop, replicate, refl, sym, ap, ◌∙◌, arith, append_assoc, length-append, length-drop}
 use Rattle.std.specs.Prelude.{Bool, true, false, ◌==◌, Option, Some, None, is_some, not, unwrap_or}
 use Rattle.std.proofs.lemmas.List.{replicate-append-replicate, take-append-drop, take_at, drop_at, drop-drop, length-take-le}
 use Rattle.nb_fields.specs.Bytes.{bytes_of, with_part, padded}
@@ -9,7 +9,7 @@ use Rattle.nb_fields.specs.Places.{is_system_place}
 use Rattle.nb_fields.proofs.NumberLemmas.{length-bytes_of}
 use Rattle.nb_fields.proofs.PartLemmas.{length-with_part}
 use Rattle.nb_model.specs.Image.{Image, image_size}
-use Rattle.nb_model.specs.Forms.{Draft, drafted, put, take_page, system_page, searched, no_page, lowest_free, new_within}
+use Rattle.nb_model.specs.Forms.{Draft, drafted, put, take_page, system_page, first_not, needed_at, no_page, lowest_free, new_within}
 use Rattle.nb_engine.specs.Data.{owner_by, new_data}
 use Rattle.nb_engine.specs.Make.{content, new_of}
 
@@ -85,23 +85,28 @@ abbrev tried : (tries kind : ℕ) (payload : ℕ → List ℕ) (d : Draft) → (
 tried tries kind payload d full system =
     let p : ℕ = lowest_free d.image in
     elim full as (λ z. Draft × ℕ) [
-      | true ↦ (no_page (searched p d), p)
+      | true ↦ (no_page d, p)
       | false ↦ elim system as (λ z. Draft × ℕ) [
-        | true ↦ new_within tries kind payload (take_page p (system_page p (searched p d)))
-        | false ↦ (take_page p (put p kind (payload p) (searched p d)), p)
+        | true ↦ new_within tries kind payload (take_page p (system_page p d))
+        | false ↦ (take_page p (put p kind (payload p) d), p)
       ]
     ]
+
+abbrev needed : (tries kind : ℕ) (payload : ℕ → List ℕ) (d : Draft) → Option ℕ → (full system : Bool) → Draft × ℕ
+needed tries kind payload d first full system = elim first as (λ z. Draft × ℕ) [ Some q ↦ (record d { broken = q ∷ d.broken }, 0) | None ↦ tried tries kind payload d full system ]
 
 -- pages with the same payloads are made alike
 pub new_same : (tries kind : ℕ) (f g : ℕ → List ℕ) (d : Draft) → ((p : ℕ) → f p ≡ g p) → new_within tries kind f d ≡ new_within tries kind g d
 unfolding new_within
 new_same zero kind f g d same = refl
-new_same (suc tries) kind f g d same = by (λ e. new_same tries kind f g e same) (lowest_free d.image == 1048576) (is_system_place (image_size d.image) (lowest_free d.image))
+new_same (suc tries) kind f g d same =
+    by (λ e. new_same tries kind f g e same) (first_not d.image (needed_at d.image (lowest_free d.image))) (lowest_free d.image == 1048576) (is_system_place (image_size d.image) (lowest_free d.image))
   where
-    by : ((e : Draft) → new_within tries kind f e ≡ new_within tries kind g e) → (full system : Bool) → tried tries kind f d full system ≡ tried tries kind g d full system
-    by again true system = refl
-    by again false true = let p : ℕ = lowest_free d.image in again (take_page p (system_page p (searched p d)))
-    by again false false = let p : ℕ = lowest_free d.image in ap (λ (xs : List ℕ). (take_page p (put p kind xs (searched p d)), p)) (same p)
+    by : ((e : Draft) → new_within tries kind f e ≡ new_within tries kind g e) → (first : Option ℕ) (full system : Bool) → needed tries kind f d first full system ≡ needed tries kind g d first full system
+    by again (Some q) full system = refl
+    by again None true system = refl
+    by again None false true = let p : ℕ = lowest_free d.image in again (take_page p (system_page p d))
+    by again None false false = let p : ℕ = lowest_free d.image in ap (λ (xs : List ℕ). (take_page p (put p kind xs d), p)) (same p)
 
 -- The bytes of a new data page by the owner that is named.
 pub content_named : (owner : Option ℕ) (own : Bool) (bytes slots : List ℕ) → is_some owner ≡ not own → bytes ≡ data_payload 0 (unwrap_or owner 0) slots → (p : ℕ) → content own bytes p ≡ data_payload 0 (owner_by owner p) slots

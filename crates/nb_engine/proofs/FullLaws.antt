@@ -93,7 +93,7 @@ multiple size p is behind system =
     ]
 
 -- so of three pages in a row one is none
-three_apart : (size p : ℕ) → IsTrue (is_page_size size) → 3 ≤ p → is_system_place size p ≡ true → is_system_place size (p + 2) ≡ false
+pub three_apart : (size p : ℕ) → IsTrue (is_page_size size) → 3 ≤ p → is_system_place size p ≡ true → is_system_place size (p + 2) ≡ false
 three_apart size p is behind system = by (is_system_place size (p + 2)) refl
   where
     apart : (s a c : ℕ) → 4 ≤ s → a * s < c * s → c * s ≤ a * s + 3 → ⊥

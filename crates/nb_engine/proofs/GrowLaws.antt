@@ -1,5 +1,5 @@
 -- A chain grows by a page: the new page, and then the link to it.
-use Rattle.std.proofs.Common.{◌≡◌, inl, inr, ℕ, zero, suc, ◌+◌, ◌<◌, ◌≤◌, List, [], ◌∷◌, ◌++◌, length, refl, sym, ap, subst, ◌∙◌, arith, length-append}
+use Rattle.std.proofs.Common.{◌≡◌, ◌≢◌, ◌⊎◌, inl, inr, ℕ, zero, suc, ◌+◌, ◌<◌, ◌≤◌, List, [], ◌∷◌, ◌++◌, length, refl, sym, ap, subst, ◌∙◌, arith, length-append}
 use Rattle.std.specs.Prelude.{Bool, true, false, ◌==◌, nat_lt, slice_set, Some, None, Result, Ok, Err, IfErr}
 use Rattle.std.proofs.lemmas.Bool.Decides.{eqb_tells}
 use Rattle.std.proofs.lemmas.List.{length-set}
@@ -10,21 +10,21 @@ use Rattle.nb_host.specs.World.{World}
 use Rattle.nb_host.specs.declared.faults.Fault.{Fault}
 use Rattle.nb_host.specs.declared.refusals.Refusal.{Refusal}
 use Rattle.nb_host.specs.declared.refusals.Refusal.TheVariants.{Full}
-use Rattle.nb_fields.specs.Page.{stamped}
-use Rattle.nb_model.specs.Image.{Page, Image, image_size, image_scn, with_page}
+use Rattle.nb_fields.specs.Page.{stamped, kind_of}
+use Rattle.nb_model.specs.Image.{Page, Image, image_size, image_scn, with_page, page_at}
 use Rattle.nb_model.specs.Strokes.{Stroke, merged_page}
 use Rattle.nb_model.specs.Trail.{Trail}
-use Rattle.nb_model.specs.Forms.{Draft, drafted, old_page, put, take_page, wrote, written, no_page, lowest_free, searched, system_page, new_within, has_entry, scn_page_of}
+use Rattle.nb_model.specs.Forms.{Draft, drafted, old_page, put, take_page, wrote, written, no_page, lowest_free, system_page, new_within, has_entry, scn_page_of}
 use Rattle.nb_model.specs.Causes.{Cause, when, not_kind, no_room, no_scn}
 use Rattle.nb_model.specs.Chains.{Chain, owner_of, last_of, grown}
 use Rattle.nb_model.proofs.DraftLaws.{IsKept, IsOf, drafts_are, drafted_is, put_keeps, new_keeps}
 use Rattle.nb_model.proofs.DraftJoin.{join_put, join_set_bit}
 use Rattle.nb_model.proofs.FitLaws.{IsWhole}
-use Rattle.nb_model.proofs.NewSound.{searched_image}
+use Rattle.nb_model.proofs.SearchLaws.{try_full}
 use Rattle.nb_model.proofs.ReadLaws.{eq_yes}
 use Rattle.nb_model.proofs.PutSound.{IsPlace}
 use Rattle.nb_model.proofs.RoundLaws as rounds
-use Rattle.nb_model.proofs.RoundLaws.{new_more, new_last}
+use Rattle.nb_model.proofs.RoundLaws.{new_more, new_last, needed_found}
 use Rattle.nb_base.specs.Takes.{after_strokes, IsNoRefusal}
 use Rattle.nb_state.specs.Open.{Held}
 use Rattle.nb_state.specs.Does.{Makes, unless_by}
@@ -76,22 +76,11 @@ module _ (kind : ℕ) (payload : ℕ → List ℕ) (some : (kind == 0) ≡ false
     abbrev p : ℕ
     p = lowest_free image
 
-    abbrev at_end : Bool → Draft × ℕ
-    at_end t = elim t [
-      | true ↦ (no_page (searched p (drafted image)), p)
-      | false ↦ elim (is_system_place (image_size image) p) as (λ z. Draft × ℕ) [
-        | true ↦ new_within left kind payload (take_page p (system_page p (searched p (drafted image))))
-        | false ↦ (take_page p (put p kind (payload p) (searched p (drafted image))), p)
-      ]
-    ]
-
-    made_is : made (suc left) image ≡ at_end (p == 1048576)
-    unfolding new_within
-    made_is = refl
-
     -- no page is left
     whole_full : p ≡ 1048576 → IsWhole (made (suc left) image).0.image
-    whole_full e = subst IsWhole (sym (ap (λ (x : Draft × ℕ). x.0.image) (made_is ∙ ap at_end (eq_yes p 1048576 e)) ∙ searched_image p (drafted image))) h
+    whole_full e =
+        let five = (lowest_finds image).low in
+        subst IsWhole (sym (ap (λ (x : Draft × ℕ). x.0.image) (try_full image kind payload left (needed_found image h p (omega (arith, five)) (lowest_most image h.sound.least)) (eq_yes p 1048576 e)))) h
 
     module _ (below : p < 1048576) where
       here : IsPlace image p
@@ -127,6 +116,39 @@ module _ (kind : ℕ) (payload : ℕ → List ℕ) (some : (kind == 0) ≡ false
       by : ((y : Image) → IsWhole y → IsWhole (made left y).0.image) → lowest_free image < 1048576 → (t : Bool) → is_system_place (image_size image) (lowest_free image) ≡ t → IsWhole (made (suc left) image).0.image
       by again below false e = whole_last image left h below e
       by again below true e = whole_more image left h below again e
+
+  -- a page of that kind, where no system page stands, stays one
+  module _ (q : ℕ) where
+    kind_there : (image y : Image) (p : ℕ) → kind_of (page_at y p) ≡ kind → ((r : ℕ) → is_system_place (image_size image) r ≡ false → r ≢ p → page_at y r ≡ page_at image r) → is_system_place (image_size image) q ≡ false
+        → kind_of (page_at image q) ≡ kind → kind_of (page_at y q) ≡ kind
+    kind_there image y p here others plain is = elim (eqb_tells q p) [ inl w ↦ ap (λ (n : ℕ). kind_of (page_at y n)) w.1 ∙ here | inr w ↦ ap kind_of (others q plain w.1) ∙ is ]
+
+    pub kind_stays : (left : ℕ) (image : Image) → IsWhole image → is_system_place (image_size image) q ≡ false → kind_of (page_at image q) ≡ kind → kind_of (page_at (made left image).0.image q) ≡ kind
+    unfolding new_within
+    kind_stays zero image h plain is = is
+    kind_stays (suc left) image h plain is = by (λ y v s k. kind_stays left y v s k) (eqb_tells (lowest_free image) 1048576) (is_system_place (image_size image) (lowest_free image)) refl
+      where
+        p : ℕ
+        p = lowest_free image
+
+        two : 2 ≤ p
+        two = (let five = (lowest_finds image).low in omega (arith, five))
+
+        at : p ≢ 1048576 → IsPlace image p
+        at other = record { behind = omega (arith, two); there = lowest_most image h.sound.least; most = (let most = h.sound.most in let low = lowest_most image h.sound.least in omega (arith, most, low, other)) }
+
+        K : Draft × ℕ → Type 0
+        K x = kind_of (page_at x.0.image q) ≡ kind
+
+        by : ((y : Image) → IsWhole y → is_system_place (image_size y) q ≡ false → kind_of (page_at y q) ≡ kind → kind_of (page_at (made left y).0.image q) ≡ kind)
+            → (((p == 1048576) ≡ true) × (p ≡ 1048576)) ⊎ (((p == 1048576) ≡ false) × (p ≢ 1048576)) → (t : Bool) → is_system_place (image_size image) p ≡ t → K (made (suc left) image)
+        by again (inl w) t e = subst K (sym (try_full image kind payload left (needed_found image h p two (lowest_most image h.sound.least)) w.0)) is
+        by again (inr w) false e = subst K (sym (new_last image h kind payload left (at w.1).most e))
+            (kind_there image (take_page p (put p kind (payload p) (drafted image))).image p (rounds.last_kind image h p kind (payload p) (at w.1) e some (short p) two)
+            (λ r other ne. rounds.last_plain image h p kind (payload p) (at w.1) e some (short p) two r other ne) plain is)
+        by again (inr w) true e = subst K (sym (new_more image h kind payload left (at w.1).most e))
+            (again (rounds.round p image).image (rounds.round_well image h p (at w.1) e two) (ap (λ (s : ℕ). is_system_place s q) (rounds.round_size image h p (at w.1) e two) ∙ plain)
+            (ap kind_of (rounds.round_plain image h p (at w.1) e two q plain) ∙ is))
 
   pub new_long : (left : ℕ) (image : Image) → length image ≤ length (made left image).0.image
   new_long left image = new_keeps (λ d. length image ≤ length d.image) (long_kept (length image)) left kind payload (drafted image) (omega arith)

@@ -1,5 +1,5 @@
 -- What making a new page does of its turn.
-use Rattle.std.proofs.Common.{◌≡◌, ◌<◌, ◌+◌, ℕ, List, [], ◌∷◌, length, refl, sym, ap, subst, ◌∙◌}
+use Rattle.std.proofs.Common.{◌≡◌, ◌<◌, ◌+◌, ℕ, List, [], ◌∷◌, length, refl, sym, ap, subst, ◌∙◌, arith}
 use Rattle.std.specs.Prelude.{true, false, IsTrue, Some, None, Result, Ok, Err, IfOk, IfErr}
 use Rattle.nb_fields.specs.Bytes.{bytes_of}
 use Rattle.nb_fields.specs.Places.{is_page_size}
@@ -14,11 +14,12 @@ use Rattle.nb_model.specs.Image.{Image, image_scn, is_read_only}
 use Rattle.nb_model.specs.Strokes.{Stroke}
 use Rattle.nb_model.specs.Trail.{Trail}
 use Rattle.nb_model.specs.Forms.{Draft}
-use Rattle.nb_model.specs.Causes.{first_cause, read_only, lowest_broken, not_of_form, no_room}
+use Rattle.nb_model.specs.Causes.{first_cause, read_only, lowest_broken, not_of_form, no_room, too_short}
 use Rattle.nb_model.specs.Outcomes.{Seen, says}
 use Rattle.nb_model.specs.Pages.{new_turn}
 use Rattle.nb_model.specs.Sound.{IsSoundImage, HasHeader}
 use Rattle.nb_model.proofs.NewSound.{empty_text}
+use Rattle.nb_model.proofs.ReadLaws.{lt_no}
 use Rattle.nb_model.proofs.RoundLaws.{new_unbroken}
 use Rattle.nb_base.specs.Takes.{IsNoRefusal}
 use Rattle.nb_state.specs.Open.{Held, IsOpen}
@@ -55,11 +56,14 @@ module _ (s : Seen) where
 
   pub new_closed : is_read_only image ≡ true → new_turn s ≡ says s (Refused (Access 1)) []
   unfolding new_turn
-  new_closed closed = refused_by s (read_only image ∷ []) draft reply (Access 1) (first_here (read_only image) [] (Access 1) (applies _ _ closed))
+  new_closed closed = refused_by s (read_only image ∷ too_short image ∷ []) draft reply (Access 1) (first_here (read_only image) (too_short image ∷ []) (Access 1) (applies _ _ closed))
 
   module _ (free : is_read_only image ≡ false) (is : IsWell image) where
-    open_to_change : first_cause (read_only image ∷ []) ≡ None
-    open_to_change = first_next (read_only image) [] (rests _ _ free) ∙ first_none
+    long : too_short image ≡ None
+    long = let least = is.sound.least in rests _ _ (lt_no (length image) 5 (omega (arith, least)))
+
+    open_to_change : first_cause (read_only image ∷ too_short image ∷ []) ≡ None
+    open_to_change = first_next (read_only image) (too_short image ∷ []) (rests _ _ free) ∙ first_next (too_short image) [] long ∙ first_none
 
     form : not_of_form draft ≡ None
     unfolding lowest_broken
@@ -68,12 +72,12 @@ module _ (s : Seen) where
     pub new_full : (r : Refusal) → no_room draft ≡ Some r → new_turn s ≡ says s (Refused r) []
     unfolding new_turn
     new_full r e =
-        judged_by s (read_only image ∷ []) draft reply open_to_change
+        judged_by s (read_only image ∷ too_short image ∷ []) draft reply open_to_change
         ∙ unless_refused s _ (says s reply draft.strokes) r (first_next (not_of_form draft) (no_room draft ∷ []) form ∙ first_here (no_room draft) [] r e)
 
     pub new_says : no_room draft ≡ None → new_turn s ≡ says s reply draft.strokes
     unfolding new_turn
-    new_says room = allowed s (read_only image ∷ []) draft reply open_to_change form room
+    new_says room = allowed s (read_only image ∷ too_short image ∷ []) draft reply open_to_change form room
 
 -- what is said of a number is said of an equal one
 number_said : (result : Result ℕ Fault) (n : ℕ) → IfOk result (λ number. number ≡ n) → IfOk result (λ number. page_made number ≡ PageMade n)

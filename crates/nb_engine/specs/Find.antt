@@ -1,11 +1,11 @@
 -- The search for a free page, and for the place of a new page.
-use Rattle.std.specs.Prelude.{◌≡◌, ℕ, ◌-◌, ◌<◌, ◌≤◌, [], ◌∷◌, length, nat_lt, min, true, false, None, Result, Ok, Err}
-use Rattle.nb_fields.specs.Places.{is_system_place}
+use Rattle.std.specs.Prelude.{◌≡◌, ℕ, ◌+◌, ◌-◌, ◌*◌, ◌/◌, ◌<◌, ◌≤◌, [], ◌∷◌, length, nat_lt, min, true, false, Option, Some, None, Result, Ok, Err}
+use Rattle.nb_fields.specs.Places.{bits_in, inventory_place, is_system_place}
 use Rattle.nb_host.specs.declared.faults.Fault.{Fault}
 use Rattle.nb_host.specs.declared.faults.Fault.TheVariants.{Refused, Device, Memory}
-use Rattle.nb_host.specs.declared.refusals.Refusal.TheVariants.{Full}
+use Rattle.nb_host.specs.declared.refusals.Refusal.TheVariants.{NotDatabase, Full}
 use Rattle.nb_model.specs.Image.{Page, Image, page_at, image_size}
-use Rattle.nb_model.specs.Forms.{inventory_of, scn_page_of, has_entry, is_free_page}
+use Rattle.nb_model.specs.Forms.{is_kind, inventory_of, scn_page_of, has_entry, is_free_page}
 use Rattle.nb_model.specs.Causes.{Cause, first_cause, not_kind}
 
 -- no page from one on and below another is below the length and free
@@ -96,3 +96,18 @@ RefusesFrom (Ok value) image from = Unit
 RefusesFrom (Err (Refused refusal)) image from = (refusal ≡ Full 1048576) × HasNoneFrom image from
 RefusesFrom (Err Device) image from = Unit
 RefusesFrom (Err Memory) image from = Unit
+
+-- the refusal for the first page that isn't of its kind
+abbrev pub need_cause : Option ℕ → Cause
+need_cause first = elim first [ Some q ↦ Some (NotDatabase q) | None ↦ None ]
+
+-- a refusal is for this cause
+abbrev pub RefusedFor : {T : Type 0} → Result T Fault → Cause → Type 0
+RefusedFor (Ok value) cause = Unit
+RefusedFor (Err (Refused refusal)) cause = cause ≡ Some refusal
+RefusedFor (Err Device) cause = Unit
+RefusedFor (Err Memory) cause = Unit
+
+-- the inventory pages from that of one page on, of pages up to another, are of their kind
+abbrev pub AreMaps : Image → (from p : ℕ) → Type 0
+AreMaps image from p = from < length image → (k : ℕ) → from / bits_in (image_size image) ≤ k → k * bits_in (image_size image) ≤ p → k * bits_in (image_size image) < length image → is_kind image 2 (inventory_place (image_size image) k) ≡ true

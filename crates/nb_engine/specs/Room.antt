@@ -5,8 +5,8 @@ use Rattle.nb_fields.specs.Payloads.{data_payload}
 use Rattle.nb_host.specs.declared.refusals.Refusal.TheVariants.{NotDatabase}
 use Rattle.nb_model.specs.Image.{Image, page_at}
 use Rattle.nb_model.specs.Forms.{Draft, drafted, needs, inventory_of, scn_page_of}
-use Rattle.nb_model.specs.Causes.{Cause, first_cause, when, broken_at, not_of_form, no_room, no_scn}
-use Rattle.nb_model.specs.Chains.{History, pages_of}
+use Rattle.nb_model.specs.Causes.{Cause, first_cause, when, broken_at, not_of_form, no_room, no_scn, short_for}
+use Rattle.nb_model.specs.Chains.{History, pages_of, spots, free_spot}
 use Rattle.nb_model.specs.Backups.{room_in, needs_taken}
 use Rattle.nb_engine.specs.declared.walk.Room.{Room}
 use Rattle.nb_engine.specs.Put.{entry_cause}
@@ -14,7 +14,7 @@ use Rattle.nb_engine.specs.Make.{new_of}
 
 -- why no slot is kept
 abbrev pub room_cause : Image → Cause
-room_cause image = first_cause (broken_at (pages_of History image) ∷ not_of_form (room_in image).draft ∷ no_room (room_in image).draft ∷ no_scn image ∷ [])
+room_cause image = first_cause (broken_at (pages_of History image) ∷ short_for (free_spot (spots History image)) image ∷ not_of_form (room_in image).draft ∷ no_room (room_in image).draft ∷ no_scn image ∷ [])
 
 -- it is the slot of the definition
 pub record IsRoomIn (image : Image) (room : Room) : Type 0 where

@@ -5,14 +5,15 @@ ghost use Rattle.nb_change.specs.Counts.{CountsDevice};
 ghost use Rattle.nb_page.specs.Quiet.{Quiet};
 ghost use Rattle.nb_model.specs.Image.{Page, Image, image_size};
 ghost use Rattle.nb_model.specs.Causes.{not_kind, no_room};
-ghost use Rattle.nb_model.specs.Forms.{inventory_of, free_from, lowest_free};
+ghost use Rattle.nb_model.specs.Way.{maps_up_to};
+ghost use Rattle.nb_model.specs.Forms.{inventory_of, free_from, lowest_free, first_not};
 ghost use Rattle.nb_model.specs.Sound.{IsSoundImage, HasHeader};
 ghost use Rattle.nb_model.specs.Trail.{Trail};
 ghost use Rattle.nb_state.specs.Open.{IsOpen, but_pages};
 ghost use Rattle.nb_state.specs.Does.{Tested};
 ghost use Rattle.nb_engine.specs.Put.{Reads};
 ghost use Rattle.nb_engine.specs.Data.{second_data};
-ghost use Rattle.nb_engine.specs.Find.{IsRoom, AreTaken, IsFreeNear, IsNextPlace, IsFirstRoom, IsMap, EndsAt, HoldsMap, RefusesFull, RefusesFrom, IsWayReady, not_there, no_entry_page, not_ready};
+ghost use Rattle.nb_engine.specs.Find.{IsRoom, AreTaken, IsFreeNear, IsNextPlace, IsFirstRoom, IsMap, EndsAt, HoldsMap, RefusesFull, RefusesFrom, RefusedFor, need_cause, AreMaps, IsWayReady, not_there, no_entry_page, not_ready};
 ghost use Rattle.nb_engine.specs.Make.{new_of};
 
 use crate::pages::{InventoryPage, ScnPage};
@@ -49,7 +50,7 @@ pub(crate) fn is_system_place(page_size: u32, number: u32) -> bool
 
 /// Whether a search from page `from` on that ended at page `number` has read the inventory page of that. Where it ended at the length,
 /// the inventory page of the page before is the last that it read.
-fn was_read(page_size: u32, from: u32, number: u32, count: u32) -> bool
+pub(crate) fn was_read(page_size: u32, from: u32, number: u32, count: u32) -> bool
     requires size { IsTrue (is_page_size page_size) }
     requires number { number < 1048576 }
     ensures { (image : Image) (map : Page) → page_size ≡ image_size image → count ≡ length image → EndsAt image from number map → result ≡ true → IsMap image number map }
@@ -108,6 +109,8 @@ pub(crate) fn next_free<H: Host>(
     requires from { from ≤ 1048576 }
     ensures value { (t : Trail) → IsTrue H.tells → IsOpen (H.world host.old) store.old t → IfOk result (λ page. page ≡ free_from (length t.base.image - from) from t.base.image) }
     ensures map { (t : Trail) → IsTrue H.tells → IsOpen (H.world host.old) store.old t → IfOk result (λ page. EndsAt t.base.image from page map.new) }
+    ensures refused { (t : Trail) → IsTrue H.tells → IsOpen (H.world host.old) store.old t → RefusedFor result (need_cause (first_not t.base.image (maps_up_to t.base.image from (free_from (length t.base.image - from) from t.base.image)))) }
+    ensures maps { (t : Trail) → IsTrue H.tells → IsOpen (H.world host.old) store.old t → IfOk result (λ page. AreMaps t.base.image from page) }
     ensures sound { (t : Trail) → IsTrue H.tells → IsOpen (H.world host.old) store.old t → IsSoundImage t.base.image → Tested result None }
     ensures not_before { IfOk result (λ page. from ≤ page) }
     ensures most { IfOk result (λ page. page ≤ 1048576) }

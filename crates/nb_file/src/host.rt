@@ -59,6 +59,14 @@ where
         }
     }
 
+    /// What it works over.
+    pub fn runtime(&self) -> R
+    where
+        R: Copy,
+    {
+        self.rt
+    }
+
     /// From now on it is shown on the standard error how far the run has come.
     pub fn show_progress(&mut self, progress: Progress)
         ensures { self.new ≡ self.old }
@@ -143,7 +151,7 @@ where
 
     /// Gives the system the bytes that wait to be written. A reply does so too; the end of the program doesn't. None wait behind it, also
     /// where it fails.
-    pub fn write_rest(&mut self) -> Result<(), HostFault>
+    pub fn flush(&mut self) -> Result<(), HostFault>
         ensures none { self.new.waiting ≡ None }
         ensures cause { CountsFault result self.old.faults self.new.faults }
     {

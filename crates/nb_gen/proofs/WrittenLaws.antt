@@ -15,10 +15,10 @@ use Rattle.nb_change.proofs.NameLaws.{with_file-same}
 use Rattle.nb_model.specs.Levels.{begins_level}
 use Rattle.nb_model.proofs.ReadLaws.{and_no_right}
 use Rattle.nb_model.proofs.StandsLaws.{not_level}
-use Rattle.nb_copy.specs.Making.{IsNoBackup, IsUnfinished, IsUnfinishedOr}
-use Rattle.nb_copy.proofs.BlankLaws.{blank_empty, blank_free}
-use Rattle.nb_copy.proofs.ReadAgain.{no_value}
-use Rattle.nb_copy.proofs.TornLaws.{Torn, torn_of}
+use Rattle.nb_gather.specs.Making.{IsNoBackup, IsUnfinished, IsUnfinishedOr}
+use Rattle.nb_gather.proofs.BlankLaws.{blank_empty, blank_free}
+use Rattle.nb_gather.proofs.ReadAgain.{no_value}
+use Rattle.nb_gather.proofs.TornLaws.{Torn, torn_of}
 use Rattle.nb_gen.specs.Texts.{IsScriptText}
 
 empty_unfinished : IsUnfinished (Some [])

@@ -3,7 +3,7 @@ ghost use Rattle.std.specs.Prelude.{IsTrue, OnOk};
 ghost use Rattle.nb_host.specs.Causes.{CountsFault};
 ghost use Rattle.nb_change.specs.Changes.{Changes, Only, Remade};
 ghost use Rattle.nb_change.specs.Gave.{GaveNothing};
-ghost use Rattle.nb_copy.specs.Making.{IsKept, IsUnfinishedOr};
+ghost use Rattle.nb_gather.specs.Making.{IsKept, IsUnfinishedOr};
 ghost use Rattle.nb_gen.specs.Texts.{IsScriptText};
 
 use nb_host::{Host, HostFault, Name};

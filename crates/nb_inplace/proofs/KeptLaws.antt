@@ -63,6 +63,7 @@ pub record IsOfRecord (kept : List Kept) (r : Kept) (c : Contents) : Type 0 wher
   pub ancestor : IsAncestor kept from r
   pub leads : LeadsTo from r
   pub scn : c.head.previous_scn ≡ from.scn
+  pub own_scn : c.head.scn ≡ r.scn
   pub size : c.head.size ≡ image_size r.image
   pub pages : c.pages ≡ taken from.scn r.image
 
@@ -153,6 +154,7 @@ module _ (files : Files) (account : Account) (stands : Stands files account) (na
         ancestor = ancestor;
         leads = asks.leads;
         scn = ap (λ (x : Contents). x.head.previous_scn) (sym contents) ∙ split.level.behind.previous_scn;
+        own_scn = sym (ap (λ (l : Link). l.scn) link_is);
         size = sym (ap (λ (l : Link). l.size) link_is);
         pages = sym (ap (λ (l : Link). l.pages) link_is);
       }

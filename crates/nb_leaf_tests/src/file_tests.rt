@@ -193,7 +193,7 @@ fn files_are_written_and_read(rt: HostRuntime) -> Result<(), Fail> {
     );
     let order = writes_keep_their_order(&rt, &mut host, &name, &other);
     let system = system_answers(&mut host);
-    let is_gone = (host.write_rest(), host.remove(&name));
+    let is_gone = (host.flush(), host.remove(&name));
     host.end_progress();
     assert_eq!(rt; host.last_said(), b"real files\n".as_slice());
     assert_eq!(rt;

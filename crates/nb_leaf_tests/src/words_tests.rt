@@ -6,18 +6,27 @@ use std::alloc::{AllocError, Global};
 use std::test::Fail;
 
 /// Words one space apart.
-const LINES: [&str; 6] = [
+const LINES: [&str; 12] = [
     "-IR c.db a.1",
     "-R c.db -I a.1",
     "-IR c.db a.1 a.2",
     "-I c.db a.1",
     "",
     "run ",
+    "fold f.1 a.1 a.2",
+    "fold f.1 a.1",
+    "fold f.1 a b c d e f g h i",
+    "plan 4294967295 l",
+    "plan 4294967296 l",
+    "gen 4294967296 s",
 ];
 
 fn named(answer: &Result<Job, Fault>) -> &'static str {
     match answer {
         Ok(Job::Apply { .. }) => "apply",
+        Ok(Job::Fold { .. }) => "fold",
+        Ok(Job::Plan { .. }) => "plan",
+        Ok(Job::Gen { .. }) => "gen",
         Err(Fault::Refused(Refusal::Usage)) => "usage",
         _ => "another answer",
     }
@@ -50,7 +59,11 @@ fn jobs(alloc: Global) -> Result<Vec<&'static str>, AllocError> {
 fn words_name_their_jobs(rt: HostRuntime) -> Result<(), Fail> {
     assert_eq!(rt;
         jobs(rt.alloc())?.as_slice(),
-        ["apply", "apply", "usage", "usage", "usage", "usage"].as_slice()
+        [
+            "apply", "apply", "usage", "usage", "usage", "usage", "fold", "usage", "fold", "plan",
+            "usage", "gen",
+        ]
+        .as_slice()
     );
     Ok(())
 }

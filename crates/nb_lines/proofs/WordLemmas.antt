@@ -2,7 +2,7 @@
 use Rattle.std.proofs.Common.{◌≡◌, ℕ, ◌+◌, ◌<◌, length, take, get_or, map, List, [], ◌∷◌, ◌++◌, refl, sym, ◌∙◌, ap, append_assoc, slice_get, Some}
 use Rattle.std.proofs.lemmas.Option.{get_or_from_slice_get}
 use Rattle.std.proofs.lemmas.List.{take_more, map-append, append-nil}
-use Rattle.nb_model.specs.Lines.{Word, number, quoted, word_text, spaced, row_words}
+use Rattle.nb_model.specs.Lines.{Word, is, number, quoted, word_text, spaced, name_words, row_words}
 use Rattle.nb_lines.specs.declared.word.Word.{Word as InLine}
 use Rattle.nb_lines.specs.Words.{seen}
 
@@ -40,3 +40,14 @@ one_row_more rows i row start here next low at so_far put =
     row_words-append : (a b : List (ℕ × List ℕ)) → row_words (a ++ b) ≡ row_words a ++ row_words b
     row_words-append [] b = refl
     row_words-append (r ∷ a) b = ap (λ (ws : List Word). number r.0 ∷ quoted r.1 ∷ ws) (row_words-append a b)
+
+-- one name more
+pub one_name_more : (names : List (List ℕ)) (i : ℕ) (name start here next : List ℕ) → i < length names → here ≡ start ++ spaced (name_words (take i names)) → next ≡ here ++ spaced (is (get_or names i name) ∷ []) → next ≡ start ++ spaced (name_words (take (i + 1) names))
+one_name_more names i name start here next low so_far put =
+    words_then (name_words (take i names)) (is (get_or names i name) ∷ []) start here next so_far put
+    ∙ ap (λ (ws : List Word). start ++ spaced ws) (sym (ap name_words (take_more names i name low) ∙ map-append is (take i names) (get_or names i name ∷ [])))
+
+-- numbers, and then two lists of names
+pub plan_said : (front dropped orphans : List Word) (start first second end : List ℕ) → first ≡ start ++ spaced front → second ≡ first ++ spaced dropped → end ≡ second ++ spaced orphans → end ≡ start ++ spaced (front ++ (dropped ++ orphans))
+plan_said front dropped orphans start first second end said named last =
+    words_then front (dropped ++ orphans) start first end said (words_then dropped orphans first second end named last)

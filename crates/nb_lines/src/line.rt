@@ -1,11 +1,12 @@
 // The line of a reply.
 ghost use Rattle.std.specs.Prelude.{◌≡◌, ◌++◌, IfOk, IfErr, OnOk};
 ghost use Rattle.nb_host.specs.declared.faults.Fault.TheVariants.{Memory};
-ghost use Rattle.nb_model.specs.Lines.{line_text, spaced, reply_words, refusal_words, row_words};
+ghost use Rattle.nb_model.specs.declared.reply.Reply.TheVariants.{Planned};
+ghost use Rattle.nb_model.specs.Lines.{line_text, spaced, name_words, reply_words, refusal_words, row_words};
 
 use crate::word::{Word, push_number, push_words};
-use nb_host::{Fault, Refusal};
-use nb_model::{Reply, RowList};
+use nb_host::{Fault, Name, Refusal};
+use nb_model::{NameList, Reply, RowList};
 use std::alloc::{AllocError, Global};
 
 /// The number of a refusal, its name and the values of its fields.
@@ -243,6 +244,42 @@ fn push_rows(line: &mut Vec<u8>, rows: &RowList) -> Result<(), AllocError>
     Ok(())
 }
 
+/// Each name.
+fn push_names(line: &mut Vec<u8>, names: &[Name]) -> Result<(), AllocError>
+    ensures { OnOk result (line.new.items ≡ line.old.items ++ spaced (name_words names.now)) }
+{
+    for name in names {
+        push_words(line, &[Word::Name(name)])?;
+    }
+    Ok(())
+}
+
+/// How many files a plan keeps, drops and calls orphans, and then the names of those that it drops and of the orphans.
+fn push_plan(
+    line: &mut Vec<u8>,
+    kept: u32,
+    dropped: &NameList,
+    orphans: &NameList,
+) -> Result<(), AllocError>
+    ensures { OnOk result (line.new.items ≡ line.old.items ++ spaced (reply_words (Planned kept dropped.now orphans.now))) }
+{
+    push_words(
+        line,
+        &[
+            Word::Is("ok"),
+            Word::Is("keep"),
+            Word::Number(kept as u64),
+            Word::Is("drop"),
+            Word::Number(dropped.len() as u64),
+            Word::Is("orphan"),
+            Word::Number(orphans.len() as u64),
+        ],
+    )?;
+    push_names(line, dropped.as_slice())?;
+    push_names(line, orphans.as_slice())?;
+    Ok(())
+}
+
 fn push_reply(line: &mut Vec<u8>, reply: &Reply) -> Result<(), AllocError>
     ensures { OnOk result (line.new.items ≡ line.old.items ++ spaced (reply_words reply.now)) }
 {
@@ -395,6 +432,11 @@ fn push_reply(line: &mut Vec<u8>, reply: &Reply) -> Result<(), AllocError>
                 Word::Number(*held as u64),
             ],
         ),
+        Reply::Planned {
+            kept,
+            dropped,
+            orphans,
+        } => push_plan(line, *kept, dropped, orphans),
         Reply::Refused { refusal } => {
             push_words(line, &[Word::Is("refused")])?;
             push_refusal(line, refusal)?;

@@ -23,7 +23,7 @@ weaker n [] h = tt
 weaker n (r ∷ rs) h = (omega (arith, h.0), h.1, h.2)
 
 -- the pages that are taken rise, and are of one size
-taken_rise : (n s : ℕ) (ps : Image) → n + length ps ≤ 1048576 → AreRising n (taken_from n s ps)
+pub taken_rise : (n s : ℕ) (ps : Image) → n + length ps ≤ 1048576 → AreRising n (taken_from n s ps)
 unfolding taken_from
 taken_rise n s [] h = tt
 taken_rise n s (p ∷ ps) h = elim (leb_tells (suc s) (stamp_of p)) [

@@ -1,12 +1,12 @@
 -- A form that goes on from a draft makes that draft's strokes, and then those that it makes from its image alone.
-use Rattle.std.proofs.Common.{◌≡◌, ℕ, zero, suc, ◌+◌, ◌*◌, ◌/◌, List, ◌∷◌, ◌++◌, drop, refl, sym, ap, ◌∙◌, append_assoc}
-use Rattle.std.specs.Prelude.{Bool, true, false, ◌||◌, ◌==◌, nat_lt}
+use Rattle.std.proofs.Common.{◌≡◌, ℕ, zero, suc, ◌+◌, ◌*◌, ◌/◌, List, [], ◌∷◌, ◌++◌, drop, refl, sym, ap, ◌∙◌, append_assoc}
+use Rattle.std.specs.Prelude.{Bool, true, false, ◌||◌, ◌==◌, nat_lt, Option, Some, None}
 use Rattle.std.proofs.lemmas.List.{append-nil}
 use Rattle.nb_fields.specs.Bytes.{bytes_of, with_part}
 use Rattle.nb_fields.specs.Places.{bits_in, inventory_place, is_system_place}
 use Rattle.nb_model.specs.Image.{Image, page_at, image_size, image_scn}
 use Rattle.nb_model.specs.Strokes.{Stroke}
-use Rattle.nb_model.specs.Forms.{Draft, drafted, wrote, written, needs, is_kind, scn_page_of, inventory_of, bit_number, entry_number, scn_entry, has_entry, with_bit, entry_written, entry_raised, raised, put, set_bit, take_page, lowest_free, needs_inventories, searched, system_kind, system_payload, system_page, no_page, new_within}
+use Rattle.nb_model.specs.Forms.{Draft, drafted, wrote, written, needs, is_kind, other_kind, wants, scn_page_of, inventory_of, bit_number, entry_number, scn_entry, has_entry, with_bit, entry_written, entry_raised, raised, put, set_bit, take_page, lowest_free, first_not, needed_at, system_kind, system_payload, system_page, no_page, new_within}
 
 -- the strokes of a draft, and then those of another that goes on from its image
 abbrev pub joined : Draft → Draft → Draft
@@ -84,17 +84,6 @@ join_set_bit bit p d =
     join_at (λ image x. put (inventory_of image p) 2 (drop 16 (with_bit (bit_number image p) bit (page_at image (inventory_of image p)))) (needs 2 (inventory_of image p) x))
     (λ image. join_then (needs 2 (inventory_of image p)) (put (inventory_of image p) 2 _) (join_needs 2 (inventory_of image p)) (join_put (inventory_of image p) 2 _)) d
 
-join_inventories : (count k : ℕ) → Joins (needs_inventories count k)
-unfolding needs_inventories
-join_inventories zero k d = join_none d
-join_inventories (suc count) k d =
-    join_at (λ image x. needs_inventories count (k + 1) (needs 2 (inventory_place (image_size image) k) x))
-    (λ image. join_then (needs 2 (inventory_place (image_size image) k)) (needs_inventories count (k + 1)) (join_needs 2 _) (join_inventories count (k + 1))) d
-
-join_searched : (p : ℕ) → Joins (searched p)
-unfolding searched
-join_searched p d = join_at (λ image x. needs_inventories (p / bits_in (image_size image) + 1) 0 x) (λ image. join_inventories _ 0) d
-
 pub join_system : (p : ℕ) → Joins (system_page p)
 unfolding system_page
 join_system p d =
@@ -104,14 +93,16 @@ join_system p d =
 join_full : Joins no_page
 join_full d = ap (λ (ss : List Stroke). record { image = d.image; strokes = ss; broken = d.broken; full = true }) (sym (append-nil d.strokes))
 
--- a round of the search for a new page
-pub join_round : (p : ℕ) → Joins (λ d. take_page p (system_page p (searched p d)))
-join_round p d =
-    join_then (searched p) (λ x. take_page p (system_page p x)) (join_searched p) (join_then (system_page p) (take_page p) (join_system p) (join_set_bit 0 p)) d
+-- what an image wants of a page
+pub join_wants : (image : Image) (kind p : ℕ) (d e : Draft) → wants image kind p (joined d e) ≡ joined d (wants image kind p e)
+join_wants image kind p d e = ap (λ (ps : List ℕ). record { image = e.image; strokes = d.strokes ++ e.strokes; broken = ps; full = e.full || d.full }) (sym (append_assoc (other_kind image kind p) e.broken d.broken))
 
-pub join_last : (p kind : ℕ) (payload : List ℕ) → Joins (λ d. take_page p (put p kind payload (searched p d)))
-join_last p kind payload d =
-    join_then (searched p) (λ x. take_page p (put p kind payload x)) (join_searched p) (join_then (put p kind payload) (take_page p) (join_put p kind payload) (join_set_bit 0 p)) d
+-- a round of the search for a new page
+pub join_round : (p : ℕ) → Joins (λ d. take_page p (system_page p d))
+join_round p d = join_then (system_page p) (take_page p) (join_system p) (join_set_bit 0 p) d
+
+pub join_last : (p kind : ℕ) (payload : List ℕ) → Joins (λ d. take_page p (put p kind payload d))
+join_last p kind payload d = join_then (put p kind payload) (take_page p) (join_put p kind payload) (join_set_bit 0 p) d
 
 -- a new page and its number
 abbrev pub joined_new : Draft → Draft × ℕ → Draft × ℕ
@@ -125,16 +116,16 @@ JoinsNew tries kind payload = (d : Draft) → new_within tries kind payload d �
 pub join_new : (tries kind : ℕ) (payload : ℕ → List ℕ) → JoinsNew tries kind payload
 unfolding new_within
 join_new zero kind payload d = ap (λ (x : Draft). (x, 0)) (join_full d)
-join_new (suc tries) kind payload d = by_end (λ x. join_new tries kind payload x) (lowest_free d.image == 1048576)
+join_new (suc tries) kind payload d = by_need (λ x. join_new tries kind payload x) (first_not d.image (needed_at d.image p))
   where
     p : ℕ
     p = lowest_free d.image
 
     round : Draft → Draft
-    round x = take_page p (system_page p (searched p x))
+    round x = take_page p (system_page p x)
 
     last : Draft → Draft
-    last x = take_page p (put p kind (payload p) (searched p x))
+    last x = take_page p (put p kind (payload p) x)
 
     again : JoinsNew tries kind payload → new_within tries kind payload (round d) ≡ joined_new d (new_within tries kind payload (round (drafted d.image)))
     again before =
@@ -151,12 +142,24 @@ join_new (suc tries) kind payload d = by_end (λ x. join_new tries kind payload 
 
     by_end : JoinsNew tries kind payload → (t : Bool)
         → (elim t as (λ z. Draft × ℕ) [
-          | true ↦ (no_page (searched p d), p)
+          | true ↦ (no_page d, p)
           | false ↦ elim (is_system_place (image_size d.image) p) as (λ z. Draft × ℕ) [ true ↦ new_within tries kind payload (round d) | false ↦ (last d, p) ]
         ])
         ≡ joined_new d (elim t as (λ z. Draft × ℕ) [
-          | true ↦ (no_page (searched p (drafted d.image)), p)
+          | true ↦ (no_page (drafted d.image), p)
           | false ↦ elim (is_system_place (image_size d.image) p) as (λ z. Draft × ℕ) [ true ↦ new_within tries kind payload (round (drafted d.image)) | false ↦ (last (drafted d.image), p) ]
         ])
-    by_end before true = ap (λ (x : Draft). (x, p)) (join_then (searched p) no_page (join_searched p) join_full d)
+    by_end before true = ap (λ (x : Draft). (x, p)) (join_full d)
     by_end before false = by_place before (is_system_place (image_size d.image) p)
+
+    go : Draft → Draft × ℕ
+    go x = elim (p == 1048576) [
+      | true ↦ (no_page x, p)
+      | false ↦ elim (is_system_place (image_size d.image) p) [ true ↦ new_within tries kind payload (round x) | false ↦ (last x, p) ]
+    ]
+
+    by_need : JoinsNew tries kind payload → (o : Option ℕ)
+        → (elim o as (λ z. Draft × ℕ) [ Some q ↦ (record d { broken = q ∷ d.broken }, 0) | None ↦ go d ])
+        ≡ joined_new d (elim o as (λ z. Draft × ℕ) [ Some q ↦ (record (drafted d.image) { broken = q ∷ [] }, 0) | None ↦ go (drafted d.image) ])
+    by_need before (Some q) = ap (λ (x : Draft). (x, 0)) (join_broken q d)
+    by_need before None = by_end before (p == 1048576)

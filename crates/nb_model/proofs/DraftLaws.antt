@@ -7,7 +7,7 @@ use Rattle.nb_model.specs.Account.{Base}
 use Rattle.nb_model.specs.Chains.{Chain, Slot, Spot, spots_of, free_spot, put_slot, last_of, grown, place_at, place_slot}
 use Rattle.nb_model.specs.Tables.{all_given}
 use Rattle.nb_model.specs.Strokes.{page, base_after, on_base, merged_page}
-use Rattle.nb_model.specs.Forms.{Draft, drafted, wrote, written, needs, is_kind, has_entry, scn_entry, entry_written, entry_raised, raised, put, set_bit, give_page, lowest_free, needs_inventories, searched, system_kind, system_page, no_page, new_within}
+use Rattle.nb_model.specs.Forms.{Draft, drafted, wrote, written, needs, is_kind, has_entry, scn_entry, entry_written, entry_raised, raised, put, set_bit, give_page, lowest_free, first_not, needed_at, system_kind, system_page, no_page, new_within}
 use Rattle.nb_model.proofs.StrokeLaws.{base_after-append}
 
 -- What is kept by each write, and says nothing of what was read.
@@ -24,6 +24,10 @@ either P false x y px py = py
 either_page : (P : Draft → Type 0) (t : Bool) (x y : Draft × ℕ) → P x.0 → P y.0 → P (elim t as (λ z. Draft × ℕ) [ true ↦ x | false ↦ y ]).0
 either_page P true x y px py = px
 either_page P false x y px py = py
+
+either_need : (P : Draft → Type 0) (o : Option ℕ) (stop : ℕ → Draft × ℕ) (go : Draft × ℕ) → ((q : ℕ) → P (stop q).0) → P go.0 → P (elim o as (λ z. Draft × ℕ) [ Some q ↦ stop q | None ↦ go ]).0
+either_need P None stop go ps pg = pg
+either_need P (Some q) stop go ps pg = ps q
 
 module _ (P : Draft → Type 0) (kept : IsKept P) where
   pub needs_keeps : (kind p : ℕ) (d : Draft) → P d → P (needs kind p d)
@@ -46,15 +50,6 @@ module _ (P : Draft → Type 0) (kept : IsKept P) where
   unfolding set_bit
   set_bit_keeps bit p d h = put_keeps _ 2 _ _ (needs_keeps 2 _ d h)
 
-  inventories_keep : (count k : ℕ) (d : Draft) → P d → P (needs_inventories count k d)
-  unfolding needs_inventories
-  inventories_keep zero k d h = h
-  inventories_keep (suc count) k d h = inventories_keep count (k + 1) _ (needs_keeps 2 _ d h)
-
-  searched_keeps : (p : ℕ) (d : Draft) → P d → P (searched p d)
-  unfolding searched
-  searched_keeps p d h = inventories_keep _ 0 d h
-
   pub system_keeps : (p : ℕ) (d : Draft) → P d → P (system_page p d)
   unfolding system_page
   system_keeps p d h = either P (is_kind d.image (system_kind d.image p) p) _ _ h (put_keeps p _ _ d h)
@@ -64,11 +59,11 @@ module _ (P : Draft → Type 0) (kept : IsKept P) where
   new_keeps zero kind payload d h = kept.fills d h
   new_keeps (suc tries) kind payload d h =
       let p : ℕ = lowest_free d.image in
-      let read : P (searched p d) = searched_keeps p d h in
-      either_page P (p == 1048576) _ _ (kept.fills _ read)
+      either_need P (first_not d.image (needed_at d.image p)) _ _ (λ q. kept.reads (q ∷ d.broken) d h)
+      (either_page P (p == 1048576) _ _ (kept.fills d h)
       (either_page P (is_system_place (image_size d.image) p) _ _
-      (new_keeps tries kind payload _ (set_bit_keeps 0 p _ (system_keeps p _ read)))
-      (set_bit_keeps 0 p _ (put_keeps p kind (payload p) _ read)))
+      (new_keeps tries kind payload _ (set_bit_keeps 0 p _ (system_keeps p d h)))
+      (set_bit_keeps 0 p _ (put_keeps p kind (payload p) d h))))
 
 -- so do those on chains of data pages
 module _ (P : Draft → Type 0) (kept : IsKept P) where
@@ -78,10 +73,10 @@ module _ (P : Draft → Type 0) (kept : IsKept P) where
 
   pub grown_keeps : (chain : Chain) (pages : List ℕ) (bytes : Slot) (d : Draft) → P d → P (grown chain pages bytes d).0
   unfolding grown
-  grown_keeps chain pages bytes d h = put_keeps P kept (last_of pages) 5 _ _ (new_keeps P kept _ 5 _ d h)
+  grown_keeps chain pages bytes d h = kept.reads _ _ (put_keeps P kept (last_of pages) 5 _ _ (new_keeps P kept _ 5 _ d h))
 
   pub at_keeps : (chain : Chain) (room : Option Spot) (pages : List ℕ) (bytes : Slot) (d : Draft) → P d → P (place_at chain room pages bytes d)
-  at_keeps chain (Some s) pages bytes d h = slot_keeps s.page s.slot bytes d h
+  at_keeps chain (Some s) pages bytes d h = kept.reads _ _ (slot_keeps s.page s.slot bytes d h)
   at_keeps chain None pages bytes d h = grown_keeps chain pages bytes d h
 
   pub place_keeps : (chain : Chain) (pages : List ℕ) (bytes : Slot) (d : Draft) → P d → P (place_slot chain pages bytes d)

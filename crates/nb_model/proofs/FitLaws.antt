@@ -59,6 +59,9 @@ fits_first K b h = record { is = drafted_is b; each = tt; whole = h }
 pub fits_full : (K : Page → Type 0) (b : Base) (d : Draft) → Fits K b d → Fits K b (no_page d)
 fits_full K b d h = record { is = (drafts_are b).fills d h.is; each = h.each; whole = h.whole }
 
+pub fits_broken : (K : Page → Type 0) (b : Base) (broken : List ℕ) (d : Draft) → Fits K b d → Fits K b (record d { broken = broken })
+fits_broken K b broken d h = record { is = (drafts_are b).reads broken d h.is; each = h.each; whole = h.whole }
+
 pub fits_needs : (K : Page → Type 0) (b : Base) (kind p : ℕ) (d : Draft) → Fits K b d → Fits K b (needs kind p d)
 unfolding needs
 fits_needs K b kind p d h = either (Fits K b) (is_kind d.image kind p) _ _ h (record { is = (drafts_are b).reads _ d h.is; each = h.each; whole = h.whole })

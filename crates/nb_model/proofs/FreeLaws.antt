@@ -23,7 +23,7 @@ free_closed : (name : List ℕ) (file delta : File) (b : Base) → is_free_file 
 unfolding entry_of_files
 free_closed name None delta b free e = missing e
   where
-    missing : Missing ≡ IsBase b → ⊥
+    missing : Missing delta ≡ IsBase b → ⊥
     missing h = cc
 free_closed name (Some bytes) delta b free e = by (owner name (Some bytes) delta) refl e
   where

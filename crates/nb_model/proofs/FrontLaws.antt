@@ -11,7 +11,7 @@ pub owner_of_entry : (name : List ℕ) (main delta : File) (b : Base) → entry_
 unfolding entry_of_files
 owner_of_entry name None delta b e = absurd (missing e)
   where
-    missing : Missing ≡ IsBase b → ⊥
+    missing : Missing delta ≡ IsBase b → ⊥
     missing h = cc
 owner_of_entry name (Some bytes) delta b e = by (owner name (Some bytes) delta) refl e
   where

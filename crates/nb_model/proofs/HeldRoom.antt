@@ -13,7 +13,7 @@ use Rattle.nb_model.specs.Account.{Base}
 use Rattle.nb_model.specs.Backups.{Room, needs_taken, room_in}
 use Rattle.nb_model.specs.Causes.{broken_at, not_of_form, lowest_broken}
 use Rattle.nb_model.specs.Chains.{History, Slot, Spot, owner_in, is_used, slots_in, spots, pages_of, found_pages, free_spot, is_in_chain, last_of, grown}
-use Rattle.nb_model.specs.Forms.{Draft, drafted, old_page, put, needs, is_free_page, inventory_of, scn_page_of, new_page}
+use Rattle.nb_model.specs.Forms.{Draft, drafted, old_page, put, needs, is_free_page, inventory_of, scn_page_of, new_page, wants}
 use Rattle.nb_model.specs.Image.{Page, Image, page_at, image_size, image_scn}
 use Rattle.nb_model.specs.Sound.{HasHeader, IsSoundImage}
 use Rattle.nb_model.proofs.DraftJoin.{join_put}
@@ -158,7 +158,7 @@ module _ (P : Slot → Type 0) (b : Base) (h : HasHeader b.image) (is : IsSoundI
   abbrev room : Option Spot → Room
   room o = elim o as (λ z. Room) [
     | Some s ↦ record { draft = needs_taken s.page (read s); page = s.page; slot = s.slot }
-    | None ↦ record { draft = put last 5 link made.0; page = made.1; slot = 0 }
+    | None ↦ record { draft = wants made.0.image 5 last (put last 5 link made.0); page = made.1; slot = 0 }
   ]
 
   read_image : (s : Spot) → (read s).image ≡ b.image

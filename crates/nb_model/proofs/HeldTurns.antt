@@ -77,7 +77,7 @@ module _ (q : ℕ) (bytes : Page) (of_history : IsOfHistory bytes) where
   unfolding first_turn new_turn changes
   new_holds s session h is held = guarded s _ _ held (λ none.
       let made : Draft × ℕ = new_page 8 (λ p. text_payload []) (drafted s.base.image) in
-      let room = no_first _ _ (no_first _ _ (no_first _ _ none).1).1 in
+      let room = no_first _ _ (no_first _ _ (no_first _ _ (no_first _ _ none).1).1).1 in
       let full : made.0.full ≡ false = not_when made.0.full _ room.0 in
       let fits : Fits AnyPage s.base made.0 = new_raw_fits AnyPage any_kinds (λ page e. tt) s.base h is in
       subst (IsHeld q bytes) (sym fits.is.is)

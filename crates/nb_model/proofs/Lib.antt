@@ -21,6 +21,7 @@ pub mod MainLaws
 pub mod PutLaws
 pub mod FreshImageLaws
 pub mod SoundLaws
+pub mod NeedLaws
 pub mod FreshSound
 pub mod PutSound
 pub mod PastLaws
@@ -32,6 +33,12 @@ pub mod BitSound
 pub mod DraftJoin
 pub mod NewSound
 pub mod RoundLaws
+pub mod StepLaws
+pub mod PlaceOrder
+pub mod OnwardLaws
+pub mod FirstFree
+pub mod OnwardTests
+pub mod SearchLaws
 pub mod NormalLaws
 pub mod StandsLaws
 pub mod OutputLaws

@@ -1,5 +1,5 @@
 -- The files go on to stand for the account where a backup or a copy makes files.
-use Rattle.std.proofs.Common.{◌≡◌, ◌≢◌, ◌⊎◌, inl, inr, ℕ, zero, suc, List, [], ◌∷◌, length, take, refl, sym, ap, subst, ◌∙◌, arith}
+use Rattle.std.proofs.Common.{◌≡◌, ◌≢◌, ◌≤◌, ◌⊎◌, inl, inr, ℕ, zero, suc, List, [], ◌∷◌, length, take, refl, sym, ap, subst, ◌∙◌, arith}
 use Rattle.std.specs.Prelude.{Bool, true, false, if◌then◌else◌, ◌==◌, Option, Some, None, Result, Ok, Err, IsTrue, Contains}
 use Rattle.std.specs.Cmp.Lexicographic.{told_text}
 use Rattle.std.proofs.lemmas.Bool.{true≢false, and_parts}
@@ -20,7 +20,7 @@ use Rattle.nb_model.specs.Causes.{Cause, not_database}
 use Rattle.nb_model.specs.Levels.{Head, Contents, first_fault, head_for, head_in, head_then, joined, taken, level_bytes, file_for, file_of, read_level, read_pages, with_head}
 use Rattle.nb_model.specs.Making.{MadeFile, IsNoneOf, IsOfKept, its_file, its_pages, IsNoBackup}
 use Rattle.nb_model.specs.Owner.{delta_name, owner, owner_in, owner_with, entry_in, entry_of_files}
-use Rattle.nb_model.specs.Stands.{IsKeptAs, IsBegun, IsFileOf, IsCopyOf, HoldsItsRecord, is_applying, Stands}
+use Rattle.nb_model.specs.Stands.{IsKeptAs, IsBegun, IsFileOf, IsCopyOf, IsSpan, HoldsItsRecord, is_applying, Stands}
 use Rattle.nb_model.proofs.FreeLaws.{closed_under, free_under, stands_files}
 use Rattle.nb_model.proofs.FrontLaws.{owner_of_entry}
 use Rattle.nb_model.proofs.HeaderLaws.{header-long, same-header, same-number}
@@ -130,23 +130,27 @@ module _ (all kept : List Kept) (among : (r : Kept) → Contains kept r → Cont
       alone name b None is stalled opens =
           err_ok _ (NoFile (delta_name name)) b (owner-formed name (joined r.image) None is ∙ ap (λ (n : ℕ). owner_in n name (joined r.image) None) stalled ∙ stalled_alone name (joined r.image)) opens
 
-  level_whole : (r : Kept) (ask : Ask) → Contains all r → file_of 102 r ≡ level_bytes 102 (head_for r ask) (taken ask.previous_scn r.image) → IsWholeFile kept (file_of 102 r)
-  level_whole r ask there is =
+  -- the bytes of a level of a record, where they are its file or that of a span of it
+  spelled_whole : (r : Kept) (ask : Ask) (bytes : List ℕ) → Contains all r → bytes ≡ level_bytes 102 (head_for r ask) (taken ask.previous_scn r.image) → IsFileOf kept 102 r bytes → IsWholeFile kept bytes
+  spelled_whole r ask bytes there is file =
       let one : IsBegun r = begun r there in
       let sixteen : length r.guid ≡ 16 = ap length (sym one.guid) ∙ length-part 32 16 (first_page r.image) (omega (arith, header-long (first_page r.image) one.header)) in
-      let plain : is_header (file_of 102 r) ≡ true → ⊥ = λ header. level_no_header 102 (head_for r ask) (taken ask.previous_scn r.image) (ap is_header (sym is) ∙ header) in
+      let plain : is_header bytes ≡ true → ⊥ = λ header. level_no_header 102 (head_for r ask) (taken ask.previous_scn r.image) (ap is_header (sym is) ∙ header) in
       record {
         holds = record {
           level = λ c q reads named.
-              let spelled = read_head (file_of 102 r) c reads in
+              let spelled = read_head bytes c reads in
               let guid : c.head.guid ≡ r.guid = ap (λ (h : Head). h.guid) spelled.1 ∙ ap (λ (x : List ℕ). (head_in x).guid) is ∙ level_guid (head_for r ask) (taken ask.previous_scn r.image) sixteen in
               let version : c.version ≡ 102 = spelled.0 ∙ ap (number_in 4 2) is ∙ level_version (head_for r ask) (taken ask.previous_scn r.image) in
-              subst (λ (x : Kept). IsFileOf kept c.version x (file_of 102 r)) (meant r q c.head.guid there guid named) (inl (ap (λ (v : ℕ). file_of v r) (sym version)));
+              subst (λ (x : Kept). IsFileOf kept c.version x bytes) (meant r q c.head.guid there guid named) (subst (λ (v : ℕ). IsFileOf kept v r bytes) (sym version) file);
           copy = λ q header stalled whole named. absurd (plain header);
         };
-        closed = λ name b opens. plain (opened_header name (file_of 102 r) None b opens);
-        rests = λ applying. plain (and_parts (is_header (file_of 102 r)) (state_of (file_of 102 r) == 3) applying).0;
+        closed = λ name b opens. plain (opened_header name bytes None b opens);
+        rests = λ applying. plain (and_parts (is_header bytes) (state_of bytes == 3) applying).0;
       }
+
+  level_whole : (r : Kept) (ask : Ask) → Contains all r → file_of 102 r ≡ level_bytes 102 (head_for r ask) (taken ask.previous_scn r.image) → IsWholeFile kept (file_of 102 r)
+  level_whole r ask there is = spelled_whole r ask (file_of 102 r) there is (inl refl)
 
   whole_file : (bytes : List ℕ) → IsOfKept all bytes → IsWholeFile kept bytes
   whole_file bytes (its_pages r there is) = subst (IsWholeFile kept) (sym is) (pages_whole r there)
@@ -161,6 +165,16 @@ whole_among files account stands kept among = whole_file account.kept kept among
 
 its_whole : (files : Files) (account : Account) → Stands files account → (bytes : List ℕ) → IsOfKept account.kept bytes → IsWholeFile account.kept bytes
 its_whole files account stands = whole_among files account stands account.kept (λ r there. there)
+
+-- a level of a record with an ask of level 1 or more
+pub span_bytes : (r : Kept) (ask : Ask) → 1 ≤ ask.level → file_for 102 r (Some ask) ≡ level_bytes 102 (head_for r ask) (taken ask.previous_scn r.image)
+unfolding file_for
+span_bytes r ask some = elim (eqb_tells ask.level 0) [ inl w ↦ absurd (omega (arith, some, w.1)) | inr w ↦ rw (w.0, file_for) refl ]
+
+-- So is the file of a span of one of its records.
+pub span_whole : (files : Files) (account : Account) → Stands files account → (r : Kept) (ask : Ask) → Contains account.kept r → 1 ≤ ask.level → IsSpan account.kept r ask → IsWholeFile account.kept (file_for 102 r (Some ask))
+span_whole files account stands r ask there some span =
+    spelled_whole account.kept account.kept (λ q kept. kept) stands.kept_records.distinct stands.sound_images.records r ask (file_for 102 r (Some ask)) there (span_bytes r ask some) (inr (ask, span, refl))
 
 -- what the entry of a file is, that has these bytes and isn't opened
 closed_entry : (name bytes : List ℕ) (file delta : File) → file ≡ Some bytes → delta ≡ None → ((b : Base) → owner name (Some bytes) None ≡ Ok b → ⊥) → entry_of_files name file delta ≡ Plain bytes None
@@ -204,6 +218,11 @@ module _ (old new : Files) (account : Account) (name : List ℕ) (stands : Stand
   -- The files stand for the account with what they give under a name where a file is made.
   pub stands_making : IsInMaking account.kept (new name) → Stands new (with_entry name (entry_in new name) account)
   stands_making is = stands_with_both old new account name (entry_in new name) stands plain others (making_under is)
+
+  -- Where it is whole, they stand for it with that file: it is no database, and has no difference file beside it.
+  pub stands_closed : (bytes : List ℕ) → new name ≡ Some bytes → IsWholeFile account.kept bytes → Stands new (with_entry name (Plain bytes None) account)
+  stands_closed bytes there is =
+      subst (λ (e : Entry). Stands new (with_entry name e account)) (closed_entry name bytes (new name) (new (delta_name name)) there alone (is.closed name)) (stands_making (whole bytes there is))
 
   -- Whole, the file is neither a database nor has it a difference file beside it.
   pub whole_entry : (bytes : List ℕ) → new name ≡ Some bytes → IsOfKept account.kept bytes → entry_in new name ≡ Plain bytes None

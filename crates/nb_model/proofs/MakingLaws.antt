@@ -224,7 +224,7 @@ event_makes session u o = by o.made
     by (Some file) = refl
 
 -- Whole bytes are those of no file whose name may be taken.
-level_used : (version : ℕ) (h : Head) (pages : List Numbered) → is_free_file (Some (level_bytes version h pages)) ≡ false
+pub level_used : (version : ℕ) (h : Head) (pages : List Numbered) → is_free_file (Some (level_bytes version h pages)) ≡ false
 unfolding level_bytes head_then
 level_used version h pages = false_from_ne_true (is_free_file (Some (level_bytes version h pages))) (λ free. by _ free)
   where

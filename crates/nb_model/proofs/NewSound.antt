@@ -1,6 +1,6 @@
 -- Each stroke of a new page fits at its point, also where system pages are made on the way.
-use Rattle.std.proofs.Common.{◌≡◌, inl, inr, ℕ, zero, suc, ◌+◌, ◌-◌, ◌*◌, ◌/◌, ◌%◌, ◌^◌, ◌<◌, ◌≤◌, List, [], length, refl, sym, ap, subst, ◌∙◌, arith}
-use Rattle.std.specs.Prelude.{Bool, true, false, ◌==◌, nat_lt, IsTrue, max}
+use Rattle.std.proofs.Common.{◌≡◌, inl, inr, ℕ, zero, suc, ◌+◌, ◌-◌, ◌*◌, ◌/◌, ◌%◌, ◌^◌, ◌<◌, ◌≤◌, List, [], ◌∷◌, length, refl, sym, ap, subst, ◌∙◌, arith}
+use Rattle.std.specs.Prelude.{Bool, true, false, ◌==◌, nat_lt, IsTrue, max, Option, Some, None}
 use Rattle.std.proofs.lemmas.Bool.{true≢false, and_parts, and_from, or_parts, or_cases, ltb-true, eq-eqb, eqb-false}
 use Rattle.std.proofs.lemmas.Bool.Decides.{leb_tells}
 use Rattle.nb_fields.specs.declared.kinds.PageKind.TheVariants.{Inventory, ScnInventory}
@@ -15,12 +15,12 @@ use Rattle.nb_fields.proofs.SizeLemmas.{SizeFacts, size_facts}
 use Rattle.nb_fields.proofs.PlaceLemmas.{bits-least, entries-least}
 use Rattle.nb_model.specs.Image.{Page, Image, page_at, image_size, image_scn}
 use Rattle.nb_model.specs.Account.{Base}
-use Rattle.nb_model.specs.Forms.{Draft, drafted, old_page, is_kind, put, scn_page_of, bit_number, entry_number, scn_entry, has_entry, is_free_page, take_page, free_from, lowest_free, needs_inventories, searched, system_kind, system_payload, system_page, no_page, new_within, new_page}
+use Rattle.nb_model.specs.Forms.{Draft, drafted, old_page, is_kind, put, scn_page_of, bit_number, entry_number, scn_entry, has_entry, is_free_page, take_page, free_from, lowest_free, first_not, needed_at, system_kind, system_payload, system_page, no_page, new_within, new_page}
 use Rattle.nb_model.specs.Sound.{IsSoundImage, HasHeader}
 use Rattle.nb_model.proofs.SoundLaws.{inventory_there, scn_page_there, HasFields, FitsAt, scn_no_entry, with_page_length}
 use Rattle.nb_model.proofs.FreshSound.{kind_inventory, kind_scn, inventory_length, scn_length}
-use Rattle.nb_model.proofs.FitLaws.{IsWhole, Fits, fits_first, fits_full, fits_needs, form_page}
-use Rattle.nb_model.proofs.PutSound.{IsPlace, Raises, IsPut, header_whole, needs_image, old_length, now_length, now_some, now_stamp, now_kind, put_fits, plain_here}
+use Rattle.nb_model.proofs.FitLaws.{IsWhole, Fits, fits_first, fits_full, fits_broken, form_page}
+use Rattle.nb_model.proofs.PutSound.{IsPlace, Raises, IsPut, header_whole, old_length, now_length, now_some, now_stamp, now_kind, put_fits, plain_here}
 use Rattle.nb_model.proofs.BitSound.{bit_put}
 
 -- no page is of both kinds of inventory
@@ -57,26 +57,6 @@ free_between (suc left) p image = let rest = free_between left (p + 1) image in 
 pub lowest_between : (image : Image) → 5 ≤ length image → (5 ≤ lowest_free image) × (lowest_free image ≤ length image)
 unfolding lowest_free
 lowest_between image least = let found = free_between (length image - 5) 5 image in (found.0, omega (arith, found.1))
-
--- reading inventory pages changes no image
-inventories_image : (count k : ℕ) (d : Draft) → (needs_inventories count k d).image ≡ d.image
-unfolding needs_inventories
-inventories_image zero k d = refl
-inventories_image (suc count) k d = inventories_image count (k + 1) _ ∙ needs_image 2 (inventory_place (image_size d.image) k) d
-
-pub searched_image : (p : ℕ) (d : Draft) → (searched p d).image ≡ d.image
-unfolding searched
-searched_image p d = inventories_image _ 0 d
-
-module _ (K : Page → Type 0) (b : Base) where
-  inventories_fit : (count k : ℕ) (d : Draft) → Fits K b d → Fits K b (needs_inventories count k d)
-  unfolding needs_inventories
-  inventories_fit zero k d h = h
-  inventories_fit (suc count) k d h = inventories_fit count (k + 1) _ (fits_needs K b 2 _ d h)
-
-  searched_fits : (p : ℕ) (d : Draft) → Fits K b d → Fits K b (searched p d)
-  unfolding searched
-  searched_fits p d h = inventories_fit _ 0 d h
 
 -- A system page at the end of the image.
 module _ (x : Image) (p : ℕ) (fields : HasFields x) (is : IsSoundImage x) (at : IsPlace x p) (past : p ≡ length x) where
@@ -278,19 +258,10 @@ module _ (K : Page → Type 0) (kinds : HoldsOfKinds K) (b : Base) where
       → Fits K b d → Fits K b (new_within tries kind payload d).0
   unfolding new_within
   new_fits zero kind payload d some room holds before = fits_full K b d before
-  new_fits (suc tries) kind payload d some room holds before = by_end (λ e h. new_fits tries kind payload e some room holds h) (lowest_free d.image == 1048576) refl
+  new_fits (suc tries) kind payload d some room holds before = by_need (λ e h. new_fits tries kind payload e some room holds h) (first_not d.image (needed_at d.image p))
     where
       p : ℕ
       p = lowest_free d.image
-
-      read : Draft
-      read = searched p d
-
-      same : read.image ≡ d.image
-      same = searched_image p d
-
-      read_fits : Fits K b read
-      read_fits = searched_fits K b p d before
 
       held : IsWhole d.image
       held = before.whole
@@ -298,30 +269,37 @@ module _ (K : Page → Type 0) (kinds : HoldsOfKinds K) (b : Base) where
       between : (5 ≤ p) × (p ≤ length d.image)
       between = lowest_between d.image held.sound.least
 
-      at_place : (p == 1048576) ≡ false → IsPlace read.image p
-      at_place below =
-          let most = held.sound.most in
-          subst (λ (x : Image). IsPlace x p) (sym same) (record { behind = omega (arith, between.0); there = between.1; most = omega (arith, between.1, eqb-false p 1048576 below) })
+      at_place : (p == 1048576) ≡ false → IsPlace d.image p
+      at_place below = let most = held.sound.most in record { behind = omega (arith, between.0); there = between.1; most = omega (arith, most, between.1, eqb-false p 1048576 below) }
 
-      by_place : ((e : Draft) → Fits K b e → Fits K b (new_within tries kind payload e).0) → IsPlace read.image p → (t : Bool) → is_system_place (image_size d.image) p ≡ t
-          → Fits K b (elim t as (λ z. Draft × ℕ) [ true ↦ new_within tries kind payload (take_page p (system_page p read)) | false ↦ (take_page p (put p kind (payload p) read), p) ]).0
-      by_place again at true place =
-          let there : is_system_place (image_size read.image) p ≡ true = ap (λ (x : Image). is_system_place (image_size x) p) same ∙ place in
-          again (take_page p (system_page p read)) (taken_fits p (system_page p read) (omega (arith, between.0)) (system_there p read there at read_fits))
+      by_place : ((e : Draft) → Fits K b e → Fits K b (new_within tries kind payload e).0) → IsPlace d.image p → (t : Bool) → is_system_place (image_size d.image) p ≡ t
+          → Fits K b (elim t as (λ z. Draft × ℕ) [ true ↦ new_within tries kind payload (take_page p (system_page p d)) | false ↦ (take_page p (put p kind (payload p) d), p) ]).0
+      by_place again at true place = again (take_page p (system_page p d)) (taken_fits p (system_page p d) (omega (arith, between.0)) (system_there p d place at before))
       by_place again at false place =
-          let plain = plain_place (image_size read.image) p (ap (λ (x : Image). is_system_place (image_size x) p) same ∙ place) in
-          let size : SizeFacts (image_size read.image) = size_facts (image_size read.image) read_fits.whole.fields.size in
-          taken_fits p (put p kind (payload p) read) (omega (arith, between.0)) (put_there read.image p kind (payload p) _ at
-          (plain_here K kinds.scn_pages b p kind (payload p) read read_fits (record { place = at; no_inventory = plain.0; no_scn_page = plain.1 }) some (omega (arith, size.at_least, room p))
-          (holds read.image p read_fits.whole between.0 at.most)))
+          let plain = plain_place (image_size d.image) p place in
+          let size : SizeFacts (image_size d.image) = size_facts (image_size d.image) held.fields.size in
+          taken_fits p (put p kind (payload p) d) (omega (arith, between.0)) (put_there d.image p kind (payload p) _ at
+          (plain_here K kinds.scn_pages b p kind (payload p) d before (record { place = at; no_inventory = plain.0; no_scn_page = plain.1 }) some (omega (arith, size.at_least, room p))
+          (holds d.image p held between.0 at.most)))
 
       by_end : ((e : Draft) → Fits K b e → Fits K b (new_within tries kind payload e).0) → (t : Bool) → (p == 1048576) ≡ t
           → Fits K b (elim t as (λ z. Draft × ℕ) [
-            | true ↦ (no_page read, p)
-            | false ↦ elim (is_system_place (image_size d.image) p) as (λ z. Draft × ℕ) [ true ↦ new_within tries kind payload (take_page p (system_page p read)) | false ↦ (take_page p (put p kind (payload p) read), p) ]
+            | true ↦ (no_page d, p)
+            | false ↦ elim (is_system_place (image_size d.image) p) as (λ z. Draft × ℕ) [ true ↦ new_within tries kind payload (take_page p (system_page p d)) | false ↦ (take_page p (put p kind (payload p) d), p) ]
           ]).0
-      by_end again true none = fits_full K b read read_fits
+      by_end again true none = fits_full K b d before
       by_end again false below = by_place again (at_place below) (is_system_place (image_size d.image) p) refl
+
+      by_need : ((e : Draft) → Fits K b e → Fits K b (new_within tries kind payload e).0) → (o : Option ℕ)
+          → Fits K b (elim o as (λ z. Draft × ℕ) [
+            | Some q ↦ (record d { broken = q ∷ d.broken }, 0)
+            | None ↦ elim (p == 1048576) [
+              | true ↦ (no_page d, p)
+              | false ↦ elim (is_system_place (image_size d.image) p) [ true ↦ new_within tries kind payload (take_page p (system_page p d)) | false ↦ (take_page p (put p kind (payload p) d), p) ]
+            ]
+          ]).0
+      by_need again (Some q) = fits_broken K b (q ∷ d.broken) d before
+      by_need again None = by_end again (p == 1048576) refl
 
 pub empty_text : (p : ℕ) → length (text_payload []) ≤ 1008
 unfolding text_payload bytes_of

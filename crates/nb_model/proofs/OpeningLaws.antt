@@ -17,13 +17,13 @@ use Rattle.nb_model.specs.declared.reply.Reply.TheVariants.{Pages, Refused}
 use Rattle.nb_model.specs.declared.statement.Statement.{Statement}
 use Rattle.nb_model.specs.declared.statement.Statement.TheVariants.{CreateDb}
 use Rattle.nb_model.specs.Image.{Image}
-use Rattle.nb_model.specs.Account.{Base, base_of, Kept, Entry, Missing, Plain, IsBase, Account, with_entry}
+use Rattle.nb_model.specs.Account.{Base, base_of, Kept, Entry, Plain, IsBase, Account, with_entry}
 use Rattle.nb_model.specs.Strokes.{Stroke, make, on_base, records_of, base_in, base_after, records_after}
 use Rattle.nb_model.specs.Causes.{Cause, not_database, when, is_free_entry}
 use Rattle.nb_model.specs.Owner.{delta_name, owner, owner_in, entry_of_files}
 use Rattle.nb_model.specs.Outcomes.{Given}
 use Rattle.nb_model.specs.Run.{Now, Event, base_now, with_made, account_after, IsPlayed, Opening, begun, refused_opening, done_opening, opening_unless, opening, IsRest, IsRun}
-use Rattle.nb_model.specs.Stands.{IsSameImage, HasNoStrayDelta}
+use Rattle.nb_model.specs.Stands.{IsSameImage}
 use Rattle.nb_model.proofs.HeaderLaws.{header-other}
 use Rattle.nb_model.proofs.MainLaws.{owner-formed, owner-refused}
 use Rattle.nb_model.proofs.RunLaws.{entry_same, base_in_base}
@@ -60,10 +60,14 @@ unfolding is_free_file
 missing_free = refl
 
 -- whether a name is free, by its two files
-free_of_files : (name : List ℕ) (main delta : File) → (main ≡ None → is_some delta ≡ false) → is_free_entry (entry_of_files name main delta) ≡ (is_free_file main && not (is_some delta))
+free_of_files : (name : List ℕ) (main delta : File) → is_free_entry (entry_of_files name main delta) ≡ (is_free_file main && not (is_some delta))
 unfolding entry_of_files is_free_entry
-free_of_files name None delta alone = rw (missing_free, alone refl) refl
-free_of_files name (Some bytes) delta alone = by (owner name (Some bytes) delta) refl
+free_of_files name None delta = rw (missing_free) (alone delta)
+  where
+    alone : (delta : File) → is_none delta ≡ not (is_some delta)
+    alone None = refl
+    alone (Some d) = refl
+free_of_files name (Some bytes) delta = by (owner name (Some bytes) delta) refl
   where
     turned : (delta : File) (free : Bool) → (is_none delta && free) ≡ (free && not (is_some delta))
     turned None true = refl
@@ -76,31 +80,10 @@ free_of_files name (Some bytes) delta alone = by (owner name (Some bytes) delta)
     by (Err r) is = turned delta (is_free_file (Some bytes))
     by (Ok b) is = ap (λ (t : Bool). t && not (is_some delta)) (sym (opened_in_use name bytes delta b is))
 
-missing_entry : (name : List ℕ) (delta : File) → entry_of_files name None delta ≡ Missing
-unfolding entry_of_files
-missing_entry name delta = refl
-
 -- A name is free in the account where its file is free and no difference file stands beside it.
-pub free_entry : (files : Files) (account : Account) (name : List ℕ) → IsSameImage files account → HasNoStrayDelta files account → is_delta name ≡ false
+pub free_entry : (files : Files) (account : Account) (name : List ℕ) → IsSameImage files account → is_delta name ≡ false
     → is_free_entry (account.entry name) ≡ (is_free_file (files name) && not (is_some (files (delta_name name))))
-free_entry files account name same no_stray plain =
-    ap is_free_entry (same name plain) ∙ free_of_files name (files name) (files (delta_name name)) alone
-  where
-    not_both : (entry : Entry) (b : Base) → entry ≡ IsBase b → entry ≡ Missing → ⊥
-    not_both entry b e f = cc
-
-    not_some : (file : File) (bytes : List ℕ) → file ≡ Some bytes → file ≡ None → ⊥
-    not_some file bytes e f = cc
-
-    alone : files name ≡ None → is_some (files (delta_name name)) ≡ false
-    alone none = by (is_some (files (delta_name name))) refl
-      where
-        by : (t : Bool) → is_some (files (delta_name name)) ≡ t → is_some (files (delta_name name)) ≡ false
-        by false is = is
-        by true is = elim (no_stray name plain is) [
-          | inl base ↦ absurd (not_both (account.entry name) base.0 base.1 (same name plain ∙ ap (λ (f : File). entry_of_files name f (files (delta_name name))) none ∙ missing_entry name (files (delta_name name))))
-          | inr standby ↦ absurd (not_some (files name) standby.0 standby.1 none)
-        ]
+free_entry files account name same plain = ap is_free_entry (same name plain) ∙ free_of_files name (files name) (files (delta_name name))
 
 -- what a creation does, and what stands for the turns behind it
 pub record IsCreated (account : Account) (given : Given) (sessions : List (List Statement)) (session : ℕ) (name : List ℕ) (size raw cache : ℕ) (o : Opening) : Type 0 where

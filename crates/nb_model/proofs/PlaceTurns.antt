@@ -11,7 +11,7 @@ use Rattle.nb_host.specs.Names.{same_name}
 use Rattle.nb_model.specs.Account.{Base}
 use Rattle.nb_model.specs.Causes.{broken_at}
 use Rattle.nb_model.specs.Chains.{Chain, Catalogue, History, RowsFrom, Slot, Spot, owner_of, next_in, is_slot, is_used, table_of, first_in, slots_in, first_such, free_spot, walk, pages_of, found_pages, spots_of, spots, table_spot, table_slot, put_slot, last_of, grown, place_at, place_slot}
-use Rattle.nb_model.specs.Forms.{Draft, drafted, put, raised, new_page}
+use Rattle.nb_model.specs.Forms.{Draft, drafted, wants, put, raised, new_page}
 use Rattle.nb_model.specs.Image.{Page, Image, page_at}
 use Rattle.nb_model.specs.RowChanges.{GivesRows}
 use Rattle.nb_model.specs.Rows.{used, table_chains, chains, pages_of_all, IsNeat}
@@ -19,7 +19,7 @@ use Rattle.nb_model.specs.Sound.{HasHeader, IsSoundImage}
 use Rattle.nb_model.specs.TableNames.{is_table_name}
 use Rattle.nb_model.proofs.Along.{Along, put_along}
 use Rattle.nb_model.proofs.ChainWalks.{HasForm, there_by, walk_on_is, onward, found_is, spots_are}
-use Rattle.nb_model.proofs.DraftJoin.{Joins, joined, joined_grouped, join_put, join_new}
+use Rattle.nb_model.proofs.DraftJoin.{Joins, joined, joined_grouped, join_put, join_wants, join_new}
 use Rattle.nb_model.proofs.GrowthTurns.{free_unused, spots_one, begins, behind, grown_spots, grows, new_spot, y as grown_image, made as made_in, last as last_in_chain, last_in, is_made as is_made_in, keeps_x, grown_along, grown_end}
 use Rattle.nb_model.proofs.HeldChains.{KeepsEach, nothing_changes}
 use Rattle.nb_model.proofs.HeldLaws.{IsHeld}
@@ -53,12 +53,15 @@ unfolding grown
 join_grown chain ps bytes d =
     let made : Draft × ℕ = new_page 5 (λ p. data_payload 0 (owner_of chain) bytes) (drafted d.image) in
     let link : List ℕ = drop 16 (with_part 16 (bytes_of 4 made.1) (page_at made.0.image (last_of ps))) in
-    ap (λ (n : Draft × ℕ). put (last_of ps) 5 (drop 16 (with_part 16 (bytes_of 4 n.1) (page_at n.0.image (last_of ps)))) n.0) (join_new (length d.image + 4) 5 (λ p. data_payload 0 (owner_of chain) bytes) d)
-    ∙ join_put (last_of ps) 5 link (joined d made.0) ∙ joined_grouped d made.0 (put (last_of ps) 5 link (drafted made.0.image)) ∙ ap (joined d) (sym (join_put (last_of ps) 5 link made.0))
+    ap (λ (n : Draft × ℕ). wants n.0.image 5 (last_of ps) (put (last_of ps) 5 (drop 16 (with_part 16 (bytes_of 4 n.1) (page_at n.0.image (last_of ps)))) n.0)) (join_new (length d.image + 4) 5 (λ p. data_payload 0 (owner_of chain) bytes) d)
+    ∙ ap (wants made.0.image 5 (last_of ps)) (join_put (last_of ps) 5 link (joined d made.0) ∙ joined_grouped d made.0 (put (last_of ps) 5 link (drafted made.0.image)) ∙ ap (joined d) (sym (join_put (last_of ps) 5 link made.0)))
+    ∙ join_wants made.0.image 5 (last_of ps) d (put (last_of ps) 5 link made.0)
 
 pub join_at : (chain : Chain) (room : Option Spot) (ps : List ℕ) (bytes : Slot) → Joins (place_at chain room ps bytes)
 unfolding put_slot grown
-join_at chain (Some s) ps bytes d = join_put s.page 5 (drop 16 (with_part (32 + 256 * s.slot) bytes (page_at d.image s.page))) d
+join_at chain (Some s) ps bytes d =
+    let slots : List ℕ = drop 16 (with_part (32 + 256 * s.slot) bytes (page_at d.image s.page)) in
+    ap (wants d.image 5 s.page) (join_put s.page 5 slots d) ∙ join_wants d.image 5 s.page d (put s.page 5 slots (drafted d.image))
 join_at chain None ps bytes d = join_grown chain ps bytes d
 
 -- a spot that is found is among them
@@ -352,7 +355,7 @@ module _ (c : Base) (header : HasHeader c.image) (is : IsSoundImage c.image) (ne
   unfolding place_slot
   placed left = by (free_spot (spots_of z ps)) refl left
     where
-      by : (o : Option Spot) → free_spot (spots_of z ps) ≡ o → (elim o as (λ k. Draft) [ Some s ↦ put_slot s.page s.slot bytes (drafted z) | None ↦ (grown Catalogue ps bytes (drafted z)).0 ]).full ≡ false
-          → Made (elim o as (λ k. Draft) [ Some s ↦ put_slot s.page s.slot bytes (drafted z) | None ↦ (grown Catalogue ps bytes (drafted z)).0 ])
-      by (Some s) found left = slot_made s (free_of_catalogue z ∙ found)
+      by : (o : Option Spot) → free_spot (spots_of z ps) ≡ o → (elim o as (λ k. Draft) [ Some s ↦ wants z 5 s.page (put_slot s.page s.slot bytes (drafted z)) | None ↦ (grown Catalogue ps bytes (drafted z)).0 ]).full ≡ false
+          → Made (elim o as (λ k. Draft) [ Some s ↦ wants z 5 s.page (put_slot s.page s.slot bytes (drafted z)) | None ↦ (grown Catalogue ps bytes (drafted z)).0 ])
+      by (Some s) found left = let m = slot_made s (free_of_catalogue z ∙ found) in record { along = m.along; behind = m.behind; there = m.there }
       by None found left = page_made left

@@ -108,7 +108,7 @@ module _ (s : Seen) (header : HasHeader s.base.image) (is : IsSoundImage s.base.
   unfolding first_turn new_turn changes KeepsData
   new_data session = guarded_data _ _ (λ none q bytes five held.
       let made : Draft × ℕ = new_page 8 (λ p. text_payload []) (drafted x) in
-      let room = no_first _ _ (no_first _ _ (no_first _ _ none).1).1 in
+      let room = no_first _ _ (no_first _ _ (no_first _ _ (no_first _ _ none).1).1).1 in
       new_held_along q bytes (length x + 4) 8 (λ p. text_payload []) b x refl whole refl empty_text (not_when made.0.full _ room.0) held)
 
   byte_data : (at value : ℕ) → at < 1024 → KeepsData (byte_strokes at value x)

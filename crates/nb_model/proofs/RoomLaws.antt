@@ -17,7 +17,7 @@ use Rattle.nb_model.specs.Account.{Ask, Base}
 use Rattle.nb_model.specs.Backups.{Room, needs_taken, room_in}
 use Rattle.nb_model.specs.Causes.{broken_at}
 use Rattle.nb_model.specs.Chains.{Chain, History, Slot, Spot, first_of, owner_of, owner_in, slots_from, slots_in, spots_on, spots_of, spots, is_in_chain, next_in, linked, walk, pages_of, found_pages, first_such, free_spot, put_slot, last_of, grown, backup_slot}
-use Rattle.nb_model.specs.Forms.{Draft, drafted, old_page, needs, put, written, wrote, inventory_of, scn_page_of, is_free_page, new_page}
+use Rattle.nb_model.specs.Forms.{Draft, drafted, old_page, needs, put, written, wrote, inventory_of, scn_page_of, is_free_page, new_page, wants}
 use Rattle.nb_model.specs.Going.{HasRoom}
 use Rattle.nb_model.specs.Image.{Page, Image, page_at, image_size, image_scn}
 use Rattle.nb_model.specs.Sound.{HasHeader, IsSoundImage}
@@ -25,7 +25,7 @@ use Rattle.nb_model.specs.Strokes.{begin, on_base, base_after}
 use Rattle.nb_model.proofs.ControlMay.{may_begin}
 use Rattle.nb_model.proofs.ControlSound.{new_size, control_long}
 use Rattle.nb_model.proofs.DraftLaws.{IsKept, either, put_keeps}
-use Rattle.nb_model.proofs.FitLaws.{IsWhole, Fits, Stays, form_page, fits_first, fits_needs, page_keeps, fitting_stays}
+use Rattle.nb_model.proofs.FitLaws.{IsWhole, Fits, Stays, form_page, fits_first, fits_needs, page_keeps, fitting_stays, fits_broken}
 use Rattle.nb_model.proofs.NewSound.{HoldsOfKinds, plain_place, new_fits}
 use Rattle.nb_model.proofs.PutSound.{IsPlain, IsPut, header_fields, header_whole, old_length, plain_here}
 use Rattle.nb_model.proofs.RoundLaws.{IsNew, new_is_new}
@@ -357,11 +357,11 @@ module _ (b : Base) (h : HasHeader b.image) (is : IsSoundImage b.image) (unbroke
         by : (o : Option Spot) → free_spot (spots History b.image) ≡ o
             → (elim o as (λ z. Room) [
               | Some s ↦ record { draft = needs_taken s.page (needs 10 (scn_page_of b.image s.page) (needs 2 (inventory_of b.image s.page) (drafted b.image))); page = s.page; slot = s.slot }
-              | None ↦ record { draft = d; page = made.1; slot = 0 }
+              | None ↦ record { draft = wants made.0.image 5 last d; page = made.1; slot = 0 }
             ]).draft.full ≡ false
             → IsRoom (elim o as (λ z. Room) [
               | Some s ↦ record { draft = needs_taken s.page (needs 10 (scn_page_of b.image s.page) (needs 2 (inventory_of b.image s.page) (drafted b.image))); page = s.page; slot = s.slot }
-              | None ↦ record { draft = d; page = made.1; slot = 0 }
+              | None ↦ record { draft = wants made.0.image 5 last d; page = made.1; slot = 0 }
             ])
         by (Some s) found left = record {
           fits = read_fits s;
@@ -369,7 +369,7 @@ module _ (b : Base) (h : HasHeader b.image) (is : IsSoundImage b.image) (unbroke
         }
         by None found left =
             let some : made.0.full ≡ false = put_full last 5 link made.0 left in
-            record { fits = (link_put some).fits; there = subst (λ (x : Image). HasRoom x made.1 0) (sym (link_put some).fits.is.is) (link_room some) }
+            record { fits = fits_broken K b _ d (link_put some).fits; there = subst (λ (x : Image). HasRoom x made.1 0) (sym (link_put some).fits.is.is) (link_room some) }
 
   -- Each stroke fits, for any K that holds of such pages.
   pub room_fits : (K : Page → Type 0) → HoldsOfHistory K → HoldsOfChain K b.image → (room_in b.image).draft.full ≡ false → Fits K b (room_in b.image).draft

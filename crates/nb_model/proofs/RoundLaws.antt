@@ -1,6 +1,6 @@
 -- A round of the search for a new page in a sound image: what it finds, what it leaves, and where the search goes on.
 use Rattle.std.proofs.Common.{◌≡◌, ◌≢◌, inl, inr, ℕ, zero, suc, ◌+◌, ◌-◌, ◌*◌, ◌/◌, ◌%◌, ◌<◌, ◌≤◌, List, [], ◌∷◌, ◌++◌, length, drop, replicate, refl, sym, ap, subst, ◌∙◌, arith, mul-le-mul_right, div-add-mod'}
-use Rattle.std.specs.Prelude.{Bool, true, false, ◌==◌, nat_lt, IsTrue}
+use Rattle.std.specs.Prelude.{Bool, true, false, ◌==◌, nat_lt, IsTrue, Option, Some, None}
 use Rattle.std.proofs.lemmas.Bool.{true≢false, and_from, or_parts, lt-ltb, eq-eqb, eqb-false}
 use Rattle.std.proofs.lemmas.Bool.Decides.{eqb_tells}
 use Rattle.nb_fields.specs.Places.{is_page_size, entries_in, bits_in, inventory_place, scn_place, is_inventory_place, is_scn_place, is_system_place}
@@ -11,8 +11,10 @@ use Rattle.nb_fields.proofs.PlaceLemmas.{bits-least}
 use Rattle.nb_model.specs.Image.{Page, Image, page_at, image_size, image_scn, with_page}
 use Rattle.nb_model.specs.Account.{base_of}
 use Rattle.nb_model.specs.Strokes.{page}
-use Rattle.nb_model.specs.Forms.{Draft, drafted, old_page, wrote, written, needs, is_kind, inventory_of, scn_page_of, bit_number, has_entry, scn_entry, is_free_page, entry_written, entry_raised, raised, put, with_bit, set_bit, take_page, free_from, lowest_free, needs_inventories, searched, system_kind, system_payload, system_page, no_page, new_within}
+use Rattle.nb_model.specs.Forms.{Draft, drafted, old_page, wrote, written, needs, is_kind, inventory_of, scn_page_of, bit_number, has_entry, scn_entry, is_free_page, entry_written, entry_raised, raised, put, with_bit, set_bit, take_page, free_from, lowest_free, Need, first_not, maps_from, entry_page, is_kept, needed_at, system_kind, system_payload, system_page, no_page, new_within}
 use Rattle.nb_model.proofs.StrokeLaws.{with_page_same, with_page_other}
+use Rattle.nb_model.proofs.NeedLaws.{first_behind, first_append, behind_none, first_none, maps_found, ready_none}
+use Rattle.nb_model.proofs.PlaceOrder.{map_places_from}
 use Rattle.nb_model.proofs.SoundLaws.{all_at, inventory_there, inventory_place_some, scn_page_there, scn_place_some, scn_no_entry, with_page_length}
 use Rattle.nb_model.proofs.FitLaws.{IsWhole, Fits, fits_first, written_image}
 use Rattle.nb_model.proofs.PutSound.{IsPlace, Raises, is_raised, scn_page_below, plain_put}
@@ -259,28 +261,48 @@ module _ (image : Image) (h : IsWhole image) (p : ℕ) (two : 2 ≤ p) (low : p 
         | inr w ↦ ap (λ (x : Page). bit_of x (bit_number image q)) (put_inventory image h i i_place 2 (drop 16 row) (q / bits_in (image_size image)) w.1)
       ]
 
--- the inventory pages that a search reads are there
-inventories_found : (image : Image) → IsWhole image → (p count k : ℕ) → p ≤ length image → 2 ≤ p → k + count ≤ p / bits_in (image_size image) + 1 → needs_inventories count k (drafted image) ≡ drafted image
-unfolding needs_inventories
-inventories_found image h p zero k low two few = refl
-inventories_found image h p (suc count) k low two few =
+-- the inventory pages that a search reads are there, and so are the SCN pages
+maps_there : (image : Image) → IsWhole image → (p : ℕ) → p ≤ length image → 2 ≤ p → (j : ℕ) → 0 ≤ j → j < 0 + (p / bits_in (image_size image) + 1) → is_kind image 2 (inventory_place (image_size image) j) ≡ true
+maps_there image h p low two j none few =
     let size : ℕ = image_size image in
-    let inside : k * bits_in size ≤ p = below_multiple k p (bits_in size) (omega (arith, few)) in
-    let r : ℕ = inventory_place size k in
-    let there : r < length image = omega (arith, before_page size p k h.fields.size two inside, low) in
-    ap (needs_inventories count (k + 1)) (needs_found image 2 r (kind_found image 2 r there (h.sound.sound.system.inventories r there (inventory_there size k h.fields.size))))
-    ∙ inventories_found image h p count (k + 1) low two (omega (arith, few))
+    let before = inventory_before size p h.fields.size two in
+    let r : ℕ = inventory_place size j in
+    let there : r < length image = omega (arith, map_places_from size j (p / bits_in size) h.fields.size (omega (arith, few)), before, low) in
+    kind_found image 2 r there (h.sound.sound.system.inventories r there (inventory_there size j h.fields.size))
+
+-- a new page needs nothing that isn't there
+pub needed_found : (image : Image) → IsWhole image → (p : ℕ) → 2 ≤ p → p ≤ length image → first_not image (needed_at image p) ≡ None
+unfolding needed_at
+needed_found image h p two low =
+    first_append image (maps_from (image_size image) (p / bits_in (image_size image) + 1) 0) (rest (p == 1048576))
+    ∙ ap (λ (o : Option ℕ). first_behind o (first_not image (rest (p == 1048576)))) (maps_found image (image_size image) (p / bits_in (image_size image) + 1) 0 (maps_there image h p low two))
+    ∙ behind_none (first_not image (rest (p == 1048576))) ∙ by_end (p == 1048576) refl
   where
-    below_multiple : (k p n : ℕ) → k ≤ p / n → k * n ≤ p
-    below_multiple k p n le = omega (arith, mul-le-mul_right n le, div-add-mod' p n)
+    own : Bool → List Need
+    own t = elim t [ true ↦ [] | false ↦ entry_page image p ]
 
-    before_page : (size p k : ℕ) → IsTrue (is_page_size size) → 2 ≤ p → k * bits_in size ≤ p → inventory_place size k < p
-    before_page size p zero is two le = omega (arith, two)
-    before_page size p (suc k) is two le = let least = bits-least size is in let more : bits_in size ≤ suc k * bits_in size = omega arith in omega (arith, le, more, least)
+    rest : Bool → List Need
+    rest t = elim t [ true ↦ [] | false ↦ entry_page image (inventory_of image p) ++ own (is_kept image p) ]
 
-pub searched_found : (image : Image) → IsWhole image → (p : ℕ) → p ≤ length image → 2 ≤ p → searched p (drafted image) ≡ drafted image
-unfolding searched
-searched_found image h p low two = inventories_found image h p (p / bits_in (image_size image) + 1) 0 low two (omega arith)
+    before : inventory_of image p < p
+    before = inventory_before (image_size image) p h.fields.size two
+
+    entry : (q : ℕ) → 1 ≤ q → q ≤ length image → q < 1048576 → first_not image (entry_page image q) ≡ None
+    entry q behind there most = ready_none image q (λ has. scn_page_found image h q (record { behind = behind; there = there; most = most }) has)
+
+    by_own : p < 1048576 → (t : Bool) → first_not image (own t) ≡ None
+    by_own most true = first_none image
+    by_own most false = entry p (omega (arith, two)) low most
+
+    by_end : (t : Bool) → (p == 1048576) ≡ t → first_not image (rest t) ≡ None
+    by_end true e = first_none image
+    by_end false e =
+        let long = h.sound.most in
+        let most : p < 1048576 = omega (arith, low, long, eqb-false p 1048576 e) in
+        first_append image (entry_page image (inventory_of image p)) (own (is_kept image p))
+        ∙ ap (λ (o : Option ℕ). first_behind o (first_not image (own (is_kept image p))))
+        (entry (inventory_of image p) (inventory_place_some (image_size image) (p / bits_in (image_size image)) h.fields.size) (omega (arith, before, low)) (omega (arith, before, most)))
+        ∙ behind_none (first_not image (own (is_kept image p))) ∙ by_own most (is_kept image p)
 
 -- A round at a system place: its system page is there, and it is taken.
 abbrev pub round : ℕ → Image → Draft
@@ -458,8 +480,8 @@ module _ (image : Image) (h : IsWhole image) (kind : ℕ) (payload : ℕ → Lis
   between : (5 ≤ p) × (p ≤ length image)
   between = lowest_between image h.sound.least
 
-  read : searched p (drafted image) ≡ drafted image
-  read = searched_found image h p between.1 (omega (arith, between.0))
+  read : first_not image (needed_at image p) ≡ None
+  read = needed_found image h p (omega (arith, between.0)) between.1
 
   -- the choice of a round by its tests
   abbrev by_place : ℕ → Draft → Bool → Draft × ℕ
@@ -471,13 +493,16 @@ module _ (image : Image) (h : IsWhole image) (kind : ℕ) (payload : ℕ → Lis
   abbrev by_end : ℕ → Draft → Bool → Bool → Draft × ℕ
   by_end left d t u = elim t as (λ z. Draft × ℕ) [ true ↦ (no_page d, p) | false ↦ by_place left d u ]
 
-  new_is : (left : ℕ) → new (suc left) ≡ by_end left (searched p (drafted image)) (p == 1048576) (is_system_place (image_size image) p)
+  abbrev by_need : ℕ → Draft → Option ℕ → Draft × ℕ
+  by_need left d o = elim o as (λ z. Draft × ℕ) [ Some q ↦ (record d { broken = q ∷ d.broken }, 0) | None ↦ by_end left d (p == 1048576) (is_system_place (image_size image) p) ]
+
+  new_is : (left : ℕ) → new (suc left) ≡ by_need left (drafted image) (first_not image (needed_at image p))
   unfolding new_within
   new_is left = refl
 
   new_by : (left : ℕ) (t u : Bool) → (p == 1048576) ≡ t → is_system_place (image_size image) p ≡ u → new (suc left) ≡ by_end left (drafted image) t u
   new_by left t u e f =
-      new_is left ∙ ap (λ (d : Draft). by_end left d (p == 1048576) (is_system_place (image_size image) p)) read
+      new_is left ∙ ap (by_need left (drafted image)) read
       ∙ ap (λ (x : Bool). by_end left (drafted image) x (is_system_place (image_size image) p)) e ∙ ap (λ (x : Bool). by_end left (drafted image) t x) f
 
   none_full : (new zero).0.full ≡ true

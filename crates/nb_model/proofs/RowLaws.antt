@@ -6,7 +6,7 @@ use Rattle.nb_host.specs.declared.refusals.Refusal.{Refusal}
 use Rattle.nb_model.specs.declared.reply.Reply.TheVariants.{Done, Value, Rows, Refused}
 use Rattle.nb_model.specs.declared.statement.Statement.TheVariants.{CreateTable, DropTable, Insert, Update, Delete, Get, Scan}
 use Rattle.nb_model.specs.Chains.{Chain, Catalogue, RowsFrom, Slot, Spot, table_spot, found_pages, free_spot, row_spot, row_slot, table_slot, free_slot, spots, spots_of, text_in, first_in, put_slot, place_slot, grown}
-use Rattle.nb_model.specs.Forms.{Draft, drafted}
+use Rattle.nb_model.specs.Forms.{Draft, drafted, wants}
 use Rattle.nb_model.specs.Image.{Image}
 use Rattle.nb_model.specs.Outcomes.{Seen, Outcome}
 use Rattle.nb_model.specs.RowChanges.{ChangesRows}
@@ -93,9 +93,11 @@ module _ (s : Seen) (session : ℕ) (table : List ℕ) (key : ℕ) (header : Has
       new : row_spot key (spots (chain_at spot) image) ≡ None
       new = none_is (row_spot key (spots (chain_at spot) image)) may.new
 
-      by : (o : Option Spot) → free_spot (spots_of image pages) ≡ o → (elim o as (λ z. Draft) [ Some f ↦ put_slot f.page f.slot (row_slot key text) (drafted image) | None ↦ (grown (chain_at spot) pages (row_slot key text) (drafted image)).0 ]).full ≡ false
-          → IsTurnOfRows s.base table (with_row key text its) (elim o as (λ z. Draft) [ Some f ↦ put_slot f.page f.slot (row_slot key text) (drafted image) | None ↦ (grown (chain_at spot) pages (row_slot key text) (drafted image)).0 ])
-      by (Some f) found left = inserted_free image header is neat table spot may.its_table s.base key text f refl low may.short new (free_of (chain_at spot) image ∙ found)
+      by : (o : Option Spot) → free_spot (spots_of image pages) ≡ o → (elim o as (λ z. Draft) [ Some f ↦ wants image 5 f.page (put_slot f.page f.slot (row_slot key text) (drafted image)) | None ↦ (grown (chain_at spot) pages (row_slot key text) (drafted image)).0 ]).full ≡ false
+          → IsTurnOfRows s.base table (with_row key text its) (elim o as (λ z. Draft) [ Some f ↦ wants image 5 f.page (put_slot f.page f.slot (row_slot key text) (drafted image)) | None ↦ (grown (chain_at spot) pages (row_slot key text) (drafted image)).0 ])
+      by (Some f) found left =
+          let t = inserted_free image header is neat table spot may.its_table s.base key text f refl low may.short new (free_of (chain_at spot) image ∙ found) in
+          record { along = t.along; behind = t.behind }
       by None none left = grown_turn s.base header is neat table spot may.its_table key text low may.short new left
 
   pub insert_rows : (text : List ℕ) → key < 18446744073709551616 → Does (with_row key text its) (first_turn s session (Insert table key text))

@@ -19,7 +19,7 @@ use Rattle.nb_model.specs.Image.{Page, Image, page_at, image_size, image_scn}
 use Rattle.nb_model.specs.Tables.{all_given}
 use Rattle.nb_model.proofs.BitSound.{bit_put}
 use Rattle.nb_model.proofs.DraftJoin.{joined_new, join_put, join_set_bit, join_new}
-use Rattle.nb_model.proofs.FitLaws.{IsWhole, Fits, fits_first, form_page, fitting_stays}
+use Rattle.nb_model.proofs.FitLaws.{IsWhole, Fits, fits_first, form_page, fitting_stays, fits_broken}
 use Rattle.nb_model.proofs.HeldLaws.{IsHeld, IsOfHistory, IsMade, held_put, held_bit, set_bit_is, new_is_made}
 use Rattle.nb_model.proofs.NewSound.{HoldsOfKinds, inventory_before, plain_place, new_fits}
 use Rattle.nb_model.proofs.NoRows.{HasNoRows, no_rows, owner_no_rows}
@@ -77,6 +77,9 @@ goes_still b d k = record { keeps = k; pages = λ q page. page }
 
 pub goes_both : (b : Base) (d e f : Draft) → Goes b d e → Goes b e f → Goes b d f
 goes_both b d e f x y = record { keeps = y.keeps; pages = λ q page. y.pages q (x.pages q page) }
+
+pub goes_broken : (b : Base) (d e : Draft) (broken : List ℕ) → Goes b d e → Goes b d (record e { broken = broken })
+goes_broken b d e broken g = record { keeps = record { fits = fits_broken HasNoRows b broken e g.keeps.fits; held = g.keeps.held }; pages = g.pages }
 
 pub all_pages : (b : Base) (d e : Draft) (ps : List ℕ) → Goes b d e → AllByRecursion (IsTablePage d.image) ps → AllByRecursion (IsTablePage e.image) ps
 all_pages b d e [] goes all = tt
@@ -310,11 +313,11 @@ module _ (b : Base) (d : Draft) (k : Keeps b d) (chain : Chain) (pages : List �
   unfolding grown
   goes_grown left =
       let one : GoesToNew b d k made = made_goes (put_full last 5 (drop 16 (with_part 16 (bytes_of 4 made.1) (page_at made.0.image last))) made.0 left) in
-      goes_both b d made.0 _ one.goes (goes_link b made.0 one.goes.keeps last made.1 (last_of_all (IsTablePage made.0.image) pages some (all_pages b d made.0 pages one.goes each)))
+      goes_broken b d _ _ (goes_both b d made.0 _ one.goes (goes_link b made.0 one.goes.keeps last made.1 (last_of_all (IsTablePage made.0.image) pages some (all_pages b d made.0 pages one.goes each))))
 
   -- at a place that is in its page
   pub goes_at : (room : Option Spot) → ((s : Spot) → room ≡ Some s → IsTablePage d.image s.page × (256 * s.slot + 288 ≤ image_size d.image)) → (place_at chain room pages bytes d).full ≡ false → Goes b d (place_at chain room pages bytes d)
-  goes_at (Some s) within left = let here = within s refl in goes_slot b d k s.page s.slot bytes here.0 here.1 long
+  goes_at (Some s) within left = let here = within s refl in goes_broken b d (put_slot s.page s.slot bytes d) _ (goes_slot b d k s.page s.slot bytes here.0 here.1 long)
   goes_at None within left = goes_grown left
 
   pub goes_place : (place_slot chain pages bytes d).full ≡ false → Goes b d (place_slot chain pages bytes d)

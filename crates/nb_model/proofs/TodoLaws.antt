@@ -12,7 +12,7 @@ use Rattle.nb_model.specs.declared.statement.Statement.TheVariants.{CreateDb, Op
 use Rattle.nb_model.specs.Account.{Ask}
 use Rattle.nb_model.specs.Image.{Image}
 use Rattle.nb_model.specs.Forms.{Draft}
-use Rattle.nb_model.specs.Causes.{Cause, first_cause, when, read_only, not_raw, not_database, lowest_broken, not_of_form, no_room, runs_other, runs_any, broken_at}
+use Rattle.nb_model.specs.Causes.{Cause, first_cause, when, read_only, not_raw, not_database, lowest_broken, not_of_form, no_room, runs_other, runs_any, broken_at, too_short, short_for}
 use Rattle.nb_model.specs.Chains.{Chain, History, Slot, Spot, pages_of}
 use Rattle.nb_model.specs.Outcomes.{Turn, Seen, Outcome, unless, changes}
 use Rattle.nb_model.specs.Pages.{new_turn, write_turn, read_turn, free_turn, begin_turn, end_turn, ends_by, forced_turn, access_turn, header_turn, image_turn, cache_turn}
@@ -104,6 +104,13 @@ other_runs : (running : Option ℕ) (session : ℕ) → IsOther (runs_other runn
 other_runs None session = none_other
 other_runs (Some other) session = other_when _ _ (λ e. cc)
 
+other_short : (image : Image) → IsOther (too_short image)
+other_short image = other_when _ _ (λ e. cc)
+
+other_short_for : (room : Option Spot) (image : Image) → IsOther (short_for room image)
+other_short_for (Some s) image = none_other
+other_short_for None image = other_short image
+
 -- the reply to it isn't that refusal
 abbrev NoUsage : Outcome → Type 0
 NoUsage o = o.reply ≢ Some (Refused Usage)
@@ -138,7 +145,7 @@ free_never_usage s session p = changed_other s _ _ Done (other_raw s.base.image 
 
 pub new_never_usage : (s : Seen) (session : ℕ) → (first_turn s session PageNew).reply ≢ Some (Refused Usage)
 unfolding first_turn new_turn
-new_never_usage s session = changed_other s _ _ _ (other_read_only s.base.image, tt) (λ e. cc)
+new_never_usage s session = changed_other s _ _ _ (other_read_only s.base.image, (other_short s.base.image, tt)) (λ e. cc)
 
 pub forced_never_usage : (s : Seen) (session : ℕ) (on : Bool) → (first_turn s session (Forced on)).reply ≢ Some (Refused Usage)
 unfolding first_turn forced_turn
@@ -168,7 +175,7 @@ start_never_usage : (s : Seen) (session : ℕ) (name : List ℕ) (ask : Ask) (mi
 unfolding starts
 start_never_usage s session name ask missing other = guarded_other s _ _ (other_first _ (
   other_read_only s.base.image,
-  (other_when _ _ (λ e. cc), (other_when _ _ (λ e. cc), (other_pages (pages_of History s.base.image), (other, (other_broken (room_in s.base.image).draft.broken, (other_when _ _ (λ e. cc), (other_when _ _ (λ e. cc), tt))))))),
+  (other_when _ _ (λ e. cc), (other_when _ _ (λ e. cc), (other_pages (pages_of History s.base.image), (other, (other_short_for _ s.base.image, (other_broken (room_in s.base.image).draft.broken, (other_when _ _ (λ e. cc), (other_when _ _ (λ e. cc), tt)))))))),
 )) (λ e. cc)
 
 pub backup_never_usage : (s : Seen) (session level : ℕ) (name : List ℕ) → (first_turn s session (Backup level name)).reply ≢ Some (Refused Usage)
@@ -209,7 +216,7 @@ row_other s chain key bytes = spot_other s _ _ _ (λ e. cc) (λ row. changed_oth
 -- nor is one on tables,
 pub create_never_usage : (s : Seen) (session : ℕ) (table : List ℕ) → (first_turn s session (CreateTable table)).reply ≢ Some (Refused Usage)
 unfolding first_turn create_turn
-create_never_usage s session table = changed_other s _ _ Done (other_read_only s.base.image, (other_pages _, (other_when _ _ (λ e. cc), (other_when _ _ (λ e. cc), tt)))) (λ e. cc)
+create_never_usage s session table = changed_other s _ _ Done (other_read_only s.base.image, (other_pages _, (other_when _ _ (λ e. cc), (other_when _ _ (λ e. cc), (other_short s.base.image, tt))))) (λ e. cc)
 
 pub drop_never_usage : (s : Seen) (session : ℕ) (table : List ℕ) → (first_turn s session (DropTable table)).reply ≢ Some (Refused Usage)
 unfolding first_turn drop_turn
@@ -218,7 +225,7 @@ drop_never_usage s session table = table_other s _ table _ _ (other_read_only s.
 pub insert_never_usage : (s : Seen) (session : ℕ) (table : List ℕ) (key : ℕ) (text : List ℕ) → (first_turn s session (Insert table key text)).reply ≢ Some (Refused Usage)
 unfolding first_turn insert_turn
 insert_never_usage s session table key text =
-    table_other s _ table _ _ (other_read_only s.base.image) (other_when _ _ (λ e. cc)) (λ spot chain. changed_other s _ _ Done (other_when _ _ (λ e. cc), tt) (λ e. cc))
+    table_other s _ table _ _ (other_read_only s.base.image) (other_when _ _ (λ e. cc)) (λ spot chain. changed_other s _ _ Done (other_when _ _ (λ e. cc), (other_short_for _ s.base.image, tt)) (λ e. cc))
 
 pub update_never_usage : (s : Seen) (session : ℕ) (table : List ℕ) (key : ℕ) (text : List ℕ) → (first_turn s session (Update table key text)).reply ≢ Some (Refused Usage)
 unfolding first_turn update_turn

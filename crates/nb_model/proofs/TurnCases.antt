@@ -12,8 +12,8 @@ use Rattle.nb_model.specs.declared.statement.Statement.TheVariants.{CreateDb, Op
 use Rattle.nb_model.specs.Account.{Ask}
 use Rattle.nb_host.specs.Names.{same_name}
 use Rattle.nb_model.specs.Backups.{room_in, ask_of, level_behind, starts, backup_turn, since_turn, copy_turn, close_backup, close_copy, pages_turn}
-use Rattle.nb_model.specs.Causes.{Cause, first_cause, when, read_only, not_state, no_scn, not_free, is_free_entry, runs_other, runs_any, broken_at, not_of_form, no_room}
-use Rattle.nb_model.specs.Chains.{Chain, History, Slot, Spot, pages_of, backup_spot, level_in, guid_in}
+use Rattle.nb_model.specs.Causes.{Cause, first_cause, when, read_only, not_state, no_scn, not_free, is_free_entry, runs_other, runs_any, broken_at, not_of_form, no_room, short_for}
+use Rattle.nb_model.specs.Chains.{Chain, History, Slot, Spot, pages_of, backup_spot, level_in, guid_in, free_spot, spots}
 use Rattle.nb_model.specs.Forms.{Draft}
 use Rattle.nb_model.specs.Image.{Image, image_state, image_scn, is_read_only}
 use Rattle.nb_model.specs.Outcomes.{Turn, Begins, Copies, ClosesBackup, ClosesCopy, Ends, Merges, Finishes, Seen, Given, Outcome, next_guid, without_guid, without_hold, says, unless, changes}
@@ -131,6 +131,7 @@ start_cause s name missing = first_cause (
     ∷ not_free name (s.entry name)
     ∷ broken_at (pages_of History s.base.image)
     ∷ missing
+    ∷ short_for (free_spot (spots History s.base.image)) s.base.image
     ∷ not_of_form (room_in s.base.image).draft
     ∷ no_room (room_in s.base.image).draft
     ∷ no_scn s.base.image
@@ -145,7 +146,8 @@ start_facts s name missing none =
     let c = no_first (not_free name (s.entry name)) _ b.1 in
     let e = no_first (broken_at (pages_of History image)) _ c.1 in
     let f = no_first missing _ e.1 in
-    let g = no_first (not_of_form d) _ f.1 in
+    let short = no_first (short_for (free_spot (spots History image)) image) _ f.1 in
+    let g = no_first (not_of_form d) _ short.1 in
     let h = no_first (no_room d) _ g.1 in (
       record {
         may = record { writable = not_when (is_read_only image) _ a.0; normal = is_not (image_state image) 0 _ b.0; scn = not_more 4294967293 (image_scn image) _ (no_first (no_scn image) _ h.1).0 };

@@ -69,7 +69,7 @@ false_true h = cc
 -- What stands under a free name is no database in one of the three states.
 pub free_unseen : (entry : Entry) → is_free_entry entry ≡ true → is_header (first_page (base_in entry).image) ≡ true → image_state (base_in entry).image ≤ 2 → ⊥
 unfolding is_free_entry base_in
-free_unseen Missing free header state = no_header header
+free_unseen (Missing delta) free header state = no_header header
 free_unseen (Plain bytes delta) free header state =
     let front : take 64 (first_page (image_in bytes)) ≡ take 64 bytes = image_front bytes header in
     let same : state_of (first_page (image_in bytes)) ≡ state_of bytes = same-number (first_page (image_in bytes)) bytes front 22 2 (omega arith) in

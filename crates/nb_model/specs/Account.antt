@@ -24,10 +24,10 @@ pub record Base : Type 0 where
   pub frozen : Image
   pub diverted : List ℕ
 
--- What stands under a name that isn't a difference file's: nothing, a database, or another file, with what stands beside
--- it under the name of its difference file.
+-- What stands under a name that isn't a difference file's: nothing, a database, or another file; the first and the last with
+-- what stands beside it under the name of its difference file.
 pub data Entry : Type 0 where
-  Missing : Entry
+  Missing : (delta : Option (List ℕ)) → Entry
   Plain : (bytes : List ℕ) (delta : Option (List ℕ)) → Entry
   IsBase : Base → Entry
 

@@ -9,7 +9,7 @@ use Rattle.nb_model.specs.Image.{Image, page_at, image_size, image_scn}
 use Rattle.nb_model.specs.Account.{Ask, Kept}
 use Rattle.nb_model.specs.Strokes.{begin}
 use Rattle.nb_model.specs.Forms.{Draft, drafted, needs, needs_inventories, inventory_of, scn_page_of, is_free_page}
-use Rattle.nb_model.specs.Causes.{Cause, first_cause, when, read_only, not_state, no_scn, not_free, runs_any, broken_at, not_of_form, no_room}
+use Rattle.nb_model.specs.Causes.{Cause, first_cause, when, read_only, not_state, no_scn, not_free, runs_any, broken_at, not_of_form, no_room, short_for}
 use Rattle.nb_model.specs.Chains.{History, Spot, spots, pages_of, found_pages, free_spot, backup_spot, level_in, scn_in, guid_in, backup_slot, put_slot, grown}
 use Rattle.nb_model.specs.Levels.{file_of, count_in, joined}
 use Rattle.nb_model.specs.Outcomes.{Backing, Copies, ClosesBackup, ClosesCopy, Ends, Seen, Outcome, next_guid, next_time, without_guid, without_time, says, unless}
@@ -54,6 +54,7 @@ starts s session name ask missing =
     ∷ not_free name (s.entry name)
     ∷ broken_at (pages_of History image)
     ∷ missing
+    ∷ short_for (free_spot (spots History image)) image
     ∷ not_of_form room.draft
     ∷ no_room room.draft
     ∷ no_scn image

@@ -76,6 +76,15 @@ not_of_form d = lowest_broken d.broken
 abbrev pub no_room : Draft → Cause
 no_room d = when d.full (Full 1048576)
 
+-- the database is too short for a new page
+abbrev pub too_short : Image → Cause
+too_short image = when (nat_lt (length image) 5) (NotDatabase (length image))
+
+-- so, where there is no room without one
+abbrev pub short_for : {X : Type 0} → (room : Option X) → Image → Cause
+short_for (Some x) image = None
+short_for None image = too_short image
+
 -- a copy or merge of another session runs; of any session
 abbrev pub runs_other : Option ℕ → ℕ → Cause
 runs_other None session = None
@@ -85,9 +94,9 @@ abbrev pub runs_any : Option ℕ → Cause
 runs_any None = None
 runs_any (Some other) = Some (BackupRunning other)
 
--- Nothing stands under the name that a new file would take the place of.
+-- Nothing stands under the name that a new file would take the place of, nor under the name of its difference file.
 unfoldable pub is_free_entry : Entry → Bool
-is_free_entry Missing = true
+is_free_entry (Missing delta) = is_none delta
 is_free_entry (Plain bytes delta) = is_none delta && is_free_file (Some bytes)
 is_free_entry (IsBase b) = false
 

@@ -7,7 +7,7 @@ use Rattle.nb_fields.specs.Payloads.{data_payload}
 use Rattle.nb_host.specs.Names.{is_name, same_name}
 use Rattle.nb_model.specs.TableNames.{is_table_name}
 use Rattle.nb_model.specs.Image.{Page, Image, page_at}
-use Rattle.nb_model.specs.Forms.{Draft, put, new_page}
+use Rattle.nb_model.specs.Forms.{Draft, wants, put, new_page}
 
 -- a chain: of the tables' names, of the backups, or of the rows of the table that begins with that page
 pub data Chain : Type 0 where
@@ -181,17 +181,17 @@ last_of [] = 0
 last_of (p ∷ []) = p
 last_of (p ∷ q ∷ qs) = last_of (q ∷ qs)
 
--- the chain of these pages gets one page more, with these slots, and its number
+-- The chain of these pages gets one page more, with these slots, and its number. Its last page has to be a data page behind the search too.
 unfoldable pub grown : Chain → (pages : List ℕ) (slots : List ℕ) → Draft → Draft × ℕ
 grown chain pages slots d =
     let made : Draft × ℕ = new_page 5 (λ p. data_payload 0 (owner_of chain) slots) d in
-    (put (last_of pages) 5 (drop 16 (with_part 16 (bytes_of 4 made.1) (page_at made.0.image (last_of pages)))) made.0, made.1)
+    (wants made.0.image 5 (last_of pages) (put (last_of pages) 5 (drop 16 (with_part 16 (bytes_of 4 made.1) (page_at made.0.image (last_of pages)))) made.0), made.1)
 
 -- The slot is written at that place of the chain. Where there is none, a new page holds it before the last page is linked to it:
--- the link is the moment at which it is there.
+-- the link is the moment at which it is there. The page of the slot has to be a data page then.
 abbrev pub place_at : Chain → (room : Option Spot) (pages : List ℕ) → Slot → Draft → Draft
 place_at chain room pages bytes d = elim room [
-  | Some s ↦ put_slot s.page s.slot bytes d
+  | Some s ↦ wants d.image 5 s.page (put_slot s.page s.slot bytes d)
   | None ↦ (grown chain pages bytes d).0
 ]
 

@@ -2,7 +2,7 @@
 --
 -- Each form goes on from a draft to a draft, and writes by `written` alone. So what one write keeps, every form keeps, and it
 -- holds after each of their strokes: at each moment at which the program may stop.
-use Rattle.std.specs.Prelude.{ℕ, zero, suc, ◌+◌, ◌-◌, ◌*◌, ◌/◌, ◌%◌, ◌^◌, List, [], ◌∷◌, ◌++◌, length, drop, replicate, slice_set, slice_index, Bool, true, false, ◌&&◌, ◌||◌, ◌==◌, nat_lt}
+use Rattle.std.specs.Prelude.{ℕ, zero, suc, ◌+◌, ◌-◌, ◌*◌, ◌/◌, ◌%◌, ◌^◌, List, [], ◌∷◌, ◌++◌, length, drop, replicate, slice_set, slice_index, Option, Some, None, Bool, true, false, ◌&&◌, ◌||◌, ◌==◌, nat_lt}
 use Rattle.std.specs.Int.{bit_at}
 use Rattle.nb_fields.specs.Bytes.{bytes_of, with_part}
 use Rattle.nb_fields.specs.Places.{entries_in, bits_in, inventory_place, scn_place, is_inventory_place, is_scn_place, is_system_place}
@@ -42,6 +42,13 @@ is_kind image kind p = nat_lt p (length image) && kind_of (page_at image p) == k
 -- an inventory page of that kind is read
 unfoldable pub needs : (kind p : ℕ) → Draft → Draft
 needs kind p d = elim (is_kind d.image kind p) [ true ↦ d | false ↦ record d { broken = p ∷ d.broken } ]
+
+-- page p is noted where it isn't of that kind in an image
+unfoldable pub other_kind : Image → (kind p : ℕ) → List ℕ
+other_kind image kind p = elim (is_kind image kind p) [ true ↦ [] | false ↦ p ∷ [] ]
+
+abbrev pub wants : Image → (kind p : ℕ) → Draft → Draft
+wants image kind p d = record d { broken = other_kind image kind p ++ d.broken }
 
 -- the page inventory page and the SCN inventory page that have page p
 abbrev pub inventory_of : Image → ℕ → ℕ
@@ -120,10 +127,6 @@ unfoldable pub needs_inventories : (count k : ℕ) → Draft → Draft
 needs_inventories zero k d = d
 needs_inventories (suc count) k d = needs_inventories count (k + 1) (needs 2 (inventory_place (image_size d.image) k) d)
 
--- the inventory pages up to that of page p are read
-unfoldable pub searched : ℕ → Draft → Draft
-searched p d = needs_inventories (p / bits_in (image_size d.image) + 1) 0 d
-
 -- what a system place holds: its kind, and a page inventory page of free bits or an SCN inventory page of the current SCN
 abbrev pub system_kind : Image → ℕ → ℕ
 system_kind image p = elim (is_inventory_place (image_size image) p) [ true ↦ 2 | false ↦ 10 ]
@@ -145,17 +148,52 @@ system_page p d = elim (is_kind d.image (system_kind d.image p) p) [
 abbrev pub no_page : Draft → Draft
 no_page d = record d { full = true }
 
+-- a page, and the kind that it has to be of
+pub record Need : Type 0 where
+  pub kind : ℕ
+  pub page : ℕ
+
+-- the first of these pages that isn't of its kind
+unfoldable pub first_not : Image → List Need → Option ℕ
+first_not image [] = None
+first_not image (n ∷ ns) = elim (is_kind image n.kind n.page) [ true ↦ first_not image ns | false ↦ Some n.page ]
+
+-- so many inventory pages from the k-th on
+unfoldable pub maps_from : (size count k : ℕ) → List Need
+maps_from size zero k = []
+maps_from size (suc count) k = record { kind = 2; page = inventory_place size k } ∷ maps_from size count (k + 1)
+
+-- the SCN page with the entry of page p, if it has one
+unfoldable pub entry_page : Image → ℕ → List Need
+entry_page image p = elim (has_entry image p) [ true ↦ record { kind = 10; page = scn_page_of image p } ∷ [] | false ↦ [] ]
+
+-- page p is the system page of its place already
+unfoldable pub is_kept : Image → ℕ → Bool
+is_kept image p = is_system_place (image_size image) p && is_kind image (system_kind image p) p
+
+-- What a new page needs of page p: the inventory pages up to its own, and, where page p may be given, the SCN pages of that inventory page,
+-- and of page p if it is written.
+unfoldable pub needed_at : Image → ℕ → List Need
+needed_at image p = maps_from (image_size image) (p / bits_in (image_size image) + 1) 0 ++ elim (p == 1048576) [
+  | true ↦ []
+  | false ↦ entry_page image (inventory_of image p) ++ elim (is_kept image p) [ true ↦ [] | false ↦ entry_page image p ]
+]
+
 -- A new page and its number. A system place that the search comes to becomes its system page, is taken, and the search begins
--- again. The payload is told the page's number. So many places are tried at most.
+-- again. It ends at the first page that it needs and that isn't of its kind. The payload is told the page's number. So many places are
+-- tried at most.
 unfoldable pub new_within : (tries kind : ℕ) (payload : ℕ → List ℕ) → Draft → Draft × ℕ
 new_within zero kind payload d = (no_page d, 0)
 new_within (suc tries) kind payload d =
     let p : ℕ = lowest_free d.image in
-    elim (p == 1048576) [
-      | true ↦ (no_page (searched p d), p)
-      | false ↦ elim (is_system_place (image_size d.image) p) [
-        | true ↦ new_within tries kind payload (take_page p (system_page p (searched p d)))
-        | false ↦ (take_page p (put p kind (payload p) (searched p d)), p)
+    elim (first_not d.image (needed_at d.image p)) [
+      | Some q ↦ (record d { broken = q ∷ d.broken }, 0)
+      | None ↦ elim (p == 1048576) [
+        | true ↦ (no_page d, p)
+        | false ↦ elim (is_system_place (image_size d.image) p) [
+          | true ↦ new_within tries kind payload (take_page p (system_page p d))
+          | false ↦ (take_page p (put p kind (payload p) d), p)
+        ]
       ]
     ]
 

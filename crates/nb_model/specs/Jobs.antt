@@ -20,7 +20,7 @@ use Rattle.nb_model.specs.Outcomes.{Given}
 use Rattle.nb_model.specs.Owner.{delta_name}
 use Rattle.nb_model.specs.Restoring.{verdict, applied}
 use Rattle.nb_model.specs.InPlace.{in_place, bytes_in}
-use Rattle.nb_model.specs.Run.{Event, account_after, IsRun}
+use Rattle.nb_model.specs.Run.{Event, account_after, with_made, IsRun}
 
 -- how many pages the cache of such a job holds
 abbrev pub usual_cache : ℕ
@@ -114,6 +114,6 @@ turn_of files account (Apply db file) = Some (db, apply_turn files db file)
 turn_of files account (Fixup db) = Some (db, fixup_turn files db)
 turn_of files account other = None
 
--- the account after it
-unfoldable pub account_behind : (db : List ℕ) → Event → Account → Account
-account_behind db e account = elim e.strokes [ [] ↦ account | s ∷ ss ↦ account_after db e.strokes None account ]
+-- the account after a turn on the file of that name: with its strokes, and with the file that it made
+unfoldable pub account_behind : (name : List ℕ) → Event → Account → Account
+account_behind name e account = with_made e.made (elim e.strokes [ [] ↦ account | s ∷ ss ↦ account_after name e.strokes None account ])

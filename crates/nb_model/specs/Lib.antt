@@ -4,6 +4,7 @@ pub mod Image
 pub mod Account
 pub mod Strokes
 pub mod Forms
+pub mod Way
 pub mod Causes
 pub mod Outcomes
 pub mod Pages

@@ -74,7 +74,7 @@ owner name (Some bytes) delta = elim (not_database bytes) [ Some refusal ↦ Err
 
 -- What files hold under a name. Nothing but the records of backups has to be remembered beside the files.
 unfoldable pub entry_of_files : (name : List ℕ) (main delta : File) → Entry
-entry_of_files name None delta = Missing
+entry_of_files name None delta = Missing delta
 entry_of_files name (Some bytes) delta = elim (owner name (Some bytes) delta) [ Err refusal ↦ Plain bytes delta | Ok base ↦ IsBase base ]
 
 abbrev pub entry_in : Files → (name : List ℕ) → Entry
@@ -82,6 +82,6 @@ entry_in files name = entry_of_files name (files name) (files (delta_name name))
 
 -- why opening is refused
 unfoldable pub not_opened : (name : List ℕ) → Entry → Cause
-not_opened name Missing = Some (NoFile name)
+not_opened name (Missing delta) = Some (NoFile name)
 not_opened name (Plain bytes delta) = elim (owner name (Some bytes) delta) [ Err refusal ↦ Some refusal | Ok base ↦ None ]
 not_opened name (IsBase base) = None

@@ -12,14 +12,14 @@ use Rattle.nb_model.specs.Account.{Base}
 use Rattle.nb_model.specs.Strokes.{Stroke, page, begin, ends}
 use Rattle.nb_model.specs.Lines.{flag}
 use Rattle.nb_model.specs.Forms.{Draft, drafted, put, give_page, new_page}
-use Rattle.nb_model.specs.Causes.{first_cause, when, read_only, not_state, no_scn, not_raw, no_text, too_long, runs_other}
+use Rattle.nb_model.specs.Causes.{first_cause, when, read_only, not_state, no_scn, not_raw, no_text, too_long, too_short, runs_other}
 use Rattle.nb_model.specs.Outcomes.{Merges, Finishes, Seen, Outcome, next_guid, next_hold, without_guid, without_hold, says, unless, changes}
 
 -- `page new`: a raw page with the empty text
 unfoldable pub new_turn : Seen → Outcome
 new_turn s =
     let made : Draft × ℕ = new_page 8 (λ p. text_payload []) (drafted s.base.image) in
-    changes s (read_only s.base.image ∷ []) made.0 (PageMade made.1)
+    changes s (read_only s.base.image ∷ too_short s.base.image ∷ []) made.0 (PageMade made.1)
 
 -- `write N 'TEXT'`
 unfoldable pub write_turn : Seen → ℕ → List ℕ → Outcome

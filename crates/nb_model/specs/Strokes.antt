@@ -93,7 +93,7 @@ records_after b (s ∷ ss) = records_of s b ++ records_after (on_base s b) ss
 
 -- the database that a name holds for its next stroke
 unfoldable pub base_in : Entry → Base
-base_in Missing = base_of []
+base_in (Missing delta) = base_of []
 base_in (Plain bytes delta) = base_of (image_in bytes)
 base_in (IsBase b) = b
 

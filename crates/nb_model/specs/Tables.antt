@@ -6,7 +6,7 @@ use Rattle.nb_host.specs.declared.refusals.Refusal.TheVariants.{NoTable, TableEx
 use Rattle.nb_model.specs.declared.reply.Reply.TheVariants.{Done, Value, Rows, Refused}
 use Rattle.nb_model.specs.Image.{Image}
 use Rattle.nb_model.specs.Forms.{Draft, drafted, give_page, new_page}
-use Rattle.nb_model.specs.Causes.{Cause, first_cause, when, read_only, too_long, broken_at}
+use Rattle.nb_model.specs.Causes.{Cause, first_cause, when, read_only, too_long, broken_at, too_short, short_for}
 use Rattle.nb_model.specs.Chains.{Chain, Catalogue, RowsFrom, Slot, Spot, spots, pages_of, found_pages, table_spot, row_spot, first_in, text_in, row_slot, table_slot, free_slot, free_spot, put_slot, place_at, place_slot}
 use Rattle.nb_model.specs.Rows.{used, rows_in}
 use Rattle.nb_model.specs.Outcomes.{Seen, Outcome, says, unless, changes}
@@ -26,6 +26,7 @@ create_turn s table =
     ∷ broken_at (pages_of Catalogue image)
     ∷ when (is_some (table_spot table image)) TableExists
     ∷ when (nat_le 12 (length (used (spots Catalogue image)))) TooManyTables
+    ∷ too_short image
     ∷ [])
     (place_at Catalogue (free_spot (spots Catalogue image)) (found_pages Catalogue image) (table_slot table made.1) made.0) Done
 
@@ -53,7 +54,7 @@ drop_turn s table =
 unfoldable pub insert_turn : Seen → (table : List ℕ) (key : ℕ) (text : List ℕ) → Outcome
 insert_turn s table key text =
     in_table s (read_only s.base.image) table (too_long text) (λ spot chain.
-    changes s (when (is_some (row_spot key (spots chain s.base.image))) (KeyExists key) ∷ [])
+    changes s (when (is_some (row_spot key (spots chain s.base.image))) (KeyExists key) ∷ short_for (free_spot (spots chain s.base.image)) s.base.image ∷ [])
     (place_slot chain (found_pages chain s.base.image) (row_slot key text) (drafted s.base.image)) Done)
 
 -- the slot of the row with that key is written

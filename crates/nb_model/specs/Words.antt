@@ -5,7 +5,7 @@ use Rattle.std.specs.Str.Parse.{digits_value}
 use Rattle.uuid.specs.Text.{parsed_hyphenated}
 use Rattle.nb_host.specs.Names.{is_name, is_delta, same_name}
 use Rattle.nb_model.specs.declared.job.Job.{Job}
-use Rattle.nb_model.specs.declared.job.Job.TheVariants.{Run, Stat, Gen, Backup, BackupSince, Restore, Apply, Lock, LockWithSize, Unlock, Fixup}
+use Rattle.nb_model.specs.declared.job.Job.TheVariants.{Run, Stat, Gen, Backup, BackupSince, Restore, Apply, Lock, LockWithSize, Unlock, Fixup, Fold, Plan}
 
 abbrev pub Word : Type 0
 Word = List ℕ
@@ -63,21 +63,48 @@ number_in_word word = elim (
       | false ↦ None
     ]
 
+-- a number of 32 bits
+abbrev pub count_in_word : Word → Option ℕ
+count_in_word word = elim (number_in_word word) [ None ↦ None | Some n ↦ elim (nat_le n 4294967295) [ true ↦ Some n | false ↦ None ] ]
+
 -- a job where a test holds
 abbrev pub job_if : Bool → Job → Option Job
 job_if true job = Some job
 job_if false job = None
 
--- what the first word names where no flag is given
-abbrev pub plain_job : List Word → Option Job
-plain_job (verb ∷ name ∷ []) = elim (same_name verb (codes "run")) [
+-- the run of a script, or the statistics of a database
+abbrev pub run_or_stat : List Word → Option Job
+run_or_stat (verb ∷ name ∷ []) = elim (same_name verb (codes "run")) [
   | true ↦ job_if (is_file name) (Run name)
   | false ↦ job_if (same_name verb (codes "stat") && is_database name) (Stat name)
 ]
-plain_job (verb ∷ number ∷ name ∷ []) = elim (number_in_word number) [
-  | None ↦ None
-  | Some n ↦ job_if (same_name verb (codes "gen") && is_file name) (Gen n name)
+run_or_stat other = None
+
+-- the script of a number
+abbrev pub gen_job : (number name : Word) → Option Job
+gen_job number name = elim (number_in_word number) [ None ↦ None | Some n ↦ job_if (is_file name) (Gen n name) ]
+
+-- which files of a list so many restore points need
+abbrev pub plan_job : (keep list : Word) → Option Job
+plan_job keep list = elim (count_in_word keep) [ None ↦ None | Some k ↦ job_if (is_file list) (Plan k list) ]
+
+abbrev pub gen_or_plan : List Word → Option Job
+gen_or_plan (verb ∷ number ∷ name ∷ []) = elim (same_name verb (codes "gen")) [
+  | true ↦ gen_job number name
+  | false ↦ elim (same_name verb (codes "plan")) [ true ↦ plan_job number name | false ↦ None ]
 ]
+gen_or_plan other = None
+
+-- 2 to 9 files are folded into one
+abbrev pub fold_job : List Word → Option Job
+fold_job (verb ∷ out ∷ files) = job_if (same_name verb (codes "fold") && is_file out && nat_le 2 (length files) && nat_le (length files) 9 && list_all is_file files) (Fold out files)
+fold_job other = None
+
+-- what the first word names where no flag is given
+abbrev pub plain_job : List Word → Option Job
+plain_job (verb ∷ name ∷ []) = run_or_stat (verb ∷ name ∷ [])
+plain_job (verb ∷ number ∷ name ∷ []) = gen_or_plan (verb ∷ number ∷ name ∷ [])
+plain_job (verb ∷ out ∷ file ∷ other ∷ files) = fold_job (verb ∷ out ∷ file ∷ other ∷ files)
 plain_job other = None
 
 -- a backup of a level, or since a GUID

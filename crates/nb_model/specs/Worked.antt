@@ -20,7 +20,7 @@ use Rattle.nb_model.specs.Run.{Event, Opening, opening, base_now, play, replies_
 
 -- no file is there
 unfoldable pub nowhere : Account
-nowhere = record { entry = λ name. Missing; kept = [] }
+nowhere = record { entry = λ name. Missing None; kept = [] }
 
 -- the k-th GUID: fifteen zero bytes and then k
 unfoldable pub g : ℕ → List ℕ

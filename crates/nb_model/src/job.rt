@@ -39,6 +39,12 @@ impl NameList {
         Ok(())
     }
 
+    pub fn len(&self) -> usize
+        ensures { result ≡ length self.now }
+    {
+        self.names.len()
+    }
+
     pub fn as_slice(&self) -> &[Name]
         ensures { result.now ≡ self.now }
     {
@@ -99,5 +105,15 @@ pub enum Job {
     /// `-F DB`: a copy of a stalled database becomes a database of its own.
     Fixup {
         db: Name,
+    },
+    /// `fold OUT FILE..`: 2 to 9 consecutive level files are folded into one.
+    Fold {
+        out: Name,
+        files: NameList,
+    },
+    /// `plan K LIST`: which of the backup files that a list names the last K restore points need.
+    Plan {
+        keep: u32,
+        list: Name,
     },
 }

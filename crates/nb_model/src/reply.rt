@@ -1,4 +1,4 @@
-use crate::{RowList, Text};
+use crate::{NameList, RowList, Text};
 use nb_host::Refusal;
 
 /// What a statement or a job is answered. Each is one line of the output.
@@ -73,6 +73,12 @@ pub enum Reply {
     CacheShown {
         capacity: u32,
         held: u32,
+    },
+    /// `ok keep A drop B orphan C` and then the names of the files that are dropped and of the orphans, each after a space
+    Planned {
+        kept: u32,
+        dropped: NameList,
+        orphans: NameList,
     },
     /// `refused`, the number and name of the refusal, and the values of its fields
     Refused {

@@ -11,8 +11,8 @@ ghost use Rattle.nb_model.specs.Run.{replies_of, rounds, strokes_of};
 ghost use Rattle.nb_model.specs.Seeds.{seeded};
 ghost use Rattle.nb_model.specs.Words.{job_of};
 ghost use Rattle.nb_model.specs.Worked.{g, run_of, says, replies, marks, strokes, base_then, pages_held, refused, chain_files, level_1_file, broken_place, not_open, main_file, stalled_file, delta_file, standby, merged_standby, apply_reply, restore_reply, restored_text, fixup_reply};
-ghost use Rattle.nb_model.specs.declared.job.Job.TheVariants.{Run, Restore, LockWithSize, Backup as JobBackup, BackupSince as JobBackupSince};
-ghost use Rattle.nb_model.specs.declared.reply.Reply.TheVariants.{Done, Opened, Value, Scn, ScnPages, Level, Rows, HeaderShown, PagesShown, PageMade, ImageShown, CacheShown, Refused, Pages};
+ghost use Rattle.nb_model.specs.declared.job.Job.TheVariants.{Run, Restore, LockWithSize, Backup as JobBackup, BackupSince as JobBackupSince, Fold, Plan};
+ghost use Rattle.nb_model.specs.declared.reply.Reply.TheVariants.{Done, Opened, Value, Scn, ScnPages, Level, Rows, HeaderShown, PagesShown, PageMade, Planned, ImageShown, CacheShown, Refused, Pages};
 ghost use Rattle.nb_model.specs.declared.statement.Statement.TheVariants.{Write, Read, Free, PageNew, BeginBackup, EndBackup, Backup, BackupSince, CreateTable, DropTable, Insert, Update, Delete, Get, Scan, Access, ShowHeader, ShowPages, ShowCache};
 ghost use Rattle.std.specs.Prelude.{[], ◌++◌, ◌∷◌, ◌≡◌, None, Some, codes, drop, length, replicate, take, true, false};
 
@@ -168,6 +168,8 @@ pub fn lines_of_replies()
     ensures pages_shown { line_text 1 (PagesShown 1 1 1 2 7 0 1) ≡ codes "1: ok header 1 inventory 1 scn 1 data 2 raw 7 other 0 free 1" ++ 10 ∷ [] }
     ensures image { line_text 1 (ImageShown 13 (replicate 31 0 ++ 171 ∷ [])) ≡ codes "1: ok pages 13 sha256 00000000000000000000000000000000000000000000000000000000000000ab" ++ 10 ∷ [] }
     ensures cache { line_text 1 (CacheShown 64 7) ≡ codes "1: ok cache 64 held 7" ++ 10 ∷ [] }
+    ensures planned { line_text 1 (Planned 3 (codes "z.0" ∷ []) (codes "a.1" ∷ codes "a.2" ∷ [])) ≡ codes "1: ok keep 3 drop 1 orphan 2 z.0 a.1 a.2" ++ 10 ∷ [] }
+    ensures not_planned { line_text 1 (Planned 4 [] []) ≡ codes "1: ok keep 4 drop 0 orphan 0" ++ 10 ∷ [] }
     ensures refused { line_text 1 (Refused (ChainLevel (codes "a.1") 1 0)) ≡ codes "1: refused 16 ChainLevel a.1 1 0" ++ 10 ∷ [] }
     ensures refused_guids { line_text 1 (Refused (ChainGuid (codes "a.1") (g 1) (g 2))) ≡ codes "1: refused 17 ChainGuid a.1 00000000-0000-0000-0000-000000000001 00000000-0000-0000-0000-000000000002" ++ 10 ∷ [] }
     ensures no_words { line_text 0 (Refused Usage) ≡ codes "0: refused 1 Usage" ++ 10 ∷ [] }
@@ -183,6 +185,10 @@ pub fn words_name_jobs()
     ensures since { job_of (codes "-B" ∷ codes "00000000-0000-0000-0000-000000000001" ∷ codes "a.db" ∷ codes "a.y" ∷ []) ≡ Some (JobBackupSince (g 1) (codes "a.db") (codes "a.y")) }
     ensures dashes { job_of (codes "--" ∷ codes "run" ∷ codes "-s" ∷ []) ≡ Some (Run (codes "-s")) }
     ensures number { job_of (codes "gen" ∷ codes "07" ∷ codes "g.s" ∷ []) ≡ None }
+    ensures fold { job_of (codes "fold" ∷ codes "f.1" ∷ codes "a.1" ∷ codes "g.2" ∷ []) ≡ Some (Fold (codes "f.1") (codes "a.1" ∷ codes "g.2" ∷ [])) }
+    ensures one_level { job_of (codes "fold" ∷ codes "f.1" ∷ codes "a.1" ∷ []) ≡ None }
+    ensures plan { job_of (codes "plan" ∷ codes "3" ∷ codes "l" ∷ []) ≡ Some (Plan 3 (codes "l")) }
+    ensures points { job_of (codes "plan" ∷ codes "4294967296" ∷ codes "l" ∷ []) ≡ None }
     ensures none { job_of [] ≡ None }
 {}
 

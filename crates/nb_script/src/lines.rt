@@ -1,9 +1,10 @@
 ghost use Rattle.std.specs.Prelude.{◌≡◌, ◌+◌, ◌<◌, ◌≤◌, [], ◌∷◌, length, drop, MatchOption, IfSome};
 ghost use Rattle.nb_script.specs.Lines.{lines_of, first_len, is_skipped, left};
 
-/// The lines of some bytes that are not skipped, one after the other.
+/// The lines of some bytes that are not skipped, one after the other. A line ends at a line feed or at the end of the bytes. Empty
+/// lines and lines that begin with `#` are skipped, and counted.
 #[derive(Clone, Copy)]
-pub(crate) struct Lines<'a> {
+pub struct Lines<'a> {
     rest: &'a [u8],
     /// How many lines were passed, with those that are skipped.
     passed: u32,
@@ -40,7 +41,8 @@ fn is_skipped(line: &[u8]) -> bool
 }
 
 impl<'a> Lines<'a> {
-    pub(crate) fn new(bytes: &'a [u8]) -> Self
+    /// The lines of at most 1,048,576 bytes.
+    pub fn new(bytes: &'a [u8]) -> Self
         requires { length bytes.now ≤ 1048576 }
         ensures bytes { result.rest.now ≡ bytes.now }
         ensures none_passed { result.passed ≡ 0 }
@@ -52,14 +54,14 @@ impl<'a> Lines<'a> {
     }
 
     /// How many lines were passed, with those that are skipped.
-    pub(crate) fn passed(&self) -> u32
+    pub fn passed(&self) -> u32
         ensures { result ≡ self.now.passed }
     {
         self.passed
     }
 
     /// The next line that is not skipped; `passed` is then its number, from 1.
-    pub(crate) fn next(&mut self) -> Option<&'a [u8]>
+    pub fn next(&mut self) -> Option<&'a [u8]>
         ensures line { MatchOption result
             ((left self.old.passed self.old.rest.now ≡ []) × (self.new.passed ≡ self.old.passed + length (lines_of self.old.rest.now)))
             (λ line. left self.old.passed self.old.rest.now ≡ (self.new.passed, line.now) ∷ left self.new.passed self.new.rest.now) }

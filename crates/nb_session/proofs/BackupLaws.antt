@@ -44,9 +44,9 @@ use Rattle.nb_state.specs.declared.turns.Progress.{Progress}
 use Rattle.nb_state.specs.declared.turns.Progress.TheVariants.{More, Finished}
 use Rattle.nb_state.proofs.MakesLaws.{after_base, where_ended, gave_none}
 use Rattle.nb_copy.specs.FileCopying.{file_count, file_next, file_written, whole_file}
-use Rattle.nb_copy.specs.Making.{IsEmpty, IsUnfinishedOr}
+use Rattle.nb_gather.specs.Making.{IsEmpty, IsUnfinishedOr}
 use Rattle.nb_copy.specs.Starting.{Backed, IsBackingUp, IsStarted, OfStart, StartLeft, StartMakes, StartsBackup, KnowsFree}
-use Rattle.nb_copy.proofs.BlankLaws.{blank_empty, blank_free}
+use Rattle.nb_gather.proofs.BlankLaws.{blank_empty, blank_free}
 use Rattle.nb_copy.specs.Closing.{OfBackup, GaveTimeAtMost, CloseLeft, CopiesOn, CloseDone, BackupTurn, BackupCounts}
 use Rattle.nb_session.specs.declared.task.Task.TheVariants.{Backup, End}
 use Rattle.nb_session.specs.Acts.{Says, Grows, shown_by, Touched, TurnLeft, Acts, MayAct}

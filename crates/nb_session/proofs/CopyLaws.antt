@@ -36,7 +36,7 @@ use Rattle.nb_state.specs.Open.{Held, IsOpen, name_of}
 use Rattle.nb_state.specs.declared.turns.Progress.{Progress}
 use Rattle.nb_state.specs.declared.turns.Progress.TheVariants.{More, Finished}
 use Rattle.nb_state.proofs.MakesLaws.{where_ended, none_yet, gave_none, open_quiet, open_running}
-use Rattle.nb_copy.specs.Making.{IsKept, IsUnfinishedOr}
+use Rattle.nb_gather.specs.Making.{IsKept, IsUnfinishedOr}
 use Rattle.nb_copy.specs.Copying.{Copying, IsCopying}
 use Rattle.nb_copy.specs.FileCopies.{IsCopyingTo, StartsCopy, IsCopyStarted, KnowsUnused}
 use Rattle.nb_copy.proofs.ClosingLaws.{stands}

@@ -29,7 +29,7 @@ use Rattle.nb_model.specs.Trail.{Trail, StandsIn, after_stroke}
 use Rattle.nb_model.proofs.OutputLaws.{output-quiet, output_no_event, status_no_event}
 use Rattle.nb_model.proofs.StepsLaws.{steps_one, strokes_within, strokes_front, acked_steps_none, acked_steps_most, turns_before}
 use Rattle.nb_base.specs.Takes.{after_strokes}
-use Rattle.nb_copy.specs.Making.{IsKept, IsUnfinishedOr}
+use Rattle.nb_gather.specs.Making.{IsKept, IsUnfinishedOr}
 use Rattle.nb_state.specs.Open.{Held, IsOpen, name_of}
 use Rattle.nb_state.specs.Does.{WhereEnded}
 use Rattle.nb_state.proofs.MakesLaws.{still_open}
@@ -86,7 +86,7 @@ told_reply e = by e.strokes
     by (s ∷ ss) told = absurd (true≢false (sym told))
 
 -- one event is all of them
-one_told : (e : Event) → list_all only_told (e ∷ []) ≡ true → only_told e ≡ true
+pub one_told : (e : Event) → list_all only_told (e ∷ []) ≡ true → only_told e ≡ true
 one_told e all = sym (and-true (only_told e)) ∙ all
 
 -- no event made a file

@@ -24,6 +24,7 @@ pub mod StepLaws
 pub mod GoesLaws
 pub mod NextLaws
 pub mod NameLaws
+pub mod InTurnLaws
 pub mod SceneLaws
 pub mod AnyLaws
 pub mod EndLaws

@@ -1,5 +1,5 @@
 -- What waits is written out behind the turns.
-use Rattle.std.proofs.Common.{◌≡◌, inl, inr, ℕ, List, [], ◌++◌, Bool, true, false, refl, sym, ap, subst, ◌∙◌, arith}
+use Rattle.std.proofs.Common.{◌≡◌, inl, inr, ℕ, List, [], ◌∷◌, ◌++◌, Bool, true, false, refl, sym, ap, subst, ◌∙◌, arith}
 use Rattle.std.proofs.lemmas.Bool.{true≢false}
 use Rattle.std.specs.Prelude.{Contains, Result, Ok, Err, IsErr, ◌||◌}
 use Rattle.std.proofs.lemmas.List.{append-nil}
@@ -14,7 +14,7 @@ use Rattle.nb_model.specs.Going.{IsMaking}
 use Rattle.nb_model.specs.Making.{MadeFile, AreAmong, IsNoneOf, NamesOnce}
 use Rattle.nb_model.specs.Run.{Now, Played, play, rounds, files_made}
 use Rattle.nb_model.specs.Owner.{delta_name}
-use Rattle.nb_model.specs.Steps.{acked_turns}
+use Rattle.nb_model.specs.Steps.{acked_turns, steps_of, after_steps}
 use Rattle.nb_model.specs.Trail.{Trail, StandsIn}
 use Rattle.nb_model.proofs.MakingLaws.{made_once}
 use Rattle.nb_model.proofs.OutputLaws.{output_no_event, status_no_event}
@@ -26,9 +26,11 @@ use Rattle.nb_session.specs.declared.stop.Stop.{Stop}
 use Rattle.nb_session.specs.declared.told.Told.{Told}
 use Rattle.nb_session.specs.Ready.{IsReady}
 use Rattle.nb_session.specs.Stops.{Plays}
-use Rattle.nb_session.specs.Todo.{PlaysWhole}
+use Rattle.nb_session.specs.InTurn.{EndsBy}
+use Rattle.nb_session.specs.Todo.{PlaysInTurn}
 use Rattle.nb_session.specs.Told.{told_turns}
 use Rattle.nb_session.proofs.GiftLaws.{given_nothing}
+use Rattle.nb_session.proofs.InTurnLaws.{plays_other, ends_other}
 use Rattle.nb_session.proofs.PlayLaws.{Leads, behind, trail_after, after_none, no_file, no_made, plays_by, plays_then, plays_failed}
 use Rattle.nb_session.proofs.ToldLaws.{told_among}
 use Rattle.nb_copy.proofs.InUseLaws.{not_free}
@@ -116,24 +118,68 @@ module _ (old mid new : World) (e0 e1 e2 : Held) (t : Trail) (now : Now) (p : Pl
   pub then_failed : (e : Stop) → Plays (Err e) mid new e1 e2 (trail_after t p) p.1 ([], p.1) [] → Plays (Err e) old new e0 e2 t now p made
   then_failed e out = no_turn (Err e) (plays_failed old mid new e0 e1 e2 t now p ([], p.1) made [] once_more has no_more a e first out)
 
+-- what stands at no turn
+once_none : NamesOnce []
+once_none name bytes others there more = absurd (no_file name bytes there)
+
+has_none : AreAmong (files_made []) []
+has_none file there = absurd (no_made 0 file.0 file.1 there)
+
+-- What waits is written out where no turn is left.
+module _ (old mid new : World) (a b c : Held) (t : Trail) (now : Now) (plays : Plays (Ok false) old mid a b t now ([], now) []) (same : but_pages c ≡ but_pages b) (gave : GaveNothing mid new) where
+  abbrev nothing : Played
+  nothing = ([], now)
+
+  last_out : ((u : Trail) → IsOpen mid b u → Takes {T = Unit {0}} {E = HostFault} (Ok tt) mid new (name_of b) (IsOpen new c) u []) → ((u : Trail) → IsOpen mid b u → u.earlier ≡ [] → new.files ≡ mid.files)
+      → Plays (Ok false) old new a c t now ([], now) []
+  last_out takes still =
+      let ready = plays.done.ready in
+      let out = takes (trail_after t nothing) ready.opened in
+      then_out old mid new a b c t now nothing [] once_none has_none false plays
+      (out_played mid new b c (trail_after t nothing) now ready out.left same gave out.done (still (trail_after t nothing) ready.opened))
+
+  last_failed : (e : Stop) → ((u : Trail) → IsOpen mid b u → Strikes mid new (name_of b) u []) → Plays (Err e) old new a c t now ([], now) []
+  last_failed e struck =
+      let ready = plays.done.ready in
+      then_failed old mid new a b c t now nothing [] once_none has_none false plays e (out_failed mid new b c (trail_after t nothing) now ready (struck (trail_after t nothing) ready.opened) same gave e)
+
+-- so it is behind turns that came to their end, of which none is left
+none_left : (told : Told) (rest : List ℕ) (old mid new : World) (a b c : Held) (t : Trail) (now : Now) (refused : Bool) (result : Result Bool Stop) → EndsBy (Ok refused) told rest old mid a b t now
+    → (Plays (Ok false) old mid a b t now ([], now) [] → EndsBy result told [] old new a c t now) → EndsBy result told rest old new a c t now
+none_left told [] old mid new a b c t now refused result last go = go last
+none_left told (session ∷ rest) old mid new a b c t now refused result last go = absurd last
+
 -- and behind all turns of a script
 -- what stood at a failure stands where it is passed on
-pub whole_passed : (old new : World) (before after : Held) (t : Trail) (told : Told) (now : Now) (schedule : List ℕ) {e : Stop} (result : Result Bool Stop) → IsErr result → PlaysWhole (Err e) old new before after t told now schedule
-    → PlaysWhole result old new before after t told now schedule
-whole_passed old new before after t told now schedule (Ok refused) is w = absurd (no_err is)
+pub whole_passed : {H : Type 0} (world : H → World) (old new : H) (before after : Held) (t : Trail) (told : Told) (now : Now) (schedule : List ℕ) (e : Stop) (result : Result Bool Stop) → IsErr result
+    → PlaysInTurn world (Err e) old new before after t told now schedule → PlaysInTurn world result old new before after t told now schedule
+whole_passed world old new before after t told now schedule e (Ok refused) is w = absurd (no_err is)
   where
     no_err : IsErr {T = Bool} {E = Stop} (Ok refused) → ⊥
     no_err h = cc
-whole_passed old new before after t told now schedule (Err f) is w = record {
-  how_often = w.how_often;
-  plays = record { stops = w.plays.stops; left = w.plays.left; apart = w.plays.apart; others = w.plays.others; others_read = w.plays.others_read; name = w.plays.name; done = tt };
-  finished = w.finished;
-}
+whole_passed world old new before after t told now schedule e (Err f) is w =
+    let order : List ℕ = schedule ++ rounds w.whole.how_often in
+    record {
+      whole = record {
+        how_often = w.whole.how_often;
+        plays = plays_other (world old) (world new) before after t now (told_turns told (play order now)) (files_made (play order now).0) e f w.whole.plays;
+        finished = w.whole.finished;
+      };
+      in_turn = record {
+        front = w.in_turn.front;
+        rest = w.in_turn.rest;
+        is = w.in_turn.is;
+        mid = w.in_turn.mid;
+        between = w.in_turn.between;
+        taken = w.in_turn.taken;
+        last = ends_other told w.in_turn.rest (world w.in_turn.mid) (world new) w.in_turn.between after (after_steps t (steps_of (play w.in_turn.front now).0)) (play w.in_turn.front now).1 e f w.in_turn.last;
+      };
+    }
 
-module _ (old mid new : World) (e0 e1 e2 : Held) (t : Trail) (told : Told) (now : Now) (schedule : List ℕ) (making : IsMaking now) (a : Bool) (first : PlaysWhole (Ok a) old mid e0 e1 t told now schedule) (same : but_pages e2 ≡ but_pages e1)
-    (gave : GaveNothing mid new) where
+module _ {H : Type 0} (world : H → World) (old mid new : H) (e0 e1 e2 : Held) (t : Trail) (told : Told) (now : Now) (schedule : List ℕ) (making : IsMaking now) (a : Bool) (first : PlaysInTurn world (Ok a) old mid e0 e1 t told now schedule)
+    (same : but_pages e2 ≡ but_pages e1) (gave : GaveNothing (world mid) (world new)) where
   abbrev order : List ℕ
-  order = schedule ++ rounds first.how_often
+  order = schedule ++ rounds first.whole.how_often
 
   abbrev played : Played
   played = told_turns told (play order now)
@@ -144,24 +190,55 @@ module _ (old mid new : World) (e0 e1 e2 : Held) (t : Trail) (told : Told) (now 
   has : AreAmong (files_made played.0) (files_made (play order now).0)
   has = told_among told (play order now).0 (files_made (play order now).0) (λ file there. there)
 
-  pub whole_out : ((u : Trail) → IsOpen mid e1 u → Takes {T = Unit {0}} {E = HostFault} (Ok tt) mid new (name_of e1) (IsOpen new e2) u []) → ((u : Trail) → IsOpen mid e1 u → u.earlier ≡ [] → new.files ≡ mid.files)
-      → PlaysWhole (Ok a) old new e0 e2 t told now schedule
+  -- what stood before the last thing that was done
+  abbrev far_trail : Trail
+  far_trail = after_steps t (steps_of (play first.in_turn.front now).0)
+
+  abbrev far_now : Now
+  far_now = (play first.in_turn.front now).1
+
+  pub whole_out : ((u : Trail) → IsOpen (world mid) e1 u → Takes {T = Unit {0}} {E = HostFault} (Ok tt) (world mid) (world new) (name_of e1) (IsOpen (world new) e2) u [])
+      → ((u : Trail) → IsOpen (world mid) e1 u → u.earlier ≡ [] → (world new).files ≡ (world mid).files) → PlaysInTurn world (Ok a) old new e0 e2 t told now schedule
   whole_out takes still =
-      let ready = first.plays.done.ready in
+      let ready = first.whole.plays.done.ready in
       let out = takes (trail_after t played) ready.opened in
       record {
-        how_often = first.how_often;
-        plays = then_out old mid new e0 e1 e2 t now played (files_made (play order now).0) once has a first.plays
-            (out_played mid new e1 e2 (trail_after t played) played.1 ready out.left same gave out.done (still (trail_after t played) ready.opened));
-        finished = first.finished;
+        whole = record {
+          how_often = first.whole.how_often;
+          plays = then_out (world old) (world mid) (world new) e0 e1 e2 t now played (files_made (play order now).0) once has a first.whole.plays
+              (out_played (world mid) (world new) e1 e2 (trail_after t played) played.1 ready out.left same gave out.done (still (trail_after t played) ready.opened));
+          finished = first.whole.finished;
+        };
+        in_turn = record {
+          front = first.in_turn.front;
+          rest = first.in_turn.rest;
+          is = first.in_turn.is;
+          mid = first.in_turn.mid;
+          between = first.in_turn.between;
+          taken = first.in_turn.taken;
+          last = none_left told first.in_turn.rest (world first.in_turn.mid) (world mid) (world new) first.in_turn.between e1 e2 far_trail far_now a (Ok a) first.in_turn.last
+              (λ plays. last_out (world first.in_turn.mid) (world mid) (world new) first.in_turn.between e1 e2 far_trail far_now plays same gave takes still);
+        };
       }
 
-  pub whole_stopped : (e : Stop) → ((u : Trail) → IsOpen mid e1 u → Strikes mid new (name_of e1) u []) → PlaysWhole (Err e) old new e0 e2 t told now schedule
+  pub whole_stopped : (e : Stop) → ((u : Trail) → IsOpen (world mid) e1 u → Strikes (world mid) (world new) (name_of e1) u []) → PlaysInTurn world (Err e) old new e0 e2 t told now schedule
   whole_stopped e struck =
-      let ready = first.plays.done.ready in
+      let ready = first.whole.plays.done.ready in
       record {
-        how_often = first.how_often;
-        plays = then_failed old mid new e0 e1 e2 t now played (files_made (play order now).0) once has a first.plays e
-            (out_failed mid new e1 e2 (trail_after t played) played.1 ready (struck (trail_after t played) ready.opened) same gave e);
-        finished = first.finished;
+        whole = record {
+          how_often = first.whole.how_often;
+          plays = then_failed (world old) (world mid) (world new) e0 e1 e2 t now played (files_made (play order now).0) once has a first.whole.plays e
+              (out_failed (world mid) (world new) e1 e2 (trail_after t played) played.1 ready (struck (trail_after t played) ready.opened) same gave e);
+          finished = first.whole.finished;
+        };
+        in_turn = record {
+          front = first.in_turn.front;
+          rest = first.in_turn.rest;
+          is = first.in_turn.is;
+          mid = first.in_turn.mid;
+          between = first.in_turn.between;
+          taken = first.in_turn.taken;
+          last = none_left told first.in_turn.rest (world first.in_turn.mid) (world mid) (world new) first.in_turn.between e1 e2 far_trail far_now a (Err e) first.in_turn.last
+              (λ plays. last_failed (world first.in_turn.mid) (world mid) (world new) first.in_turn.between e1 e2 far_trail far_now plays same gave e struck);
+        };
       }

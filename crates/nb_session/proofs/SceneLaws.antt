@@ -1,7 +1,7 @@
 -- What holds while sessions take their turns.
 use Rattle.std.proofs.Common.{◌≡◌, ◌≢◌, inl, inr, ℕ, zero, suc, ◌-◌, ◌<◌, ◌≤◌, List, [], ◌∷◌, ◌++◌, length, map, refl, sym, ap, subst, ◌∙◌, arith, append_assoc, length-set}
 use Rattle.std.specs.Prelude.{Bool, true, false, ◌||◌, IsTrue, Result, Ok, Option, Some, None, slice_get, slice_set}
-use Rattle.std.specs.List.{AllByRecursion, slice_index_or}
+use Rattle.std.specs.List.{AllByRecursion, list_all, slice_index_or}
 use Rattle.std.proofs.lemmas.List.{append-nil}
 use Rattle.nb_host.specs.World.{World}
 use Rattle.nb_host.specs.Moments.{IsTimely}
@@ -13,6 +13,7 @@ use Rattle.nb_model.specs.Going.{IsMaking}
 use Rattle.nb_model.specs.Making.{MadeFile, under_way, AreAmong}
 use Rattle.nb_model.specs.Outcomes.{Turn, Begins, Given}
 use Rattle.nb_model.specs.Run.{Event, Now, Played, base_now, one_turn, play, files_made}
+use Rattle.nb_model.specs.Steps.{steps_of, after_steps}
 use Rattle.nb_model.specs.Trail.{Trail}
 use Rattle.nb_model.proofs.GoingLaws.{making_play}
 use Rattle.nb_model.proofs.TodoLaws.{one_turn_idle}
@@ -25,12 +26,15 @@ use Rattle.nb_session.specs.declared.task.Task.TheVariants.{Backup, Copy, End, M
 use Rattle.nb_session.specs.declared.told.Told.{Told}
 use Rattle.nb_session.specs.Acts.{AreSixteen, Grows}
 use Rattle.nb_session.specs.Askers.{Asker, task_todo, task_left, todo_of, HasTodo, left_of, IsFit, any_refused}
+use Rattle.nb_session.specs.InTurn.{HasNone, TakesOne, InTurn}
 use Rattle.nb_session.specs.Ready.{IsReady, TaskGoes}
+use Rattle.nb_session.specs.Replies.{only_told}
 use Rattle.nb_session.specs.Steps.{as_played, shown_next, touching_by, Steps, TakesNext}
 use Rattle.nb_session.specs.Stops.{Plays}
 use Rattle.nb_session.specs.Told.{told_turns}
 use Rattle.nb_session.proofs.GiftLaws.{foretold_first, foretold_then, foretold_itself, grows_none, grows_joined}
 use Rattle.nb_session.proofs.GoesLaws.{goes_on}
+use Rattle.nb_session.proofs.InTurnLaws.{in_turn_idle, in_turn_one, told_trail}
 use Rattle.nb_session.proofs.MadeLaws.{none_among}
 use Rattle.nb_session.proofs.NextLaws.{keeps_todo, play_more, giving, making_giving, next_once, next_others, next_among, next_has, holds_left}
 use Rattle.nb_session.proofs.PlayLaws.{behind, trail_after, no_made, plays_none, plays_then}
@@ -98,6 +102,7 @@ module _ {H : Type 0} (tells : Bool) (told : IsTrue tells) (world : H → World)
   pub record IsSoFar (shown front : List ℕ) (s : Scene Asker H Held) (given : Given) : Type 0 where
     pub made : List MadeFile
     pub plays : Plays (Ok (any_refused s.agents)) (world old) (world s.host) before s.shared t (from given) (told_turns how (play front (from given))) made
+    pub in_turn : InTurn world how front old s.host before s.shared t (from given)
     pub among : AreAmong made (files_made (play front (from given)).0 ++ under_way (play front (from given)).1)
     pub has : AreAmong (files_made (play front (from given)).0) made
     pub left : given.holds ≡ shown ++ (play front (from given)).1.given.holds
@@ -123,15 +128,15 @@ module _ {H : Type 0} (tells : Bool) (told : IsTrue tells) (world : H → World)
   is_session front rest session is = at_place IsSession front rest session (subst (AllByRecursion IsSession) (sym is) numbers)
 
   -- a session that has finished does nothing
-  idle_then : (shown front : List ℕ) (session : ℕ) (s : Scene Asker H Held) (given : Given) → one_turn session (play front (from given)).1 ≡ ([], (play front (from given)).1)
-      → IsSoFar shown front s given → IsSoFar shown (front ++ session ∷ []) s given
+  idle_then : (shown front : List ℕ) (session : ℕ) (s : Scene Asker H Held) (given : Given) → HasNone session (play front (from given)).1 → IsSoFar shown front s given → IsSoFar shown (front ++ session ∷ []) s given
   idle_then shown front session s given idle far =
       let p : Played = play front (from given) in
       let same : play (front ++ session ∷ []) (from given) ≡ p =
-      play_more front session (from given) ∙ ap (λ (q : Played). (p.0 ++ q.0, q.1)) idle ∙ ap (λ (es : List Event). (es, p.1)) (append-nil p.0) in
+      play_more front session (from given) ∙ ap (λ (q : Played). (p.0 ++ q.0, q.1)) (one_turn_idle session p.1 idle) ∙ ap (λ (es : List Event). (es, p.1)) (append-nil p.0) in
       record {
         made = far.made;
         plays = subst (λ (q : Played). Plays (Ok (any_refused s.agents)) (world old) (world s.host) before s.shared t (from given) (told_turns how q) far.made) (sym same) far.plays;
+        in_turn = in_turn_idle world how front session old s.host s.host before s.shared s.shared t (from given) far.in_turn idle;
         among = subst (λ (q : Played). AreAmong far.made (files_made q.0 ++ under_way q.1)) (sym same) far.among;
         has = subst (λ (q : Played). AreAmong (files_made q.0) far.made) (sym same) far.has;
         left = subst (λ (q : Played). given.holds ≡ shown ++ q.1.given.holds) (sym same) far.left;
@@ -154,8 +159,7 @@ module _ {H : Type 0} (tells : Bool) (told : IsTrue tells) (world : H → World)
             let far = here.so_far given sixteen foretold in
             let todo : List (List Turn) = (play front (from given)).1.todo in
             idle_then shown front session s given
-            (one_turn_idle session (play front (from given)).1
-            (ap (λ (n : ℕ). slice_index_or todo (n - 1) []) (sym (here.placed session one.0 one.1)) ∙ far.todo session one.0 one.1 ∙ done_todo one.0 (rests one.0 one.1))) far;
+            (ap (λ (n : ℕ). slice_index_or todo (n - 1) []) (sym (here.placed session one.0 one.1)) ∙ far.todo session one.0 one.1 ∙ done_todo one.0 (rests one.0 one.1)) far;
       }
 
   -- a turn
@@ -242,6 +246,14 @@ module _ {H : Type 0} (tells : Bool) (told : IsTrue tells) (world : H → World)
           let rest = holds_left session p.1 s.shared told_of.later_shown (todo_of asker) (subst (λ (k : ℕ). slice_index_or p.1.todo (k - 1) [] ≡ todo_of asker) mine (far.todo session asker there)) told_of.holds_first in
           far.left ∙ ap (λ (xs : List ℕ). shown ++ xs) (told_of.holds_first ∙ ap (λ (xs : List ℕ). next ++ xs) (sym rest)) ∙ sym (append_assoc shown next (one_turn session p.1).1.given.holds)
 
+      -- the turn by itself
+      takes : TakesOne (world s.host) (world s'.host) s.shared s'.shared (after_steps t (steps_of p.0)) how p.1 session
+      takes = record {
+        refused = made.refused;
+        plays = subst (λ (u : Trail). Plays (Ok made.refused) (world s.host) (world s'.host) s.shared s'.shared u p.1 (told_turns how (one_turn session p.1)) (touching_by session p.1)) (told_trail how t p) (turn_plays (Ok tt) made given sixteen foretold);
+        unchanged = subst (λ (k : ℕ). list_all only_told (one_turn k p.1).0 ≡ true → (world s'.host).files ≡ (world s.host).files) mine (next_is.unchanged (told_then (Ok tt) made given sixteen foretold));
+      }
+
       turn_far : IsSoFar (shown ++ next) (front ++ session ∷ []) s' given
       turn_far =
           let n : Now = from given in
@@ -259,6 +271,7 @@ module _ {H : Type 0} (tells : Bool) (told : IsTrue tells) (world : H → World)
                 (plays_then (world old) (world s.host) (world s'.host) before s.shared s'.shared t n (told_turns how p) (told_turns how (one_turn session p.1)) far.made (touching_by session p.1)
                 (next_once n given_making front session far.made far.among) (told_among how p.0 far.made far.has) (told_others how p.0 (touching_by session p.1) (next_others n given_making front session))
                 (any_refused s.agents) made.refused far.plays (turn_plays (Ok tt) made given sixteen foretold))));
+            in_turn = in_turn_one world how front session old s.host s'.host before s.shared s'.shared t n far.in_turn takes;
             among = subst (λ (r : Played). AreAmong files (files_made r.0 ++ under_way r.1)) (sym more) (next_among n given_making front session far.made far.among);
             has = subst (λ (r : Played). AreAmong (files_made r.0) files) (sym more) (next_has n given_making front session far.made far.among far.has);
             left = subst (λ (r : Played). given.holds ≡ (shown ++ next) ++ r.1.given.holds) (sym more) left_then;
@@ -303,6 +316,7 @@ module _ {H : Type 0} (tells : Bool) (told : IsTrue tells) (world : H → World)
       plays = subst (λ (r : Bool). Plays (Ok r) (world old) (world old) before before t (from given) (told_turns how ([], from given)) []) (sym none)
           (subst (λ (es : List Event). Plays (Ok false) (world old) (world old) before before t (from given) (es, from given) []) (sym (told_nothing how))
           (plays_none (world old) before t (from given) timely (record { opened = ready.opened; base = ready.base; there = ready.there; named = ready.named; running = ready.running; cache = ready.cache; known = ready.known })));
+      in_turn = (refl, refl);
       among = none_among (files_made [] ++ under_way (from given));
       has = λ file there. absurd (no_made 0 file.0 file.1 there);
       left = refl;

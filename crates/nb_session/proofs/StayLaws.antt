@@ -61,7 +61,7 @@ still_none w = record { files = refl; left = untouched_begun w (λ _. Unit {0}) 
 
 -- what a turn may see of a database that is open
 abbrev pub seen_of : Trail → Option ℕ → Seen
-seen_of t running = record { base = t.base; cache = 0; running = running; entry = λ name. Missing; given = record { guids = []; times = []; holds = [] } }
+seen_of t running = record { base = t.base; cache = 0; running = running; entry = λ name. Missing None; given = record { guids = []; times = []; holds = [] } }
 
 -- a call that makes no stroke
 pub stays_out : {T : Type 0} (result : Result T Fault) (old new : World) (a b : Held) (t : Trail) (others : Names) → but_pages b ≡ but_pages a → Strikes old new (name_of a) t [] → WhereEnded result (IsOpen new b t) → StaysOpen result old new a b t others

@@ -1,7 +1,7 @@
 -- A turn of a session is the next that it has to do.
 use Rattle.std.proofs.Common.{◌≡◌, inl, inr, ℕ, ◌-◌, ◌<◌, List, [], ◌∷◌, ◌++◌, length, map, drop, refl, sym, ap, subst, ◌∙◌, append_assoc, get_or-set_same, drop_of_length-le}
 use Rattle.std.specs.Prelude.{Bool, true, false, ◌||◌, IsTrue, Result, Ok, Err, IsErr, IsErrAnd, IfErr, OnOk, Option, Some, None}
-use Rattle.std.specs.List.{AllByRecursion, slice_index_or}
+use Rattle.std.specs.List.{AllByRecursion, list_all, slice_index_or}
 use Rattle.std.proofs.lemmas.Bool.{cases_lt}
 use Rattle.std.proofs.lemmas.List.{append-nil}
 use Rattle.nb_sched.specs.Turns.{IsDone}
@@ -16,7 +16,7 @@ use Rattle.nb_model.specs.Gifts.{Foretells}
 use Rattle.nb_model.specs.Going.{IsMaking}
 use Rattle.nb_model.specs.Making.{MadeFile, making, making_by}
 use Rattle.nb_model.specs.Outcomes.{Turn, Begins}
-use Rattle.nb_model.specs.Run.{Now, Played, base_now, outcome, stands_then, take_turn, one_turn}
+use Rattle.nb_model.specs.Run.{Now, Played, base_now, event_of, outcome, stands_then, take_turn, one_turn}
 use Rattle.nb_model.specs.Strokes.{base_after}
 use Rattle.nb_model.specs.Trail.{Trail}
 use Rattle.nb_model.proofs.RunLaws.{turn_stands}
@@ -28,6 +28,7 @@ use Rattle.nb_session.specs.declared.task.Left.TheVariants.{Same, Other}
 use Rattle.nb_session.specs.declared.task.Taken.{Taken}
 use Rattle.nb_session.specs.Askers.{Asker, task_first, task_rest, task_todo, task_left, left_of, left_refused, left_task, todo_of, HasTodo, KeepsOthers}
 use Rattle.nb_session.specs.Ready.{IsReady, TaskGoes}
+use Rattle.nb_session.specs.Replies.{only_told}
 use Rattle.nb_session.specs.Acts.{shown_by}
 use Rattle.nb_session.specs.Steps.{as_played, shown_first, shown_next, begun_in, begun_first, touching, touching_by, GoesFurther, Turns, TakesNext, Steps}
 use Rattle.nb_session.specs.MadeNames.{AnyAsks, Asks, MayMake, TaskMakes}
@@ -35,6 +36,7 @@ use Rattle.nb_session.specs.StillOpen.{AskerStays, AskerTurnStays, IsAllowed, Is
 use Rattle.nb_session.proofs.AskerStays.{asker_failed, asker_taken}
 use Rattle.nb_session.specs.Stops.{Plays}
 use Rattle.nb_session.specs.Told.{told_turns}
+use Rattle.nb_session.proofs.EventLaws.{one_told}
 use Rattle.nb_session.proofs.MakesLaws.{place_in}
 use Rattle.nb_session.proofs.TouchingLaws.{one_turn_is}
 use Rattle.nb_session.proofs.UnderWayLaws.{making_append, making_begins}
@@ -83,12 +85,18 @@ module _ {T : Type 0} (refused : T → Bool) (task : T → Option Task) (old new
   told_turn : Foretells now.given (shown_next asker a) old new → Foretells now.given (shown_by turn a) old new
   told_turn = subst (λ (ts : List Turn). Foretells now.given (shown_first ts a) old new) here
 
+  -- so was what it only told
+  told_only : list_all only_told (one_turn asker.number now).0 ≡ true → only_told (event_of asker.number turn (outcome asker.number turn now)) ≡ true
+  unfolding take_turn
+  told_only all = one_told (event_of asker.number turn (outcome asker.number turn now)) (subst (λ (p : Played). list_all only_told p.0 ≡ true) one_is all)
+
   -- the turn was taken
   takes_turn : (value : T) (noted : Bool) → moved ≡ record { number = asker.number; told = asker.told; statements = rest; task = task value; refused = noted }
       → Turns asker.told refused task (Ok value) old new a b t now asker.number turn tail more → TakesNext (refused value) (Ok tt) old new a b t now asker moved
   takes_turn value noted same turns = record {
     grows = turns.grows;
     plays = λ told. plays_one (Ok (refused value)) (turns.plays (told_turn told));
+    unchanged = λ told all. turns.unchanged (told_turn told) (told_only all);
     todo = λ told.
         ap (λ (x : Asker). slice_index_or (one_turn asker.number now).1.todo (x.number - 1) []) same
         ∙ ap (λ (p : Played). slice_index_or p.1.todo (asker.number - 1) []) one_is ∙ taken_todo asker.number now turn (tail ++ more) (has ∙ here)
@@ -107,6 +115,7 @@ module _ {T : Type 0} (refused : T → Bool) (task : T → Option Task) (old new
     plays = λ told. subst (λ (f : Fault). Plays (as_played {T = Unit {0}} (λ done. which) (Err f)) old new a b t now (told_turns asker.told (one_turn asker.number now)) (touching_by asker.number now)) (sym is.1)
         (plays_err {S = Unit {0}} refused (λ done. which) fault old new a b t now (told_turns asker.told (one_turn asker.number now)) (touching_by asker.number now)
         (plays_one (as_played refused (Err fault)) (turns.plays (told_turn told))));
+    unchanged = λ told. tt;
     todo = λ told. tt;
     goes = λ told. tt;
   }

@@ -20,7 +20,7 @@ use Rattle.nb_model.proofs.OutputLaws.{front_more, front_behind}
 use Rattle.nb_model.proofs.StepsLaws.{steps_length, steps_front, steps_behind, after_steps_append, turns_front, turns_behind, acked_steps_front, acked_steps_behind}
 use Rattle.nb_model.proofs.MakingLaws.{made_append}
 use Rattle.nb_base.specs.Open.{OfFiles}
-use Rattle.nb_copy.specs.Making.{IsUnfinishedOr}
+use Rattle.nb_gather.specs.Making.{IsUnfinishedOr}
 use Rattle.nb_session.specs.Acts.{Touched, MadeLeft}
 use Rattle.nb_session.specs.Stops.{StopLeft, AreWhole}
 use Rattle.nb_session.proofs.MadeLaws.{named_tells, made_grow}

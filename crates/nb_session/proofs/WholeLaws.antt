@@ -18,6 +18,7 @@ use Rattle.nb_model.specs.Going.{IsMaking}
 use Rattle.nb_model.specs.Making.{MadeFile, under_way, AreAmong}
 use Rattle.nb_model.specs.Outcomes.{Turn, Begins}
 use Rattle.nb_model.specs.Run.{Event, Now, Played, one_turn, play, rounds, all_sessions, files_made, AreFinished, begun}
+use Rattle.nb_model.specs.Steps.{steps_of, after_steps}
 use Rattle.nb_model.specs.Trail.{Trail}
 use Rattle.nb_model.proofs.GoingLaws.{own_in_use}
 use Rattle.nb_model.proofs.MakingLaws.{free_play, made_once}
@@ -36,15 +37,16 @@ use Rattle.nb_session.specs.Askers.{Asker, HasTodo, left_of, IsFit, any_refused,
 use Rattle.nb_session.specs.Ready.{IsReady}
 use Rattle.nb_session.specs.Stops.{Plays}
 use Rattle.nb_session.specs.Steps.{as_played, shown_next, touching_by}
-use Rattle.nb_session.specs.Todo.{PlaysWhole}
+use Rattle.nb_session.specs.Todo.{PlaysInTurn}
 use Rattle.nb_session.specs.Told.{told_events, told_turns}
 use Rattle.nb_session.proofs.AllLaws.{all_append}
 use Rattle.nb_session.proofs.EndLaws.{turns_end}
 use Rattle.nb_session.proofs.GiftLaws.{foretold_first, grows_joined}
+use Rattle.nb_session.proofs.InTurnLaws.{told_trail}
 use Rattle.nb_session.proofs.MadeLaws.{among_left}
 use Rattle.nb_session.proofs.NameLaws.{HaveNames, made_named, begun_plain}
 use Rattle.nb_session.proofs.NextLaws.{play_length, play_more, next_among, next_once, next_others, play_ahead, finished_among}
-use Rattle.nb_session.proofs.PlayLaws.{behind, trail_after, plays_wider, plays_failed, plays_cut}
+use Rattle.nb_session.proofs.PlayLaws.{behind, trail_after, plays_none, plays_wider, plays_failed, plays_cut}
 use Rattle.nb_session.proofs.SceneLaws.{sessions_kind, done_todo, agent_some, Holds, HoldsAt, rests_hold, moves_hold, none_hold, turn_plays, turn_grows, at_place}
 use Rattle.nb_session.proofs.StopLaws.{AreApart}
 use Rattle.nb_session.proofs.ToldLaws.{told_append, told_among, told_others}
@@ -151,10 +153,10 @@ module _ {H : Type 0} (tells : Bool) (told : IsTrue tells) (world : H → World)
         (made_once xs now making) (made_apart (world old) before t now ready making (begun_plain plan askable now begins) xs)
 
     -- to their end
-    pub whole_played : (after : Scene Asker H Held) (turns : TakesTurns (sessions_kind tells world faults) order start (Ok tt) after) → AllDone left_of after.agents
+    pub whole_played : (after : Scene Asker H Held) (turns : TakesTurns (sessions_kind tells world faults) order start (Ok tt) after) → AllDone left_of after.agents → IsTimely (world after.host)
         → Foretells now.given (whole_shown (Ok tt) after turns) (world old) (world after.host)
-        → PlaysWhole (Ok (any_refused after.agents)) (world old) (world after.host) before after.shared t how now plan.schedule
-    whole_played after turns done foretold =
+        → PlaysInTurn world (Ok (any_refused after.agents)) old after.host before after.shared t how now plan.schedule
+    whole_played after turns done timely_then foretold =
         let here = (ends after (Ok tt) turns).holds t now making ready begins [] (append-nil order) in
         let far = here.so_far now.given making.going.sixteen foretold in
         let finished : AreFinished (play order now).1.todo = all_finished (play order now).1.todo (λ i. elim (cases_lt i 16) [
@@ -164,10 +166,24 @@ module _ {H : Type 0} (tells : Bool) (told : IsTrue tells) (world : H → World)
               ap (λ (k : ℕ). get_or (play order now).1.todo k []) (sym place) ∙ far.todo (i + 1) one.0 one.1 ∙ done_todo one.0 (done (i + 1) one.0 one.1))
           | inr high ↦ get_or_past (play order now).1.todo i [] (omega (arith, high, todo_length))
         ]) in
+        let p : Played = play order now in
+        let ready_then : IsReady (world after.host) after.shared (after_steps t (steps_of p.0)) p.1 =
+        subst (λ (u : Trail). IsReady (world after.host) after.shared u p.1) (told_trail how t p) far.plays.done.ready in
         record {
-          how_often = how_often;
-          plays = made_whole (Ok (any_refused after.agents)) (world after.host) after.shared order far.made finished far.among far.plays;
-          finished = finished;
+          whole = record {
+            how_often = how_often;
+            plays = made_whole (Ok (any_refused after.agents)) (world after.host) after.shared order far.made finished far.among far.plays;
+            finished = finished;
+          };
+          in_turn = record {
+            front = order;
+            rest = [];
+            is = sym (append-nil order);
+            mid = after.host;
+            between = after.shared;
+            taken = far.in_turn;
+            last = plays_none (world after.host) after.shared (after_steps t (steps_of p.0)) p.1 timely_then ready_then;
+          };
         }
 
     -- A turn ended early, and these would have come behind it.
@@ -209,27 +225,40 @@ module _ {H : Type 0} (tells : Bool) (told : IsTrue tells) (world : H → World)
 
       -- or until one ended early
       pub whole_failed : (stop : Stop) → ((refused : Unit {0} → Bool) → as_played refused (Err fault) ≡ Err stop) → Foretells now.given (whole_shown (Err fault) after turns) (world old) (world after.host)
-          → PlaysWhole (Err stop) (world old) (world after.host) before after.shared t how now plan.schedule
+          → PlaysInTurn world (Err stop) old after.host before after.shared t how now plan.schedule
       whole_failed stop same foretold =
           let end = turns_end plan askable now making.going begins how_often in
-          let whole : List ℕ = plan.schedule ++ rounds end.how_often in
-          let is : whole ≡ e.front ++ (e.session ∷ (e.rest ++ end.more)) = end.is ∙ ap (λ (xs : List ℕ). xs ++ end.more) e.is ∙ append_assoc e.front (e.session ∷ e.rest) end.more in
+          let full : List ℕ = plan.schedule ++ rounds end.how_often in
+          let is : full ≡ e.front ++ (e.session ∷ (e.rest ++ end.more)) = end.is ∙ ap (λ (xs : List ℕ). xs ++ end.more) e.is ∙ append_assoc e.front (e.session ∷ e.rest) end.more in
           let plays = turn_plays tells told world faults old before t how now order numbers making e.holds.shown e.front e.rest e.session e.last after (sym e.is) before_it number e.move.agent e.move.moved e.move.there e.move.agents e.move.same_session
           (Err fault) e.move.made now.given making.going.sixteen foretold in
           let far = before_it.so_far now.given making.going.sixteen (foretold_first (world old) (world e.last.host) (world after.host) now.given e.holds.shown (shown_next e.move.agent e.last.shared) before_it.grown last_grows foretold) in
           let p : Played = play e.front now in
           let files : List MadeFile = far.made ++ touching_by e.session p.1 in
-          let among : AreAmong files (files_made (play whole now).0 ++ under_way (play whole now).1) =
+          let among : AreAmong files (files_made (play full now).0 ++ under_way (play full now).1) =
           λ file there.
           subst (λ (xs : List ℕ). Contains (files_made (play xs now).0 ++ under_way (play xs now).1) file) (append_assoc e.front (e.session ∷ []) (e.rest ++ end.more) ∙ sym is)
           (play_ahead (e.front ++ e.session ∷ []) (e.rest ++ end.more) now making file
           (subst (λ (q : Played). Contains (files_made q.0 ++ under_way q.1) file) (sym (play_more e.front e.session now)) (next_among now making e.front e.session far.made far.among file there))) in
+          let last : Plays (Err stop) (world e.last.host) (world after.host) e.last.shared after.shared (trail_after t (told_turns how p)) p.1 (told_turns how (one_turn e.session p.1)) (touching_by e.session p.1) =
+          subst (λ (r : Result Bool Stop). Plays r (world e.last.host) (world after.host) e.last.shared after.shared (trail_after t (told_turns how p)) p.1 (told_turns how (one_turn e.session p.1)) (touching_by e.session p.1))
+          (same (λ done. e.move.made.refused)) plays in
           record {
-            how_often = end.how_often;
-            plays = made_whole (Err stop) (world after.host) after.shared whole files end.finished among
-                (failed e.front (e.rest ++ end.more) whole e.session (world e.last.host) (world after.host) e.last.shared after.shared _ stop far.made is far.among far.has far.plays
-                (subst (λ (r : Result Bool Stop). Plays r (world e.last.host) (world after.host) e.last.shared after.shared (trail_after t (told_turns how p)) p.1 (told_turns how (one_turn e.session p.1)) (touching_by e.session p.1)) (same (λ done. e.move.made.refused)) plays));
-            finished = end.finished;
+            whole = record {
+              how_often = end.how_often;
+              plays = made_whole (Err stop) (world after.host) after.shared full files end.finished among
+                  (failed e.front (e.rest ++ end.more) full e.session (world e.last.host) (world after.host) e.last.shared after.shared _ stop far.made is far.among far.has far.plays last);
+              finished = end.finished;
+            };
+            in_turn = record {
+              front = e.front;
+              rest = e.session ∷ (e.rest ++ end.more);
+              is = is;
+              mid = e.last.host;
+              between = e.last.shared;
+              taken = far.in_turn;
+              last = subst (λ (u : Trail). Plays (Err stop) (world e.last.host) (world after.host) e.last.shared after.shared u p.1 (told_turns how (one_turn e.session p.1)) (touching_by e.session p.1)) (told_trail how t p) last;
+            };
           }
 
     -- what was given meanwhile

@@ -1,6 +1,7 @@
 pub mod Causes
 pub mod Ready
 pub mod Stops
+pub mod InTurn
 pub mod Todo
 pub mod Told
 pub mod Replies

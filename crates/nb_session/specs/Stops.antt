@@ -14,7 +14,7 @@ use Rattle.nb_model.specs.Steps.{steps_of, after_steps, acked_steps, acked_turns
 use Rattle.nb_model.specs.Trail.{Trail, StandsIn}
 use Rattle.nb_base.specs.Open.{OfFiles}
 use Rattle.nb_state.specs.Open.{Held, name_of}
-use Rattle.nb_copy.specs.Making.{IsUnfinishedOr}
+use Rattle.nb_gather.specs.Making.{IsUnfinishedOr}
 use Rattle.nb_session.specs.declared.stop.Stop.{Stop}
 use Rattle.nb_session.specs.Acts.{Touched, MadeLeft, AreKept}
 use Rattle.nb_session.specs.Replies.{only_told}

@@ -6,6 +6,7 @@ use Rattle.nb_host.specs.World.{World}
 use Rattle.nb_state.specs.Open.{Held}
 use Rattle.nb_session.specs.declared.stop.Stop.{Stop}
 use Rattle.nb_session.specs.declared.told.Told.{Told}
+use Rattle.nb_session.specs.InTurn.{RunsInTurn}
 use Rattle.nb_session.specs.Stops.{Plays}
 use Rattle.nb_session.specs.Told.{told_turns}
 
@@ -15,3 +16,8 @@ pub record PlaysWhole (result : Result Bool Stop) (old new : World) (before afte
   pub how_often : ℕ
   pub plays : Plays result old new before after t now (told_turns told (play (schedule ++ rounds how_often) now)) (files_made (play (schedule ++ rounds how_often) now).0)
   pub finished : AreFinished (play (schedule ++ rounds how_often) now).1.todo
+
+-- So it is of the whole, and of each of these turns by itself.
+pub record PlaysInTurn {H : Type 0} (world : H → World) (result : Result Bool Stop) (old new : H) (before after : Held) (t : Trail) (told : Told) (now : Now) (schedule : List ℕ) : Type 0 where
+  pub whole : PlaysWhole result (world old) (world new) before after t told now schedule
+  pub in_turn : RunsInTurn world result old new before after t told now (schedule ++ rounds whole.how_often)

@@ -11,7 +11,7 @@ ghost use Rattle.nb_session.specs.Askers.{first_askers, any_refused as some_refu
 ghost use Rattle.nb_session.specs.Causes.{CountsStop};
 ghost use Rattle.nb_session.specs.Ready.{IsReady};
 ghost use Rattle.nb_session.specs.StillOpen.{IsStillOpen, ScriptStays, script_merges};
-ghost use Rattle.nb_session.specs.Todo.{PlaysWhole};
+ghost use Rattle.nb_session.specs.Todo.{PlaysInTurn};
 
 use crate::Stop;
 use crate::session::Session;
@@ -67,7 +67,7 @@ fn play<H: Host>(
     requires askable { IsAskable script.now }
     ensures plays { IsTrue H.tells → (shown : List ℕ) × ((now : Now) (t : Trail) → IsReady (H.world host.old) engine.old t now → now.todo ≡ begun script.now.sessions → IsMaking now
         → Foretells now.given shown (H.world host.old) (H.world host.new)
-        → PlaysWhole result (H.world host.old) (H.world host.new) engine.old engine.new t told now script.now.schedule) }
+        → PlaysInTurn H.world result host.old host.new engine.old engine.new t told now script.now.schedule) }
     ensures stays_open { IsTrue H.tells → IsStillOpen (script_merges script.now) (H.world host.old) engine.old → ScriptStays result (H.world host.old) (H.world host.new) engine.old engine.new script.now }
     ensures grows { (now : Now) (t : Trail) → IsTrue H.tells → IsReady (H.world host.old) engine.old t now → now.todo ≡ begun script.now.sessions → IsMaking now
         → Grows (H.world host.old) (H.world host.new) }
@@ -98,7 +98,7 @@ pub fn take_turns<H: Host>(
     requires askable { IsAskable script.now }
     ensures plays { IsTrue H.tells → (shown : List ℕ) × ((now : Now) (t : Trail) → IsReady (H.world host.old) engine.old t now → now.todo ≡ begun script.now.sessions → IsMaking now
         → Foretells now.given shown (H.world host.old) (H.world host.new)
-        → PlaysWhole result (H.world host.old) (H.world host.new) engine.old engine.new t told now script.now.schedule) }
+        → PlaysInTurn H.world result host.old host.new engine.old engine.new t told now script.now.schedule) }
     ensures none_waits { IfOk result (λ refused. NoPageWaits engine.new) }
 
     // Whatever stands in the database, and with no account: no file but its two and those that the statements ask for is touched, and where a

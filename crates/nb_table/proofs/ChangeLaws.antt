@@ -9,7 +9,7 @@ use Rattle.nb_model.specs.declared.reply.Reply.TheVariants.{Refused, Done}
 use Rattle.nb_model.specs.Image.{Image}
 use Rattle.nb_model.specs.Trail.{Trail}
 use Rattle.nb_model.specs.Forms.{Draft, drafted}
-use Rattle.nb_model.specs.Causes.{Cause, when, read_only, too_long, not_kind, not_of_form, no_room, broken_at}
+use Rattle.nb_model.specs.Causes.{Cause, when, read_only, too_long, not_kind, not_of_form, no_room, broken_at, too_short, short_for}
 use Rattle.nb_model.specs.Chains.{Chain, RowsFrom, Slot, Spot, pages_of, found_pages, spots, table_spot, row_spot, free_spot, first_in, row_slot, free_slot, put_slot, place_slot}
 use Rattle.nb_model.specs.Outcomes.{Seen, Outcome, says, unless, changes}
 use Rattle.nb_model.specs.Tables.{with_spot, in_row, insert_turn, update_turn, delete_turn}
@@ -98,18 +98,26 @@ module _ (s : Seen) (chain : Chain) (key : ℕ) (bytes : Slot) where
   abbrev known : Cause
   known = when (is_some (row_spot key (spots chain now))) (KeyExists key)
 
+  -- a new page is made for it, and the database is too short for one
+  abbrev short : Cause
+  short = short_for (free_spot (spots chain now)) now
+
   abbrev pub adding : Outcome
-  adding = changes s (known ∷ []) into Done
+  adding = changes s (known ∷ short ∷ []) into Done
 
   -- its key is there already
   pub key_known : is_some (row_spot key (spots chain now)) ≡ true → adding ≡ says s (Refused (KeyExists key)) []
-  key_known e = refused_by s (known ∷ []) into Done (KeyExists key) (first_here known [] (KeyExists key) (applies _ _ e))
+  key_known e = refused_by s (known ∷ short ∷ []) into Done (KeyExists key) (first_here known (short ∷ []) (KeyExists key) (applies _ _ e))
 
   -- or it is refused for want of room alone
-  pub key_new : is_some (row_spot key (spots chain now)) ≡ false → not_of_form into ≡ None → adding ≡ unless s (no_room into) (says s Done into.strokes)
-  key_new e form =
-      judged_by s (known ∷ []) into Done (first_next known [] (rests _ _ e) ∙ first_none)
+  pub key_new : is_some (row_spot key (spots chain now)) ≡ false → too_short now ≡ None → not_of_form into ≡ None → adding ≡ unless s (no_room into) (says s Done into.strokes)
+  key_new e long form =
+      judged_by s (known ∷ short ∷ []) into Done (first_next known (short ∷ []) (rests _ _ e) ∙ first_next short [] (never (free_spot (spots chain now))) ∙ first_none)
       ∙ ap (λ (c : Cause). unless s c (says s Done into.strokes)) (first_next (not_of_form into) (no_room into ∷ []) form ∙ one_cause (no_room into))
+    where
+      never : (o : Option Spot) → short_for o now ≡ None
+      never (Some f) = refl
+      never None = long
 
 -- What a walk for a key came by.
 module _ (first key : ℕ) (ss : List Spot) (walked : Walked) (is : walked ≡ gathered (Row first key) ss) where

@@ -40,20 +40,8 @@ use Rattle.nb_engine.proofs.TestLaws.{kind_is}
 use Rattle.nb_engine.proofs.WhereLaws.{sure_of, makes_as, makes_valued}
 use Rattle.nb_table.specs.declared.look.Place.{Place}
 use Rattle.nb_table.proofs.CleanLaws.{formed_joined}
-use Rattle.nb_table.proofs.PlaceLaws.{grown_form}
+use Rattle.nb_table.proofs.PlaceLaws.{data_stays, grown_form}
 use Rattle.nb_table.specs.Creates.{first_made, created_in, created_behind}
-
--- a data page of a sound image stands at no system place
-data_plain : (image : Image) → IsWhole image → (p : ℕ) → p < length image → kind_of (page_at image p) ≡ 5 → is_system_place (image_size image) p ≡ false
-data_plain image h p low kind = no_system (image_size image) p (inventory (is_inventory_place (image_size image) p) refl) (scn_page (is_scn_place (image_size image) p) refl)
-  where
-    inventory : (t : Bool) → is_inventory_place (image_size image) p ≡ t → is_inventory_place (image_size image) p ≡ false
-    inventory false e = e
-    inventory true e = absurd (omega (arith, kind, h.sound.sound.system.inventories p low e))
-
-    scn_page : (t : Bool) → is_scn_place (image_size image) p ≡ t → is_scn_place (image_size image) p ≡ false
-    scn_page false e = e
-    scn_page true e = absurd (omega (arith, kind, h.sound.sound.system.scn_pages p low e))
 
 module _ (image : Image) (h : IsWhole image) where
   abbrev pub first : ℕ → List ℕ
@@ -78,16 +66,9 @@ module _ (image : Image) (h : IsWhole image) where
   unfolding lowest_broken
   first_form = ap lowest_broken first_unbroken
 
-  -- a data page is one still, also where the new page is made in its place
-  pub kind_stays : made.0.full ≡ false → (p : ℕ) → not_kind image 5 p ≡ None → not_kind y 5 p ≡ None
-  kind_stays left p kind =
-      let parts = is_kind-parts image 5 p (none_of (is_kind image 5 p) (NotDatabase p) kind) in
-      let new : IsNew image 5 made = new_is_new (length image + 4) 5 first image h refl none_room left in
-      let low : p < length y = omega (arith, parts.0, first_long) in
-      elim (eqb_tells p made.1) [
-        | inl w ↦ kind_is y 5 p low (ap (λ (n : ℕ). kind_of (page_at y n)) w.1 ∙ new.of_kind)
-        | inr w ↦ kind_is y 5 p low (ap kind_of (new.others p (data_plain image h p parts.0 parts.1) w.1) ∙ parts.1)
-      ]
+  -- a data page is one still
+  pub kind_stays : (p : ℕ) → not_kind image 5 p ≡ None → not_kind y 5 p ≡ None
+  kind_stays p kind = data_stays image first h none_room p kind
 
   -- The slot at a place.
   module _ (table : List ℕ) (place : Place) where
@@ -156,11 +137,11 @@ module _ (image : Image) (h : IsWhole image) where
       left_second = ap (λ (t : Bool). when t (Full 1048576)) both.0
 
     -- what it reads is of the form
-    pub behind_form : length table ≤ 240 → 0 < last_of pages → last_of pages < length image → not_of_form (created_behind image table) ≡ None
-    behind_form named some low =
+    pub behind_form : length table ≤ 240 → 0 < last_of pages → last_of pages < length image → not_kind image 5 (last_of pages) ≡ None → not_of_form (created_behind image table) ≡ None
+    behind_form named some low kind =
         let short : length slots ≤ 992 = omega (arith, table_length table made.1 named) in
         ap (λ (d : Draft). not_of_form d) behind_joined
-        ∙ formed_joined made.0 grows first_form (grown_form y (from_well y first_whole) Catalogue pages slots short some (let long = first_long in omega (arith, low, long)))
+        ∙ formed_joined made.0 grows first_form (grown_form y (from_well y first_whole) Catalogue pages slots short some (let long = first_long in omega (arith, low, long)) (kind_stays (last_of pages) kind))
 
 -- What the calls do of it.
 module _ (t : Trail) (h : IsWhole t.base.image) (table : List ℕ) where
@@ -191,7 +172,7 @@ module _ (t : Trail) (h : IsWhole t.base.image) (table : List ℕ) where
     ys n = (put_slot place.page place.slot (table_slot table n) (drafted u.base.image)).strokes
 
     pub kind_then : no_room new_first.0 ≡ None → not_kind x 5 place.page ≡ None → not_kind u.base.image 5 place.page ≡ None
-    kind_then room kind = subst (λ (z : Image). not_kind z 5 place.page ≡ None) (sym image_then) (kind_stays x h (not_when new_first.0.full (Full 1048576) room) place.page kind)
+    kind_then room kind = subst (λ (z : Image). not_kind z 5 place.page ≡ None) (sym image_then) (kind_stays x h place.page kind)
 
     pub in_front : (fault : Fault) (old new : World) (a b : Held) → Tries {T = ℕ} (Err fault) old new a b t (no_room new_first.0) xs
         → Tries {T = Unit {0}} (Err fault) old new a b t (no_room (created_in x table place)) (created_in x table place).strokes

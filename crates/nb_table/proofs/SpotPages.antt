@@ -35,6 +35,9 @@ module _ (chain : Chain) (image : Image) (formed : broken_at (pages_of chain ima
   pub last_there : last_of (found_pages chain image) < length image
   last_there = (in_chain chain image (last_of (found_pages chain image)) last_in).0
 
+  pub last_kind : not_kind image 5 (last_of (found_pages chain image)) ≡ None
+  last_kind = let parts = in_chain chain image (last_of (found_pages chain image)) last_in in kind_is image 5 (last_of (found_pages chain image)) parts.0 parts.1
+
 -- and a table's in the catalogue
 pub table_kind : (image : Image) → broken_at (pages_of Catalogue image) ≡ None → (table : List ℕ) (s : Spot) → table_spot table image ≡ Some s → not_kind image 5 s.page ≡ None
 unfolding table_spot

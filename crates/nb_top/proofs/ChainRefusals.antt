@@ -1,6 +1,6 @@
--- A chain of files is never refused as words are that name no job.
+-- Files of a chain, of a fold or of a plan are never refused as words are that name no job.
 use Rattle.std.proofs.Common.{◌≡◌, ◌≢◌, ℕ, ◌+◌, List, [], ◌∷◌, length, true, false, ap, subst}
-use Rattle.std.specs.Prelude.{Bool, ◌==◌, not, None, Some, Result, Ok, Err}
+use Rattle.std.specs.Prelude.{Bool, ◌==◌, not, Option, None, Some, Result, Ok, Err}
 use Rattle.nb_fields.specs.Bytes.{number_in}
 use Rattle.nb_fields.specs.Header.{is_header, signature, state_of}
 use Rattle.nb_host.specs.Files.{File, Files}
@@ -10,6 +10,12 @@ use Rattle.nb_host.specs.declared.refusals.Refusal.TheVariants.{Usage, NoFile, B
 use Rattle.nb_model.specs.Causes.{Cause, first_cause, when}
 use Rattle.nb_model.specs.Levels.{Contents, read_level, begins_level}
 use Rattle.nb_model.specs.Restoring.{Link, whole_link, level_link, is_bad_length, not_whole, first_link, not_behind, next_link, linked, next_links, verdict}
+use Rattle.nb_fold.specs.Verdict.{chained, file_after, files_after, not_after, with_files}
+use Rattle.nb_catalog.specs.Answers.{with_first}
+use Rattle.nb_catalog.specs.Heads.{level_head, read_file, read_files, whole_head}
+use Rattle.nb_catalog.specs.Plans.{Retention, plan_of}
+use Rattle.nb_catalog.specs.Turns.{planned}
+use Rattle.nb_level.specs.declared.head.LevelHead.{LevelHead}
 use Rattle.nb_model.proofs.TodoLaws.{IsOther, other_first, other_when}
 
 -- it isn't refused, or for another reason
@@ -136,3 +142,98 @@ chain_fine files (name ∷ names) = named_fine name (files name) (first_link nam
 
 pub refused_chain : (files : Files) (names : List (List ℕ)) (refusal : Refusal) → verdict files names ≡ Err refusal → refusal ≢ Usage
 refused_chain files names refusal is = subst (λ (r : Result (List Link) Refusal). IsFine r) is (chain_fine files names)
+
+-- ---- files that are folded
+
+after_other : (last : Option Contents) (name : List ℕ) (c : Contents) → IsOther (not_after last name c)
+after_other None name c = λ e. none_usage e
+  where
+    none_usage : ◌≡◌ {A = Cause} None (Some Usage) → ⊥
+    none_usage h = cc
+after_other (Some last) name c = behind_other (last.head.level + 1) (level_link last) name c
+
+after_cause : (cause : Cause) (c : Contents) → IsOther cause → IsFine (elim cause as (λ z. Result Contents Refusal) [ Some refusal ↦ Err refusal | None ↦ Ok c ])
+after_cause None c h = tt
+after_cause (Some r) c h = λ e. h (ap (λ (x : Refusal). Some x) e)
+
+after_fine : (files : Files) (last : Option Contents) (name : List ℕ) → IsFine (file_after files last name)
+unfolding file_after
+after_fine files last name = by (files name)
+  where
+    read : (r : Result Contents ℕ) → IsFine (elim r as (λ z. Result Contents Refusal) [
+      | Err at ↦ Err (BadLevel name at)
+      | Ok c ↦ elim (not_after last name c) as (λ z. Result Contents Refusal) [ Some refusal ↦ Err refusal | None ↦ Ok c ]
+    ])
+    read (Err at) = bad_level name at
+    read (Ok c) = after_cause (not_after last name c) c (after_other last name c)
+
+    by : (file : File) → IsFine (elim file as (λ z. Result Contents Refusal) [
+      | None ↦ Err (NoFile name)
+      | Some bytes ↦ elim (read_level bytes) as (λ z. Result Contents Refusal) [
+        | Err at ↦ Err (BadLevel name at)
+        | Ok c ↦ elim (not_after last name c) as (λ z. Result Contents Refusal) [ Some refusal ↦ Err refusal | None ↦ Ok c ]
+      ]
+    ])
+    by None = no_file name
+    by (Some bytes) = read (read_level bytes)
+
+with_fine : (cs : List Contents) (rest : Result (List Contents) Refusal) → IsFine rest → IsFine (with_files cs rest)
+with_fine cs (Ok more) h = tt
+with_fine cs (Err refusal) h = h
+
+more_fine : (answer : Result Contents Refusal) (rest : Contents → Result (List Contents) Refusal) → IsFine answer → ((c : Contents) → IsFine (rest c))
+    → IsFine (elim answer as (λ z. Result (List Contents) Refusal) [ Err refusal ↦ Err refusal | Ok c ↦ with_files (c ∷ []) (rest c) ])
+more_fine (Err refusal) rest h later = h
+more_fine (Ok c) rest h later = with_fine (c ∷ []) (rest c) (later c)
+
+folds_fine : (files : Files) (last : Option Contents) (names : List (List ℕ)) → IsFine (files_after files last names)
+unfolding files_after
+folds_fine files last [] = tt
+folds_fine files last (name ∷ names) = more_fine (file_after files last name) (λ (c : Contents). files_after files (Some c) names) (after_fine files last name) (λ c. folds_fine files (Some c) names)
+
+pub refused_files : (files : Files) (names : List (List ℕ)) (refusal : Refusal) → chained files names ≡ Err refusal → refusal ≢ Usage
+refused_files files names refusal is = subst (λ (r : Result (List Contents) Refusal). IsFine r) is (folds_fine files None names)
+
+-- ---- files that are planned for
+
+head_cause : (cause : Cause) (head : LevelHead) → IsOther cause → IsFine (elim cause as (λ z. Result LevelHead Refusal) [ Some refusal ↦ Err refusal | None ↦ Ok head ])
+head_cause None head h = tt
+head_cause (Some r) head h = λ e. h (ap (λ (x : Refusal). Some x) e)
+
+read_fine : (name : List ℕ) (file : File) → IsFine (read_file name file)
+unfolding read_file
+read_fine name None = no_file name
+read_fine name (Some bytes) = by (begins_level bytes) (read_level bytes)
+  where
+    by : (t : Bool) (r : Result Contents ℕ) → IsFine (elim t as (λ z. Result LevelHead Refusal) [
+      | true ↦ elim r as (λ z. Result LevelHead Refusal) [ Err at ↦ Err (BadLevel name at) | Ok c ↦ Ok (level_head c.head) ]
+      | false ↦ elim (not_whole name bytes) as (λ z. Result LevelHead Refusal) [ Some refusal ↦ Err refusal | None ↦ Ok (whole_head bytes) ]
+    ])
+    by true (Err at) = bad_level name at
+    by true (Ok c) = tt
+    by false r = head_cause (not_whole name bytes) (whole_head bytes) (whole_other name bytes)
+
+heads_fine : (head : LevelHead) (rest : Result (List LevelHead) Refusal) → IsFine rest → IsFine (with_first head rest)
+heads_fine head (Ok heads) h = tt
+heads_fine head (Err refusal) h = h
+
+head_fine : (answer : Result LevelHead Refusal) (rest : Result (List LevelHead) Refusal) → IsFine answer → IsFine rest
+    → IsFine (elim answer as (λ z. Result (List LevelHead) Refusal) [ Err refusal ↦ Err refusal | Ok head ↦ with_first head rest ])
+head_fine (Err refusal) rest h later = h
+head_fine (Ok head) rest h later = heads_fine head rest later
+
+reads_fine : (files : Files) (names : List (List ℕ)) → IsFine (read_files files names)
+unfolding read_files
+reads_fine files [] = tt
+reads_fine files (name ∷ names) = head_fine (read_file name (files name)) (read_files files names) (read_fine name (files name)) (reads_fine files names)
+
+plan_fine : (files : Files) (names : List (List ℕ)) (keep : ℕ) → IsFine (planned files names keep)
+unfolding planned
+plan_fine files names keep = by (read_files files names) (reads_fine files names)
+  where
+    by : (answer : Result (List LevelHead) Refusal) → IsFine answer → IsFine (elim answer as (λ z. Result Retention Refusal) [ Err refusal ↦ Err refusal | Ok heads ↦ Ok (plan_of heads keep) ])
+    by (Err refusal) h = h
+    by (Ok heads) h = tt
+
+pub refused_plan : (files : Files) (names : List (List ℕ)) (keep : ℕ) (refusal : Refusal) → planned files names keep ≡ Err refusal → refusal ≢ Usage
+refused_plan files names keep refusal is = subst (λ (r : Result Retention Refusal). IsFine r) is (plan_fine files names keep)

@@ -10,7 +10,7 @@ use Rattle.nb_model.specs.Causes.{Cause}
 use Rattle.nb_model.specs.Image.{image_in}
 use Rattle.nb_model.specs.Jobs.{only_turn, only_refusal, not_fixable, fixup_turn, account_behind}
 use Rattle.nb_model.specs.Owner.{delta_name, owner, owner_in, owner_with, entry_of_files, entry_in}
-use Rattle.nb_model.specs.Run.{Event, account_after}
+use Rattle.nb_model.specs.Run.{Event, account_after, with_made}
 use Rattle.nb_model.specs.Strokes.{fix, base_in}
 use Rattle.nb_model.proofs.MainLaws.{owner-formed}
 use Rattle.nb_model.proofs.TodoLaws.{IsOther, other_first, other_when, other_database}
@@ -60,7 +60,7 @@ module _ (files : Files) (db : List ℕ) where
   refused_fix refusal why e = other_cause db (files db) (files (delta_name db)) (why ∙ ap (λ (r : Refusal). Some r) e)
 
   pub fixed_account : (account : Account) → account_behind db fixed_turn account ≡ account_after db (fix ∷ []) None account
-  unfolding account_behind
+  unfolding account_behind with_made
   fixed_account account = refl
 
 -- What the copy is before it. Without a difference file it can't be opened.

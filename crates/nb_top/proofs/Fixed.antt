@@ -30,7 +30,8 @@ use Rattle.nb_top.specs.OneTurn.{OneTurn, fixing, leaves_all}
 use Rattle.nb_top.specs.Served.{ServedAs, Serves}
 use Rattle.nb_top.specs.Standing.{StandsFor}
 use Rattle.nb_top.proofs.FixTurns.{FixTurn, refuses, fixes, fixed_turn, base_is, done_turn, fixed_account, refused_fix, refused_turn, turn_is}
-use Rattle.nb_top.proofs.TurnsStand.{IsSoundJob, IsWellDone}
+use Rattle.nb_top.proofs.Turns.{served_as}
+use Rattle.nb_top.proofs.TurnsStand.{IsSoundJob, IsWellBased, sound_on}
 
 -- its reply
 abbrev pub done_said : Result (Unit {0}) Fault → Result Reply Fault
@@ -62,12 +63,8 @@ module _ (old mid : World) (db : List ℕ) (result : Result (Unit {0}) Fault) (d
       by (fixes bytes copy same) = absurd (true≢false (sym is ∙ ap leaves_all same))
 
   answers : (r : Result (Unit {0}) Fault) → FixAnswers r old mid db → ServedAs (done_said r) old mid job turn
-  answers (Ok value) kept = record {
-    stroke = fix;
-    is = done_turn old.files db kept.copy.fit;
-    fine = refl;
-    done = record { now = (kept.bytes, kept.copy, kept.now); left = λ files leaves. (kept.bytes, kept.copy, kept.left files leaves) };
-  }
+  answers (Ok value) kept =
+      served_as Done fixed_turn mid job turn (done_turn old.files db kept.copy.fit) refl refl refl (λ some. record { now = (kept.bytes, kept.copy, kept.now); left = λ files leaves. (kept.bytes, kept.copy, kept.left files leaves) })
   answers (Err (Refused refusal)) answer = record { is = refused_turn old.files db refusal answer.1; other = refused_fix old.files db refusal answer.1; quiet = answer.0 }
   answers (Err Device) answer = tt
   answers (Err Memory) answer = tt
@@ -120,7 +117,7 @@ module _ (old : World) (account : Account) (db : List ℕ) (stands : StandsFor o
     behind : account_behind db (fixup_turn old.files db) account ≡ account_after db (fix ∷ []) None account
     behind = ap (λ (e : Event). account_behind db e account) same ∙ fixed_account old.files db account
 
-    well_done : IsWellDone old account sound_job
+    well_done : IsWellBased old account sound_job db
     well_done = record {
       half = λ before files left its own rest never. absurd never;
       free = λ files never now_free. absurd never;
@@ -132,13 +129,13 @@ module _ (old : World) (account : Account) (db : List ℕ) (stands : StandsFor o
       gives = gives;
     }
 
-  fix_done : leaves_all (fixup_turn old.files db) ≡ false → IsWellDone old account sound_job
+  fix_done : leaves_all (fixup_turn old.files db) ≡ false → IsWellBased old account sound_job db
   fix_done = by (turn_is old.files db)
     where
-      by : FixTurn old.files db → leaves_all (fixup_turn old.files db) ≡ false → IsWellDone old account sound_job
+      by : FixTurn old.files db → leaves_all (fixup_turn old.files db) ≡ false → IsWellBased old account sound_job db
       by (refuses refusal why same) is = absurd (true≢false (sym (ap leaves_all same) ∙ is))
       by (fixes bytes copy same) is = well_done bytes copy same
 
 pub fix_sound : (old : World) (account : Account) (db : List ℕ) → StandsFor old account → is_delta db ≡ false
     → (leaves_all (fixup_turn old.files db) ≡ false → (bytes : List ℕ) → IsFixable old.files db bytes → (r : Kept) × IsKeptAs account.kept (guid_of bytes) r) → IsSoundJob old account (fixing old.files db)
-fix_sound old account db stands plain takes = record { plain = plain; done = λ is. fix_done old account db stands plain (takes is) is }
+fix_sound old account db stands plain takes = sound_on old account db _ plain refl (λ is. fix_done old account db stands plain (takes is) is)

@@ -3,7 +3,7 @@ use Rattle.std.proofs.Common.{◌≡◌, ℕ, List, [], ◌∷◌, refl, subst}
 use Rattle.std.specs.Prelude.{Option, Some, None}
 use Rattle.nb_host.specs.Files.{Files}
 use Rattle.nb_model.specs.declared.job.Job.{Job}
-use Rattle.nb_model.specs.declared.job.Job.TheVariants.{Run, Stat, Gen, Backup, BackupSince, Restore, Apply, Lock, LockWithSize, Unlock, Fixup}
+use Rattle.nb_model.specs.declared.job.Job.TheVariants.{Run, Stat, Gen, Backup, BackupSince, Restore, Apply, Lock, LockWithSize, Unlock, Fixup, Fold, Plan}
 use Rattle.nb_model.specs.declared.statement.Statement.{Statement}
 use Rattle.nb_model.specs.declared.statement.Statement.TheVariants.{BeginBackup, EndBackup, ShowHeader, ShowPages, Backup as BackupTo, BackupSince as BackupOf}
 use Rattle.nb_model.specs.Account.{Account}
@@ -45,6 +45,8 @@ attaching_jobs P backup since lock sized unlock stat (Gen number script) asks is
 attaching_jobs P backup since lock sized unlock stat (Restore db names) asks is = absurd (none_asked asks is)
 attaching_jobs P backup since lock sized unlock stat (Apply db file) asks is = absurd (none_asked asks is)
 attaching_jobs P backup since lock sized unlock stat (Fixup db) asks is = absurd (none_asked asks is)
+attaching_jobs P backup since lock sized unlock stat (Fold out files) asks is = absurd (none_asked asks is)
+attaching_jobs P backup since lock sized unlock stat (Plan keep list) asks is = absurd (none_asked asks is)
 
 module _ (files : Files) (before last : Account) (given : Given) (events : List Event) where
   -- what such a job asks for is the run of its script
@@ -84,16 +86,16 @@ no_row : (b : Row) → ◌≡◌ {A = Option Row} None (Some b) → ⊥
 no_row b h = cc
 
 pub turn_done : (files : Files) (job : Job) (row : Row) (account : Account) → turn_of files account job ≡ Some row
-    → (deed : Deed) × (request_of files job ≡ Does deed) × ((one_turn files deed).name ≡ row.0) × ((one_turn files deed).turn account ≡ row.1)
+    → (deed : Deed) × (request_of files job ≡ Does deed) × ((one_turn files deed).name ≡ Some row.0) × ((one_turn files deed).turn account ≡ row.1)
 unfolding turn_of
 turn_done files (Restore db names) row account is =
-    subst (λ (r : Row). (deed : Deed) × (request_of files (Restore db names) ≡ Does deed) × ((one_turn files deed).name ≡ r.0) × ((one_turn files deed).turn account ≡ r.1)) (same_row (db, restore_turn files account db names) row is)
+    subst (λ (r : Row). (deed : Deed) × (request_of files (Restore db names) ≡ Does deed) × ((one_turn files deed).name ≡ Some r.0) × ((one_turn files deed).turn account ≡ r.1)) (same_row (db, restore_turn files account db names) row is)
     (ToRestore db names, refl, refl, refl)
 turn_done files (Apply db file) row account is =
-    subst (λ (r : Row). (deed : Deed) × (request_of files (Apply db file) ≡ Does deed) × ((one_turn files deed).name ≡ r.0) × ((one_turn files deed).turn account ≡ r.1)) (same_row (db, apply_turn files db file) row is)
+    subst (λ (r : Row). (deed : Deed) × (request_of files (Apply db file) ≡ Does deed) × ((one_turn files deed).name ≡ Some r.0) × ((one_turn files deed).turn account ≡ r.1)) (same_row (db, apply_turn files db file) row is)
     (ToMerge db file, refl, refl, refl)
 turn_done files (Fixup db) row account is =
-    subst (λ (r : Row). (deed : Deed) × (request_of files (Fixup db) ≡ Does deed) × ((one_turn files deed).name ≡ r.0) × ((one_turn files deed).turn account ≡ r.1)) (same_row (db, fixup_turn files db) row is)
+    subst (λ (r : Row). (deed : Deed) × (request_of files (Fixup db) ≡ Does deed) × ((one_turn files deed).name ≡ Some r.0) × ((one_turn files deed).turn account ≡ r.1)) (same_row (db, fixup_turn files db) row is)
     (ToFix db, refl, refl, refl)
 turn_done files other row account is = absurd (no_row row is)
 

@@ -18,7 +18,6 @@ use Rattle.nb_model.specs.Making.{IsNoneOf}
 use Rattle.nb_model.specs.Run.{Event, files_made}
 use Rattle.nb_model.specs.Steps.{steps_of}
 use Rattle.nb_model.proofs.TodoLaws.{status_refused}
-use Rattle.nb_script.specs.Scripts.{Plan}
 use Rattle.nb_session.specs.declared.stop.Stop.{Stop}
 use Rattle.nb_session.specs.Says.{SaysLine}
 use Rattle.nb_top.specs.declared.status.Status.{Status}
@@ -26,11 +25,12 @@ use Rattle.nb_top.specs.declared.status.Status.TheVariants.{Refused as RefusedSt
 use Rattle.nb_top.specs.Numbers.{number_of}
 use Rattle.nb_top.specs.Performed.{HasSmallScn, RunLeft, RunStands, RunsTo, GoesTo, KnowsAsked, Performs, PerformsRun, Finished, IsPerformed, IsSure, IsUndone, Knows, MayBeGiven, kept_after, target_of, first_event, refused_job}
 use Rattle.nb_top.specs.Standing.{HoldsKept, StandsFor}
-use Rattle.nb_top.specs.declared.telling.Telling.TheVariants.{All}
-use Rattle.nb_top.specs.Requests.{Request, ToRun, ToGenerate, Deed, ToRestore, ToFix, ToMerge, Asked, Runs, Does, request_asked, script_in, to_run}
+use Rattle.nb_top.specs.Requests.{Request, ToRun, ToGenerate, Deed, ToRestore, ToFix, ToMerge, ToFold, ToPlan, Asked, Runs, Does, script_in}
 use Rattle.nb_top.specs.OneTurn.{DoesTurn, TurnEnded, leaves_all, one_turn}
 use Rattle.nb_top.specs.Served.{TurnsTo}
 use Rattle.nb_top.proofs.Fixed.{fix_sound}
+use Rattle.nb_top.proofs.FoldStands.{fold_sound}
+use Rattle.nb_top.proofs.Planned.{plan_sound}
 use Rattle.nb_top.proofs.Merged.{merge_sound}
 use Rattle.nb_top.proofs.GeneratedRuns.{generated_unbegun}
 use Rattle.nb_top.proofs.GeneratedSure.{generated_left, generated_end}
@@ -38,7 +38,7 @@ use Rattle.nb_top.proofs.LeftLaws.{left_first, first_count}
 use Rattle.nb_top.proofs.MadeRuns.{none_alone}
 use Rattle.nb_top.proofs.QuietRuns.{left_quietly}
 use Rattle.nb_top.proofs.RefusedRuns.{refused_runs}
-use Rattle.nb_top.proofs.RequestLaws.{CanBeAsked, CanBeDone, CanBeMet, askable_in, can_be_asked}
+use Rattle.nb_top.proofs.RequestLaws.{CanBeAsked, CanBeDone, CanBeMet}
 use Rattle.nb_top.proofs.Restored.{restore_sound}
 use Rattle.nb_top.proofs.ScriptRead.{refused_script}
 use Rattle.nb_top.proofs.ScriptRuns.{script_unbegun}
@@ -47,58 +47,33 @@ use Rattle.nb_top.proofs.SureRuns.{script_left, script_end}
 use Rattle.nb_top.proofs.Turns.{quiet_turn}
 use Rattle.nb_top.proofs.TurnsStand.{IsSoundJob, turn_stands}
 
--- its file wasn't read
-pub unread_runs : (old new : World) (name : List ℕ) (file : File) (account : Account) (given : Given) (e : Stop) → Knows old.files account (to_run (script_in name file)) → Quiet old new → RunsTo (Err e) old new (to_run (script_in name file)) account given
-unread_runs old new name file account given e knows quiet = by (script_in name file) refl knows
-  where
-    by : (read : Result Plan Refusal) → script_in name file ≡ read → Knows old.files account (to_run read) → RunsTo (Err e) old new (to_run read) account given
-    by (Ok plan) is known = script_unbegun old account given plan All (askable_in name file plan is) known new e quiet
-    by (Err refusal) is known = record {
-      events = refused_job refusal;
-      last = account;
-      left = given;
-      performed = (refl, refl, refl);
-      opened = inl tt;
-      stops = left_quietly old new account (target_of (Err refusal) (refused_job refusal)) (refused_job refusal) quiet;
-      finished = tt;
-    }
-
--- The words weren't read, for want of memory.
-module _ (old : World) (account : Account) (given : Given) (e : Stop) (quiet : Quiet old old) where
-  refused_unasked : (refusal : Refusal) → RunsTo (Err e) old old (Err refusal) account given
-  refused_unasked refusal = record {
+-- Nothing was done.
+module _ (old new : World) (account : Account) (given : Given) (e : Stop) (quiet : Quiet old new) where
+  refused_undone : (refusal : Refusal) → RunsTo (Err e) old new (Err refusal) account given
+  refused_undone refusal = record {
     events = refused_job refusal;
     last = account;
     left = given;
     performed = (refl, refl, refl);
     opened = inl tt;
-    stops = left_quietly old old account (target_of (Err refusal) (refused_job refusal)) (refused_job refusal) quiet;
+    stops = left_quietly old new account (target_of (Err refusal) (refused_job refusal)) (refused_job refusal) quiet;
     finished = tt;
   }
 
-  request_unasked : (r : Request) → CanBeAsked r → Knows old.files account (Ok r) → RunsTo (Err e) old old (Ok r) account given
-  request_unasked (ToRun plan telling) can knows = script_unbegun old account given plan telling can knows old e quiet
-  request_unasked (ToGenerate number name) can knows = generated_unbegun old number name account given can knows old e quiet
+  request_undone : (r : Request) → CanBeAsked r → Knows old.files account (Ok r) → RunsTo (Err e) old new (Ok r) account given
+  request_undone (ToRun plan telling) can knows = script_unbegun old account given plan telling can knows new e quiet
+  request_undone (ToGenerate number name) can knows = generated_unbegun old number name account given can knows new e quiet
 
-  pub unasked_goes : (words : List (List ℕ)) → KnowsAsked old.files account (request_asked old.files words) → GoesTo (Err e) old old (request_asked old.files words) account given
-  unasked_goes words = by (request_asked old.files words) (can_be_asked old.files words)
-    where
-      by : (asked : Asked) → CanBeMet asked → KnowsAsked old.files account asked → GoesTo (Err e) old old asked account given
-      by (Runs (Err refusal)) can knows = refused_unasked refusal
-      by (Runs (Ok r)) can knows = request_unasked r can knows
-      by (Does deed) can knows = quiet_turn old old (one_turn old.files deed) ((one_turn old.files deed).turn account) quiet account refl e
+  pub undone_goes : (asked : Asked) → CanBeMet asked → KnowsAsked old.files account asked → GoesTo (Err e) old new asked account given
+  undone_goes (Runs (Err refusal)) can knows = refused_undone refusal
+  undone_goes (Runs (Ok r)) can knows = request_undone r can knows
+  undone_goes (Does deed) can knows = quiet_turn old new (one_turn old.files deed) ((one_turn old.files deed).turn account) quiet account refl e
 
 -- a refusal to session 0
 pub job_refused : {S E : Type 0} (told : Result S E) (result : Result Status Stop) (old new : World) (asked : Result Request Refusal) (refusal : Refusal) (account : Account) (given : Given) → asked ≡ Err refusal
     → SaysLine told old new (line_text 0 (RefusedReply refusal)) → IfOk result (λ status. number_of status ≡ status_after (RefusedReply refusal)) → OnOk result (new.said ≡ old.said ++ line_text 0 (RefusedReply refusal)) → RunsTo result old new asked account given
 job_refused told result old new asked refusal account given is says number said =
     subst (λ (a : Result Request Refusal). RunsTo result old new a account given) (sym is) (refused_runs old new 0 refusal account given (Err refusal) told result (refl, refl, refl) says number said)
-
--- of words that name no job
-pub words_refused : {S E : Type 0} (told : Result S E) (result : Result Status Stop) (old new : World) (asked : Asked) (account : Account) (given : Given) → asked ≡ Runs (Err Usage)
-    → SaysLine told old new (line_text 0 (RefusedReply Usage)) → IfOk result (λ status. number_of status ≡ status_after (RefusedReply Usage)) → OnOk result (new.said ≡ old.said ++ line_text 0 (RefusedReply Usage)) → GoesTo result old new asked account given
-words_refused told result old new asked account given is says number said =
-    subst (λ (a : Asked). GoesTo result old new a account given) (sym is) (job_refused told result old new (Err Usage) Usage account given refl says number said)
 
 -- of a script
 pub script_number : (name : List ℕ) (file : File) (refusal : Refusal) → script_in name file ≡ Err refusal → (result : Result Status Stop) → IfOk result (λ status. status ≡ RefusedStatus) → IfOk result (λ status. number_of status ≡ status_after (RefusedReply refusal))
@@ -199,6 +174,8 @@ sound_deed : (old : World) (account : Account) (deed : Deed) → CanBeDone deed 
 sound_deed old account (ToRestore db names) can stands takes = restore_sound old account db names stands can.0 can.1 can.2 takes
 sound_deed old account (ToFix db) can stands takes = fix_sound old account db stands can takes
 sound_deed old account (ToMerge db name) can stands takes = merge_sound old account db name stands can.0 can.1 takes
+sound_deed old account (ToFold out names) can stands takes = fold_sound old account out names stands can.0 can.1 can.2 takes
+sound_deed old account (ToPlan keep names) can stands takes = plan_sound old account keep names
 
 -- What is done of what is asked for, by the status that ends it.
 module _ (old new : World) (account : Account) (given : Given) (sixteen : MayBeGiven given) (before : (name : List ℕ) → Leaves old name (old.files name)) (timely : IsTimely new) (reads : (name : List ℕ) → Leaves new name (new.files name)) where

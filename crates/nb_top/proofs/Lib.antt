@@ -43,3 +43,11 @@ pub mod Restored
 pub mod Fixed
 pub mod MergeTurns
 pub mod Merged
+pub mod GoesLaws
+pub mod ShownLaws
+pub mod FoldTurns
+pub mod Folded
+pub mod FoldRecords
+pub mod FoldStands
+pub mod Planned
+pub mod Lists

@@ -25,7 +25,7 @@ use Rattle.nb_model.proofs.MadeLaws.{IsWholeFile, IsInMaking, is_free, unfinishe
 use Rattle.nb_model.proofs.OpeningLaws.{free_entry}
 use Rattle.nb_model.proofs.StandsLaws.{delta_named}
 use Rattle.nb_model.proofs.SteadyLaws.{WellAlong, kept_along}
-use Rattle.nb_copy.specs.Making.{IsUnfinishedOr}
+use Rattle.nb_gather.specs.Making.{IsUnfinishedOr}
 use Rattle.nb_session.specs.Acts.{MadeLeft}
 use Rattle.nb_top.specs.Standing.{HoldsKept, StandsFor}
 use Rattle.nb_top.proofs.MadeRuns.{no_file}
@@ -117,7 +117,7 @@ module _ (old : World) (account : Account) (stands : StandsFor old account) wher
   -- beside a free name no difference file stands, and a stop brings none back
   pub free_name : (f : MadeFile) → IsNewFile account f → (is_free_file (old.files f.0) ≡ true) × (old.files (delta_name f.0) ≡ None)
   free_name f new =
-      let both = and_parts (is_free_file (old.files f.0)) (not (is_some (old.files (delta_name f.0)))) (sym (free_entry old.files account f.0 stands.now.same_image stands.now.no_stray new.plain) ∙ new.free) in
+      let both = and_parts (is_free_file (old.files f.0)) (not (is_some (old.files (delta_name f.0)))) (sym (free_entry old.files account f.0 stands.now.same_image new.plain) ∙ new.free) in
       (both.0, not_some (old.files (delta_name f.0)) both.1)
 
   -- So it is at the end of a run that made these files: a name that is free then was free before.

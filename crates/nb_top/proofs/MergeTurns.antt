@@ -13,7 +13,7 @@ use Rattle.nb_model.specs.Image.{Page, image_in}
 use Rattle.nb_model.specs.InPlace.{bytes_in, in_place, in_place_of, not_finishing, not_mergeable, not_next, not_standby, other_pages, written_since}
 use Rattle.nb_model.specs.Jobs.{only_turn, only_refusal, apply_turn, account_behind}
 use Rattle.nb_model.specs.Levels.{Contents, read_level}
-use Rattle.nb_model.specs.Run.{Event, account_after}
+use Rattle.nb_model.specs.Run.{Event, account_after, with_made}
 use Rattle.nb_model.specs.Strokes.{merge, merged}
 use Rattle.nb_model.proofs.TodoLaws.{IsOther, other_first, other_when, other_database}
 use Rattle.nb_inplace.specs.Verdict.{IsMergeable}
@@ -140,5 +140,5 @@ module _ (files : Files) (db name : List ℕ) where
   refused_merge refusal why = subst IsFine why (merge_fine files db name)
 
   pub merged_account : (account : Account) (bytes : List ℕ) (c : Contents) → account_behind db (merged_turn bytes c) account ≡ account_after db (merge c.pages ∷ []) None account
-  unfolding account_behind
+  unfolding account_behind with_made
   merged_account account bytes c = refl

@@ -41,7 +41,8 @@ use Rattle.nb_top.specs.Served.{ServedAs, Serves}
 use Rattle.nb_top.specs.Standing.{HoldsKept, StandsFor}
 use Rattle.nb_top.proofs.MergeTurns.{MergeTurn, refuses, merges, merged_turn, done_turn, merged_account, refused_merge, refused_turn, turn_is}
 use Rattle.nb_top.proofs.Restored.{pages_said}
-use Rattle.nb_top.proofs.TurnsStand.{IsSoundJob, IsWellDone}
+use Rattle.nb_top.proofs.Turns.{served_as}
+use Rattle.nb_top.proofs.TurnsStand.{IsSoundJob, IsWellBased, sound_on}
 
 module _ (old mid : World) (db name : List ℕ) (result : Result ℕ Fault) (does : Applies result old mid db name) where
   abbrev job : OneTurn
@@ -64,15 +65,12 @@ module _ (old mid : World) (db name : List ℕ) (result : Result ℕ Fault) (doe
       by (merges bytes c m same) = absurd (true≢false (sym is ∙ ap leaves_all same))
 
   answers : (r : Result ℕ Fault) → ApplyAnswers r old mid db name → ServedAs (pages_said r) old mid job turn
-  answers (Ok count) done = record {
-    stroke = merge done.contents.pages;
-    is = done_turn old.files db name done.bytes done.contents done.mergeable ∙ ap (λ (n : ℕ). only n done.contents) (sym done.counted);
-    fine = refl;
-    done = record {
-      now = (done.bytes, done.contents, done.mergeable, done.shows);
-      left = λ files leaves. (done.bytes, done.contents, done.mergeable, done.left files leaves);
-    };
-  }
+  answers (Ok count) done =
+      served_as (Pages count) (only count done.contents) mid job turn (done_turn old.files db name done.bytes done.contents done.mergeable ∙ ap (λ (n : ℕ). only n done.contents) (sym done.counted)) refl refl refl
+      (λ some. record {
+        now = (done.bytes, done.contents, done.mergeable, done.shows);
+        left = λ files leaves. (done.bytes, done.contents, done.mergeable, done.left files leaves);
+      })
     where
       only : (n : ℕ) → Contents → Event
       only n c = record { session = 1; strokes = merge c.pages ∷ []; reply = Some (Pages n); made = None; syncs = true }
@@ -185,7 +183,7 @@ module _ (old : World) (account : Account) (db name : List ℕ) (stands : Stands
         absurd (true≢false (sym free ∙ ap is_free_file half_in.there
         ∙ half_in_use old.files db name standby d fit half_in.half half_in.is (λ none. stands.now.kept_records.not_nil its.backup its.kept_as.there (its.kept_as.named ∙ none))))
 
-    well_done : IsWellDone old account sound_job
+    well_done : IsWellBased old account sound_job db
     well_done = record {
       half = half;
       free = in_use;
@@ -197,13 +195,13 @@ module _ (old : World) (account : Account) (db name : List ℕ) (stands : Stands
       gives = gives;
     }
 
-  merge_done : leaves_all (apply_turn old.files db name) ≡ false → IsWellDone old account sound_job
+  merge_done : leaves_all (apply_turn old.files db name) ≡ false → IsWellBased old account sound_job db
   merge_done = by (turn_is old.files db name)
     where
-      by : MergeTurn old.files db name → leaves_all (apply_turn old.files db name) ≡ false → IsWellDone old account sound_job
+      by : MergeTurn old.files db name → leaves_all (apply_turn old.files db name) ≡ false → IsWellBased old account sound_job db
       by (refuses refusal why same) is = absurd (true≢false (sym (ap leaves_all same) ∙ is))
       by (merges bytes c m same) is = well_done bytes c m same
 
 pub merge_sound : (old : World) (account : Account) (db name : List ℕ) → StandsFor old account → is_delta db ≡ false → is_delta name ≡ false
     → (leaves_all (apply_turn old.files db name) ≡ false → (bytes : List ℕ) (c : Contents) → IsMergeable old.files db name bytes c → TakesKept account.kept bytes c) → IsSoundJob old account (merging old.files db name)
-merge_sound old account db name stands plain level_plain takes = record { plain = plain; done = λ is. merge_done old account db name stands plain level_plain (takes is) is }
+merge_sound old account db name stands plain level_plain takes = sound_on old account db _ plain refl (λ is. merge_done old account db name stands plain level_plain (takes is) is)

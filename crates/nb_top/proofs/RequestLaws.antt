@@ -1,36 +1,39 @@
 -- What the words ask for can be asked.
-use Rattle.std.proofs.Common.{◌≡◌, ◌⊎◌, ⊎_elim, ℕ, zero, suc, ◌-◌, ◌≤◌, List, [], ◌∷◌, length, get_or, true, false, refl, ap, subst, arith}
+use Rattle.std.proofs.Common.{◌≡◌, ◌⊎◌, ⊎_elim, ℕ, zero, suc, ◌-◌, ◌≤◌, List, [], ◌∷◌, length, get_or, true, false, refl, sym, ap, subst, arith}
 use Rattle.std.specs.Prelude.{Bool, ◌&&◌, ◌==◌, not, nat_le, slice_index, codes, Option, Some, None, Result, Ok, Err, IfOk, IfErr, replicate}
 use Rattle.std.specs.List.{AllByRecursion, list_all}
 use Rattle.std.proofs.lemmas.Bool.{and_parts, leb-true, le-leb}
 use Rattle.nb_host.specs.Files.{File, Files}
 use Rattle.nb_host.specs.Names.{is_name, is_delta, same_name}
 use Rattle.nb_host.specs.declared.faults.Fault.{Fault}
-use Rattle.nb_host.specs.declared.faults.Fault.TheVariants.{Refused, Memory}
+use Rattle.nb_host.specs.declared.faults.Fault.TheVariants.{Refused, Device, Memory}
 use Rattle.nb_host.specs.declared.refusals.Refusal.{Refusal}
 use Rattle.nb_host.specs.declared.refusals.Refusal.TheVariants.{Usage}
 use Rattle.nb_model.specs.declared.job.Job.{Job}
-use Rattle.nb_model.specs.declared.job.Job.TheVariants.{Run, Stat, Gen, Backup, BackupSince, Restore, Apply, Lock, LockWithSize, Unlock, Fixup}
+use Rattle.nb_model.specs.declared.job.Job.TheVariants.{Run, Stat, Gen, Backup, BackupSince, Restore, Apply, Lock, LockWithSize, Unlock, Fixup, Fold, Plan as PlanOf}
 use Rattle.nb_model.specs.declared.statement.Statement.{Statement}
 use Rattle.nb_model.specs.declared.statement.Statement.TheVariants.{BeginBackup, EndBackup, ShowHeader, ShowPages, Backup as BackupTo, BackupSince as BackupOf}
 use Rattle.nb_model.proofs.GoingLaws.{name_short}
-use Rattle.nb_model.specs.Words.{Word, Read, are_flags, is_database, is_file, job_if, number_in_word, plain_job, backup_job, restore_job, apply_job, database_job, read_words, job_of_flags, job_read, job_of}
+use Rattle.nb_model.specs.Words.{Word, Read, are_flags, is_database, is_file, job_if, number_in_word, count_in_word, run_or_stat, gen_job, plan_job, gen_or_plan, fold_job, plain_job, backup_job, restore_job, apply_job, database_job, read_words, job_of_flags, job_read, job_of}
+use Rattle.nb_catalog.specs.Turns.{names_in}
 use Rattle.nb_script.specs.Asked.{IsFurther, IsAskable}
 use Rattle.nb_script.specs.Fits.{IsBase, IsFile}
-use Rattle.nb_script.specs.Scripts.{Plan}
+use Rattle.nb_script.specs.Scripts.{Plan, script_of}
 use Rattle.nb_script.proofs.AskedLemmas.{answer_is_askable}
-use Rattle.nb_top.specs.Requests.{Request, ToRun, ToGenerate, Deed, ToRestore, ToFix, ToMerge, Asked, Runs, Does, FitsJob, script_in, to_run, plan_of, request_of, request_asked}
+use Rattle.nb_top.specs.Requests.{IsAskedBy, IsReadJob, Request, ToRun, ToGenerate, Deed, ToRestore, ToFix, ToMerge, ToFold, ToPlan, Asked, Runs, Does, FitsJob, script_in, to_plan, to_run, plan_of, request_of, request_asked}
 
 -- The statements of a script can be asked today. The name of a script that is written is none that a difference file may have.
 abbrev pub CanBeAsked : Request → Type 0
 CanBeAsked (ToRun plan telling) = IsAskable plan
 CanBeAsked (ToGenerate number name) = is_delta name ≡ false
 
--- Nor are the names of a restore, of a fixup and of a merge, and a restore has a first file.
+-- Nor are the names of a restore, of a fixup, of a merge and of a fold, and a restore has a first file.
 abbrev pub CanBeDone : Deed → Type 0
 CanBeDone (ToFix db) = is_delta db ≡ false
 CanBeDone (ToMerge db name) = (is_delta db ≡ false) × (is_delta name ≡ false)
 CanBeDone (ToRestore db names) = (is_delta db ≡ false) × AllByRecursion (λ (name : List ℕ). is_delta name ≡ false) names × (1 ≤ length names)
+CanBeDone (ToFold out names) = (is_delta out ≡ false) × AllByRecursion (λ (name : List ℕ). is_delta name ≡ false) names × (2 ≤ length names)
+CanBeDone (ToPlan keep names) = Unit {0}
 
 -- so it is of what is asked for
 abbrev pub CanBeMet : Asked → Type 0
@@ -106,20 +109,60 @@ backup_fits (since ∷ db ∷ file ∷ []) = by _
     by None = if_fits is_level (Backup (slice_index since 0 - 48) db file) fits
 backup_fits (since ∷ db ∷ file ∷ w ∷ ws) = tt
 
-plain_fits : (plain : List Word) → IfJob (plain_job plain)
-plain_fits [] = tt
-plain_fits (verb ∷ []) = tt
-plain_fits (verb ∷ name ∷ []) = by (same_name verb (codes "run"))
+run_fits : (plain : List Word) → IfJob (run_or_stat plain)
+run_fits [] = tt
+run_fits (verb ∷ []) = tt
+run_fits (verb ∷ name ∷ []) = by (same_name verb (codes "run"))
   where
     by : (b : Bool) → IfJob (elim b as (λ z. Option Job) [ true ↦ job_if (is_file name) (Run name) | false ↦ job_if (same_name verb (codes "stat") && is_database name) (Stat name) ])
     by true = if_fits (is_file name) (Run name) (λ is. tt)
     by false = if_fits (same_name verb (codes "stat") && is_database name) (Stat name) (λ is. (and_parts (same_name verb (codes "stat")) (is_database name) is).1)
-plain_fits (verb ∷ number ∷ name ∷ []) = by (number_in_word number)
+run_fits (verb ∷ name ∷ w ∷ ws) = tt
+
+gen_fits : (number name : Word) → IfJob (gen_job number name)
+gen_fits number name = by (number_in_word number)
   where
-    by : (n : Option ℕ) → IfJob (elim n as (λ z. Option Job) [ None ↦ None | Some k ↦ job_if (same_name verb (codes "gen") && is_file name) (Gen k name) ])
+    by : (n : Option ℕ) → IfJob (elim n as (λ z. Option Job) [ None ↦ None | Some k ↦ job_if (is_file name) (Gen k name) ])
     by None = tt
-    by (Some k) = if_fits (same_name verb (codes "gen") && is_file name) (Gen k name) (λ is. (and_parts (same_name verb (codes "gen")) (is_file name) is).1)
-plain_fits (verb ∷ number ∷ name ∷ w ∷ ws) = tt
+    by (Some k) = if_fits (is_file name) (Gen k name) (λ is. is)
+
+plan_fits : (keep list : Word) → IfJob (plan_job keep list)
+plan_fits keep list = by (count_in_word keep)
+  where
+    by : (n : Option ℕ) → IfJob (elim n as (λ z. Option Job) [ None ↦ None | Some k ↦ job_if (is_file list) (PlanOf k list) ])
+    by None = tt
+    by (Some k) = if_fits (is_file list) (PlanOf k list) (λ is. tt)
+
+three_fits : (plain : List Word) → IfJob (gen_or_plan plain)
+three_fits [] = tt
+three_fits (verb ∷ []) = tt
+three_fits (verb ∷ name ∷ []) = tt
+three_fits (verb ∷ number ∷ name ∷ []) = by (same_name verb (codes "gen")) (same_name verb (codes "plan"))
+  where
+    by : (a b : Bool) → IfJob (elim a as (λ z. Option Job) [ true ↦ gen_job number name | false ↦ elim b as (λ z. Option Job) [ true ↦ plan_job number name | false ↦ None ] ])
+    by true b = gen_fits number name
+    by false true = plan_fits number name
+    by false false = tt
+three_fits (verb ∷ number ∷ name ∷ w ∷ ws) = tt
+
+fold_fits : (plain : List Word) → IfJob (fold_job plain)
+fold_fits [] = tt
+fold_fits (verb ∷ []) = tt
+fold_fits (verb ∷ out ∷ files) = if_fits (same_name verb (codes "fold") && is_file out && nat_le 2 (length files) && nat_le (length files) 9 && list_all is_file files) (Fold out files) fits
+  where
+    fits : (same_name verb (codes "fold") && is_file out && nat_le 2 (length files) && nat_le (length files) 9 && list_all is_file files) ≡ true → FitsJob (Fold out files)
+    fits is =
+        let all = and_parts (same_name verb (codes "fold") && is_file out && nat_le 2 (length files) && nat_le (length files) 9) (list_all is_file files) is in
+        let few = and_parts (same_name verb (codes "fold") && is_file out && nat_le 2 (length files)) (nat_le (length files) 9) all.0 in
+        let some = and_parts (same_name verb (codes "fold") && is_file out) (nat_le 2 (length files)) few.0 in
+        ((and_parts (same_name verb (codes "fold")) (is_file out) some.0).1, leb-true 2 (length files) some.1, leb-true (length files) 9 few.1, all.1)
+
+plain_fits : (plain : List Word) → IfJob (plain_job plain)
+plain_fits [] = tt
+plain_fits (verb ∷ []) = tt
+plain_fits (verb ∷ name ∷ []) = run_fits (verb ∷ name ∷ [])
+plain_fits (verb ∷ number ∷ name ∷ []) = three_fits (verb ∷ number ∷ name ∷ [])
+plain_fits (verb ∷ out ∷ file ∷ other ∷ files) = fold_fits (verb ∷ out ∷ file ∷ other ∷ files)
 
 flags_fit : (flags : List ℕ) (rows : List (List ℕ × Option Job)) → AllByRecursion (λ (row : List ℕ × Option Job). IfJob row.1) rows → IfJob (job_of_flags flags rows)
 unfolding job_of_flags
@@ -130,9 +173,9 @@ flags_fit flags (row ∷ rows) all = by (are_flags flags row.0) (flags_fit flags
     by true later = all.0
     by false later = later
 
-read_fits : (read : Read) → IfJob (job_read read)
+flags_fits : (read : Read) → IfJob (job_read read)
 unfolding job_read
-read_fits read = flags_fit read.flags _
+flags_fits read = flags_fit read.flags _
     (plain_fits read.plain, (backup_fits read.plain, (restore_fits read.plain, (apply_fits read.plain, (lock_fits read.plain, (sized_fits read.plain, (unlock_fits read.plain, (fixup_fits read.plain, tt))))))))
 
 words_fit : (words : List Word) → IfJob (job_of words)
@@ -141,7 +184,7 @@ words_fit words = by (read_words words)
   where
     by : (read : Option Read) → IfJob (elim read as (λ z. Option Job) [ None ↦ None | Some r ↦ job_read r ])
     by None = tt
-    by (Some r) = read_fits r
+    by (Some r) = flags_fits r
 
 pub fits_words : (words : List Word) (job : Job) → job_of words ≡ Some job → FitsJob job
 fits_words words job is = subst IfJob is (words_fit words)
@@ -219,6 +262,11 @@ pub askable_in : (name : List ℕ) (file : File) (plan : Plan) → script_in nam
 askable_in name None plan is = absurd (err_ok _ plan is)
 askable_in name (Some bytes) plan is = answer_is_askable bytes (Ok plan) is
 
+-- and so can one that some bytes spell
+pub spelled_can : (bytes : List ℕ) (s : Result Plan Refusal) → script_of bytes ≡ s → CanBeMet (Runs (to_run s))
+spelled_can bytes (Ok plan) is = answer_is_askable bytes (Ok plan) is
+spelled_can bytes (Err refusal) is = tt
+
 not_true : (b : Bool) → not b ≡ true → b ≡ false
 not_true true h = cc
 not_true false h = refl
@@ -234,13 +282,21 @@ plain_files (name ∷ names) all = let parts = and_parts (is_file name) (list_al
 restore_asked : (db : List ℕ) (names : List (List ℕ)) → FitsJob (Restore db names) → CanBeDone (ToRestore db names)
 restore_asked db names fits = (plain_file db (and_parts (is_file db) (nat_le (length db) 94) fits.0).0, plain_files names fits.3, fits.1)
 
+fold_asked : (out : List ℕ) (names : List (List ℕ)) → FitsJob (Fold out names) → CanBeDone (ToFold out names)
+fold_asked out names fits = (plain_file out fits.0, plain_files names fits.3, fits.1)
+
+-- a plan can be made of any list
+pub plan_can : (keep : ℕ) (names : Result (List (List ℕ)) Refusal) → CanBeMet (to_plan keep names)
+plan_can keep (Ok names) = tt
+plan_can keep (Err refusal) = tt
+
 -- What the words ask for can be asked.
 module _ (files : Files) where
-  script_can : (name : List ℕ) (s : Result Plan Refusal) → script_in name (files name) ≡ s → CanBeMet (Runs (to_run s))
+  pub script_can : (name : List ℕ) (s : Result Plan Refusal) → script_in name (files name) ≡ s → CanBeMet (Runs (to_run s))
   script_can name (Ok plan) is = askable_in name (files name) plan is
   script_can name (Err refusal) is = tt
 
-  job_can : (job : Job) → FitsJob job → CanBeMet (request_of files job)
+  pub job_can : (job : Job) → FitsJob job → CanBeMet (request_of files job)
   job_can (Run name) fits = script_can name (script_in name (files name)) refl
   job_can (Backup level db file) fits = backup_askable level db file fits
   job_can (BackupSince guid db file) fits = since_askable guid db file fits
@@ -251,6 +307,8 @@ module _ (files : Files) where
   job_can (Gen number name) fits = plain_file name fits
   job_can (Fixup db) fits = plain_file db (and_parts (is_file db) (nat_le (length db) 94) fits).0
   job_can (Restore db names) fits = restore_asked db names fits
+  job_can (Fold out names) fits = fold_asked out names fits
+  job_can (PlanOf keep list) fits = plan_can keep (names_in list (files list))
   job_can (Apply db file) fits = (plain_file db (and_parts (is_file db) (nat_le (length db) 94) fits.0).0, plain_file file fits.1)
 
   pub can_be_asked : (words : List Word) → CanBeMet (request_asked files words)
@@ -271,3 +329,30 @@ unread_words words answer refusal is why =
   where
     refused_memory : Refused refusal ≡ Memory → ⊥
     refused_memory h = cc
+
+-- What was read of words can be met.
+pub read_can : (files : Files) (read : Result Job Fault) (asked : Asked) → IsReadJob read → IsAskedBy read files asked → CanBeMet asked
+read_can files (Ok job) asked fits by = subst CanBeMet (sym by) (job_can files job fits)
+read_can files (Err (Refused refusal)) asked fits by = subst CanBeMet (sym by) tt
+read_can files (Err Memory) asked fits by = subst CanBeMet (sym by.1) (can_be_asked files by.0)
+read_can files (Err Device) asked fits by = absurd fits
+
+-- what was read is what the words name
+pub read_fits : (words : List Word) (read : Result Job Fault) → IfOk read (λ (job : Job). job_of words ≡ Some job) → IfErr read (λ (fault : Fault). (fault ≡ Memory) ⊎ ((fault ≡ Refused Usage) × (job_of words ≡ None))) → IsReadJob read
+read_fits words (Ok job) is none = fits_words words job is
+read_fits words (Err (Refused refusal)) is none = tt
+read_fits words (Err Memory) is none = tt
+read_fits words (Err Device) is none = ⊎_elim (λ memory. other memory) (λ usage. refused usage.0) none
+  where
+    other : Device ≡ Memory → ⊥
+    other h = cc
+
+    refused : Device ≡ Refused Usage → ⊥
+    refused h = cc
+
+pub read_asks : (files : Files) (words : List Word) (read : Result Job Fault) → IfOk read (λ (job : Job). job_of words ≡ Some job) → IfErr read (λ (fault : Fault). (fault ≡ Memory) ⊎ ((fault ≡ Refused Usage) × (job_of words ≡ None)))
+    → IsAskedBy read files (request_asked files words)
+read_asks files words (Ok job) is none = asked_job files words job is
+read_asks files words (Err (Refused refusal)) is none = asked_usage files words (unread_words words (Err (Refused refusal)) refusal refl none)
+read_asks files words (Err Memory) is none = (words, refl)
+read_asks files words (Err Device) is none = read_fits words (Err Device) is none

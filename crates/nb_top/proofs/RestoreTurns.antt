@@ -9,7 +9,7 @@ use Rattle.nb_model.specs.Account.{Account}
 use Rattle.nb_model.specs.Causes.{is_free_entry}
 use Rattle.nb_model.specs.Jobs.{only_turn, only_refusal, restore_turn, account_behind}
 use Rattle.nb_model.specs.Restoring.{Link, verdict, applied}
-use Rattle.nb_model.specs.Run.{Event, account_after}
+use Rattle.nb_model.specs.Run.{Event, account_after, with_made}
 use Rattle.nb_model.specs.Strokes.{make, fixed}
 use Rattle.nb_top.proofs.ChainRefusals.{refused_chain}
 
@@ -60,7 +60,7 @@ module _ (files : Files) (account : Account) (db : List ℕ) (names : List (List
           of_verdict (Err refusal) broken = let why : WhyRefused files account db names refusal = inr (is, broken) in refuses refusal why (refused_turn refusal why)
 
   pub made_account : (links : List Link) → account_behind db (made_turn links) account ≡ account_after db (make (fixed (applied links)) ∷ []) None account
-  unfolding account_behind
+  unfolding account_behind with_made
   made_account links = refl
 
   -- as words are that name no job it never is

@@ -39,7 +39,8 @@ use Rattle.nb_top.specs.OneTurn.{OneTurn, leaves_all, restoring}
 use Rattle.nb_top.specs.Served.{ServedAs, Serves}
 use Rattle.nb_top.specs.Standing.{HoldsKept, StandsFor}
 use Rattle.nb_top.proofs.RestoreTurns.{RestoreTurn, WhyRefused, refuses, restores, made_turn, made_account, turn_is, refused_turn, done_turn, refused_restore}
-use Rattle.nb_top.proofs.TurnsStand.{IsSoundJob, IsWellDone}
+use Rattle.nb_top.proofs.Turns.{served_as}
+use Rattle.nb_top.proofs.TurnsStand.{IsSoundJob, IsWellBased, sound_on}
 
 -- its reply
 abbrev pub pages_said : Result ℕ Fault → Result Reply Fault
@@ -73,15 +74,11 @@ module _ (old mid : World) (account : Account) (db : List ℕ) (names : List (Li
   answers : (r : Result ℕ Fault) → RestoreAnswers r old mid db names → ServedAs (pages_said r) old mid job turn
   answers (Ok count) answer =
       let made = answer.1 in
-      record {
-        stroke = make (fixed (applied made.links));
-        is = done_turn old.files account db names made.links (sym knows ∙ answer.0) made.accepted ∙ ap (λ (n : ℕ). only n made.links) (sym made.counted);
-        fine = refl;
-        done = record {
-          now = (made.links, made.accepted, made.shows);
-          left = λ files leaves. (made.links, made.accepted, made.left files leaves);
-        };
-      }
+      served_as (Pages count) (only count made.links) mid job turn (done_turn old.files account db names made.links (sym knows ∙ answer.0) made.accepted ∙ ap (λ (n : ℕ). only n made.links) (sym made.counted)) refl refl refl
+      (λ some. record {
+        now = (made.links, made.accepted, made.shows);
+        left = λ files leaves. (made.links, made.accepted, made.left files leaves);
+      })
     where
       only : (n : ℕ) (links : List Link) → Event
       only n links = record { session = 1; strokes = make (fixed (applied links)) ∷ []; reply = Some (Pages n); made = None; syncs = true }
@@ -143,7 +140,7 @@ module _ (old : World) (account : Account) (db : List ℕ) (names : List (List �
 
     was_free : (is_free_file (old.files db) ≡ true) × (old.files (delta_name db) ≡ None)
     was_free =
-        let both = and_parts (is_free_file (old.files db)) (not (is_some (old.files (delta_name db)))) (sym (free_entry old.files account db stands.now.same_image stands.now.no_stray plain) ∙ free) in
+        let both = and_parts (is_free_file (old.files db)) (not (is_some (old.files (delta_name db)))) (sym (free_entry old.files account db stands.now.same_image plain) ∙ free) in
         (both.0, not_some (old.files (delta_name db)) both.1)
 
     half : (before files : Files) → LeavesAll old before → HoldsKept before account.kept → before db ≡ old.files db → ((m : List ℕ) → m ≢ db → files m ≡ before m) → is_free_file (files db) ≡ true → HoldsKept files account.kept
@@ -158,7 +155,7 @@ module _ (old : World) (account : Account) (db : List ℕ) (names : List (List �
     behind : account_behind db (restore_turn old.files account db names) account ≡ account_after db (make (fixed (applied links)) ∷ []) None account
     behind = ap (λ (e : Event). account_behind db e account) turn_same ∙ made_account old.files account db names links
 
-    well_done : IsWellDone old account sound_job
+    well_done : IsWellBased old account sound_job db
     well_done = record {
       half = half;
       free = λ files half_way now_free. was_free.0;
@@ -170,13 +167,13 @@ module _ (old : World) (account : Account) (db : List ℕ) (names : List (List �
       gives = gives;
     }
 
-  restore_done : leaves_all (restore_turn old.files account db names) ≡ false → IsWellDone old account sound_job
+  restore_done : leaves_all (restore_turn old.files account db names) ≡ false → IsWellBased old account sound_job db
   restore_done = by (turn_is old.files account db names)
     where
-      by : RestoreTurn old.files account db names → leaves_all (restore_turn old.files account db names) ≡ false → IsWellDone old account sound_job
+      by : RestoreTurn old.files account db names → leaves_all (restore_turn old.files account db names) ≡ false → IsWellBased old account sound_job db
       by (refuses refusal why same) is = absurd (true≢false (sym (ap leaves_all same) ∙ is))
       by (restores links free accepted same) is = well_done links free accepted same
 
 pub restore_sound : (old : World) (account : Account) (db : List ℕ) (names : List (List ℕ)) → StandsFor old account → is_delta db ≡ false → AllByRecursion (λ (name : List ℕ). is_delta name ≡ false) names → 1 ≤ length names
     → (leaves_all (restore_turn old.files account db names) ≡ false → (links : List Link) → verdict old.files names ≡ Ok links → AreKept account.kept links) → IsSoundJob old account (restoring old.files db names)
-restore_sound old account db names stands plain plain_names some takes = record { plain = plain; done = λ is. restore_done old account db names stands plain plain_names some (takes is) is }
+restore_sound old account db names stands plain plain_names some takes = sound_on old account db _ plain refl (λ is. restore_done old account db names stands plain plain_names some (takes is) is)

@@ -22,7 +22,7 @@ use Rattle.nb_model.proofs.OpeningLaws.{with_kept}
 use Rattle.nb_model.proofs.StandsLaws.{no_main}
 use Rattle.nb_model.proofs.SteadyLaws.{WellAlong, kept_along, along_last}
 use Rattle.nb_base.specs.Open.{OfFiles}
-use Rattle.nb_copy.specs.Making.{IsUnfinishedOr}
+use Rattle.nb_gather.specs.Making.{IsUnfinishedOr}
 use Rattle.nb_session.specs.Acts.{MadeLeft}
 use Rattle.nb_top.specs.Standing.{HoldsKept, StandsFor}
 use Rattle.nb_top.proofs.AsWas.{as_was, was_has, was_off}

@@ -72,6 +72,15 @@ module _ (old mid new : World) (names : Names) (leaves : LeavesOthers old mid na
       by (Ok status) said = λ yes. then_refusal old mid new leaves.added (refusal_said mid new session refusal said.said)
       by (Err e) said = tt
 
+-- A run that goes on from calls that leave other files alone.
+module _ (old mid new : World) (names : Names) where
+  pub touches_quietly : (result : Result Status Stop) → LeavesOthers old mid names → TouchesOnly result mid new names → TouchesOnly result old new names
+  touches_quietly result leaves touches = record { leaves = leaves_then old mid new names leaves touches.leaves; says = by result touches.says }
+    where
+      by : (r : Result Status Stop) → IfOk r (λ status. ends_refused status ≡ true → SaysRefusal mid new) → IfOk r (λ status. ends_refused status ≡ true → SaysRefusal old new)
+      by (Ok status) says = λ yes. then_refusal old mid new leaves.added (says yes)
+      by (Err e) says = tt
+
 -- A run that goes on as one that is asked for less.
 module _ (old mid new : World) (asked : Result Request Refusal) (leaves : LeavesOthers old mid (MayTouch asked)) where
   pub touches_then : (result : Result Status Stop) (few : Result Request Refusal) → ((m : List ℕ) → MayTouch few m → MayTouch asked m) → TouchesAsked result mid new few → TouchesAsked result old new asked

@@ -1,24 +1,24 @@
 -- A run of a job of one turn: what stands of its file at each moment, and its end.
-use Rattle.std.proofs.Common.{true≢false, ◌≡◌, ◌≢◌, ◌⊎◌, inl, inr, ⊎_elim, ℕ, List, [], ◌∷◌, ◌++◌, length, take, true, false, refl, sym, ap, subst, ◌∙◌}
-use Rattle.std.specs.Prelude.{Bool, Result, Ok, Err, IfOk, OnOk}
+use Rattle.std.proofs.Common.{true≢false, ◌≡◌, ◌⊎◌, inl, inr, ⊎_elim, ℕ, List, [], ◌∷◌, ◌++◌, length, take, true, false, refl, sym, ap, subst, ◌∙◌}
+use Rattle.std.specs.Prelude.{Bool, Option, Some, None, Result, Ok, Err, IfOk, OnOk}
 use Rattle.std.proofs.lemmas.List.{append-nil}
-use Rattle.nb_host.specs.Files.{Files}
+use Rattle.nb_host.specs.Files.{File, Files}
 use Rattle.nb_host.specs.World.{World}
 use Rattle.nb_host.specs.Crash.{Leaves, LeavesAll}
 use Rattle.nb_host.specs.Moments.{IsTimely, AtEachMoment}
 use Rattle.nb_host.specs.declared.faults.Fault.{Fault}
 use Rattle.nb_host.specs.declared.faults.Fault.TheVariants.{Refused as RefusedFault}
 use Rattle.nb_host.specs.declared.refusals.Refusal.{Refusal}
-use Rattle.nb_change.specs.Changes.{Other, Only}
+use Rattle.nb_change.specs.Changes.{Other}
 use Rattle.nb_change.specs.Gave.{GaveNothing}
 use Rattle.nb_change.proofs.MomentLaws.{joined, left_before, weaker}
 use Rattle.nb_page.specs.Quiet.{Quiet}
 use Rattle.nb_model.specs.declared.reply.Reply.{Reply}
 use Rattle.nb_model.specs.declared.reply.Reply.TheVariants.{Refused as RefusedReply}
 use Rattle.nb_model.specs.Account.{Account}
-use Rattle.nb_model.specs.Jobs.{only_turn, only_refusal}
+use Rattle.nb_model.specs.Jobs.{only_refusal}
 use Rattle.nb_model.specs.Lines.{line_text}
-use Rattle.nb_model.specs.Output.{output, status_of}
+use Rattle.nb_model.specs.Output.{output, status_after, status_of}
 use Rattle.nb_model.specs.Run.{Event, replies_of}
 use Rattle.nb_model.proofs.OutputLaws.{output_one, status_one}
 use Rattle.nb_model.proofs.TodoLaws.{status_refused}
@@ -29,17 +29,26 @@ use Rattle.nb_session.proofs.OthersLaws.{now_left}
 use Rattle.nb_top.specs.declared.status.Status.{Status}
 use Rattle.nb_top.specs.declared.status.Status.TheVariants.{Done, Refused}
 use Rattle.nb_top.specs.Numbers.{number_of}
-use Rattle.nb_top.specs.OneTurn.{OneTurn, Was, Read, FileLeft, IsOnItsWay, TurnEnded, TurnLeft, leaves_all}
+use Rattle.nb_top.specs.OneTurn.{OneTurn, OfName, Was, IsAsWas, IsDoneFor, Read, FileLeft, IsOnItsWay, TurnEnded, TurnLeft, leaves_all}
 use Rattle.nb_top.specs.Served.{IsRefusedWith, IsServed, ServedAs, Serves, TurnsTo}
 use Rattle.nb_top.proofs.RefusedRuns.{take_self}
 
+-- all are as they were, and so is that one
+as_was : (was : Was) (name : Option (List ℕ)) (files : Files) → ((m : List ℕ) → was m (files m)) → IsAsWas was name files
+as_was was None files all = tt
+as_was was (Some name) files all = all name
+
+-- a turn that says this reply and is no refusal is served
+pub served_as : (reply : Reply) (meant : Event) (new : World) (job : OneTurn) (turn : Event) → turn ≡ meant → meant.session ≡ 1 → meant.reply ≡ Some reply → status_after reply ≡ 0 → (leaves_all turn ≡ false → IsDoneFor new job) → IsServed reply new job turn
+served_as reply meant new job turn is session says fine done = record { session = ap (λ (e : Event). e.session) is ∙ session; says = ap (λ (e : Event). e.reply) is ∙ says; fine = fine; done = done }
+
 -- At one moment.
 module _ (old : World) (job : OneTurn) (turn : Event) where
-  own_left : (was : Was) (part : List ℕ) (files : Files) → (leaves_all turn ≡ true → was job.name (files job.name))
-      → (leaves_all turn ≡ false → ((was job.name (files job.name) ⊎ job.half files) × (part ≡ [])) ⊎ job.done files) → FileLeft was job turn part files
+  own_left : (was : Was) (part : List ℕ) (files : Files) → (leaves_all turn ≡ true → IsAsWas was job.name files)
+      → (leaves_all turn ≡ false → ((IsAsWas was job.name files ⊎ job.half files) × (part ≡ [])) ⊎ job.done files) → FileLeft was job turn part files
   own_left was part files all some = by (leaves_all turn) refl
     where
-      by : (t : Bool) → leaves_all turn ≡ t → elim t as (λ none. Type 0) [ true ↦ was job.name (files job.name) | false ↦ ((was job.name (files job.name) ⊎ job.half files) × (part ≡ [])) ⊎ job.done files ]
+      by : (t : Bool) → leaves_all turn ≡ t → elim t as (λ none. Type 0) [ true ↦ IsAsWas was job.name files | false ↦ ((IsAsWas was job.name files ⊎ job.half files) × (part ≡ [])) ⊎ job.done files ]
       by true is = all is
       by false is = some is
 
@@ -50,12 +59,12 @@ module _ (old : World) (job : OneTurn) (turn : Event) where
   still_left : (was : Was) (files : Files) (said : List ℕ) → said ≡ old.said → ((m : List ℕ) → was m (files m)) → TurnLeft was old job turn files said
   still_left was files said silent all = record {
     out = nothing_said said silent;
-    own = own_left was [] files (λ is. all job.name) (λ is. inl (inl (all job.name), refl));
+    own = own_left was [] files (λ is. as_was was job.name files all) (λ is. inl (inl (as_was was job.name files all), refl));
     others = λ m other. all m;
   }
 
   -- the call goes on
-  way_left : (was : Was) (files : Files) (said : List ℕ) → leaves_all turn ≡ false → said ≡ old.said → IsOnItsWay was job files → ((m : List ℕ) → m ≢ job.name → was m (files m)) → TurnLeft was old job turn files said
+  way_left : (was : Was) (files : Files) (said : List ℕ) → leaves_all turn ≡ false → said ≡ old.said → IsOnItsWay was job files → ((m : List ℕ) → Other (OfName job.name) m → was m (files m)) → TurnLeft was old job turn files said
   way_left was files said some silent way others = record {
     out = nothing_said said silent;
     own = own_left was [] files (λ is. absurd (true≢false (sym is ∙ some))) (λ is. ⊎_elim (λ w. inl (w, refl)) inr way);
@@ -63,18 +72,18 @@ module _ (old : World) (job : OneTurn) (turn : Event) where
   }
 
   -- it is done, and its line is said
-  done_left : (was : Was) (files : Files) (said : List ℕ) → leaves_all turn ≡ false → IsSaid old (turn ∷ []) said → job.done files → ((m : List ℕ) → m ≢ job.name → was m (files m)) → TurnLeft was old job turn files said
+  done_left : (was : Was) (files : Files) (said : List ℕ) → leaves_all turn ≡ false → IsSaid old (turn ∷ []) said → job.done files → ((m : List ℕ) → Other (OfName job.name) m → was m (files m)) → TurnLeft was old job turn files said
   done_left was files said some out done others = record {
     out = out;
     own = own_left was out.part files (λ is. absurd (true≢false (sym is ∙ some))) (λ is. inr done);
     others = others;
   }
 
-  -- it is refused, and its line is said
-  refused_left : (was : Was) (files : Files) (said : List ℕ) → leaves_all turn ≡ true → IsSaid old (turn ∷ []) said → ((m : List ℕ) → was m (files m)) → TurnLeft was old job turn files said
-  refused_left was files said none out all = record {
+  -- it leaves all, and its line is said
+  told_left : (was : Was) (files : Files) (said : List ℕ) → leaves_all turn ≡ true → IsSaid old (turn ∷ []) said → ((m : List ℕ) → was m (files m)) → TurnLeft was old job turn files said
+  told_left was files said none out all = record {
     out = out;
-    own = own_left was out.part files (λ is. all job.name) (λ is. absurd (true≢false (sym none ∙ is)));
+    own = own_left was out.part files (λ is. as_was was job.name files all) (λ is. absurd (true≢false (sym none ∙ is)));
     others = λ m other. all m;
   }
 
@@ -162,9 +171,9 @@ module _ (old mid : World) (job : OneTurn) (account : Account) (result : Result 
       pub turn_refused : (end : Result Status Stop) → IfOk end (λ status. status ≡ Refused) → OnOk end (new.said ≡ mid.said ++ line_text 1 (RefusedReply refusal)) → TurnsTo end old new job account
       turn_refused end as_refused said = record {
         stops = joined old mid new _ _ _ call_stops says.moments (λ files now left. left)
-            (λ files now front. refused_left old job turn (Leaves old) files now none (said_then new timely reads_left (RefusedReply refusal) told says refusal_line files now front)
+            (λ files now front. told_left old job turn (Leaves old) files now none (said_then new timely reads_left (RefusedReply refusal) told says refusal_line files now front)
             (λ m. left_before old mid _ refused.quiet.still.left m (files m) tt (front.left m)));
-        reads = refused_left old job turn (Read old.files) new.files new.said none (said_then new timely reads_left (RefusedReply refusal) told says refusal_line new.files new.said (said_now new timely reads_left (RefusedReply refusal) told says refusal_line))
+        reads = told_left old job turn (Read old.files) new.files new.said none (said_then new timely reads_left (RefusedReply refusal) told says refusal_line new.files new.said (said_now new timely reads_left (RefusedReply refusal) told says refusal_line))
             (λ m. same_files new timely reads_left (RefusedReply refusal) told says refusal_line m ∙ ap (λ (f : Files). f m) refused.quiet.still.files);
         gave = gave_nothing new timely reads_left (RefusedReply refusal) told says refusal_line;
         ended = by end as_refused said;
@@ -187,21 +196,40 @@ module _ (old mid : World) (job : OneTurn) (account : Account) (result : Result 
     served : IsServed reply mid job turn
     served = subst (λ (r : Result Reply Fault). ServedAs r old mid job turn) is serves.answer
 
-    some : leaves_all turn ≡ false
-    some = ap leaves_all served.is
-
     reply_line : output (turn ∷ []) ≡ line_text 1 reply
-    reply_line = ap (λ (e : Event). output (e ∷ [])) served.is ∙ output_one (only_turn reply (served.stroke ∷ [])) reply refl
+    reply_line = output_one turn reply served.says ∙ ap (λ (session : ℕ). line_text session reply) served.session
+
+    reply_number : number_of Done ≡ status_of (replies_of (turn ∷ []))
+    reply_number = sym (status_one turn reply served.says ∙ served.fine)
 
     module _ (new : World) (timely : IsTimely new) (reads_left : LeavesAll new new.files) {S E : Type 0} (told : Result S E) (says : SaysLine told mid new (line_text 1 reply)) where
+      then_said : (files : Files) (said : List ℕ) → FrontSaid mid (line_text 1 reply) files said → IsSaid old (turn ∷ []) said
+      then_said = said_then new timely reads_left reply told says reply_line
+
+      -- what stood behind the call stands behind its line
+      same_now : (m : List ℕ) → new.files m ≡ mid.files m
+      same_now = same_files new timely reads_left reply told says reply_line
+
+      line_now : IsSaid old (turn ∷ []) new.said
+      line_now = then_said new.files new.said (said_now new timely reads_left reply told says reply_line)
+
       done_stops : AtEachMoment old new (TurnLeft (Leaves old) old job turn)
-      done_stops = joined old mid new _ _ _ call_stops says.moments (λ files said left. left)
-          (λ files said front. done_left old job turn (Leaves old) files said some (said_then new timely reads_left reply told says reply_line files said front) (served.done.left files front.left)
-          (λ m off. left_before old mid (Other (Only job.name)) serves.left.others m (files m) off (front.left m)))
+      done_stops = joined old mid new _ _ _ call_stops says.moments (λ files said left. left) (by (leaves_all turn) refl)
+        where
+          by : (t : Bool) → leaves_all turn ≡ t → (files : Files) (said : List ℕ) → FrontSaid mid (line_text 1 reply) files said → TurnLeft (Leaves old) old job turn files said
+          by true none files said front = told_left old job turn (Leaves old) files said none (then_said files said front) (λ m. left_before old mid _ (serves.idle none).still.left m (files m) tt (front.left m))
+          by false some files said front =
+              done_left old job turn (Leaves old) files said some (then_said files said front) ((served.done some).left files front.left)
+              (λ m off. left_before old mid (Other (OfName job.name)) serves.left.others m (files m) off (front.left m))
 
       done_reads : TurnLeft (Read old.files) old job turn new.files new.said
-      done_reads = done_left old job turn (Read old.files) new.files new.said some (said_then new timely reads_left reply told says reply_line new.files new.said (said_now new timely reads_left reply told says reply_line))
-          (subst job.done (sym says.still.files) served.done.now) (λ m off. same_files new timely reads_left reply told says reply_line m ∙ serves.left.others_read m off)
+      done_reads = by (leaves_all turn) refl
+        where
+          by : (t : Bool) → leaves_all turn ≡ t → TurnLeft (Read old.files) old job turn new.files new.said
+          by true none = told_left old job turn (Read old.files) new.files new.said none line_now (λ m. same_now m ∙ ap (λ (f : Files). f m) (serves.idle none).still.files)
+          by false some =
+              done_left old job turn (Read old.files) new.files new.said some line_now (subst job.done (sym says.still.files) (served.done some).now)
+              (λ m off. same_now m ∙ serves.left.others_read m off)
 
       -- not to its end
       pub turn_unsaid : (e : Stop) → TurnsTo (Err e) old new job account
@@ -214,11 +242,64 @@ module _ (old mid : World) (job : OneTurn) (account : Account) (result : Result 
         gave = gave_nothing new timely reads_left reply told says reply_line;
         ended = record {
           said = said_all new timely reads_left reply told says reply_line said;
-          ended = sym (ap (λ (e : Event). status_of (replies_of (e ∷ []))) served.is ∙ status_one (only_turn reply (served.stroke ∷ [])) reply refl ∙ served.fine);
-          done = λ yes. record {
-            now = subst job.done (sym says.still.files) served.done.now;
-            left = λ files leaves. served.done.left files (λ m. left_before mid new _ says.still.left m (files m) tt (leaves m));
+          ended = reply_number;
+          done = λ some. record {
+            now = subst job.done (sym says.still.files) (served.done some).now;
+            left = λ files leaves. (served.done some).left files (λ m. left_before mid new _ says.still.left m (files m) tt (leaves m));
           };
-          unchanged = λ all. absurd (true≢false (sym all ∙ some));
+          unchanged = λ none. says.still.files ∙ (serves.idle none).still.files;
         };
       }
+
+-- A job that begins with calls that change nothing.
+module _ (old mid new : World) (quiet : Quiet old mid) (job : OneTurn) (account : Account) where
+  abbrev its_turn : Event
+  its_turn = job.turn account
+
+  was_before : (m : List ℕ) (file : File) → Leaves mid m file → Leaves old m file
+  was_before m file leaves = left_before old mid _ quiet.still.left m file tt leaves
+
+  since : (was later : Was) → ((m : List ℕ) (file : File) → later m file → was m file) → (files : Files) (said : List ℕ) → TurnLeft later mid job its_turn files said → TurnLeft was old job its_turn files said
+  since was later goes files said l = record {
+    out = record { part = l.out.part; is = l.out.is ∙ ap (λ (s : List ℕ). s ++ l.out.part) quiet.said; front = l.out.front };
+    own = own_left old job its_turn was l.out.part files (λ is. all is l.own) (λ is. some is l.own);
+    others = λ m off. goes m (files m) (l.others m off);
+  }
+    where
+      named : (name : Option (List ℕ)) → IsAsWas later name files → IsAsWas was name files
+      named None as_it = tt
+      named (Some name) as_it = goes name (files name) as_it
+
+      all : leaves_all its_turn ≡ true → FileLeft later job its_turn l.out.part files → IsAsWas was job.name files
+      all is = by (leaves_all its_turn) is
+        where
+          by : (t : Bool) → t ≡ true → elim t as (λ none. Type 0) [ true ↦ IsAsWas later job.name files | false ↦ ((IsAsWas later job.name files ⊎ job.half files) × (l.out.part ≡ [])) ⊎ job.done files ] → IsAsWas was job.name files
+          by true e as_it = named job.name as_it
+          by false e left = absurd (true≢false (sym e))
+
+      some : leaves_all its_turn ≡ false → FileLeft later job its_turn l.out.part files → ((IsAsWas was job.name files ⊎ job.half files) × (l.out.part ≡ [])) ⊎ job.done files
+      some is = by (leaves_all its_turn) is
+        where
+          by : (t : Bool) → t ≡ false → elim t as (λ none. Type 0) [ true ↦ IsAsWas later job.name files | false ↦ ((IsAsWas later job.name files ⊎ job.half files) × (l.out.part ≡ [])) ⊎ job.done files ]
+              → ((IsAsWas was job.name files ⊎ job.half files) × (l.out.part ≡ [])) ⊎ job.done files
+          by true e left = absurd (true≢false e)
+          by false e (inl (inl as_it, none)) = inl (inl (named job.name as_it), none)
+          by false e (inl (inr half, none)) = inl (inr half, none)
+          by false e (inr done) = inr done
+
+  pub turn_quietly : (result : Result Status Stop) → TurnsTo result mid new job account → TurnsTo result old new job account
+  turn_quietly result turns = record {
+    stops = joined old mid new _ _ _ (quiet_stops old mid job its_turn quiet) turns.stops (λ files said left. left) (since (Leaves old) (Leaves mid) was_before);
+    reads = since (Read old.files) (Read mid.files) (λ m file same. same ∙ ap (λ (f : Files). f m) quiet.still.files) new.files new.said turns.reads;
+    gave = record { guids = turns.gave.guids ∙ quiet.guids; times = turns.gave.times ∙ quiet.times };
+    ended = by result turns.ended;
+  }
+    where
+      by : (r : Result Status Stop) → IfOk r (λ status. TurnEnded status mid new job its_turn) → IfOk r (λ status. TurnEnded status old new job its_turn)
+      by (Ok status) ended = record {
+        said = ended.said ∙ ap (λ (s : List ℕ). s ++ output (its_turn ∷ [])) quiet.said;
+        ended = ended.ended;
+        done = ended.done;
+        unchanged = λ all. ended.unchanged all ∙ quiet.still.files;
+      }
+      by (Err e) ended = tt

@@ -99,7 +99,7 @@ none_plain name bytes there = absurd (never there)
     never : ◌≡◌ {A = File} None (Some bytes) → ⊥
     never h = cc
 
-none_missing : (name : List ℕ) → entry_in no_files name ≡ Missing
+none_missing : (name : List ℕ) → entry_in no_files name ≡ Missing None
 unfolding entry_of_files
 none_missing name = refl
 

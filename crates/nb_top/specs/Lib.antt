@@ -6,3 +6,5 @@ pub mod Served
 pub mod Performed
 pub mod Worlds
 pub mod Touched
+pub mod Goes
+pub mod Shown

@@ -2,14 +2,17 @@
 use Rattle.std.specs.Prelude.{◌≡◌, ℕ, ◌≤◌, true, List, [], ◌∷◌, length, replicate, Option, None, Some, Result, Ok, Err}
 use Rattle.std.specs.List.{list_all}
 use Rattle.nb_host.specs.Files.{File, Files}
+use Rattle.nb_host.specs.declared.faults.Fault.{Fault}
+use Rattle.nb_host.specs.declared.faults.Fault.TheVariants.{Refused as RefusedFault, Device, Memory}
 use Rattle.nb_host.specs.declared.refusals.Refusal.{Refusal}
 use Rattle.nb_host.specs.declared.refusals.Refusal.TheVariants.{Usage, NoFile}
 use Rattle.nb_model.specs.declared.job.Job.{Job}
-use Rattle.nb_model.specs.declared.job.Job.TheVariants.{Run, Stat, Gen, Backup, BackupSince, Restore, Apply, Lock, LockWithSize, Unlock, Fixup}
+use Rattle.nb_model.specs.declared.job.Job.TheVariants.{Run, Stat, Gen, Backup, BackupSince, Restore, Apply, Lock, LockWithSize, Unlock, Fixup, Fold, Plan as PlanOf}
 use Rattle.nb_model.specs.declared.statement.Statement.{Statement}
 use Rattle.nb_model.specs.declared.statement.Statement.TheVariants.{OpenDb, BeginBackup, EndBackup, ShowHeader, ShowPages, Backup as BackupTo, BackupSince as BackupOf}
 use Rattle.nb_model.specs.Jobs.{usual_cache}
 use Rattle.nb_model.specs.Words.{job_of, is_database, is_file}
+use Rattle.nb_catalog.specs.Turns.{names_in}
 use Rattle.nb_script.specs.Scripts.{Plan, script_of}
 use Rattle.nb_top.specs.declared.telling.Telling.{Telling}
 use Rattle.nb_top.specs.declared.telling.Telling.TheVariants.{All, Quietly, WithSize}
@@ -26,6 +29,7 @@ FitsJob (Unlock db) = is_database db ≡ true
 FitsJob (Fixup db) = is_database db ≡ true
 FitsJob (Apply db file) = (is_database db ≡ true) × (is_file file ≡ true)
 FitsJob (Restore db files) = (is_database db ≡ true) × (1 ≤ length files) × (length files ≤ 10) × (list_all is_file files ≡ true)
+FitsJob (Fold out files) = (is_file out ≡ true) × (2 ≤ length files) × (length files ≤ 9) × (list_all is_file files ≡ true)
 FitsJob other = Unit {0}
 
 -- What a run is asked for.
@@ -43,17 +47,22 @@ pub data Deed : Type 0 where
   ToFix : (db : List ℕ) → Deed
   -- a level file is merged into a standby, in place
   ToMerge : (db name : List ℕ) → Deed
+  -- level files are folded into one
+  ToFold : (out : List ℕ) (names : List (List ℕ)) → Deed
+  -- which of these backup files so many restore points need
+  ToPlan : (keep : ℕ) (names : List (List ℕ)) → Deed
 
 -- What the words ask for: a run, or why there is none, or a job of one turn.
 pub data Asked : Type 0 where
   Runs : Result Request Refusal → Asked
   Does : Deed → Asked
 
--- what a job of one turn does
+-- what a job of one turn does, whose words tell all of it
 abbrev pub deed_of : Job → Option Deed
 deed_of (Restore db names) = Some (ToRestore db names)
 deed_of (Fixup db) = Some (ToFix db)
 deed_of (Apply db file) = Some (ToMerge db file)
+deed_of (Fold out files) = Some (ToFold out files)
 deed_of other = None
 
 -- the script that a file spells, or why there is none
@@ -82,10 +91,37 @@ run_of files (Unlock db) = Ok (ToRun (plan_of db (EndBackup ∷ [])) Quietly)
 run_of files (Gen number script) = Ok (ToGenerate number script)
 run_of files other = Err Usage
 
+-- to plan for the files of a list, or why there is none
+abbrev pub to_plan : (keep : ℕ) → Result (List (List ℕ)) Refusal → Asked
+to_plan keep (Ok names) = Does (ToPlan keep names)
+to_plan keep (Err refusal) = Runs (Err refusal)
+
 -- what a job asks for
 abbrev pub request_of : Files → Job → Asked
+request_of files (PlanOf keep list) = to_plan keep (names_in list (files list))
 request_of files job = elim (deed_of job) [ Some deed ↦ Does deed | None ↦ Runs (run_of files job) ]
 
 -- what the words ask for
 abbrev pub request_asked : Files → (words : List (List ℕ)) → Asked
 request_asked files words = elim (job_of words) [ None ↦ Runs (Err Usage) | Some job ↦ request_of files job ]
+
+-- What was read of words: a job whose names they may give, or that they name none, or that memory was too short to read them.
+abbrev pub IsReadJob : Result Job Fault → Type 0
+IsReadJob (Ok job) = FitsJob job
+IsReadJob (Err (RefusedFault refusal)) = Unit {0}
+IsReadJob (Err Memory) = Unit {0}
+IsReadJob (Err Device) = ⊥
+
+-- they name none
+abbrev pub NamesNone : Result Job Fault → Type 0
+NamesNone (Err (RefusedFault refusal)) = Unit {0}
+NamesNone (Ok job) = ⊥
+NamesNone (Err Memory) = ⊥
+NamesNone (Err Device) = ⊥
+
+-- what they ask for, which isn't known where memory was too short
+abbrev pub IsAskedBy : Result Job Fault → Files → Asked → Type 0
+IsAskedBy (Ok job) files asked = asked ≡ request_of files job
+IsAskedBy (Err (RefusedFault refusal)) files asked = asked ≡ Runs (Err Usage)
+IsAskedBy (Err Memory) files asked = (words : List (List ℕ)) × (asked ≡ request_asked files words)
+IsAskedBy (Err Device) files asked = ⊥

@@ -1,5 +1,5 @@
 -- What the call does that takes the turn of a job, before its reply is said.
-use Rattle.std.specs.Prelude.{◌≡◌, ◌≢◌, [], ◌∷◌, Result, Ok, Err, IfOk, true}
+use Rattle.std.specs.Prelude.{◌≡◌, ◌≢◌, Bool, IsTrue, Some, Result, Ok, Err, IfOk, true, false}
 use Rattle.nb_host.specs.World.{World}
 use Rattle.nb_host.specs.Crash.{Leaves}
 use Rattle.nb_host.specs.Moments.{AtEachMoment}
@@ -7,25 +7,28 @@ use Rattle.nb_host.specs.declared.faults.Fault.{Fault}
 use Rattle.nb_host.specs.declared.faults.Fault.TheVariants.{Refused, Device, Memory}
 use Rattle.nb_host.specs.declared.refusals.Refusal.{Refusal}
 use Rattle.nb_host.specs.declared.refusals.Refusal.TheVariants.{Usage}
-use Rattle.nb_change.specs.Changes.{Changes, Only}
+use Rattle.nb_change.specs.Changes.{Changes}
 use Rattle.nb_change.specs.Gave.{GaveNothing}
 use Rattle.nb_page.specs.Quiet.{Quiet}
 use Rattle.nb_model.specs.declared.reply.Reply.{Reply}
+use Rattle.nb_model.specs.declared.reply.Reply.TheVariants.{Refused as RefusedReply}
 use Rattle.nb_model.specs.Account.{Account}
-use Rattle.nb_model.specs.Jobs.{only_turn, only_refusal}
+use Rattle.nb_model.specs.Jobs.{only_refusal}
 use Rattle.nb_model.specs.Output.{status_after}
 use Rattle.nb_model.specs.Run.{Event}
-use Rattle.nb_model.specs.Strokes.{Stroke}
+use Rattle.nb_session.specs.Others.{LeavesOthers}
 use Rattle.nb_session.specs.declared.stop.Stop.{Stop}
 use Rattle.nb_top.specs.declared.status.Status.{Status}
-use Rattle.nb_top.specs.OneTurn.{OneTurn, IsDoneFor, IsOnItsWay, Read, TurnEnded, TurnLeft, leaves_all}
+use Rattle.nb_top.specs.declared.status.Status.TheVariants.{Done as DoneStatus, Refused as RefusedStatus}
+use Rattle.nb_top.specs.Requests.{Deed}
+use Rattle.nb_top.specs.OneTurn.{OneTurn, one_turn, OfName, IsDoneFor, IsOnItsWay, Read, TurnEnded, TurnLeft, leaves_all}
 
--- the turn was done for good, and this is its reply
+-- The turn says this reply to session 1, which is no refusal; where it changes its file, that was done for good.
 pub record IsServed (reply : Reply) (new : World) (job : OneTurn) (turn : Event) : Type 0 where
-  pub stroke : Stroke
-  pub is : turn ≡ only_turn reply (stroke ∷ [])
+  pub session : turn.session ≡ 1
+  pub says : turn.reply ≡ Some reply
   pub fine : status_after reply ≡ 0
-  pub done : IsDoneFor new job
+  pub done : leaves_all turn ≡ false → IsDoneFor new job
 
 -- the turn is this refusal
 pub record IsRefusedWith (refusal : Refusal) (old new : World) (turn : Event) : Type 0 where
@@ -41,11 +44,27 @@ ServedAs (Err Memory) old new job turn = Unit {0}
 
 pub record Serves (result : Result Reply Fault) (old new : World) (job : OneTurn) (turn : Event) : Type 0 where
   pub answer : ServedAs result old new job turn
-  pub left : Changes old new (Only job.name) (IsOnItsWay (Leaves old) job)
+  pub left : Changes old new (OfName job.name) (IsOnItsWay (Leaves old) job)
   pub reads : IsOnItsWay (Read old.files) job new.files
   pub gave : GaveNothing old new
   -- where the turn leaves all nothing changes, also where the device fails
   pub idle : leaves_all turn ≡ true → Quiet old new
+
+-- The turn of the deed was taken so since the world in which it was begun: it is served, for every account that knows what the job asks for, and
+-- other files are left alone.
+pub record IsTaken (tells : Bool) (result : Result Reply Fault) (begun now : World) (deed : Deed) : Type 0 where
+  pub serves : (account : Account) → IsTrue tells → (one_turn begun.files deed).knows account → Serves result begun now (one_turn begun.files deed) ((one_turn begun.files deed).turn account)
+  pub others : IsTrue tells → LeavesOthers begun now (OfName (one_turn begun.files deed).name)
+
+-- what is said of a turn that was taken
+abbrev pub reply_told : Result Reply Refusal → Reply
+reply_told (Ok reply) = reply
+reply_told (Err refusal) = RefusedReply refusal
+
+-- and how the run ends then
+abbrev pub status_told : Result Reply Refusal → Status
+status_told (Ok reply) = DoneStatus
+status_told (Err refusal) = RefusedStatus
 
 -- What a run does of the job.
 pub record TurnsTo (result : Result Status Stop) (old new : World) (job : OneTurn) (account : Account) : Type 0 where

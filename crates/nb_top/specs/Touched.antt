@@ -22,7 +22,7 @@ use Rattle.nb_session.specs.declared.stop.Stop.{Stop}
 use Rattle.nb_top.specs.declared.status.Status.{Status}
 use Rattle.nb_top.specs.declared.status.Status.TheVariants.{Refused as RefusedStatus, Usage as UsageStatus}
 use Rattle.nb_top.specs.Requests.{Request, ToRun, ToGenerate, Asked, Runs, Does}
-use Rattle.nb_top.specs.OneTurn.{one_turn}
+use Rattle.nb_top.specs.OneTurn.{OfName, one_turn}
 use Rattle.nb_top.specs.Performed.{Target, target_asked}
 
 -- the two files of the database that is asked for
@@ -71,10 +71,10 @@ pub record TouchesOnly (result : Result Status Stop) (old new : World) (names : 
 abbrev pub TouchesAsked : (result : Result Status Stop) (old new : World) → Result Request Refusal → Type 0
 TouchesAsked result old new asked = TouchesOnly result old new (MayTouch asked)
 
--- All files that what is asked for may touch: those of a run, or the one of a job of one turn.
+-- All files that what is asked for may touch: those of a run, or the one of a job of one turn, if it has one.
 abbrev pub OfAsked : Files → Asked → Names
 OfAsked files (Runs asked) m = MayTouch asked m
-OfAsked files (Does deed) m = m ≡ (one_turn files deed).name
+OfAsked files (Does deed) m = OfName (one_turn files deed).name m
 
 -- no page of zeros, where a run ends in a merge
 abbrev pub IsWholeAsked : Files → Asked → Type 0

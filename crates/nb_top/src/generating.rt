@@ -1,14 +1,9 @@
 // The script of a number is written to a file, and run.
-ghost use Rattle.std.specs.Prelude.{◌≡◌, ◌⊎◌, false, Ok, IsTrue, IfOk, ℕ, List};
+ghost use Rattle.std.specs.Prelude.{◌≡◌, ◌⊎◌, false, Ok, IfOk};
 ghost use Rattle.nb_host.specs.Names.{is_delta};
-ghost use Rattle.nb_model.specs.Account.{Account};
-ghost use Rattle.nb_model.specs.Gifts.{Foretells};
-ghost use Rattle.nb_model.specs.Outcomes.{Given};
-ghost use Rattle.nb_session.specs.Acts.{Grows};
 ghost use Rattle.nb_session.specs.Causes.{CountsStop};
-ghost use Rattle.nb_top.specs.Performed.{Knows, MayBeGiven, RunsTo};
-ghost use Rattle.nb_top.specs.Requests.{ToGenerate};
-ghost use Rattle.nb_top.specs.Touched.{TouchesAsked};
+ghost use Rattle.nb_top.specs.Goes.{Goes};
+ghost use Rattle.nb_top.specs.Requests.{Runs, ToGenerate};
 
 use crate::Status;
 use crate::script::{refuse, run_script, settled};
@@ -29,10 +24,7 @@ pub(crate) fn run_generated<H: Host>(
     name: &Name,
 ) -> Result<Status, Stop>
     requires { is_delta name.now ≡ false }
-    ensures runs { IsTrue H.tells → (shown : List ℕ) × ((account : Account) (given : Given) → Knows (H.world host.old).files account (Ok (ToGenerate number name.now)) → MayBeGiven given
-        → Foretells given shown (H.world host.old) (H.world host.new) → RunsTo result (H.world host.old) (H.world host.new) (Ok (ToGenerate number name.now)) account given) }
-    ensures grows { (account : Account) → IsTrue H.tells → Knows (H.world host.old).files account (Ok (ToGenerate number name.now)) → Grows (H.world host.old) (H.world host.new) }
-    ensures touches { IsTrue H.tells → TouchesAsked result (H.world host.old) (H.world host.new) (Ok (ToGenerate number name.now)) }
+    ensures goes { Goes H.tells result (H.world host.old) (H.world host.new) (Runs (Ok (ToGenerate number name.now))) }
     ensures done { IfOk result (λ status. (status ≡ Status.Done) ⊎ (status ≡ Status.Refused)) }
     ensures cause { CountsStop result (H.faults host.old) (H.faults host.new) }
 {

@@ -19,6 +19,6 @@ mod turn;
 pub use nb_gen::generate;
 pub use nb_lines::render;
 pub use nb_shown::image_digest;
-pub use program::run;
+pub use program::{run, run_read};
 pub use reading::read_file;
 pub use status::Status;

@@ -1,47 +1,118 @@
 // A job, from the words to the last reply.
-ghost use Rattle.std.specs.Prelude.{◌≡◌, ◌≢◌, ◌⊎◌, ◌↔◌, [], ◌∷◌, true, None, Ok, map, string_bytes, IsTrue, IfOk, ℕ, List};
+ghost use Rattle.std.specs.Prelude.{◌≡◌, ◌≢◌, ◌⊎◌, [], ◌∷◌, None, Ok, Err, IsErr, map, string_bytes, IsTrue, IfOk};
+ghost use Rattle.nb_catalog.specs.NameLists.{list_of};
+ghost use Rattle.nb_catalog.specs.Turns.{names_in};
 ghost use Rattle.nb_host.specs.Causes.{Rose};
 ghost use Rattle.nb_host.specs.declared.refusals.Refusal.TheVariants.{Usage as UsageRefusal};
 ghost use Rattle.nb_change.specs.Gave.{GaveNothing};
-ghost use Rattle.nb_model.specs.Account.{Account};
-ghost use Rattle.nb_model.specs.Gifts.{Foretells};
 ghost use Rattle.nb_model.specs.Lines.{line_text};
-ghost use Rattle.nb_model.specs.Outcomes.{Given};
 ghost use Rattle.nb_model.specs.declared.reply.Reply.TheVariants.{Refused as RefusedReply};
 ghost use Rattle.nb_model.specs.declared.statement.Statement.TheVariants.{BeginBackup, ShowHeader, ShowPages};
 ghost use Rattle.nb_model.specs.Words.{job_of};
 ghost use Rattle.nb_script.specs.Asked.{IsAskable};
-ghost use Rattle.nb_session.specs.Acts.{Grows};
+ghost use Rattle.nb_script.specs.Scripts.{script_of};
 ghost use Rattle.nb_session.specs.Causes.{CountsStop};
 ghost use Rattle.nb_session.specs.Says.{SaysLine};
-ghost use Rattle.nb_top.specs.Performed.{GoesTo, Knows, KnowsAsked, MayBeGiven, Performs, RunsTo};
-ghost use Rattle.nb_top.specs.Requests.{FitsJob, ToRun, plan_of, request_asked, request_of, script_in, to_run};
-ghost use Rattle.nb_top.specs.Touched.{IsWholeAsked, IsWholeToMerge, OfAsked, TouchesAsked, TouchesOnly};
+ghost use Rattle.nb_top.specs.Goes.{Goes, IsRun};
+ghost use Rattle.nb_top.specs.Requests.{Asked, FitsJob, IsAskedBy, IsReadJob, NamesNone, Runs, ToRun, plan_of, request_asked, request_of, script_in, to_plan, to_run};
+ghost use Rattle.nb_top.specs.Shown.{IsShown, IsShownOf};
 
 use crate::Status;
+use crate::broken::{Broken, broken_by};
 use crate::generating::run_generated;
-use crate::reading::read_script;
+use crate::reading::read_file;
 use crate::request::{script_asking, script_showing};
 use crate::script::{refuse, run_script, settled};
 use crate::telling::Telling;
-use crate::turn::run_turn;
-use nb_host::{Host, Name, Refusal};
+use crate::turn::{run_plan, run_turn};
+use nb_catalog::read_list;
+use nb_host::{Fault, Host, Name, Refusal};
 use nb_model::{Job, Statement};
+use nb_script::parse;
 use nb_session::Stop;
 use nb_words::read_job;
 use std::alloc::Global;
 
-/// Runs the script of that name.
-fn run_file<H: Host>(alloc: Global, host: &mut H, name: &Name) -> Result<Status, Stop>
-    ensures runs { IsTrue H.tells → (shown : List ℕ) × ((account : Account) (given : Given) → Knows (H.world host.old).files account (to_run (script_in name.now ((H.world host.old).files name.now)))
-        → MayBeGiven given → Foretells given shown (H.world host.old) (H.world host.new) → RunsTo result (H.world host.old) (H.world host.new) (to_run (script_in name.now ((H.world host.old).files name.now))) account given) }
-    ensures grows { (account : Account) → IsTrue H.tells → Knows (H.world host.old).files account (to_run (script_in name.now ((H.world host.old).files name.now))) → Grows (H.world host.old) (H.world host.new) }
-    ensures touches { IsTrue H.tells → IsWholeToMerge (H.world host.old).files (to_run (script_in name.now ((H.world host.old).files name.now))) → TouchesAsked result (H.world host.old) (H.world host.new) (to_run (script_in name.now ((H.world host.old).files name.now))) }
+/// Runs the script that these bytes spell. Where a line of it breaks its form, that is `broken` then.
+fn run_bytes<H: Host>(
+    alloc: Global,
+    host: &mut H,
+    bytes: &[u8],
+    broken: &mut Option<Broken>,
+) -> Result<Status, Stop>
+    requires { broken.old ≡ None }
+    ensures goes { Goes H.tells result (H.world host.old) (H.world host.new) (Runs (to_run (script_of bytes.now))) }
+    ensures shown { IsShownOf result broken.new (Runs (to_run (script_of bytes.now))) }
     ensures done { IfOk result (λ status. (status ≡ Status.Done) ⊎ (status ≡ Status.Refused)) }
     ensures cause { CountsStop result (H.faults host.old) (H.faults host.new) }
 {
-    match settled(read_script(alloc, host, name))? {
+    match settled(parse(alloc, bytes))? {
         Ok(script) => run_script(alloc, host, &script, Telling::All),
+        Err(refusal) => {
+            *broken = broken_by(alloc, bytes, &refusal, "there is no first statement")?;
+            refuse(alloc, host, 0, refusal)
+        }
+    }
+}
+
+/// Runs the script of that name. Where a line of it breaks its form, that is `broken` then.
+fn run_file<H: Host>(
+    alloc: Global,
+    host: &mut H,
+    name: &Name,
+    broken: &mut Option<Broken>,
+) -> Result<Status, Stop>
+    requires { broken.old ≡ None }
+    ensures goes { Goes H.tells result (H.world host.old) (H.world host.new) (Runs (to_run (script_in name.now ((H.world host.old).files name.now)))) }
+    ensures shown { IsTrue H.tells → IsShownOf result broken.new (Runs (to_run (script_in name.now ((H.world host.old).files name.now)))) }
+    ensures done { IfOk result (λ status. (status ≡ Status.Done) ⊎ (status ≡ Status.Refused)) }
+    ensures cause { CountsStop result (H.faults host.old) (H.faults host.new) }
+{
+    match settled(read_file(alloc, host, name))? {
+        Ok(bytes) => run_bytes(alloc, host, &bytes, broken),
+        Err(refusal) => refuse(alloc, host, 0, refusal),
+    }
+}
+
+/// Plans for the files that these bytes name. Where a line of them is no name, that is `broken` then.
+fn plan_bytes<H: Host>(
+    alloc: Global,
+    host: &mut H,
+    keep: u32,
+    bytes: &[u8],
+    broken: &mut Option<Broken>,
+) -> Result<Status, Stop>
+    requires { broken.old ≡ None }
+    ensures goes { Goes H.tells result (H.world host.old) (H.world host.new) (to_plan keep (list_of bytes.now)) }
+    ensures shown { IsShownOf result broken.new (to_plan keep (list_of bytes.now)) }
+    ensures done { IfOk result (λ status. (status ≡ Status.Done) ⊎ (status ≡ Status.Refused)) }
+    ensures cause { CountsStop result (H.faults host.old) (H.faults host.new) }
+{
+    match settled(read_list(alloc, bytes))? {
+        Ok(names) => run_plan(alloc, host, keep, names.as_slice()),
+        Err(refusal) => {
+            *broken = broken_by(alloc, bytes, &refusal, "there is no name")?;
+            refuse(alloc, host, 0, refusal)
+        }
+    }
+}
+
+/// Plans for the files of the list of that name. Where a line of it is no name, that is `broken` then.
+fn plan_list<H: Host>(
+    alloc: Global,
+    host: &mut H,
+    keep: u32,
+    list: &Name,
+    broken: &mut Option<Broken>,
+) -> Result<Status, Stop>
+    requires { broken.old ≡ None }
+    ensures goes { Goes H.tells result (H.world host.old) (H.world host.new) (to_plan keep (names_in list.now ((H.world host.old).files list.now))) }
+    ensures shown { IsTrue H.tells → IsShownOf result broken.new (to_plan keep (names_in list.now ((H.world host.old).files list.now))) }
+    ensures done { IfOk result (λ status. (status ≡ Status.Done) ⊎ (status ≡ Status.Refused)) }
+    ensures cause { CountsStop result (H.faults host.old) (H.faults host.new) }
+{
+    match settled(read_file(alloc, host, list))? {
+        Ok(bytes) => plan_bytes(alloc, host, keep, &bytes, broken),
         Err(refusal) => refuse(alloc, host, 0, refusal),
     }
 }
@@ -55,10 +126,7 @@ fn run_asking<H: Host>(
     telling: Telling,
 ) -> Result<Status, Stop>
     requires askable { IsAskable (plan_of db.now (statement ∷ [])) }
-    ensures runs { IsTrue H.tells → (shown : List ℕ) × ((account : Account) (given : Given) → Knows (H.world host.old).files account (Ok (ToRun (plan_of db.now (statement ∷ [])) telling)) → MayBeGiven given → Foretells given shown (H.world host.old) (H.world host.new)
-        → RunsTo result (H.world host.old) (H.world host.new) (Ok (ToRun (plan_of db.now (statement ∷ [])) telling)) account given) }
-    ensures grows { (account : Account) → IsTrue H.tells → Knows (H.world host.old).files account (Ok (ToRun (plan_of db.now (statement ∷ [])) telling)) → Grows (H.world host.old) (H.world host.new) }
-    ensures touches { IsTrue H.tells → IsWholeToMerge (H.world host.old).files (Ok (ToRun (plan_of db.now (statement ∷ [])) telling)) → TouchesAsked result (H.world host.old) (H.world host.new) (Ok (ToRun (plan_of db.now (statement ∷ [])) telling)) }
+    ensures goes { Goes H.tells result (H.world host.old) (H.world host.new) (Runs (Ok (ToRun (plan_of db.now (statement ∷ [])) telling))) }
     ensures done { IfOk result (λ status. (status ≡ Status.Done) ⊎ (status ≡ Status.Refused)) }
     ensures cause { CountsStop result (H.faults host.old) (H.faults host.new) }
 {
@@ -68,14 +136,10 @@ fn run_asking<H: Host>(
     }
 }
 
-/// Opens a database and shows its header and its pages. Of the opening it says only why it is refused.
+/// Shows the header of a database and its pages.
 fn run_stat<H: Host>(alloc: Global, host: &mut H, db: &Name) -> Result<Status, Stop>
     requires askable { IsAskable (plan_of db.now (ShowHeader ∷ ShowPages ∷ [])) }
-    ensures runs { IsTrue H.tells → (shown : List ℕ) × ((account : Account) (given : Given) → Knows (H.world host.old).files account (Ok (ToRun (plan_of db.now (ShowHeader ∷ ShowPages ∷ [])) Telling.Quietly)) → MayBeGiven given
-        → Foretells given shown (H.world host.old) (H.world host.new)
-        → RunsTo result (H.world host.old) (H.world host.new) (Ok (ToRun (plan_of db.now (ShowHeader ∷ ShowPages ∷ [])) Telling.Quietly)) account given) }
-    ensures grows { (account : Account) → IsTrue H.tells → Knows (H.world host.old).files account (Ok (ToRun (plan_of db.now (ShowHeader ∷ ShowPages ∷ [])) Telling.Quietly)) → Grows (H.world host.old) (H.world host.new) }
-    ensures touches { IsTrue H.tells → IsWholeToMerge (H.world host.old).files (Ok (ToRun (plan_of db.now (ShowHeader ∷ ShowPages ∷ [])) Telling.Quietly)) → TouchesAsked result (H.world host.old) (H.world host.new) (Ok (ToRun (plan_of db.now (ShowHeader ∷ ShowPages ∷ [])) Telling.Quietly)) }
+    ensures goes { Goes H.tells result (H.world host.old) (H.world host.new) (Runs (Ok (ToRun (plan_of db.now (ShowHeader ∷ ShowPages ∷ [])) Telling.Quietly))) }
     ensures done { IfOk result (λ status. (status ≡ Status.Done) ⊎ (status ≡ Status.Refused)) }
     ensures cause { CountsStop result (H.faults host.old) (H.faults host.new) }
 {
@@ -85,22 +149,28 @@ fn run_stat<H: Host>(alloc: Global, host: &mut H, db: &Name) -> Result<Status, S
     }
 }
 
-/// Does a job.
-fn run_job<H: Host>(alloc: Global, host: &mut H, job: &Job) -> Result<Status, Stop>
+/// Does a job. Where it is a script or a plan and a line of its file breaks its form, that is `broken` then.
+fn run_job<H: Host>(
+    alloc: Global,
+    host: &mut H,
+    job: &Job,
+    broken: &mut Option<Broken>,
+) -> Result<Status, Stop>
     requires fits { FitsJob job.now }
-    ensures runs { IsTrue H.tells → (shown : List ℕ) × ((account : Account) (given : Given) → KnowsAsked (H.world host.old).files account (request_of (H.world host.old).files job.now)
-        → MayBeGiven given → Foretells given shown (H.world host.old) (H.world host.new) → GoesTo result (H.world host.old) (H.world host.new) (request_of (H.world host.old).files job.now) account given) }
-    ensures grows { (account : Account) → IsTrue H.tells → KnowsAsked (H.world host.old).files account (request_of (H.world host.old).files job.now) → Grows (H.world host.old) (H.world host.new) }
-    ensures touches { IsTrue H.tells → IsWholeAsked (H.world host.old).files (request_of (H.world host.old).files job.now) → TouchesOnly result (H.world host.old) (H.world host.new) (OfAsked (H.world host.old).files (request_of (H.world host.old).files job.now)) }
+    requires none { broken.old ≡ None }
+    ensures goes { Goes H.tells result (H.world host.old) (H.world host.new) (request_of (H.world host.old).files job.now) }
+    ensures shown { IsTrue H.tells → IsShownOf result broken.new (request_of (H.world host.old).files job.now) }
     ensures done { IfOk result (λ status. (status ≡ Status.Done) ⊎ (status ≡ Status.Refused)) }
     ensures cause { CountsStop result (H.faults host.old) (H.faults host.new) }
 {
     match job {
-        Job::Run { script } => run_file(alloc, host, script),
+        Job::Run { script } => run_file(alloc, host, script, broken),
         Job::Gen { number, script } => run_generated(alloc, host, *number, script),
         Job::Restore { .. } => run_turn(alloc, host, job),
         Job::Fixup { .. } => run_turn(alloc, host, job),
         Job::Apply { .. } => run_turn(alloc, host, job),
+        Job::Fold { .. } => run_turn(alloc, host, job),
+        Job::Plan { keep, list } => plan_list(alloc, host, *keep, list, broken),
         Job::Backup { level, db, file } => {
             let name = file.copied();
             run_asking(
@@ -148,26 +218,64 @@ fn refuse_words<H: Host>(alloc: Global, host: &mut H) -> Result<Status, Stop>
     Ok(Status::Usage)
 }
 
-fn do_job<H: Host>(alloc: Global, words: &[String], host: &mut H) -> Result<Status, Stop>
-    ensures runs { IsTrue H.tells → (shown : List ℕ) × ((account : Account) (given : Given) → KnowsAsked (H.world host.old).files account (request_asked (H.world host.old).files (map string_bytes words.now))
-        → MayBeGiven given → Foretells given shown (H.world host.old) (H.world host.new) → GoesTo result (H.world host.old) (H.world host.new) (request_asked (H.world host.old).files (map string_bytes words.now)) account given) }
-    ensures grows { (account : Account) → IsTrue H.tells → KnowsAsked (H.world host.old).files account (request_asked (H.world host.old).files (map string_bytes words.now)) → Grows (H.world host.old) (H.world host.new) }
-    ensures touches { IsTrue H.tells → IsWholeAsked (H.world host.old).files (request_asked (H.world host.old).files (map string_bytes words.now)) → TouchesOnly result (H.world host.old) (H.world host.new) (OfAsked (H.world host.old).files (request_asked (H.world host.old).files (map string_bytes words.now))) }
-    ensures usage { IfOk result (λ status. (status ≡ Status.Usage) ↔ (job_of (map string_bytes words.now) ≡ None)) }
+/// Does the job that was read of words, if they name one and memory was enough to read them.
+fn do_job<H: Host>(
+    alloc: Global,
+    job: &Result<Job, Fault>,
+    host: &mut H,
+    broken: &mut Option<Broken>,
+) -> Result<Status, Stop>
+    requires read { IsReadJob job.now }
+    requires none { broken.old ≡ None }
+    ensures goes { (asked : Asked) → IsAskedBy job.now (H.world host.old).files asked → Goes H.tells result (H.world host.old) (H.world host.new) asked }
+    ensures shown { (asked : Asked) → IsTrue H.tells → IsAskedBy job.now (H.world host.old).files asked → IsShownOf result broken.new asked }
+    ensures usage { IfOk result (λ status. status ≡ Status.Usage → NamesNone job.now) }
+    ensures no_job { IfOk result (λ status. IsErr job.now → status ≡ Status.Usage) }
     ensures done { IfOk result (λ status. (status ≡ Status.Usage) ⊎ ((status ≡ Status.Done) ⊎ (status ≡ Status.Refused))) }
     ensures cause { CountsStop result (H.faults host.old) (H.faults host.new) }
 {
-    match settled(read_job(alloc, words))? {
-        Ok(job) => run_job(alloc, host, &job),
-        Err(_) => refuse_words(alloc, host),
+    match job {
+        Ok(job) => run_job(alloc, host, job, broken),
+        Err(fault) => match fault {
+            Fault::Refused(_) => refuse_words(alloc, host),
+            Fault::Memory => Err(Stop::Memory),
+            Fault::Device => unreachable!(),
+        },
+    }
+}
+
+/// Does the job that was read of words: the job that they name, `Usage` where they name none, or `Memory` where it was too short to read them. Where that is a script a line of which breaks its form,
+/// that line is `broken` behind it.
+///
+/// It says one line for each reply; a job that makes, begins or ends a backup, or shows the statistics, says nothing of the opening but why
+/// it is refused. Words that name no job, and a script that cannot be read, are refused to session 0. Where a call of the
+/// host fails or memory runs out, the run ends and says nothing more.
+pub fn run_read<H: Host>(
+    alloc: Global,
+    job: &Result<Job, Fault>,
+    host: &mut H,
+    broken: &mut Option<Broken>,
+) -> Status
+    requires read { IsReadJob job.now }
+    requires none { broken.old ≡ None }
+    ensures device { result ≡ Status.Device → Rose (H.faults host.old) (H.faults host.new) }
+    ensures no_device { result ≢ Status.Device → H.faults host.new ≡ H.faults host.old }
+    ensures usage { result ≡ Status.Usage → NamesNone job.now }
+    ensures no_job { IsErr job.now → result ≢ Status.Done × result ≢ Status.Refused }
+    ensures runs { (asked : Asked) → IsAskedBy job.now (H.world host.old).files asked → IsRun H.tells result (H.world host.old) (H.world host.new) asked }
+    // A line is shown exactly where the script is refused for it; where a call of the host fails or memory runs out it may be lost.
+    ensures shown { (asked : Asked) → IsTrue H.tells → IsAskedBy job.now (H.world host.old).files asked → IsShown result broken.new asked }
+{
+    match do_job(alloc, job, host, broken) {
+        Ok(status) => status,
+        Err(Stop::Device) => Status::Device,
+        Err(Stop::Memory) => Status::Memory,
     }
 }
 
 /// Does the job that the words name, which are those of the command line without the program's own name.
 ///
-/// It says one line for each reply; a job that makes, begins or ends a backup, or shows the statistics, says nothing of the opening but why
-/// it is refused. Words that name no job, and a script that cannot be read, are refused to session 0. Where a call of the
-/// host fails or memory runs out, the run ends at once and says nothing more.
+/// What it says and does is what `run_read` does of the job that `nb_words::read_job` reads of them.
 pub fn run<H: Host>(alloc: Global, words: &[String], host: &mut H) -> Status
     // The count of the host's faults rises in this call exactly where the answer is Device.
     ensures device { result ≡ Status.Device → Rose (H.faults host.old) (H.faults host.new) }
@@ -177,29 +285,18 @@ pub fn run<H: Host>(alloc: Global, words: &[String], host: &mut H) -> Status
     ensures usage { result ≡ Status.Usage → job_of (map string_bytes words.now) ≡ None }
     ensures no_job { job_of (map string_bytes words.now) ≡ None → result ≢ Status.Done × result ≢ Status.Refused }
 
-    // Where an account knows what the files tell as the call begins, and whatever GUIDs of 16 bytes and times may still be given: the
-    // output is that of the run which the words ask for, and at each moment a stop leaves what may be left of the database behind a
-    // front of its steps that holds every acknowledged one, each file that the run makes as it was, unfinished or whole, and whole once its
-    // turn is acknowledged, and other files as before. So do the files as they read where the run ended
-    // early. Where the files stand for the account and the GUIDs are new, they stand for one with the records behind that front, and at
-    // the end for the account after.
-    ensures performs { IsTrue H.tells → (shown : List ℕ) × ((account : Account) (given : Given) → KnowsAsked (H.world host.old).files account (request_asked (H.world host.old).files (map string_bytes words.now))
-        → MayBeGiven given → Foretells given shown (H.world host.old) (H.world host.new)
-        → Performs result (H.world host.old) (H.world host.new) (request_asked (H.world host.old).files (map string_bytes words.now)) account given) }
-    // There are such GUIDs and times.
-    ensures grows { (account : Account) → IsTrue H.tells → KnowsAsked (H.world host.old).files account (request_asked (H.world host.old).files (map string_bytes words.now))
-        → Grows (H.world host.old) (H.world host.new) }
-
-    // Whatever stands in the files, and with no account: at each moment, and at the end, no file is other than a stop would have left it before,
-    // or reads otherwise, but the two of the database that the words ask for and those that the job is to make: the files of the backups and copies that its
-    // statements name, and that of a script which it writes. The answer is Refused or Usage only where a line of a refusal was said. Where
-    // a statement ends in a merge, it is asked that no page of a database that is opened is all zeros.
-    ensures touches { IsTrue H.tells → IsWholeAsked (H.world host.old).files (request_asked (H.world host.old).files (map string_bytes words.now))
-        → TouchesOnly (Ok result) (H.world host.old) (H.world host.new) (OfAsked (H.world host.old).files (request_asked (H.world host.old).files (map string_bytes words.now))) }
+    // What the words ask for is done. Where an account knows what the files tell as the call begins, and whatever GUIDs of 16 bytes and times
+    // may still be given (`does`, `Performs`): the output is that of the run which the words ask for, and at each moment a stop leaves what may be left of the
+    // database behind a front of its steps that holds every acknowledged one, each file that the run makes as it was, unfinished or whole, and
+    // whole once its turn is acknowledged, and other files as before. So do the files as they read where the run ended early. Where the files
+    // stand for the account and the GUIDs are new, they stand for one with the records behind that front, and at the end for the account after.
+    //
+    // Whatever stands in the files, and with no account (`touches`): at each moment, and at the end, no file is other than a stop would have left
+    // it before, or reads otherwise, but the two of the database that the words ask for and those that the job is to make: the files of the
+    // backups and copies that its statements name, and that of a script which it writes. The answer is Refused or Usage only where a line of a refusal
+    // was said. Where a statement ends in a merge, it is asked that no page of a database that is opened is all zeros.
+    ensures performs { IsRun H.tells result (H.world host.old) (H.world host.new) (request_asked (H.world host.old).files (map string_bytes words.now)) }
 {
-    match do_job(alloc, words, host) {
-        Ok(status) => status,
-        Err(Stop::Device) => Status::Device,
-        Err(Stop::Memory) => Status::Memory,
-    }
+    let mut broken = None;
+    run_read(alloc, &read_job(alloc, words), host, &mut broken)
 }

@@ -1,18 +1,19 @@
 // The script that a job names is read.
-ghost use Rattle.std.specs.Prelude.{IsTrue, IfOk};
+ghost use Rattle.std.specs.Prelude.{◌≢◌, ℕ, IsTrue, Err};
+ghost use Rattle.nb_host.specs.declared.faults.Fault.TheVariants.{Refused};
+ghost use Rattle.nb_host.specs.declared.refusals.Refusal.TheVariants.{BadScript};
 ghost use Rattle.nb_change.specs.Counts.{CountsDevice};
 ghost use Rattle.nb_page.specs.Quiet.{Quiet};
-ghost use Rattle.nb_script.specs.Asked.{IsAskable};
-ghost use Rattle.nb_top.specs.Performed.{IsRead, IsFileRead};
-ghost use Rattle.nb_top.specs.Requests.{script_in};
+ghost use Rattle.nb_top.specs.Performed.{IsFileRead};
 
 use nb_host::{Fault, Host, Name, Refusal};
-use nb_script::{MOST_BYTES, Script, parse};
+use nb_script::MOST_BYTES;
 use std::alloc::Global;
 
 /// Reads a file of a script whole. The refusals are `NoFile` and `ScriptLong`. It changes nothing.
 pub fn read_file<H: Host>(alloc: Global, host: &mut H, name: &Name) -> Result<Vec<u8>, Fault>
     ensures read { IsTrue H.tells → IsFileRead result name.now ((H.world host.old).files name.now) }
+    ensures unbroken { (line : ℕ) → result ≢ Err (Refused (BadScript line)) }
     ensures quiet { Quiet (H.world host.old) (H.world host.new) }
     ensures cause { CountsDevice result (H.faults host.old) (H.faults host.new) }
 {
@@ -28,16 +29,4 @@ pub fn read_file<H: Host>(alloc: Global, host: &mut H, name: &Name) -> Result<Ve
     let count = host.read_at(name, 0, &mut bytes)?;
     bytes.truncate(count);
     Ok(bytes)
-}
-
-/// Reads the script of that name. It changes nothing.
-pub fn read_script<H: Host>(alloc: Global, host: &mut H, name: &Name) -> Result<Script, Fault>
-    ensures read { IsTrue H.tells → IsRead result (script_in name.now ((H.world host.old).files name.now)) }
-    ensures askable { IfOk result IsAskable }
-    ensures quiet { Quiet (H.world host.old) (H.world host.new) }
-    ensures cause { CountsDevice result (H.faults host.old) (H.faults host.new) }
-{
-    let bytes = read_file(alloc, host, name)?;
-    let script = parse(alloc, &bytes)?;
-    Ok(script)
 }

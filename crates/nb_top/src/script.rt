@@ -5,11 +5,10 @@ ghost use Rattle.nb_host.specs.declared.faults.Fault.TheVariants.{Refused};
 ghost use Rattle.nb_change.specs.Counts.{CountsDevice};
 ghost use Rattle.nb_change.specs.Gave.{GaveNothing};
 ghost use Rattle.nb_page.specs.Quiet.{Quiet};
-ghost use Rattle.nb_model.specs.Account.{Account, Base};
+ghost use Rattle.nb_model.specs.Account.{Base};
 ghost use Rattle.nb_model.specs.Gifts.{Foretells};
 ghost use Rattle.nb_model.specs.Going.{IsMaking};
 ghost use Rattle.nb_model.specs.Lines.{line_text};
-ghost use Rattle.nb_model.specs.Outcomes.{Given};
 ghost use Rattle.nb_model.specs.Run.{Event, Now, base_now, begun};
 ghost use Rattle.nb_model.specs.Steps.{after_steps, steps_in};
 ghost use Rattle.nb_model.specs.Strokes.{Stroke};
@@ -25,10 +24,10 @@ ghost use Rattle.nb_session.specs.Ready.{IsReady};
 ghost use Rattle.nb_session.specs.Says.{SaysLine};
 ghost use Rattle.nb_session.specs.StillOpen.{IsStillOpen, ScriptStays, script_merges};
 ghost use Rattle.nb_session.specs.Told.{told_events};
-ghost use Rattle.nb_top.specs.Performed.{Knows, MayBeGiven, RunsTo, PlaysOpened, PlaysTold, cache_asked, first_event, is_all, opened_reply, told_first, told_later};
+ghost use Rattle.nb_top.specs.Performed.{PlaysOpened, PlaysTold, cache_asked, first_event, is_all, opened_reply, told_first, told_later};
 ghost use Rattle.nb_top.specs.Numbers.{number_of};
-ghost use Rattle.nb_top.specs.Requests.{ToRun};
-ghost use Rattle.nb_top.specs.Touched.{IsWholeToMerge, TouchesAsked};
+ghost use Rattle.nb_top.specs.Goes.{Goes};
+ghost use Rattle.nb_top.specs.Requests.{Runs, ToRun};
 
 use crate::Status;
 use crate::telling::Telling;
@@ -220,10 +219,7 @@ pub fn run_script<H: Host>(
     telling: Telling,
 ) -> Result<Status, Stop>
     requires askable { IsAskable script.now }
-    ensures runs { IsTrue H.tells → (shown : List ℕ) × ((account : Account) (given : Given) → Knows (H.world host.old).files account (Ok (ToRun script.now telling)) → MayBeGiven given → Foretells given shown (H.world host.old) (H.world host.new)
-        → RunsTo result (H.world host.old) (H.world host.new) (Ok (ToRun script.now telling)) account given) }
-    ensures grows { (account : Account) → IsTrue H.tells → Knows (H.world host.old).files account (Ok (ToRun script.now telling)) → Grows (H.world host.old) (H.world host.new) }
-    ensures touches { IsTrue H.tells → IsWholeToMerge (H.world host.old).files (Ok (ToRun script.now telling)) → TouchesAsked result (H.world host.old) (H.world host.new) (Ok (ToRun script.now telling)) }
+    ensures goes { Goes H.tells result (H.world host.old) (H.world host.new) (Runs (Ok (ToRun script.now telling))) }
     ensures done { IfOk result (λ status. (status ≡ Status.Done) ⊎ (status ≡ Status.Refused)) }
     ensures cause { CountsStop result (H.faults host.old) (H.faults host.new) }
 {

@@ -1,21 +1,28 @@
 // Jobs of one turn: a call of a crate below takes the turn, and its reply is said.
-ghost use Rattle.std.specs.Prelude.{◌≡◌, ◌⊎◌, ◌≤◌, length, Some, IsTrue, IfOk};
-ghost use Rattle.nb_change.specs.Changes.{Only};
+ghost use Rattle.std.specs.Prelude.{◌≡◌, ◌⊎◌, ◌<◌, ◌≤◌, ◌^◌, length, Some, IsTrue, IfOk};
+ghost use Rattle.nb_change.specs.Changes.{NoNames, Only};
 ghost use Rattle.nb_change.specs.Counts.{CountsDevice};
+ghost use Rattle.nb_catalog.specs.Turns.{plan_turn};
+ghost use Rattle.nb_fold.specs.Verdict.{fold_turn};
 ghost use Rattle.nb_model.specs.Account.{Account};
 ghost use Rattle.nb_model.specs.Jobs.{apply_turn, fixup_turn, restore_turn};
+ghost use Rattle.nb_model.specs.Lines.{line_text};
 ghost use Rattle.nb_session.specs.Causes.{CountsStop};
 ghost use Rattle.nb_session.specs.Others.{LeavesOthers};
-ghost use Rattle.nb_top.specs.OneTurn.{fixing, merging, one_turn, restoring};
-ghost use Rattle.nb_top.specs.Requests.{Deed, FitsJob, deed_of};
-ghost use Rattle.nb_top.specs.Served.{Serves, TurnsTo};
-ghost use Rattle.nb_top.specs.Touched.{TouchesOnly};
+ghost use Rattle.nb_session.specs.Says.{SaysLine};
+ghost use Rattle.nb_top.specs.OneTurn.{OfName, fixing, folding, merging, one_turn, planning, restoring};
+ghost use Rattle.nb_top.specs.Goes.{Goes};
+ghost use Rattle.nb_top.specs.Requests.{Deed, Does, FitsJob, ToPlan, deed_of};
+ghost use Rattle.nb_top.specs.Served.{Serves, reply_told, status_told};
 
 use crate::Status;
 use crate::script::{refuse, say_line, settled};
+use nb_catalog::{named, plan_files};
 use nb_fixup::fix_up;
-use nb_host::{Fault, Host, Name};
+use nb_fold::fold;
+use nb_host::{Fault, Host, Name, Refusal};
 use nb_inplace::apply;
+use nb_level::LevelHead;
 use nb_model::{Job, Reply};
 use nb_restore::restore;
 use nb_session::Stop;
@@ -56,38 +63,112 @@ fn merged<H: Host>(alloc: Global, host: &mut H, db: &Name, file: &Name) -> Resul
     Ok(Reply::Pages { pages })
 }
 
+/// The level in the head of a level file, which is 9 at most.
+fn level_of(head: &LevelHead) -> u8
+    ensures { head.now.level ≤ 9 → result ≡ head.now.level }
+{
+    head.level.min(9) as u8
+}
+
+/// Folds 2 to 9 consecutive level files into a new one, and answers its level, its SCN, how many pages it has, and its GUID.
+fn folded<H: Host>(alloc: Global, host: &mut H, out: &Name, files: &[Name]) -> Result<Reply, Fault>
+    requires some { 2 ≤ length files.now }
+    requires few { length files.now ≤ 9 }
+    ensures serves { (account : Account) → IsTrue H.tells → (folding (H.world host.old).files out.now files.now).knows account
+        → Serves result (H.world host.old) (H.world host.new) (folding (H.world host.old).files out.now files.now) (fold_turn (H.world host.old).files account out.now files.now) }
+    ensures others { IsTrue H.tells → LeavesOthers (H.world host.old) (H.world host.new) (Only out.now) }
+    ensures cause { CountsDevice result (H.faults host.old) (H.faults host.new) }
+{
+    let made = fold(alloc, host, files, out)?;
+    Ok(Reply::Level {
+        level: level_of(&made.head),
+        scn: made.head.scn,
+        pages: made.pages,
+        guid: made.head.guid,
+    })
+}
+
+/// Plans which of these backup files the last restore points need, so many of them, and answers how many files those are, and the names of the
+/// others: those that may go, and those from which no chain leads down to level 0.
+fn planned<H: Host>(alloc: Global, host: &mut H, keep: u32, files: &[Name]) -> Result<Reply, Fault>
+    requires few { length files.now < 2 ^ 32 }
+    ensures serves { IsTrue H.tells
+        → Serves result (H.world host.old) (H.world host.new) (planning (H.world host.old).files keep files.now) (plan_turn (H.world host.old).files files.now keep) }
+    ensures others { IsTrue H.tells → LeavesOthers (H.world host.old) (H.world host.new) NoNames }
+    ensures cause { CountsDevice result (H.faults host.old) (H.faults host.new) }
+{
+    let plan = plan_files(alloc, host, files, keep)?;
+    let dropped = named(alloc, files, plan.dropped())?;
+    let orphans = named(alloc, files, plan.orphans())?;
+    Ok(Reply::Planned {
+        kept: plan.kept(),
+        dropped,
+        orphans,
+    })
+}
+
 /// Takes the turn of the job, and answers its reply.
 fn take_turn<H: Host>(alloc: Global, host: &mut H, job: &Job) -> Result<Reply, Fault>
     requires deed { (deed : Deed) × (deed_of job.now ≡ Some deed) }
     requires fits { FitsJob job.now }
     ensures serves { (deed : Deed) (account : Account) → deed_of job.now ≡ Some deed → IsTrue H.tells → (one_turn (H.world host.old).files deed).knows account
         → Serves result (H.world host.old) (H.world host.new) (one_turn (H.world host.old).files deed) ((one_turn (H.world host.old).files deed).turn account) }
-    ensures others { (deed : Deed) → deed_of job.now ≡ Some deed → IsTrue H.tells → LeavesOthers (H.world host.old) (H.world host.new) (Only (one_turn (H.world host.old).files deed).name) }
+    ensures others { (deed : Deed) → deed_of job.now ≡ Some deed → IsTrue H.tells → LeavesOthers (H.world host.old) (H.world host.new) (OfName (one_turn (H.world host.old).files deed).name) }
     ensures cause { CountsDevice result (H.faults host.old) (H.faults host.new) }
 {
     match job {
         Job::Restore { db, files } => restored(alloc, host, db, files.as_slice()),
         Job::Fixup { db } => fixed(host, db),
         Job::Apply { db, file } => merged(alloc, host, db, file),
+        Job::Fold { out, files } => folded(alloc, host, out, files.as_slice()),
         _ => unreachable!(),
     }
 }
 
-/// Does a job of one turn: takes it, and says its reply, or why it is refused.
-pub(crate) fn run_turn<H: Host>(alloc: Global, host: &mut H, job: &Job) -> Result<Status, Stop>
-    requires deed { (deed : Deed) × (deed_of job.now ≡ Some deed) }
-    requires fits { FitsJob job.now }
-    ensures turns { (deed : Deed) (account : Account) → deed_of job.now ≡ Some deed → IsTrue H.tells → (one_turn (H.world host.old).files deed).knows account
-        → TurnsTo result (H.world host.old) (H.world host.new) (one_turn (H.world host.old).files deed) account }
-    ensures touches { (deed : Deed) → deed_of job.now ≡ Some deed → IsTrue H.tells → TouchesOnly result (H.world host.old) (H.world host.new) (Only (one_turn (H.world host.old).files deed).name) }
+/// Says the reply of a turn that was taken, or why it was refused.
+fn say_taken<H: Host>(
+    alloc: Global,
+    host: &mut H,
+    taken: Result<Reply, Refusal>,
+) -> Result<Status, Stop>
+    ensures line { IsTrue H.tells → SaysLine result (H.world host.old) (H.world host.new) (line_text 1 (reply_told taken)) }
+    ensures ended { IfOk result (λ status. status ≡ status_told taken) }
     ensures done { IfOk result (λ status. (status ≡ Status.Done) ⊎ (status ≡ Status.Refused)) }
     ensures cause { CountsStop result (H.faults host.old) (H.faults host.new) }
 {
-    match settled(take_turn(alloc, host, job))? {
+    match taken {
         Ok(reply) => {
             say_line(alloc, host, 1, &reply)?;
             Ok(Status::Done)
         }
         Err(refusal) => refuse(alloc, host, 1, refusal),
     }
+}
+
+/// Does a job of one turn whose words tell all of it: takes the turn, and says its reply, or why it is refused.
+pub(crate) fn run_turn<H: Host>(alloc: Global, host: &mut H, job: &Job) -> Result<Status, Stop>
+    requires deed { (deed : Deed) × (deed_of job.now ≡ Some deed) }
+    requires fits { FitsJob job.now }
+    ensures goes { (deed : Deed) → deed_of job.now ≡ Some deed → Goes H.tells result (H.world host.old) (H.world host.new) (Does deed) }
+    ensures done { IfOk result (λ status. (status ≡ Status.Done) ⊎ (status ≡ Status.Refused)) }
+    ensures cause { CountsStop result (H.faults host.old) (H.faults host.new) }
+{
+    let taken = settled(take_turn(alloc, host, job))?;
+    say_taken(alloc, host, taken)
+}
+
+/// Plans for these backup files, and says the plan, or why it is refused.
+pub(crate) fn run_plan<H: Host>(
+    alloc: Global,
+    host: &mut H,
+    keep: u32,
+    files: &[Name],
+) -> Result<Status, Stop>
+    requires few { length files.now < 2 ^ 32 }
+    ensures goes { Goes H.tells result (H.world host.old) (H.world host.new) (Does (ToPlan keep files.now)) }
+    ensures done { IfOk result (λ status. (status ≡ Status.Done) ⊎ (status ≡ Status.Refused)) }
+    ensures cause { CountsStop result (H.faults host.old) (H.faults host.new) }
+{
+    let taken = settled(planned(alloc, host, keep, files))?;
+    say_taken(alloc, host, taken)
 }

@@ -3,10 +3,9 @@ use crate::change::{Change, change_file, keep_alone, put, put_text};
 use crate::line::{Line, is_below, number_in, text_below};
 use crate::show::{Show, tell_file};
 use anyhow::{Context, Result};
-use nb_host::Name;
 use nb_mem::MemHost;
-use nb_top::broken::broken_line;
-use nb_top::{Status, run};
+use nb_top::{Status, run, run_read};
+use nb_words::read_job;
 use std::alloc::{AllocError, Global};
 
 /// A step, as a line and those below it have it.
@@ -18,7 +17,7 @@ enum Step<'a> {
     Scripts(usize, usize, &'a [Line<'a>]),
     /// `words WORD..`: a run by these words.
     Words(&'a str),
-    /// `broken NAME`: which line of that script breaks its form.
+    /// `broken NAME`: a run of that script, and which line of it breaks its form.
     Broken(&'a str),
     /// `keep NAME..`: the trial goes on with these files alone, on a new host.
     Keep(&'a str),
@@ -103,11 +102,16 @@ fn tell_run(host: &MemHost, before: usize, status: Status, told: &mut Told) -> R
     Ok(())
 }
 
-/// Does what the words of a line ask, and tells it. It answers whether the host can go on.
-pub fn tell_line(alloc: Global, host: &mut MemHost, line: &str, told: &mut Told) -> Result<bool> {
-    let before = host.output().len();
+/// A run begins. It answers how many bytes the host has said before.
+fn begin(host: &MemHost, told: &mut Told) -> usize {
     told.calls = host.calls();
     told.reads = host.read_count();
+    host.output().len()
+}
+
+/// Does what the words of a line ask, and tells it. It answers whether the host can go on.
+pub fn tell_line(alloc: Global, host: &mut MemHost, line: &str, told: &mut Told) -> Result<bool> {
+    let before = begin(host, told);
     let status = run_line(alloc, host, line)?;
     tell_run(host, before, status, told)?;
     Ok(status != Status::Device)
@@ -134,14 +138,19 @@ fn run_each(
     Ok(true)
 }
 
-/// Tells the number of the line of a script that breaks its form and what is shown of it, or that the script is whole.
-fn tell_broken(alloc: Global, host: &mut MemHost, name: &str, text: &mut String) -> Result<()> {
-    let script = Name::read(name).context("no name of a file")?;
-    match broken_line(alloc, host, &script)? {
-        Some(broken) => write!(text, "{name}: line {}: {}\n", broken.line, broken.text)?,
-        None => write!(text, "{name}: whole\n")?,
+/// Runs the script of that name, and tells the number of the line that breaks its form and what is shown of it, or that none does. It answers
+/// whether the host can go on.
+fn tell_broken(alloc: Global, host: &mut MemHost, name: &str, told: &mut Told) -> Result<bool> {
+    let words = words_of(alloc, &format!(in alloc; "run {name}")?)?;
+    let before = begin(host, told);
+    let mut broken = None;
+    let status = run_read(alloc, &read_job(alloc, &words), host, &mut broken);
+    tell_run(host, before, status, told)?;
+    match broken {
+        Some(broken) => write!(told.text, "{name}: line {}: {}\n", broken.line, broken.text)?,
+        None => write!(told.text, "{name}: no line\n")?,
     }
-    Ok(())
+    Ok(status != Status::Device)
 }
 
 /// Tells how far a count has gone since the last run began.
@@ -159,7 +168,7 @@ fn do_step(alloc: Global, host: &mut MemHost, step: Step, told: &mut Told) -> Re
             return run_each(alloc, host, first, last, lines, told);
         }
         Step::Words(line) => return tell_line(alloc, host, line, told),
-        Step::Broken(name) => tell_broken(alloc, host, name, &mut told.text)?,
+        Step::Broken(name) => return tell_broken(alloc, host, name, told),
         Step::Keep(names) => keep_alone(alloc, host, names)?,
         Step::Change(name, change) => change_file(alloc, host, name, change)?,
         Step::Show(name, asked) => tell_file(alloc, host, name, asked, &mut told.text)?,

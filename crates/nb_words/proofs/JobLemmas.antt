@@ -1,11 +1,13 @@
 -- The jobs of the cells, by the words that they ask for.
 use Rattle.uuid.specs.Text.{parsed_hyphenated}
-use Rattle.nb_model.specs.declared.job.Job.TheVariants.{Backup, BackupSince, Restore}
+use Rattle.nb_model.specs.declared.job.Job.TheVariants.{Backup, BackupSince, Fold, Restore}
 use Rattle.std.proofs.lemmas.List.{take_more, take_all, map-append, get_or_default, length-map}
-use Rattle.std.proofs.Common.{drop, nat_le, take, ◌++◌, ◌-◌, ap₂, slice_index, ◌≡◌, ◌∙◌, ◌+◌, ◌<◌, ◌≤◌, ℕ, zero, suc, ◌&&◌, Bool, true, false, List, [], ◌∷◌, length, get_or, Option, Some, None, refl, ap, sym, subst, cond, arith, Bor}
+use Rattle.std.proofs.Common.{drop, nat_le, take, ◌++◌, ◌-◌, ap₂, slice_index, ◌≡◌, ◌∙◌, ◌+◌, ◌<◌, ◌≤◌, ℕ, zero, suc, ◌&&◌, Bool, true, false, List, [], ◌∷◌, length, get_or, Option, Some, None, refl, ap, sym, subst, cond, arith, Bor, codes}
 use Rattle.std.specs.List.{list_all}
-use Rattle.std.proofs.lemmas.Bool.{and_left, and_right, and_from, le-leb}
-use Rattle.nb_model.specs.Words.{Word, is_database, is_file, job_if, backup_job, restore_job}
+use Rattle.std.specs.Prelude.{not}
+use Rattle.std.proofs.lemmas.Bool.{and_left, and_right, and_from, le-leb, true≢false}
+use Rattle.nb_host.specs.Names.{same_name}
+use Rattle.nb_model.specs.Words.{Word, is_database, is_file, job_if, backup_job, fold_job, restore_job}
 use Rattle.nb_model.specs.declared.job.Job.{Job}
 use Rattle.nb_words.specs.Parts.{is_level, named}
 use Rattle.nb_words.specs.Read.{words_of}
@@ -137,3 +139,24 @@ restored (w ∷ ws) d db files least most named all =
     let count : length (words_of ws) ≡ length ws = length-map ws (λ (s : Bor Word). s.now) in
     let test = all_four (is_database w.now) (nat_le 1 (length (words_of ws))) (nat_le (length (words_of ws)) 10) (list_all is_file (words_of ws)) first.0 (le-leb 1 (length (words_of ws)) (omega (arith, count, least))) (le-leb (length (words_of ws)) 10 (omega (arith, count, most))) rest.0 in
     ap₂ (λ (n : Word) (f : List Word). Some (Restore n f)) first.1 rest.1 ∙ sym (ap (λ (b : Bool). job_if b (Restore w.now (words_of ws))) test)
+
+-- ---- folding
+
+all_five : (a b c d e : Bool) → a ≡ true → b ≡ true → c ≡ true → d ≡ true → e ≡ true → (a && b && c && d && e) ≡ true
+all_five a b c d e f g h i j = and_from (a && b && c && d) e (all_four a b c d f g h i) j
+
+pub not_other : (b : Bool) → not b ≡ false → b ≡ true
+not_other true is = refl
+not_other false is = absurd (true≢false is)
+
+pub folded : (verb word : Word) (words : List (Bor Word)) (out : Word) (files : List Word) → same_name verb (codes "fold") ≡ true → 2 ≤ length words → length words ≤ 9
+    → cond (is_file word) (Some word) None ≡ Some out
+    → cond (list_all is_file (words_of words)) (Some (words_of words)) None ≡ Some files
+    → Some (Fold out files) ≡ fold_job (verb ∷ word ∷ words_of words)
+folded verb word words out files is least most named all =
+    let first = is_some_of (is_file word) word out named in
+    let rest = is_some_of (list_all is_file (words_of words)) (words_of words) files all in
+    let count : length (words_of words) ≡ length words = length-map words (λ (s : Bor Word). s.now) in
+    let test = all_five (same_name verb (codes "fold")) (is_file word) (nat_le 2 (length (words_of words))) (nat_le (length (words_of words)) 9) (list_all is_file (words_of words)) is first.0
+    (le-leb 2 (length (words_of words)) (omega (arith, count, least))) (le-leb (length (words_of words)) 9 (omega (arith, count, most))) rest.0 in
+    ap₂ (λ (n : Word) (f : List Word). Some (Fold n f)) first.1 rest.1 ∙ sym (ap (λ (b : Bool). job_if b (Fold word (words_of words))) test)

@@ -1,10 +1,11 @@
 -- The table is the definition's choice: for any flags and plain words the cell stands for the job that they name.
 use Rattle.std.proofs.Common.{◌≡◌, ◌∙◌, ◌≤◌, ℕ, zero, suc, ◌==◌, ◌&&◌, Bool, true, false, min, List, [], ◌∷◌, length, drop, slice_index, Option, None, refl, ap, sym, codes, nat_le, arith}
+use Rattle.nb_host.specs.Names.{same_name}
 use Rattle.std.specs.List.{list_all, position_or_len, slice_index_or}
 use Rattle.std.proofs.lemmas.Bool.{and_left, and_right, and_parts, eqb-true, lt-leb}
-use Rattle.nb_model.specs.Words.{Word, are_flags, job_read, job_of_flags, job_if, plain_job, backup_job, restore_job, apply_job, database_job, is_database, is_file}
+use Rattle.nb_model.specs.Words.{Word, are_flags, job_read, job_of_flags, job_if, plain_job, fold_job, backup_job, restore_job, apply_job, database_job, is_database, is_file}
 use Rattle.nb_model.specs.declared.job.Job.{Job}
-use Rattle.nb_model.specs.declared.job.Job.TheVariants.{Lock, LockWithSize, Unlock, Fixup, Restore}
+use Rattle.nb_model.specs.declared.job.Job.TheVariants.{Lock, LockWithSize, Unlock, Fixup, Restore, Fold}
 use Rattle.nb_words.specs.Choice.{IsTheChoice, choices, column_of, job_in}
 
 -- from a column on a row has zeros
@@ -26,12 +27,30 @@ at row plain = job_in (slice_index row (column_of plain)) plain
 past : (row : List ℕ) (k : ℕ) (plain : List Word) → list_all (λ c. c == 0) (drop k row) ≡ true → k ≤ 12 → k ≤ length plain → at row plain ≡ None
 past row k plain zeros in_row le = ap (λ c. job_in c plain) (zero_from row k (min (length plain) 12) zeros (omega (arith, in_row, le)))
 
+-- a test of five parts fails by its fourth
+fourth_fails : (a b c d e : Bool) → d ≡ false → (a && b && c && d && e) ≡ false
+fourth_fails a b c d e f = rw f (and_left (a && b && c && false) e (and_right (a && b && c) false refl))
+
+over_nine : (verb out : Word) (files : List Word) → 10 ≤ length files → None ≡ fold_job (verb ∷ out ∷ files)
+over_nine verb out files le =
+    sym (ap (λ b. job_if b (Fold out files)) (fourth_fails (same_name verb (codes "fold")) (is_file out) (nat_le 2 (length files)) (nat_le (length files) 9) (list_all is_file files) (lt-leb (length files) 9 (omega (arith, le)))))
+
 plain_row : (plain : List Word) → at (cells 0) plain ≡ plain_job plain
 plain_row [] = refl
 plain_row (a ∷ []) = refl
 plain_row (a ∷ b ∷ []) = refl
 plain_row (a ∷ b ∷ c ∷ []) = refl
-plain_row (a ∷ b ∷ c ∷ d ∷ rest) = past (cells 0) 4 (a ∷ b ∷ c ∷ d ∷ rest) refl (omega arith) (omega arith)
+plain_row (a ∷ b ∷ c ∷ d ∷ []) = refl
+plain_row (a ∷ b ∷ c ∷ d ∷ e ∷ []) = refl
+plain_row (a ∷ b ∷ c ∷ d ∷ e ∷ f ∷ []) = refl
+plain_row (a ∷ b ∷ c ∷ d ∷ e ∷ f ∷ g ∷ []) = refl
+plain_row (a ∷ b ∷ c ∷ d ∷ e ∷ f ∷ g ∷ h ∷ []) = refl
+plain_row (a ∷ b ∷ c ∷ d ∷ e ∷ f ∷ g ∷ h ∷ i ∷ []) = refl
+plain_row (a ∷ b ∷ c ∷ d ∷ e ∷ f ∷ g ∷ h ∷ i ∷ j ∷ []) = refl
+plain_row (a ∷ b ∷ c ∷ d ∷ e ∷ f ∷ g ∷ h ∷ i ∷ j ∷ k ∷ []) = refl
+plain_row (a ∷ b ∷ c ∷ d ∷ e ∷ f ∷ g ∷ h ∷ i ∷ j ∷ k ∷ l ∷ rest) =
+    past (cells 0) 12 (a ∷ b ∷ c ∷ d ∷ e ∷ f ∷ g ∷ h ∷ i ∷ j ∷ k ∷ l ∷ rest) refl (omega arith) (omega arith)
+    ∙ over_nine a b (c ∷ d ∷ e ∷ f ∷ g ∷ h ∷ i ∷ j ∷ k ∷ l ∷ rest) (omega arith)
 
 backup_row : (plain : List Word) → at (cells 1) plain ≡ backup_job plain
 backup_row [] = refl

@@ -1,10 +1,10 @@
 -- Which job the flags and the number of plain words choose, as a table.
-use Rattle.std.specs.Prelude.{◌≡◌, ℕ, ◌==◌, ◌&&◌, ◌||◌, true, false, nat_eq, nat_le, List, [], ◌∷◌, length, map, min, Option, None, codes}
+use Rattle.std.specs.Prelude.{◌≡◌, ℕ, ◌==◌, ◌&&◌, true, false, nat_eq, nat_le, List, [], ◌∷◌, length, map, min, Option, None, codes}
 use Rattle.std.specs.List.{position_or_len, range_with_len}
 use Rattle.std.specs.Cmp.Lexicographic.{pointwise}
 use Rattle.nb_fields.specs.Cases.{cell}
 use Rattle.nb_words.specs.Read.{counts_of}
-use Rattle.nb_model.specs.Words.{Word, are_flags, job_read, plain_job, backup_job, restore_job, apply_job, database_job}
+use Rattle.nb_model.specs.Words.{Word, are_flags, job_read, run_or_stat, gen_or_plan, fold_job, backup_job, restore_job, apply_job, database_job}
 use Rattle.nb_model.specs.declared.job.Job.{Job}
 use Rattle.nb_model.specs.declared.job.Job.TheVariants.{Lock, LockWithSize, Unlock, Fixup}
 
@@ -36,7 +36,7 @@ at cell row least most = record { cell = cell; row = row; least = least; most = 
 
 -- where each job stands
 abbrev pub places : List Place
-places = at 1 0 2 2 ∷ at 2 0 3 3 ∷ at 3 1 3 3 ∷ at 4 2 2 11 ∷ at 9 3 2 2 ∷ at 5 4 1 1 ∷ at 6 5 1 1 ∷ at 7 6 1 1 ∷ at 8 7 1 1 ∷ []
+places = at 1 0 2 2 ∷ at 2 0 3 3 ∷ at 10 0 4 11 ∷ at 3 1 3 3 ∷ at 4 2 2 11 ∷ at 9 3 2 2 ∷ at 5 4 1 1 ∷ at 6 5 1 1 ∷ at 7 6 1 1 ∷ at 8 7 1 1 ∷ []
 
 -- the cell of a row and a column: that of the first place there, and 0 where none is
 abbrev pub choice : List Place → ℕ → ℕ → ℕ
@@ -49,21 +49,24 @@ choices = map (λ row. map (choice places row) (range_with_len 0 13)) (range_wit
 
 -- the job that a cell stands for
 abbrev pub job_in : ℕ → List Word → Option Job
-job_in cell plain = elim (cell == 1 || cell == 2) [
-  | true ↦ plain_job plain
-  | false ↦ elim (cell == 3) [
-    | true ↦ backup_job plain
-    | false ↦ elim (cell == 4) [
-      | true ↦ restore_job plain
-      | false ↦ elim (cell == 5) [
-        | true ↦ database_job Lock plain
-        | false ↦ elim (cell == 6) [
-          | true ↦ database_job LockWithSize plain
-          | false ↦ elim (cell == 7) [
-            | true ↦ database_job Unlock plain
-            | false ↦ elim (cell == 8) [
-              | true ↦ database_job Fixup plain
-              | false ↦ elim (cell == 9) [ true ↦ apply_job plain | false ↦ None ]
+job_in cell plain = elim (cell == 1) [
+  | true ↦ run_or_stat plain
+  | false ↦ elim (cell == 2) [
+    | true ↦ gen_or_plan plain
+    | false ↦ elim (cell == 3) [
+      | true ↦ backup_job plain
+      | false ↦ elim (cell == 4) [
+        | true ↦ restore_job plain
+        | false ↦ elim (cell == 5) [
+          | true ↦ database_job Lock plain
+          | false ↦ elim (cell == 6) [
+            | true ↦ database_job LockWithSize plain
+            | false ↦ elim (cell == 7) [
+              | true ↦ database_job Unlock plain
+              | false ↦ elim (cell == 8) [
+                | true ↦ database_job Fixup plain
+                | false ↦ elim (cell == 9) [ true ↦ apply_job plain | false ↦ elim (cell == 10) [ true ↦ fold_job plain | false ↦ None ] ]
+              ]
             ]
           ]
         ]

@@ -34,15 +34,15 @@ pub(crate) fn row(counts: &[u8; 7]) -> usize
     place(SETS.as_slice(), counts)
 }
 
-/// The job of each row of flags and each number of plain words, the last column standing for 12 and more. 0 is none, 1 and 2
-/// are what the first word names, 3 is a backup, 4 restoring, 5 locking, 6 locking with the size, 7 unlocking, 8 fixing up and
-/// 9 applying.
+/// The job of each row of flags and each number of plain words, the last column standing for 12 and more. 0 is none, 1
+/// is a run or the statistics, 2 the generator or a plan, 3 is a backup, 4 restoring, 5 locking, 6 locking with the size, 7 unlocking, 8 fixing up,
+/// 9 applying and 10 folding.
 pub(crate) fn table() -> CaseTable<9, 13>
     ensures cells { result ≡ choices }
     ensures meaning { IsTheChoice result }
 {
     cases!(
-        [0, 0, 1, 2, 0, 0, 0, 0, 0, 0, 0, 0, 0],
+        [0, 0, 1, 2, 10, 10, 10, 10, 10, 10, 10, 10, 0],
         [0, 0, 0, 3, 0, 0, 0, 0, 0, 0, 0, 0, 0],
         [0, 0, 4, 4, 4, 4, 4, 4, 4, 4, 4, 4, 0],
         [0, 0, 9, 0, 0, 0, 0, 0, 0, 0, 0, 0, 0],

@@ -3,7 +3,7 @@ ghost use Rattle.std.specs.Prelude.{◌≡◌, [], ◌∷◌, Some, None, cond, 
 ghost use Rattle.std.specs.List.{list_all};
 ghost use Rattle.nb_host.specs.declared.faults.Fault.TheVariants.{Memory};
 ghost use Rattle.nb_model.specs.declared.job.Job.TheVariants.{Lock, LockWithSize, Unlock, Fixup};
-ghost use Rattle.nb_model.specs.Words.{is_file, plain_job, backup_job, restore_job, apply_job, database_job};
+ghost use Rattle.nb_model.specs.Words.{is_file, run_or_stat, gen_job, plan_job, gen_or_plan, fold_job, backup_job, restore_job, apply_job, database_job};
 ghost use Rattle.nb_words.specs.Choice.{job_in};
 ghost use Rattle.nb_words.specs.Parts.{one_database};
 ghost use Rattle.nb_words.specs.Read.{words_of};
@@ -13,9 +13,9 @@ use nb_host::{Fault, Name};
 use nb_model::{Job, NameList};
 use std::alloc::Global;
 
-/// `run SCRIPT` and `stat DB`
+/// What the first of two words names.
 fn of_two(verb: &str, name: &str) -> Option<Job>
-    ensures { result ≡ plain_job (verb.now ∷ name.now ∷ []) }
+    ensures { result ≡ run_or_stat (verb.now ∷ name.now ∷ []) }
 {
     if verb == "run" {
         let script = word::file(name)?;
@@ -28,25 +28,52 @@ fn of_two(verb: &str, name: &str) -> Option<Job>
     }
 }
 
+/// `run SCRIPT` and `stat DB`
+fn run_or_stat(words: &[&str]) -> Option<Job>
+    ensures { result ≡ run_or_stat (words_of words.now) }
+{
+    match words {
+        [verb, name] => of_two(verb, name),
+        _ => None,
+    }
+}
+
 /// `gen N SCRIPT`
-fn of_three(verb: &str, number: &str, name: &str) -> Option<Job>
-    ensures { result ≡ plain_job (verb.now ∷ number.now ∷ name.now ∷ []) }
+fn generated(number: &str, script: &str) -> Option<Job>
+    ensures { result ≡ gen_job number.now script.now }
 {
     let number = word::number(number)?;
-    let script = word::file(name)?;
+    let script = word::file(script)?;
+    Some(Job::Gen { number, script })
+}
+
+/// `plan K LIST`
+fn planned(keep: &str, list: &str) -> Option<Job>
+    ensures { result ≡ plan_job keep.now list.now }
+{
+    let keep = word::count(keep)?;
+    let list = word::file(list)?;
+    Some(Job::Plan { keep, list })
+}
+
+/// What the first of three words names.
+fn of_three(verb: &str, number: &str, name: &str) -> Option<Job>
+    ensures { result ≡ gen_or_plan (verb.now ∷ number.now ∷ name.now ∷ []) }
+{
     if verb == "gen" {
-        Some(Job::Gen { number, script })
+        generated(number, name)
+    } else if verb == "plan" {
+        planned(number, name)
     } else {
         None
     }
 }
 
-/// What the first word names.
-fn plain(words: &[&str]) -> Option<Job>
-    ensures { result ≡ plain_job (words_of words.now) }
+/// `gen N SCRIPT` and `plan K LIST`
+fn gen_or_plan(words: &[&str]) -> Option<Job>
+    ensures { result ≡ gen_or_plan (words_of words.now) }
 {
     match words {
-        [verb, name] => of_two(verb, name),
         [verb, number, name] => of_three(verb, number, name),
         _ => None,
     }
@@ -105,6 +132,35 @@ fn restore(alloc: Global, words: &[&str]) -> Result<Option<Job>, Fault>
     match files {
         Some(files) => Ok(Some(Job::Restore { db, files })),
         None => Ok(None),
+    }
+}
+
+/// What the first of four words or more names.
+fn of_more(alloc: Global, verb: &str, out: &str, words: &[&str]) -> Result<Option<Job>, Fault>
+    ensures exact { IfOk result (λ job. job ≡ fold_job (verb.now ∷ out.now ∷ words_of words.now)) }
+    ensures only_memory { IfErr result (λ fault. fault ≡ Memory) }
+{
+    if verb != "fold" || words.len() < 2 || words.len() > 9 {
+        return Ok(None);
+    }
+    let Some(out) = word::file(out) else {
+        return Ok(None);
+    };
+    let files = files(alloc, words)?;
+    match files {
+        Some(files) => Ok(Some(Job::Fold { out, files })),
+        None => Ok(None),
+    }
+}
+
+/// `fold OUT FILE..`
+fn fold(alloc: Global, words: &[&str]) -> Result<Option<Job>, Fault>
+    ensures exact { IfOk result (λ job. job ≡ fold_job (words_of words.now)) }
+    ensures only_memory { IfErr result (λ fault. fault ≡ Memory) }
+{
+    match words {
+        [verb, out, files @ ..] => of_more(alloc, verb, out, files),
+        _ => Ok(None),
     }
 }
 
@@ -173,7 +229,8 @@ pub(crate) fn of_cell(alloc: Global, cell: u8, words: &[&str]) -> Result<Option<
     ensures only_memory { IfErr result (λ fault. fault ≡ Memory) }
 {
     match cell {
-        1 | 2 => Ok(plain(words)),
+        1 => Ok(run_or_stat(words)),
+        2 => Ok(gen_or_plan(words)),
         3 => Ok(backup(words)),
         4 => restore(alloc, words),
         5 => Ok(lock(words)),
@@ -181,6 +238,7 @@ pub(crate) fn of_cell(alloc: Global, cell: u8, words: &[&str]) -> Result<Option<
         7 => Ok(unlock(words)),
         8 => Ok(fixup(words)),
         9 => Ok(apply(words)),
+        10 => fold(alloc, words),
         _ => Ok(None),
     }
 }

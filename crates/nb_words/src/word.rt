@@ -2,7 +2,7 @@
 ghost use Rattle.std.specs.Prelude.{◌≡◌, ◌==◌, ◌&&◌, ◌-◌, nat_le, slice_index, Some, None, cond};
 ghost use Rattle.std.specs.List.{list_all};
 ghost use Rattle.uuid.specs.Text.{parsed_hyphenated};
-ghost use Rattle.nb_model.specs.Words.{is_file, is_database, number_in_word};
+ghost use Rattle.nb_model.specs.Words.{is_file, is_database, number_in_word, count_in_word};
 ghost use Rattle.nb_words.specs.Parts.{is_level, is_plain_number, named};
 
 use nb_host::{MOST_BASE_NAME, Name};
@@ -58,6 +58,18 @@ pub(crate) fn number(word: &str) -> Option<u64>
         return None;
     }
     word.parse::<u64>().ok()
+}
+
+/// The decimal number, where it is written plainly and has 32 bits.
+pub(crate) fn count(word: &str) -> Option<u32>
+    ensures { result ≡ count_in_word word.now }
+{
+    let number = number(word)?;
+    if number <= 4_294_967_295 {
+        Some(number as u32)
+    } else {
+        None
+    }
 }
 
 /// The level of one digit.

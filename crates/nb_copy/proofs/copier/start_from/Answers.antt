@@ -12,7 +12,7 @@ use Rattle.nb_change.proofs.ResultLaws.{passed_on}
 use Rattle.nb_copy.specs.Starting.{Backed, IsNotMemory, StartsBackup, IsItsLevel, turn_since}
 use Rattle.nb_change.proofs.GaveLaws.{nothing_joined}
 use Rattle.nb_base.specs.Takes.{after_strokes}
-use Rattle.nb_copy.proofs.QuietLaws.{quiet_gave}
+use Rattle.nb_gather.proofs.QuietLaws.{quiet_gave}
 use Rattle.nb_engine.specs.Room.{room_cause}
 use Rattle.nb_engine.specs.declared.walk.Room.{Room}
 use Rattle.nb_engine.proofs.DoesLaws.{tries_after}
@@ -20,9 +20,9 @@ use Rattle.nb_model.specs.Backups.{room_in}
 use Rattle.nb_copy.specs.Starting.{ask_in, ask_by}
 use Rattle.nb_state.proofs.TurnLaws.{given_guid}
 use Rattle.nb_copy.proofs.StartLaws.{start_failed, given_later, given_before}
-use Rattle.nb_copy.specs.Making.{IsEmpty}
+use Rattle.nb_gather.specs.Making.{IsEmpty}
 use Rattle.nb_copy.proofs.InUseLaws.{free_apart}
-use Rattle.nb_copy.proofs.QuietLaws.{is_made}
+use Rattle.nb_gather.proofs.QuietLaws.{is_made}
 use Rattle.nb_copy.proofs.RoomStartLaws.{start_roomless, start_unmade, made_open, start_unbegun, start_done, started_is}
 use Rattle.nb_base.specs.Open.{OfFiles}
 use Rattle.nb_state.specs.Open.{name_of}

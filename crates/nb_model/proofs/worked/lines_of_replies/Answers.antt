@@ -72,3 +72,11 @@ returns-clause-refused_guids c = refl
 pub returns-clause-no_words : goal.returns-clause-no_words
 unfolding opened digits by_index
 returns-clause-no_words c = refl
+
+pub returns-clause-planned : goal.returns-clause-planned
+unfolding opened digits by_index
+returns-clause-planned c = refl
+
+pub returns-clause-not_planned : goal.returns-clause-not_planned
+unfolding opened digits by_index
+returns-clause-not_planned c = refl

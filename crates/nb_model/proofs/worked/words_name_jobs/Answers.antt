@@ -38,3 +38,19 @@ returns-clause-number c = refl
 pub returns-clause-none : goal.returns-clause-none
 unfolding opened by_index
 returns-clause-none c = refl
+
+pub returns-clause-fold : goal.returns-clause-fold
+unfolding opened by_index
+returns-clause-fold c = refl
+
+pub returns-clause-one_level : goal.returns-clause-one_level
+unfolding opened by_index
+returns-clause-one_level c = refl
+
+pub returns-clause-plan : goal.returns-clause-plan
+unfolding opened by_index
+returns-clause-plan c = refl
+
+pub returns-clause-points : goal.returns-clause-points
+unfolding opened by_index
+returns-clause-points c = refl

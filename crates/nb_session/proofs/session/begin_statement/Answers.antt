@@ -60,7 +60,7 @@ pub returns-in_ok-refused-in_default : goal.returns-in_ok-refused-in_default
 returns-in_ok-refused-in_default g c = record {
   turn = λ now t more tells ready makes here.
       let turns = c.in_ok-refused-in_default.ensures.turn now t more tells ready makes here in
-      record { grows = turns.grows; plays = turns.plays; behind = turns.behind };
+      record { grows = turns.grows; plays = turns.plays; unchanged = turns.unchanged; behind = turns.behind };
   stays_open = λ may_merge tells still allowed.
       let old = g.H.Host.world c.args.host.now in
       let new = g.H.Host.world c.answer.new.host in

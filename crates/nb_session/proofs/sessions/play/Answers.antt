@@ -4,7 +4,7 @@ use Rattle.nb_host.specs.declared.faults.Fault.TheVariants.{Refused, Device, Mem
 use Rattle.nb_sched.specs.Turns.{scene}
 use Rattle.nb_session.specs.declared.stop.Stop.TheVariants.{Device as DeviceStop, Memory as MemoryStop}
 use Rattle.nb_session.specs.Askers.{first_askers}
-use Rattle.nb_session.specs.Todo.{PlaysWhole}
+use Rattle.nb_session.specs.Todo.{PlaysInTurn}
 use Rattle.nb_session.proofs.WholeLaws.{turns_as, first_ready, whole_shown, whole_played, whole_failed, whole_grows, whole_counts, never_refused}
 use Rattle.nb_model.specs.Run.{rounds}
 use Rattle.nb_session.specs.StillOpen.{ScriptStays}
@@ -22,8 +22,8 @@ returns-in-Ok-clause-plays g c tells =
     let turns = (turns_as g.H.Host.tells g.H.Host.world g.H.Host.faults c.args.script.now.schedule _ (first_askers c.args.told c.args.script.now) _ whole.0 c.args.host.now c.args.engine.now (Ok tt) _ _ c.schedule.ensures c.sessions_of-all.ensures refl whole.1) in (
       whole_shown g.H.Host.tells tells g.H.Host.world g.H.Host.faults c.args.host.now c.args.engine.now c.args.told c.args.script.now c.requires.askable whole.0 (g.met.H.Host.timely c.args.host.now) (Ok tt) after turns,
       λ now t ready begins making foretold.
-          subst (λ (b : Bool). PlaysWhole (Ok b) (g.H.Host.world c.args.host.now) (g.H.Host.world c.take_turns.new.host) c.args.engine.now c.take_turns.new.shared t c.args.told now c.args.script.now.schedule) (sym c.any_refused.ensures)
-          (whole_played g.H.Host.tells tells g.H.Host.world g.H.Host.faults c.args.host.now c.args.engine.now c.args.told c.args.script.now c.requires.askable whole.0 (g.met.H.Host.timely c.args.host.now) t now making ready begins after turns c.in-Ok.ensures.finished foretold),
+          subst (λ (b : Bool). PlaysInTurn g.H.Host.world (Ok b) c.args.host.now c.take_turns.new.host c.args.engine.now c.take_turns.new.shared t c.args.told now c.args.script.now.schedule) (sym c.any_refused.ensures)
+          (whole_played g.H.Host.tells tells g.H.Host.world g.H.Host.faults c.args.host.now c.args.engine.now c.args.told c.args.script.now c.requires.askable whole.0 (g.met.H.Host.timely c.args.host.now) t now making ready begins after turns c.in-Ok.ensures.finished (g.met.H.Host.timely c.take_turns.new.host) foretold),
     )
 
 pub returns-in-Ok-clause-grows : goal.returns-in-Ok-clause-grows

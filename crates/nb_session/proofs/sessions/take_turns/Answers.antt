@@ -9,7 +9,7 @@ returns-in_err-refused-clause-plays g c tells =
     let played = c.in_err-refused.ensures.plays tells in (
       played.0,
       λ now t ready begins making foretold.
-          whole_passed (g.H.Host.world c.args.host.now) (g.H.Host.world c.play.new.host) c.args.engine.now c.play.new.engine t c.args.told now c.args.script.now.schedule c.from_residual.result c.from_residual.ensures.0
+          whole_passed g.H.Host.world c.args.host.now c.play.new.host c.args.engine.now c.play.new.engine t c.args.told now c.args.script.now.schedule _ c.from_residual.result c.from_residual.ensures.0
           (played.1 now t ready begins making foretold),
     )
 
@@ -23,7 +23,7 @@ returns-in-Ok-clause-plays g c tells =
       played.0,
       λ now t ready begins making foretold.
           let grown = c.play.ensures.grows now t tells ready begins making in
-          whole_out old mid new c.args.engine.now c.play.new.engine c.write_out.new.self t c.args.told now c.args.script.now.schedule making c.in_ok-refused.refused
+          whole_out g.H.Host.world c.args.host.now c.play.new.host c.write_out.new.host c.args.engine.now c.play.new.engine c.write_out.new.self t c.args.told now c.args.script.now.schedule making c.in_ok-refused.refused
           (played.1 now t ready begins making (foretold_still old mid new now.given played.0 grown out.gave foretold)) out.same out.gave
           (λ u opened. out.takes u tells opened) (λ u opened settled. ap (λ host. (g.H.Host.world host).files) (out.at_settled u tells opened settled).2),
     )
@@ -43,7 +43,7 @@ returns-in-Err-clause-plays g c tells =
       played.0,
       λ now t ready begins making foretold.
           let grown = c.play.ensures.grows now t tells ready begins making in
-          whole_stopped old mid new c.args.engine.now c.play.new.engine c.write_out.new.self t c.args.told now c.args.script.now.schedule making c.in_ok-refused.refused
+          whole_stopped g.H.Host.world c.args.host.now c.play.new.host c.write_out.new.host c.args.engine.now c.play.new.engine c.write_out.new.self t c.args.told now c.args.script.now.schedule making c.in_ok-refused.refused
           (played.1 now t ready begins making (foretold_still old mid new now.given played.0 grown out.gave foretold)) out.same out.gave _ (λ u opened. (out.takes u tells opened).left),
     )
 

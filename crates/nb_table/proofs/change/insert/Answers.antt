@@ -18,7 +18,7 @@ use Rattle.nb_table.specs.declared.rows.Rows.{Rows}
 use Rattle.nb_table.specs.Rows.{rows_cause}
 use Rattle.nb_table.specs.Walks.{spot_of}
 use Rattle.nb_table.proofs.InTableLaws.{chain_formed_from}
-use Rattle.nb_table.proofs.PlaceLaws.{well_open, placed_form}
+use Rattle.nb_table.proofs.PlaceLaws.{well_open, not_short, placed_form}
 use Rattle.nb_table.proofs.ChangeLaws.{said, key_known, key_new, walked_room, walked_key, low_of, insert_refused, insert_goes}
 use Rattle.nb_table.proofs.change.insert.Goals as goal
 
@@ -66,7 +66,7 @@ returns-in_err-add_slot-clause-turn g c s t tells same is sound =
     let last = found.last t tells is in
     let short : length bytes ≤ 992 = omega (arith, ap length c.row_bytes-bytes.ensures, row_length key text (omega (arith, found.short))) in
     let form = placed_form t.base (RowsFrom rows.first) (well_open w c.args.engine.now t is here) formed bytes rows.walked.room room (low_of _ rows.walked.room found.room) short (omega (arith, found.low, last)) in
-    let turn = insert_goes (seeing s t.base) table key text none (spot_of rows.table) at rows.first found.first bytes c.row_bytes-bytes.ensures ∙ key_new (seeing s t.base) (RowsFrom rows.first) key bytes new form in
+    let turn = insert_goes (seeing s t.base) table key text none (spot_of rows.table) at rows.first found.first bytes c.row_bytes-bytes.ensures ∙ key_new (seeing s t.base) (RowsFrom rows.first) key bytes new (not_short image here.least) form in
     let into = place_slot (RowsFrom rows.first) (found_pages (RowsFrom rows.first) image) bytes (drafted image) in
     let after = g.H.Host.world c.add_slot.new.host in
     let fault = c.in_err-add_slot.field-0.0 in
@@ -97,7 +97,7 @@ returns-clause-turn g c s t tells same is sound =
     let last = found.last t tells is in
     let short : length bytes ≤ 992 = omega (arith, ap length c.row_bytes-bytes.ensures, row_length key text (omega (arith, found.short))) in
     let form = placed_form t.base (RowsFrom rows.first) (well_open w c.args.engine.now t is here) formed bytes rows.walked.room room (low_of _ rows.walked.room found.room) short (omega (arith, found.low, last)) in
-    let turn = insert_goes (seeing s t.base) table key text none (spot_of rows.table) at rows.first found.first bytes c.row_bytes-bytes.ensures ∙ key_new (seeing s t.base) (RowsFrom rows.first) key bytes new form in
+    let turn = insert_goes (seeing s t.base) table key text none (spot_of rows.table) at rows.first found.first bytes c.row_bytes-bytes.ensures ∙ key_new (seeing s t.base) (RowsFrom rows.first) key bytes new (not_short image here.least) form in
     let into = place_slot (RowsFrom rows.first) (found_pages (RowsFrom rows.first) image) bytes (drafted image) in
     let after = g.H.Host.world c.add_slot.new.host in
     tries_does done (Ok tt) w after c.args.engine.now c.add_slot.new.engine t s (λ (x : Seen). insert_turn x table key text) (no_room into) Done into.strokes same turn (said (Ok tt))

@@ -20,9 +20,10 @@ use Rattle.nb_engine.proofs.StaysLaws.{stays_still, stays_after, stays_passed}
 use Rattle.nb_table.specs.declared.look.Place.{Place}
 use Rattle.nb_table.specs.Creates.{new_cause, created_in, created_behind}
 use Rattle.nb_table.specs.Walks.{IsPlaced}
-use Rattle.nb_table.proofs.CreateLaws.{in_form, behind_form}
+use Rattle.nb_table.proofs.CreateLaws.{kind_stays, in_form, behind_form}
 use Rattle.nb_table.proofs.CreateTurnLaws.{create_denied, create_refused, create_at, create_last, new_formed, place_data}
-use Rattle.nb_table.proofs.SpotPages.{last_there}
+use Rattle.nb_table.proofs.SpotPages.{last_there, last_kind}
+use Rattle.nb_table.proofs.PlaceLaws.{not_short}
 use Rattle.nb_table.proofs.creating.create.Goals as goal
 
 pub returns-in_err-check_access-clause-turn : goal.returns-in_err-check_access-clause-turn
@@ -66,7 +67,7 @@ returns-in_err-create_in-in-Some-clause-turn g c s t tells same is sound =
     let now = seeing s t.base in
     tries_passed c.from_residual-in_err-create_in-in-Some.result fault (λ r. Does done r w last c.args.engine.now c.create_in.new.engine t (create_turn s table)) c.from_residual-in_err-create_in-in-Some.ensures
     (tries_does {T = Unit {0}} done (Err fault) w last c.args.engine.now c.create_in.new.engine t s (λ (x : Seen). create_turn x table) (no_room made) Done made.strokes same
-    (create_at now table free new place at (in_form image whole table place placed.low page_is.0)) tt
+    (create_at now table free new (not_short image here.least) place at (kind_stays image whole place.page page_is.1) (in_form image whole table place placed.low page_is.0)) tt
     (tries_after {T = Unit {0}} (Err fault) w mid last c.args.engine.now c.check_table.new.engine c.create_in.new.engine t (no_room made) made.strokes tests.same tests.quiet is
     (c.in_err-create_in-in-Some.ensures.tries t tells (tests.open t tells is) here page_is.1)))
 
@@ -91,7 +92,7 @@ returns-in_ok-create_in-in-Some-clause-turn g c s t tells same is sound =
     let made = created_in image table place in
     let now = seeing s t.base in
     tries_does {T = Unit {0}} done (Ok tt) w last c.args.engine.now c.create_in.new.engine t s (λ (x : Seen). create_turn x table) (no_room made) Done made.strokes same
-    (create_at now table free new place at (in_form image whole table place placed.low page_is.0)) refl
+    (create_at now table free new (not_short image here.least) place at (kind_stays image whole place.page page_is.1) (in_form image whole table place placed.low page_is.0)) refl
     (tries_after {T = Unit {0}} (Ok tt) w mid last c.args.engine.now c.check_table.new.engine c.create_in.new.engine t (no_room made) made.strokes tests.same tests.quiet is
     (c.in_ok-create_in-in-Some.ensures.tries t tells (tests.open t tells is) here page_is.1))
 
@@ -119,7 +120,7 @@ returns-in_err-create_behind-in-None-clause-turn g c s t tells same is sound =
     let now = seeing s t.base in
     tries_passed c.from_residual-in_err-create_behind-in-None.result fault (λ r. Does done r w end c.args.engine.now c.create_behind.new.engine t (create_turn s table)) c.from_residual-in_err-create_behind-in-None.ensures
     (tries_does {T = Unit {0}} done (Err fault) w end c.args.engine.now c.create_behind.new.engine t s (λ (x : Seen). create_turn x table) (no_room made) Done made.strokes same
-    (create_last now table free new none (behind_form image whole table named some there)) tt
+    (create_last now table free new (not_short image here.least) none (behind_form image whole table named some there (last_kind Catalogue image (new_formed image table new)))) tt
     (tries_after {T = Unit {0}} (Err fault) w mid end c.args.engine.now c.check_table.new.engine c.create_behind.new.engine t (no_room made) made.strokes tests.same tests.quiet is
     (c.in_err-create_behind-in-None.ensures.tries t tells (tests.open t tells is) here (record { is = last_is; below = omega (arith, last_is, there) }))))
 
@@ -145,7 +146,7 @@ returns-in_ok-create_behind-in-None-clause-turn g c s t tells same is sound =
     let made = created_behind image table in
     let now = seeing s t.base in
     tries_does {T = Unit {0}} done (Ok tt) w end c.args.engine.now c.create_behind.new.engine t s (λ (x : Seen). create_turn x table) (no_room made) Done made.strokes same
-    (create_last now table free new none (behind_form image whole table named some there)) refl
+    (create_last now table free new (not_short image here.least) none (behind_form image whole table named some there (last_kind Catalogue image (new_formed image table new)))) refl
     (tries_after {T = Unit {0}} (Ok tt) w mid end c.args.engine.now c.check_table.new.engine c.create_behind.new.engine t (no_room made) made.strokes tests.same tests.quiet is
     (c.in_ok-create_behind-in-None.ensures.tries t tells (tests.open t tells is) here (record { is = last_is; below = omega (arith, last_is, there) })))
 

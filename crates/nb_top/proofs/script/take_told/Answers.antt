@@ -9,5 +9,5 @@ returns-clause-plays g c tells = (
   λ now t ready todo making told.
       told_as c.take_turns.result _ _ _ _ t c.told_by-told.result c.args.telling c.args.engine.now.files.count now c.args.script.now.schedule
       (λ events. c.told_by-told.ensures events ∙ ap (λ n. told_later c.args.telling n events) c.count.ensures.value)
-      ((c.take_turns.ensures.plays tells).1 now t ready todo making told),
+      ((c.take_turns.ensures.plays tells).1 now t ready todo making told).whole,
 )

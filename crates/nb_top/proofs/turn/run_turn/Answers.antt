@@ -1,83 +1,15 @@
-use Rattle.std.proofs.Common.{◌≡◌, refl}
-use Rattle.std.specs.Prelude.{Ok, Err}
-use Rattle.nb_host.specs.declared.faults.Fault.TheVariants.{Refused}
-use Rattle.nb_change.specs.Changes.{Only}
-use Rattle.nb_top.specs.declared.status.Status.TheVariants.{Done}
-use Rattle.nb_top.specs.OneTurn.{one_turn}
-use Rattle.nb_top.specs.Served.{TurnsTo}
-use Rattle.nb_top.proofs.ScriptRuns.{runs_err, settled_value, settled_refusal}
-use Rattle.nb_top.proofs.TouchLaws.{only_err, only_done, only_said, only_refused}
-use Rattle.nb_top.proofs.Turns.{turn_fails, turn_refused, turn_unsaid, turn_done}
+use Rattle.nb_top.proofs.GoesLaws.{taken_fails, taken_said}
 use Rattle.nb_top.proofs.turn.run_turn.Goals as goal
 
-pub returns-in_err-reply-clause-turns : goal.returns-in_err-reply-clause-turns
-returns-in_err-reply-clause-turns g c deed account is tells knows =
-    let old = g.H.Host.world c.args.host.now in
-    let mid = g.H.Host.world c.take_turn.new.host in
-    let job = one_turn old.files deed in
-    runs_err c.from_residual.result c.from_residual.ensures.0 (λ r. TurnsTo r old mid job account) (turn_fails old mid job account c.take_turn.result (c.take_turn.ensures.serves deed account is tells knows))
+pub returns-in_err-taken-clause-goes : goal.returns-in_err-taken-clause-goes
+returns-in_err-taken-clause-goes g c deed is =
+    taken_fails g.H.Host.tells (g.H.Host.world c.args.host.now) (g.H.Host.world c.take_turn.new.host) deed c.take_turn.result
+    (record { serves = λ account tells knows. c.take_turn.ensures.serves deed account is tells knows; others = λ tells. c.take_turn.ensures.others deed is tells })
+    c.from_residual.result c.from_residual.ensures.0
 
-pub returns-in_err-say_line-in-Ok-clause-turns : goal.returns-in_err-say_line-in-Ok-clause-turns
-returns-in_err-say_line-in-Ok-clause-turns g c deed account is tells knows =
-    let old = g.H.Host.world c.args.host.now in
-    let mid = g.H.Host.world c.take_turn.new.host in
-    let new = g.H.Host.world c.say_line.new.host in
-    let job = one_turn old.files deed in
-    let same = settled_value c.in_ok-reply.field-0 c.in-Ok.reply (λ value. c.take_turn.result ≡ Ok value) c.in-Ok.is c.in_ok-reply.ensures.value in
-    runs_err c.from_residual-in_err-say_line-in-Ok.result c.from_residual-in_err-say_line-in-Ok.ensures.0 (λ r. TurnsTo r old new job account)
-    (turn_unsaid old mid job account c.take_turn.result (c.take_turn.ensures.serves deed account is tells knows) c.in-Ok.reply same new (g.met.H.Host.timely c.say_line.new.host) (g.met.H.Host.reads_left c.say_line.new.host tells) c.say_line.result
-    (c.say_line.ensures.line tells))
-
-pub returns-in_ok-say_line-in-Ok-clause-turns : goal.returns-in_ok-say_line-in-Ok-clause-turns
-returns-in_ok-say_line-in-Ok-clause-turns g c deed account is tells knows =
-    let old = g.H.Host.world c.args.host.now in
-    let mid = g.H.Host.world c.take_turn.new.host in
-    let new = g.H.Host.world c.say_line.new.host in
-    let job = one_turn old.files deed in
-    let same = settled_value c.in_ok-reply.field-0 c.in-Ok.reply (λ value. c.take_turn.result ≡ Ok value) c.in-Ok.is c.in_ok-reply.ensures.value in
-    let done = c.in_ok-say_line-in-Ok.ensures.line tells in
-    turn_done old mid job account c.take_turn.result (c.take_turn.ensures.serves deed account is tells knows) c.in-Ok.reply same new (g.met.H.Host.timely c.say_line.new.host) (g.met.H.Host.reads_left c.say_line.new.host tells) c.say_line.result
-    (c.say_line.ensures.line tells) done.said
-
-pub returns-in-Err-clause-turns : goal.returns-in-Err-clause-turns
-returns-in-Err-clause-turns g c deed account is tells knows =
-    let old = g.H.Host.world c.args.host.now in
-    let mid = g.H.Host.world c.take_turn.new.host in
-    let new = g.H.Host.world c.refuse.new.host in
-    let job = one_turn old.files deed in
-    let same = settled_refusal c.in_ok-reply.field-0 c.in-Err.refusal (λ r. c.take_turn.result ≡ Err (Refused r)) c.in-Err.is c.in_ok-reply.ensures.refusal in
-    let says = c.refuse.ensures.line tells in
-    turn_refused old mid job account c.take_turn.result (c.take_turn.ensures.serves deed account is tells knows) c.in-Err.refusal same new (g.met.H.Host.timely c.refuse.new.host) (g.met.H.Host.reads_left c.refuse.new.host tells) c.refuse.result
-    says c.refuse.result c.refuse.ensures.ok says.said
-
-pub returns-in_err-reply-clause-touches : goal.returns-in_err-reply-clause-touches
-returns-in_err-reply-clause-touches g c deed is tells =
-    let old = g.H.Host.world c.args.host.now in
-    let mid = g.H.Host.world c.take_turn.new.host in
-    only_err old mid (Only (one_turn old.files deed).name) c.from_residual.result c.from_residual.ensures.0 (c.take_turn.ensures.others deed is tells)
-
-pub returns-in_err-say_line-in-Ok-clause-touches : goal.returns-in_err-say_line-in-Ok-clause-touches
-returns-in_err-say_line-in-Ok-clause-touches g c deed is tells =
-    let old = g.H.Host.world c.args.host.now in
-    let mid = g.H.Host.world c.take_turn.new.host in
-    let new = g.H.Host.world c.say_line.new.host in
-    let names = Only (one_turn old.files deed).name in
-    only_err old new names c.from_residual-in_err-say_line-in-Ok.result c.from_residual-in_err-say_line-in-Ok.ensures.0
-    (only_said old mid new names (c.take_turn.ensures.others deed is tells) (g.met.H.Host.timely c.say_line.new.host) (g.met.H.Host.reads_left c.say_line.new.host tells) c.say_line.result _ (c.say_line.ensures.line tells))
-
-pub returns-in_ok-say_line-in-Ok-clause-touches : goal.returns-in_ok-say_line-in-Ok-clause-touches
-returns-in_ok-say_line-in-Ok-clause-touches g c deed is tells =
-    let old = g.H.Host.world c.args.host.now in
-    let mid = g.H.Host.world c.take_turn.new.host in
-    let new = g.H.Host.world c.say_line.new.host in
-    let names = Only (one_turn old.files deed).name in
-    only_done old new names Done refl
-    (only_said old mid new names (c.take_turn.ensures.others deed is tells) (g.met.H.Host.timely c.say_line.new.host) (g.met.H.Host.reads_left c.say_line.new.host tells) c.say_line.result _ (c.say_line.ensures.line tells))
-
-pub returns-in-Err-clause-touches : goal.returns-in-Err-clause-touches
-returns-in-Err-clause-touches g c deed is tells =
-    let old = g.H.Host.world c.args.host.now in
-    let mid = g.H.Host.world c.take_turn.new.host in
-    let new = g.H.Host.world c.refuse.new.host in
-    only_refused old mid new (Only (one_turn old.files deed).name) (c.take_turn.ensures.others deed is tells) (g.met.H.Host.timely c.refuse.new.host) (g.met.H.Host.reads_left c.refuse.new.host tells) c.refuse.result _ _
-    (c.refuse.ensures.line tells)
+pub returns-clause-goes : goal.returns-clause-goes
+returns-clause-goes g c deed is =
+    taken_said g.H.Host.tells (g.H.Host.world c.args.host.now) (g.H.Host.world c.take_turn.new.host) deed c.take_turn.result
+    (record { serves = λ account tells knows. c.take_turn.ensures.serves deed account is tells knows; others = λ tells. c.take_turn.ensures.others deed is tells })
+    (g.H.Host.world c.say_taken.new.host) (g.met.H.Host.timely c.say_taken.new.host) (g.met.H.Host.reads_left c.say_taken.new.host) c.in_ok-taken.taken c.in_ok-taken.ensures.value c.in_ok-taken.ensures.refusal c.say_taken.result
+    c.say_taken.ensures.line c.say_taken.ensures.ended

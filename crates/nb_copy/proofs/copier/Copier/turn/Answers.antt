@@ -15,7 +15,7 @@ use Rattle.nb_copy.specs.Reading.{asked_scn, page_reads}
 use Rattle.nb_copy.specs.Closing.{BackupTurn, Closes}
 use Rattle.nb_copy.proofs.ClosingLaws.{file_named, kept_named, asked_behind, asked_before, goes_further, mid_open, turn_failed, turn_more, close_failed, close_finished, written_all}
 use Rattle.nb_engine.proofs.StaysLaws.{stays_aside, stays_among, stays_passed, stays_then, stays_valued}
-use Rattle.nb_copy.proofs.TouchLaws.{touches_named}
+use Rattle.nb_gather.proofs.TouchLaws.{touches_named}
 use Rattle.nb_change.specs.Changes.{Only}
 use Rattle.nb_base.specs.Open.{OfFiles}
 use Rattle.nb_state.specs.declared.turns.Progress.TheVariants.{More, Finished}

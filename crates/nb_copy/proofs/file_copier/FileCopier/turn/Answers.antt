@@ -6,11 +6,11 @@ use Rattle.nb_change.proofs.ResultLaws.{passed_on}
 use Rattle.nb_model.specs.Levels.{joined}
 use Rattle.nb_copy.specs.Copying.{Copying, IsCopying}
 use Rattle.nb_copy.specs.FileCopies.{CopiesFile}
-use Rattle.nb_copy.specs.Making.{IsFreeOr}
+use Rattle.nb_gather.specs.Making.{IsFreeOr}
 use Rattle.nb_copy.specs.Turns.{CopyTurn}
 use Rattle.nb_copy.proofs.FileCopyLaws.{copies_file, made_free, made_then}
 use Rattle.nb_engine.proofs.StaysLaws.{open_aside, stays_aside}
-use Rattle.nb_copy.proofs.TouchLaws.{touches_has, touches_named, touches_then}
+use Rattle.nb_gather.proofs.TouchLaws.{touches_has, touches_named, touches_then}
 use Rattle.nb_base.specs.Open.{OfFiles}
 use Rattle.nb_state.specs.Open.{name_of}
 use Rattle.nb_state.specs.declared.turns.Progress.{Progress}

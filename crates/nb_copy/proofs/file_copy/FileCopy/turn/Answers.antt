@@ -4,9 +4,9 @@ use Rattle.nb_change.proofs.MovedLaws.{remade_weaker}
 use Rattle.nb_copy.specs.declared.file_copy.FileCopy.{FileCopy}
 use Rattle.nb_copy.specs.FileCopying.{IsFileCopying, file_name, file_next, whole_file}
 use Rattle.nb_copy.specs.Reading.{earlier_scn, page_reads}
-use Rattle.nb_copy.specs.Making.{IsFreeOr, IsUnfinishedOr}
+use Rattle.nb_gather.specs.Making.{IsFreeOr, IsUnfinishedOr}
 use Rattle.nb_model.specs.Levels.{joined}
-use Rattle.nb_copy.proofs.TouchLaws.{touches_named}
+use Rattle.nb_gather.proofs.TouchLaws.{touches_named}
 use Rattle.nb_copy.proofs.file_copy.FileCopy.turn.Goals as goal
 
 pub returns-in-Pages-clause-left : goal.returns-in-Pages-clause-left

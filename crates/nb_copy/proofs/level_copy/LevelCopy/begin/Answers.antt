@@ -5,12 +5,12 @@ use Rattle.nb_level.specs.declared.head.LevelHead.{LevelHead}
 use Rattle.nb_level.specs.Heads.{head_of}
 use Rattle.nb_model.specs.Image.{Numbered}
 use Rattle.nb_model.specs.Levels.{taken_from}
-use Rattle.nb_copy.specs.Gathering.{HasTaken, IsHeaded, MayHave}
+use Rattle.nb_gather.specs.Gathering.{HasTaken, IsHeaded, MayHave}
 use Rattle.nb_copy.specs.LevelCopying.{LevelCopying}
-use Rattle.nb_copy.specs.Making.{IsMade, IsUnfinished}
-use Rattle.nb_copy.proofs.QuietLaws.{renamed, quiet_then, made_quiet, remade_twice}
+use Rattle.nb_gather.specs.Making.{IsMade, IsUnfinished}
+use Rattle.nb_gather.proofs.QuietLaws.{renamed, quiet_then, made_quiet, remade_twice}
 use Rattle.nb_copy.proofs.LevelLaws.{next_taken, below_none, may_below}
-use Rattle.nb_copy.proofs.TouchLaws.{touches_named, touches_then, touches_quiet}
+use Rattle.nb_gather.proofs.TouchLaws.{touches_named, touches_then, touches_quiet}
 use Rattle.nb_copy.proofs.level_copy.LevelCopy.begin.Goals as goal
 
 pub returns-in_err-begin-clause-left : goal.returns-in_err-begin-clause-left

@@ -3,13 +3,13 @@ use Rattle.std.specs.Prelude.{Bool, Ok}
 use Rattle.nb_level.specs.declared.head.LevelHead.{LevelHead}
 use Rattle.nb_model.specs.Image.{Numbered}
 use Rattle.nb_model.specs.Levels.{taken_from}
-use Rattle.nb_copy.specs.Gathering.{LevelWriting, HasTaken, MayHave}
+use Rattle.nb_gather.specs.Gathering.{LevelWriting, HasTaken, MayHave}
 use Rattle.nb_copy.specs.LevelCopying.{LevelCopying, taken_below}
-use Rattle.nb_copy.specs.Making.{IsUnfinished}
+use Rattle.nb_gather.specs.Making.{IsUnfinished}
 use Rattle.nb_copy.specs.Turns.{Fetched}
-use Rattle.nb_copy.proofs.QuietLaws.{renamed, quiet_then, quiet_alone}
+use Rattle.nb_gather.proofs.QuietLaws.{renamed, quiet_then, quiet_alone}
 use Rattle.nb_copy.proofs.LevelLaws.{next_taken, next_passed, may_below, taken_quiet}
-use Rattle.nb_copy.proofs.TouchLaws.{touches_named, touches_then, touches_quiet}
+use Rattle.nb_gather.proofs.TouchLaws.{touches_named, touches_then, touches_quiet}
 use Rattle.nb_copy.proofs.level_copy.LevelCopy.copy_page.Goals as goal
 
 pub returns-in_err-take-clause-left : goal.returns-in_err-take-clause-left

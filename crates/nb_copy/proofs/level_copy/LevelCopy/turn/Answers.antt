@@ -4,12 +4,12 @@ use Rattle.nb_change.proofs.MovedLaws.{remade_weaker}
 use Rattle.nb_level.specs.Heads.{head_of}
 use Rattle.nb_model.specs.Image.{Numbered}
 use Rattle.nb_model.specs.Levels.{level_bytes, taken}
-use Rattle.nb_copy.specs.Gathering.{LevelWriting, HasTaken, MayHave}
+use Rattle.nb_gather.specs.Gathering.{LevelWriting, HasTaken, MayHave}
 use Rattle.nb_copy.specs.LevelCopying.{LevelCopying, whole_level}
-use Rattle.nb_copy.specs.Making.{IsUnfinished, IsUnfinishedOr, IsKept}
+use Rattle.nb_gather.specs.Making.{IsUnfinished, IsUnfinishedOr, IsKept}
 use Rattle.nb_copy.proofs.LevelLaws.{below_all, may_below, level_next}
 use Rattle.nb_copy.proofs.ReadLaws.{reads_first}
-use Rattle.nb_copy.proofs.TouchLaws.{touches_named}
+use Rattle.nb_gather.proofs.TouchLaws.{touches_named}
 use Rattle.nb_copy.proofs.level_copy.LevelCopy.turn.Goals as goal
 
 pub returns-in_err-close-clause-left : goal.returns-in_err-close-clause-left

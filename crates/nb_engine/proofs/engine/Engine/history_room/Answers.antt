@@ -5,7 +5,7 @@ use Rattle.nb_page.proofs.QuietLemmas.{quiet_joined}
 use Rattle.nb_model.specs.Image.{page_at, image_scn}
 use Rattle.nb_model.specs.Strokes.{Stroke}
 use Rattle.nb_model.specs.Forms.{drafted}
-use Rattle.nb_model.specs.Causes.{first_cause, broken_at, not_of_form, no_room, no_scn}
+use Rattle.nb_model.specs.Causes.{first_cause, broken_at, not_of_form, no_room, no_scn, short_for}
 use Rattle.nb_model.specs.Chains.{History, pages_of, found_pages, spots, free_spot, last_of, grown}
 use Rattle.nb_model.specs.Backups.{room_in}
 use Rattle.nb_state.specs.Open.{Held, IsOpen, but_pages}
@@ -32,7 +32,7 @@ returns-in_err-walked-clause-makes g c t tells is sound =
     let image = t.base.image in
     let walked = c.in_err-walked.ensures in
     tries_early (Walked × ℕ) Room _ _ _ _ _ _ t (broken_at (pages_of History image)) (room_cause image) (room_in image).draft.strokes c.from_residual.ensures
-    (λ r e. first_here (broken_at (pages_of History image)) (not_of_form (room_in image).draft ∷ no_room (room_in image).draft ∷ no_scn image ∷ []) r e) (walked.test t tells here) (walked.same ∙ ap but_pages c.self.view_is) walked.quiet is (walked.open t tells here)
+    (λ r e. first_here (broken_at (pages_of History image)) (short_for (free_spot (spots History image)) image ∷ not_of_form (room_in image).draft ∷ no_room (room_in image).draft ∷ no_scn image ∷ []) r e) (walked.test t tells here) (walked.same ∙ ap but_pages c.self.view_is) walked.quiet is (walked.open t tells here)
 
 pub returns-in_err-check_room-in-Some-clause-makes : goal.returns-in_err-check_room-in-Some-clause-makes
 returns-in_err-check_room-in-Some-clause-makes g c t tells is sound =

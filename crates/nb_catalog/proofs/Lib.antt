@@ -1,0 +1,15 @@
+pub mod LineLemmas
+pub mod EntryLemmas
+pub mod PlanLemmas
+pub mod HeadLemmas
+pub mod FileLemmas
+pub mod ListLemmas
+pub mod InLemmas
+pub mod KeptLaws
+pub mod ReadLaws
+pub mod ChainLaws
+pub mod TurnLemmas
+pub mod WholeLaws
+pub mod PlaceLaws
+pub mod DistinctLaws
+pub mod KeptFiles

@@ -1,0 +1,38 @@
+use Rattle.std.proofs.Common.{ℕ, List, ap, subst, sym, ◌∙◌}
+use Rattle.nb_host.specs.Files.{File, Files, bytes_of}
+use Rattle.nb_model.specs.Levels.{begins_level}
+use Rattle.nb_catalog.specs.Answers.{Says}
+use Rattle.nb_catalog.specs.Heads.{read_file}
+use Rattle.nb_catalog.specs.Reads.{LevelSays}
+use Rattle.nb_catalog.proofs.HeadLemmas.{level_says, level_counted, whole_counted}
+use Rattle.nb_catalog.proofs.reading.read_head.Goals as goal
+
+pub returns-then-branch-clause-answer : goal.returns-then-branch-clause-answer
+returns-then-branch-clause-answer g c tells =
+    let name : List ℕ = c.args.name.now in
+    let file : File = (g.H.Host.world c.args.host.now).files name in
+    let same = ap (λ (f : Files). f name) c.is_level.ensures.quiet.still.files in
+    let before : ℕ = (g.H.Host.world c.is_level.new.host).reads in
+    let after : ℕ = (g.H.Host.world c.read_level.new.host).reads in
+    level_says file name before after c.read_level.result (sym (c.in_ok-is_level.ensures.answer tells) ∙ c.if-branch.true)
+    (subst (λ (f : File). LevelSays f name before after c.read_level.result) same (c.read_level.ensures.answer tells))
+
+pub returns-then-branch-clause-reads : goal.returns-then-branch-clause-reads
+returns-then-branch-clause-reads g c tells =
+    let name : List ℕ = c.args.name.now in
+    let file : File = (g.H.Host.world c.args.host.now).files name in
+    let same = ap (λ (f : Files). f name) c.is_level.ensures.quiet.still.files in
+    let before : ℕ = (g.H.Host.world c.is_level.new.host).reads in
+    let after : ℕ = (g.H.Host.world c.read_level.new.host).reads in
+    level_counted file name c.read_level.result (g.H.Host.world c.args.host.now).reads before after
+    (subst (λ (f : File). LevelSays f name before after c.read_level.result) same (c.read_level.ensures.answer tells)) (c.is_level.ensures.reads tells)
+
+pub returns-else-branch-clause-reads : goal.returns-else-branch-clause-reads
+returns-else-branch-clause-reads g c tells =
+    let name : List ℕ = c.args.name.now in
+    let file : File = (g.H.Host.world c.args.host.now).files name in
+    let same = ap (λ (f : Files). f name) c.is_level.ensures.quiet.still.files in
+    let begins = sym (c.in_ok-is_level.ensures.answer tells) ∙ c.if-branch.false in
+    whole_counted file name c.read_whole.result (g.H.Host.world c.args.host.now).reads (g.H.Host.world c.is_level.new.host).reads (g.H.Host.world c.read_whole.new.host).reads begins
+    (subst (λ (f : File). Says (read_file name f) c.read_whole.result) same (c.read_whole.ensures.answer tells (ap (λ (f : File). begins_level (bytes_of f)) same ∙ begins)))
+    (c.read_whole.ensures.reads tells) (c.is_level.ensures.reads tells)

@@ -1,0 +1,29 @@
+use Rattle.std.proofs.Common.{◌≡◌, [], ◌∷◌, ◌++◌, ap, ◌∙◌, arith, length-append}
+use Rattle.nb_host.specs.Files.{Files}
+use Rattle.nb_model.specs.Image.{Numbered}
+use Rattle.nb_level.specs.Reading.{Reading}
+use Rattle.nb_page.proofs.QuietLemmas.{quiet_call, quiet_joined}
+use Rattle.nb_chain.proofs.PageLemmas.{gives_there}
+use Rattle.nb_catalog.proofs.HeadLemmas.{pages_more, same_on}
+use Rattle.nb_catalog.proofs.reading.read_on.Goals as goal
+
+pub loop-preserved : goal.loop-preserved
+loop-preserved g c =
+    let loop = c.loop.invariant in
+    let log = c.next.ensures.log in
+    let files : Files = (g.H.Host.world c.args.host.now).files in
+    let same : (g.H.Host.world c.loop.host).files c.loop.reader.name ≡ files c.loop.reader.name = ap (λ (f : Files). f c.loop.reader.name) loop.quiet.still.files in
+    let named : files c.loop.reader.name ≡ files c.args.reader.now.name = ap (λ (r : Reading). files r.name) loop.same in
+    record {
+      same = same_on c.args.reader.now c.loop.reader c.next.new.self c.next.ensures.same loop.same;
+      quiet = quiet_joined _ _ _ loop.quiet (quiet_call _ _ (g.met.H.Host.timely _) c.next.ensures.files log.said log.guids log.times c.next.ensures.time);
+      cause = c.in_ok-next.ensures.cause ∙ loop.cause;
+      so_far = λ tells.
+          let done = loop.so_far tells in
+          let page : Numbered = (c.in-PageAt.field-0, c.next.new.into) in (
+            done.0 ++ page ∷ [],
+            pages_more (files c.args.reader.now.name) c.args.reader.now c.loop.reader c.next.new.self done.0 page done.1
+                (gives_there _ _ c.loop.reader c.next.new.self c.in_ok-next.field-0 c.next.new.into c.in-PageAt.field-0 g.H.Host.tells c.in-PageAt.is tells c.in_ok-next.ensures.answer (same ∙ named)),
+            omega (arith, done.2, log.reads tells, length-append done.0 (page ∷ [])),
+          );
+    }

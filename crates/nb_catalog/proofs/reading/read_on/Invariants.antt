@@ -1,0 +1,23 @@
+use Rattle.std.proofs.Common.{◌≡◌, ◌+◌, ◌-◌, ◌≤◌, List, length}
+use Rattle.std.specs.Prelude.{IsTrue}
+use Rattle.nb_host.specs.Files.{bytes_of}
+use Rattle.nb_model.specs.Image.{Numbered}
+use Rattle.nb_model.specs.Levels.{behind}
+use Rattle.nb_level.specs.Reading.{still_to_come}
+use Rattle.nb_page.specs.Quiet.{Quiet}
+use Rattle.nb_catalog.proofs.reading.read_on.Given as goal
+
+-- some pages were read so far
+abbrev pub invariant-loop : goal.invariant-loop
+invariant-loop g l = record {
+  same : l.reader ≡ record l.fn.reader { place = l.reader.place };
+  quiet : Quiet (g.H.Host.world l.fn.host) (g.H.Host.world l.host);
+  cause : g.H.Host.faults l.host ≡ g.H.Host.faults l.fn.host;
+  so_far : IsTrue g.H.Host.tells → (pages : List Numbered)
+      × (still_to_come (bytes_of ((g.H.Host.world l.fn.host).files l.fn.reader.name)) l.fn.reader ≡ behind pages (still_to_come (bytes_of ((g.H.Host.world l.fn.host).files l.fn.reader.name)) l.reader))
+      × ((g.H.Host.world l.host).reads ≤ (g.H.Host.world l.fn.host).reads + length pages);
+}
+
+-- numbers rise up to the most that a page may have
+abbrev pub decreases-loop : goal.decreases-loop
+decreases-loop g l = 1048576 - l.reader.place.least

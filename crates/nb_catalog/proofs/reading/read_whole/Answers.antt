@@ -1,0 +1,18 @@
+use Rattle.std.proofs.Common.{ℕ, List}
+use Rattle.nb_host.specs.Files.{File}
+use Rattle.nb_level.specs.declared.head.LevelHead.{LevelHead}
+use Rattle.nb_chain.proofs.AnswerLemmas.{passed}
+use Rattle.nb_catalog.specs.Answers.{Says}
+use Rattle.nb_catalog.specs.Heads.{read_file}
+use Rattle.nb_catalog.proofs.HeadLemmas.{whole_fault, whole_read}
+use Rattle.nb_catalog.proofs.reading.read_whole.Goals as goal
+
+pub returns-in_err-page_size-clause-answer : goal.returns-in_err-page_size-clause-answer
+returns-in_err-page_size-clause-answer g c tells begins =
+    let name : List ℕ = c.args.name.now in
+    let file : File = (g.H.Host.world c.args.host.now).files name in
+    let fault = c.in_err-page_size.field-0.0 in
+    passed LevelHead (λ r. Says (read_file name file) r) c.from_residual.result fault c.from_residual.ensures (whole_fault file name fault begins (c.in_err-page_size.ensures.answer tells))
+
+pub returns-clause-answer : goal.returns-clause-answer
+returns-clause-answer g c tells begins = whole_read ((g.H.Host.world c.args.host.now).files c.args.name.now) c.args.name.now c.in_ok-page_size.field-0 begins (c.in_ok-page_size.ensures.answer tells)

@@ -1,0 +1,115 @@
+ghost use Rattle.std.specs.Prelude.{◌≡◌, ◌+◌, ◌<◌, ◌≤◌, ◌^◌, List, ℕ, Some, true, false, length, Contains, IsTrue, IfOk};
+ghost use Rattle.nb_host.specs.Causes.{CountsFault};
+ghost use Rattle.nb_host.specs.Files.{bytes_of};
+ghost use Rattle.nb_model.specs.Levels.{begins_level};
+ghost use Rattle.nb_page.specs.Quiet.{Quiet};
+ghost use Rattle.nb_level.specs.Answers.{CountsDevice};
+ghost use Rattle.nb_catalog.specs.Answers.{Says};
+ghost use Rattle.nb_catalog.specs.declared.entry.Entry.{Entry};
+ghost use Rattle.nb_catalog.specs.Chained.{IsChained};
+ghost use Rattle.nb_catalog.specs.Plans.{points};
+ghost use Rattle.nb_catalog.specs.Heads.{read_file, read_files};
+ghost use Rattle.nb_catalog.specs.Reads.{EndSays, LevelSays, all_reads, reads_of};
+
+use crate::Catalogue;
+use nb_chain::read_first;
+use nb_host::{Fault, Host, HostFault, Name};
+use nb_level::{Item, LevelHead, LevelReader, begins_level};
+use nb_page::Header;
+use std::alloc::Global;
+
+/// Whether a file begins as a level file does. One that isn't there doesn't.
+fn is_level<H: Host>(host: &mut H, name: &Name) -> Result<bool, HostFault>
+    ensures answer { IsTrue H.tells → IfOk result (λ is. is ≡ begins_level (bytes_of ((H.world host.old).files name.now))) }
+    ensures quiet { Quiet (H.world host.old) (H.world host.new) }
+    ensures reads { IsTrue H.tells → (H.world host.new).reads ≤ (H.world host.old).reads + 1 }
+    ensures cause { CountsFault result (H.faults host.old) (H.faults host.new) }
+{
+    let mut first = [0; 4];
+    let got = host.read_at(name, 0, &mut first)?;
+    Ok(begins_level(&first[..got]))
+}
+
+/// Reads the pages of a level file that are still to come, up to its end.
+fn read_on<H: Host>(host: &mut H, reader: &mut LevelReader, page: &mut [u8]) -> Result<(), Fault>
+    requires { length page.old ≡ reader.old.head.page_size }
+    ensures answer { IsTrue H.tells → EndSays ((H.world host.old).files reader.old.name) reader.old (H.world host.old).reads (H.world host.new).reads result }
+    ensures quiet { Quiet (H.world host.old) (H.world host.new) }
+    ensures cause { CountsDevice result (H.faults host.old) (H.faults host.new) }
+{
+    while let Item::PageAt(_) = reader.next(host, page)? {}
+    Ok(())
+}
+
+/// Reads a level file to its end, once, and answers its head. It takes memory for two pages.
+fn read_level<H: Host>(alloc: Global, host: &mut H, name: &Name) -> Result<LevelHead, Fault>
+    ensures answer { IsTrue H.tells → LevelSays ((H.world host.old).files name.now) name.now (H.world host.old).reads (H.world host.new).reads result }
+    ensures quiet { Quiet (H.world host.old) (H.world host.new) }
+    ensures cause { CountsDevice result (H.faults host.old) (H.faults host.new) }
+{
+    let mut reader = LevelReader::start(alloc, host, name)?;
+    let head = reader.head();
+    let mut page = vec![in alloc; 0; head.page_size as usize]?;
+    read_on(host, &mut reader, &mut page)?;
+    Ok(head)
+}
+
+/// Reads the header of whole pages, and answers it as the head of level 0.
+fn read_whole<H: Host>(alloc: Global, host: &mut H, name: &Name) -> Result<LevelHead, Fault>
+    ensures answer { IsTrue H.tells → begins_level (bytes_of ((H.world host.old).files name.now)) ≡ false → Says (read_file name.now ((H.world host.old).files name.now)) result }
+    ensures quiet { Quiet (H.world host.old) (H.world host.new) }
+    ensures reads { IsTrue H.tells → IfOk result (λ head. (H.world host.new).reads ≤ (H.world host.old).reads + 1) }
+    ensures cause { CountsDevice result (H.faults host.old) (H.faults host.new) }
+{
+    let Header {
+        guid,
+        page_size,
+        scn,
+        ..
+    } = read_first(alloc, host, name)?.header;
+    Ok(LevelHead {
+        level: 0,
+        guid,
+        previous: [0; 16],
+        page_size,
+        scn: scn - 1,
+        previous_scn: 0,
+    })
+}
+
+/// Reads a file, and answers its head.
+fn read_head<H: Host>(alloc: Global, host: &mut H, name: &Name) -> Result<LevelHead, Fault>
+    ensures answer { IsTrue H.tells → Says (read_file name.now ((H.world host.old).files name.now)) result }
+    ensures quiet { Quiet (H.world host.old) (H.world host.new) }
+    ensures reads { IsTrue H.tells → IfOk result (λ head. (H.world host.new).reads ≤ (H.world host.old).reads + reads_of ((H.world host.old).files name.now)) }
+    ensures cause { CountsDevice result (H.faults host.old) (H.faults host.new) }
+{
+    if is_level(host, name)? {
+        read_level(alloc, host, name)
+    } else {
+        read_whole(alloc, host, name)
+    }
+}
+
+/// Reads backup files, and answers the catalogue of them. It changes nothing.
+///
+/// The refusals are `NoFile` and `BadLevel`, with the first broken place, for each file in order, so the first that applies is
+/// answered. A file that begins as a level file is read once from front to back. Any other is taken as level 0, which is
+/// `BadLevel` at 0 where it doesn't begin with a header, at 22 where its state isn't 1, and at its length where that isn't 5 to
+/// 1,048,576 whole pages; of it the first 64 bytes are read. It takes memory for a head of each file and for two pages.
+pub fn catalogue<H: Host>(alloc: Global, host: &mut H, files: &[Name]) -> Result<Catalogue, Fault>
+    requires few { length files.now < 2 ^ 32 }
+    ensures answer { IsTrue H.tells → Says (read_files (H.world host.old).files files.now) result }
+    ensures each { IfOk result (λ heads. length heads ≡ length files.now) }
+    ensures chained { IsTrue H.tells → IfOk result (λ heads. (e : Entry) → Contains (points heads) e → IsChained (H.world host.old).files files.now heads e) }
+    ensures quiet { Quiet (H.world host.old) (H.world host.new) }
+    ensures reads { IsTrue H.tells → IfOk result (λ heads. (H.world host.new).reads ≤ (H.world host.old).reads + all_reads (H.world host.old).files files.now) }
+    ensures cause { CountsDevice result (H.faults host.old) (H.faults host.new) }
+{
+    let mut catalogue = Catalogue::new(alloc);
+    for name in files {
+        let head = read_head(alloc, host, name)?;
+        catalogue.add(head)?;
+    }
+    Ok(catalogue)
+}

@@ -1,0 +1,85 @@
+-- The files that are folded are read to their ends, and each goes on from the one before it.
+use Rattle.std.specs.Prelude.{◌≡◌, ℕ, ◌+◌, ◌≤◌, List, [], ◌∷◌, ◌++◌, length, Option, Some, None, Result, Ok, Err}
+use Rattle.nb_host.specs.Files.{File, Files, bytes_of}
+use Rattle.nb_host.specs.declared.faults.Fault.{Fault}
+use Rattle.nb_host.specs.declared.faults.Fault.TheVariants.{Refused, Device, Memory}
+use Rattle.nb_host.specs.declared.refusals.Refusal.TheVariants.{BadLevel}
+use Rattle.nb_model.specs.Causes.{Cause}
+use Rattle.nb_model.specs.Image.{Numbered}
+use Rattle.nb_model.specs.Levels.{Contents, read_level}
+use Rattle.nb_level.specs.Heads.{head_of}
+use Rattle.nb_level.specs.Reading.{Reading, still_to_come}
+use Rattle.nb_fold.specs.Sources.{Held, FileRefused, IsOpened, AreOpened, AreOfPages}
+use Rattle.nb_fold.specs.Verdict.{file_after, chained}
+
+-- the pages that were still to come were read, or the first broken place was met
+abbrev pub EndSays : File → Reading → (before after : ℕ) → Result (Unit {0}) Fault → Type 0
+EndSays file r before after (Ok done) = (pages : List Numbered) × (still_to_come (bytes_of file) r ≡ Ok pages) × (after ≤ before + length pages + 1)
+EndSays file r before after (Err (Refused refusal)) = (at : ℕ) × (still_to_come (bytes_of file) r ≡ Err at) × (refusal ≡ BadLevel r.name at)
+EndSays file r before after (Err Device) = Unit {0}
+EndSays file r before after (Err Memory) = Unit {0}
+
+-- the file is a level file
+pub record IsWhole (file : File) (before after : ℕ) : Type 0 where
+  pub bytes : List ℕ
+  pub there : file ≡ Some bytes
+  pub contents : Contents
+  pub read : read_level bytes ≡ Ok contents
+  pub reads : after ≤ before + length contents.pages + 2
+
+abbrev pub FileSays : File → (name : List ℕ) (before after : ℕ) → Result (Unit {0}) Fault → Type 0
+FileSays file name before after (Ok done) = IsWhole file before after
+FileSays file name before after (Err (Refused refusal)) = FileRefused file name refusal
+FileSays file name before after (Err Device) = Unit {0}
+FileSays file name before after (Err Memory) = Unit {0}
+
+-- a test is passed exactly where no cause applies
+abbrev pub Tested : {T : Type 0} → Cause → Result T Fault → Type 0
+Tested cause (Ok value) = cause ≡ None
+Tested cause (Err (Refused refusal)) = cause ≡ Some refusal
+Tested cause (Err Device) = ⊥
+Tested cause (Err Memory) = ⊥
+
+-- the last of these files has the head of these contents; there is none where there are none
+abbrev pub IsLast : List Held → Option Contents → Type 0
+IsLast [] None = Unit {0}
+IsLast [] (Some c) = ⊥
+IsLast (s ∷ []) None = ⊥
+IsLast (s ∷ []) (Some c) = head_of s.reader.head ≡ c.head
+IsLast (s ∷ t ∷ ss) last = IsLast (t ∷ ss) last
+
+-- one file more goes on from them
+pub record IsAdded (files : Files) (name : List ℕ) (last : Option Contents) (old new : List Held) (before after : ℕ) : Type 0 where
+  pub source : Held
+  pub contents : Contents
+  pub added : new ≡ old ++ source ∷ []
+  pub accepted : file_after files last name ≡ Ok contents
+  pub opened : IsOpened files name source contents
+  pub reads : after ≤ before + length contents.pages + 4
+
+abbrev pub AddSays : Files → (name : List ℕ) → Option Contents → (old new : List Held) (before after : ℕ) → Result (Unit {0}) Fault → Type 0
+AddSays files name last old new before after (Ok done) = IsAdded files name last old new before after
+AddSays files name last old new before after (Err (Refused refusal)) = file_after files last name ≡ Err refusal
+AddSays files name last old new before after (Err Device) = Unit {0}
+AddSays files name last old new before after (Err Memory) = Unit {0}
+
+-- how many reads it takes until the first page of each waits
+abbrev pub open_reads : List Contents → ℕ
+open_reads [] = 0
+open_reads (c ∷ cs) = length c.pages + 4 + open_reads cs
+
+-- all of them go on from one another
+pub record AreChained (files : Files) (names : List (List ℕ)) (before after : ℕ) (sources : List Held) : Type 0 where
+  pub contents : List Contents
+  pub accepted : chained files names ≡ Ok contents
+  pub opened : AreOpened files names sources contents
+  pub reads : after ≤ before + open_reads contents
+
+-- the size of the pages of the first
+abbrev pub first_size : List Held → ℕ
+first_size [] = 0
+first_size (s ∷ ss) = s.reader.head.page_size
+
+-- all have pages of one size
+abbrev pub AreAlike : List Held → Type 0
+AreAlike sources = AreOfPages (first_size sources) sources

@@ -1,0 +1,3 @@
+pub mod Making
+pub mod Touching
+pub mod Gathering

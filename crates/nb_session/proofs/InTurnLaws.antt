@@ -1,0 +1,90 @@
+-- Turns behind turns, one by one.
+use Rattle.std.proofs.Common.{◌≡◌, inl, inr, ℕ, List, [], ◌∷◌, ◌++◌, refl, ap, subst, ◌∙◌}
+use Rattle.std.specs.Prelude.{Err}
+use Rattle.nb_host.specs.World.{World}
+use Rattle.nb_model.specs.Making.{MadeFile}
+use Rattle.nb_model.specs.Run.{Now, Played, one_turn, play}
+use Rattle.nb_model.specs.Steps.{steps_of, after_steps}
+use Rattle.nb_model.specs.Trail.{Trail}
+use Rattle.nb_model.proofs.StepsLaws.{steps_append, after_steps_append}
+use Rattle.nb_model.proofs.TodoLaws.{one_turn_idle}
+use Rattle.nb_state.specs.Open.{Held}
+use Rattle.nb_session.specs.declared.stop.Stop.{Stop}
+use Rattle.nb_session.specs.declared.told.Told.{Told}
+use Rattle.nb_session.specs.InTurn.{HasNone, TakesOne, InTurn, EndsBy}
+use Rattle.nb_session.specs.Steps.{touching_by}
+use Rattle.nb_session.specs.Stops.{Plays}
+use Rattle.nb_session.specs.Told.{told_turns}
+use Rattle.nb_session.proofs.PlayLaws.{after_none, trail_after}
+use Rattle.nb_session.proofs.ToldLaws.{told_steps}
+
+-- what was seen behind turns, whatever was told of them
+pub told_trail : (told : Told) (t : Trail) (p : Played) → trail_after t (told_turns told p) ≡ after_steps t (steps_of p.0)
+told_trail told t p = ap (after_steps t) (told_steps told p.0)
+
+-- no turn is played
+play_none : (now : Now) → play [] now ≡ ([], now)
+unfolding play
+play_none now = refl
+
+-- what a session that has none does is nothing
+play_idle : (session : ℕ) (order : List ℕ) (now : Now) → HasNone session now → play (session ∷ order) now ≡ play order now
+unfolding play
+play_idle session order now none = ap (λ (p : Played). (p.0 ++ (play order p.1).0, (play order p.1).1)) (one_turn_idle session now none)
+
+-- what was seen behind one turn and others
+play_then : (session : ℕ) (order : List ℕ) (now : Now) (t : Trail)
+    → after_steps t (steps_of (play (session ∷ order) now).0) ≡ after_steps (after_steps t (steps_of (one_turn session now).0)) (steps_of (play order (one_turn session now).1).0)
+unfolding play
+play_then session order now t =
+    let first : Played = one_turn session now in
+    let later : Played = play order first.1 in
+    ap (after_steps t) (steps_append first.0 later.0) ∙ after_steps_append t (steps_of first.0) (steps_of later.0)
+
+module _ {H : Type 0} (world : H → World) (told : Told) where
+  -- where all is as it was before the first turn
+  from_start : (order : List ℕ) (old mid new : H) (before between after : Held) (t : Trail) (now : Now) → mid ≡ old → between ≡ before
+      → InTurn world told order mid new between after (after_steps t (steps_of (play [] now).0)) (play [] now).1 → InTurn world told order old new before after t now
+  from_start order old mid new before between after t now same held turns =
+      subst (λ (h : H). InTurn world told order h new before after t now) same
+      (subst (λ (b : Held). InTurn world told order mid new b after t now) held
+      (subst (λ (u : Trail). InTurn world told order mid new between after u now) (after_none t)
+      (subst (λ (p : Played). InTurn world told order mid new between after (after_steps t (steps_of p.0)) p.1) (play_none now) turns)))
+
+  -- turns behind turns
+  pub in_turn_then : (front order : List ℕ) (old mid new : H) (before between after : Held) (t : Trail) (now : Now) → InTurn world told front old mid before between t now
+      → InTurn world told order mid new between after (after_steps t (steps_of (play front now).0)) (play front now).1 → InTurn world told (front ++ order) old new before after t now
+  unfolding play
+  in_turn_then [] order old mid new before between after t now first second = from_start order old mid new before between after t now first.0 first.1 second
+  in_turn_then (x ∷ front) order old mid new before between after t now (inl idle) second =
+      inl (
+        idle.0,
+        in_turn_then front order old mid new before between after t now idle.1
+            (subst (λ (p : Played). InTurn world told order mid new between after (after_steps t (steps_of p.0)) p.1) (play_idle x front now idle.0) second),
+      )
+  in_turn_then (x ∷ front) order old mid new before between after t now (inr taken) second =
+      inr (
+        taken.0,
+        taken.1,
+        taken.2,
+        in_turn_then front order taken.0 mid new taken.1 between after (after_steps t (steps_of (one_turn x now).0)) (one_turn x now).1 taken.3
+            (subst (λ (u : Trail). InTurn world told order mid new between after u (play (x ∷ front) now).1) (play_then x front now t) second),
+      )
+
+  module _ (front : List ℕ) (session : ℕ) (old mid new : H) (before between after : Held) (t : Trail) (now : Now) (taken : InTurn world told front old mid before between t now) where
+    -- one number more, of a session that has nothing to do
+    pub in_turn_idle : HasNone session (play front now).1 → InTurn world told (front ++ session ∷ []) old mid before between t now
+    in_turn_idle none = in_turn_then front (session ∷ []) old mid mid before between between t now taken (inl (none, (refl, refl)))
+
+    -- or one turn more
+    pub in_turn_one : TakesOne (world mid) (world new) between after (after_steps t (steps_of (play front now).0)) told (play front now).1 session → InTurn world told (front ++ session ∷ []) old new before after t now
+    in_turn_one takes = in_turn_then front (session ∷ []) old mid new before between after t now taken (inr (new, after, takes, (refl, refl)))
+
+-- an early end, whatever its reason is called
+pub plays_other : (old new : World) (before after : Held) (t : Trail) (now : Now) (p : Played) (made : List MadeFile) (e f : Stop) → Plays (Err e) old new before after t now p made → Plays (Err f) old new before after t now p made
+plays_other old new before after t now p made e f plays =
+    record { stops = plays.stops; left = plays.left; apart = plays.apart; others = plays.others; others_read = plays.others_read; name = plays.name; done = tt }
+
+pub ends_other : (told : Told) (rest : List ℕ) (old new : World) (before after : Held) (t : Trail) (now : Now) (e f : Stop) → EndsBy (Err e) told rest old new before after t now → EndsBy (Err f) told rest old new before after t now
+ends_other told [] old new before after t now e f plays = plays_other old new before after t now ([], now) [] e f plays
+ends_other told (session ∷ rest) old new before after t now e f plays = plays_other old new before after t now (told_turns told (one_turn session now)) (touching_by session now) e f plays

@@ -1,0 +1,100 @@
+-- The one turn of a fold: what it must be, and what stands behind it.
+use Rattle.std.proofs.Common.{◌≡◌, ◌≢◌, ◌⊎◌, inl, inr, ℕ, List, true, false, refl, sym, ap, ◌∙◌}
+use Rattle.std.specs.Prelude.{Bool, None, Result, Ok, Err}
+use Rattle.nb_host.specs.Files.{Files}
+use Rattle.nb_host.specs.declared.refusals.Refusal.{Refusal}
+use Rattle.nb_host.specs.declared.refusals.Refusal.TheVariants.{FileExists, Usage}
+use Rattle.nb_page.specs.Free.{is_free_name}
+use Rattle.nb_model.specs.Account.{Account, Plain, with_entry}
+use Rattle.nb_model.specs.Causes.{is_free_entry}
+use Rattle.nb_model.specs.Jobs.{only_refusal, account_behind}
+use Rattle.nb_model.specs.Levels.{Contents}
+use Rattle.nb_model.specs.Run.{with_made}
+use Rattle.nb_fold.specs.Folding.{bytes_for, folded}
+use Rattle.nb_fold.specs.Verdict.{chained, fold_turn, fold_verdict, made_turn}
+use Rattle.nb_top.proofs.ChainRefusals.{refused_files}
+
+-- why a fold is refused: the name of its file isn't free, or the files don't go on from one another
+abbrev pub WhyRefused : Files → Account → (out : List ℕ) (names : List (List ℕ)) → Refusal → Type 0
+WhyRefused files account out names refusal =
+    ((is_free_entry (account.entry out) ≡ false) × (refusal ≡ FileExists out))
+    ⊎ ((is_free_entry (account.entry out) ≡ true) × (chained files names ≡ Err refusal))
+
+-- The turn is refused, or it makes the file that the files are folded into.
+pub data FoldTurn (files : Files) (account : Account) (out : List ℕ) (names : List (List ℕ)) : Type 0 where
+  refuses : (refusal : Refusal) → WhyRefused files account out names refusal → fold_turn files account out names ≡ only_refusal refusal → FoldTurn files account out names
+  folds : (cs : List Contents) → is_free_entry (account.entry out) ≡ true → chained files names ≡ Ok cs → fold_turn files account out names ≡ made_turn out (folded cs) → FoldTurn files account out names
+
+module _ (files : Files) (account : Account) (out : List ℕ) (names : List (List ℕ)) where
+  taken_turn : is_free_entry (account.entry out) ≡ false → fold_turn files account out names ≡ only_refusal (FileExists out)
+  unfolding fold_turn
+  taken_turn taken = rw (taken, fold_turn) refl
+
+  broken_turn : (refusal : Refusal) → is_free_entry (account.entry out) ≡ true → chained files names ≡ Err refusal → fold_turn files account out names ≡ only_refusal refusal
+  unfolding fold_turn
+  broken_turn refusal free broken = rw (free, fold_turn) (rw (broken, fold_turn) refl)
+
+  -- it is refused
+  pub refused_turn : (refusal : Refusal) → WhyRefused files account out names refusal → fold_turn files account out names ≡ only_refusal refusal
+  refused_turn refusal (inl taken) = taken_turn taken.0 ∙ ap only_refusal (sym taken.1)
+  refused_turn refusal (inr broken) = broken_turn refusal broken.0 broken.1
+
+  -- it makes the file
+  pub done_turn : (cs : List Contents) → is_free_entry (account.entry out) ≡ true → chained files names ≡ Ok cs → fold_turn files account out names ≡ made_turn out (folded cs)
+  unfolding fold_turn
+  done_turn cs free accepted = rw (free, fold_turn) (rw (accepted, fold_turn) refl)
+
+  -- There is nothing else that it may be.
+  pub turn_is : FoldTurn files account out names
+  turn_is = by (is_free_entry (account.entry out)) refl
+    where
+      by : (free : Bool) → is_free_entry (account.entry out) ≡ free → FoldTurn files account out names
+      by false is = let why : WhyRefused files account out names (FileExists out) = inl (is, refl) in refuses (FileExists out) why (refused_turn (FileExists out) why)
+      by true is = of_files (chained files names) refl
+        where
+          of_files : (answer : Result (List Contents) Refusal) → chained files names ≡ answer → FoldTurn files account out names
+          of_files (Ok cs) accepted = folds cs is accepted (done_turn cs is accepted)
+          of_files (Err refusal) broken = let why : WhyRefused files account out names refusal = inr (is, broken) in refuses refusal why (refused_turn refusal why)
+
+  pub made_account : (c : Contents) → account_behind out (made_turn out c) account ≡ with_entry out (Plain (bytes_for c) None) account
+  unfolding account_behind with_made
+  made_account c = refl
+
+  -- as words are that name no job it never is
+  pub refused_fold : (refusal : Refusal) → WhyRefused files account out names refusal → refusal ≢ Usage
+  refused_fold refusal (inl taken) e = exists_usage (sym taken.1 ∙ e)
+    where
+      exists_usage : FileExists out ≡ Usage → ⊥
+      exists_usage h = cc
+  refused_fold refusal (inr broken) e = refused_files files names refusal broken.1 e
+
+  -- The verdict of the files, where the account knows whether the name is free.
+  module _ (knows : is_free_name files out ≡ is_free_entry (account.entry out)) where
+    abbrev Verdict : Bool → Result (List Contents) Refusal
+    Verdict free = elim free [ true ↦ chained files names | false ↦ Err (FileExists out) ]
+
+    pub why_refused : (refusal : Refusal) → fold_verdict files out names ≡ Err refusal → WhyRefused files account out names refusal
+    why_refused refusal is = by (is_free_name files out) knows is
+      where
+        same : (a b : Refusal) → ◌≡◌ {A = Result (List Contents) Refusal} (Err a) (Err b) → a ≡ b
+        same a b h = cc
+
+        by : (free : Bool) → free ≡ is_free_entry (account.entry out) → Verdict free ≡ Err refusal → WhyRefused files account out names refusal
+        by true free verdict = inr (sym free, verdict)
+        by false free verdict = inl (sym free, sym (same (FileExists out) refusal verdict))
+
+    pub verdict_refused : (refusal : Refusal) → WhyRefused files account out names refusal → fold_verdict files out names ≡ Err refusal
+    verdict_refused refusal (inl taken) = ap Verdict (knows ∙ taken.0) ∙ ap (λ (r : Refusal). Err r) (sym taken.1)
+    verdict_refused refusal (inr broken) = ap Verdict (knows ∙ broken.0) ∙ broken.1
+
+-- files that are accepted go on from one another, and the name was free
+pub accepted_is : (files : Files) (out : List ℕ) (names : List (List ℕ)) (cs : List Contents) → fold_verdict files out names ≡ Ok cs → (is_free_name files out ≡ true) × (chained files names ≡ Ok cs)
+accepted_is files out names cs is = by (is_free_name files out) refl is
+  where
+    err_ok : (refusal : Refusal) → ◌≡◌ {A = Result (List Contents) Refusal} (Err refusal) (Ok cs) → ⊥
+    err_ok refusal h = cc
+
+    by : (free : Bool) → is_free_name files out ≡ free → elim free as (λ z. Result (List Contents) Refusal) [ true ↦ chained files names | false ↦ Err (FileExists out) ] ≡ Ok cs
+        → (is_free_name files out ≡ true) × (chained files names ≡ Ok cs)
+    by true free accepted = (free, accepted)
+    by false free accepted = absurd (err_ok (FileExists out) accepted)

@@ -1,0 +1,121 @@
+-- A list of names is read, and its files are planned for.
+use Rattle.std.proofs.Common.{◌≡◌, ◌≢◌, ℕ, zero, suc, ◌+◌, List, [], ◌∷◌, ◌++◌, length, refl, sym, ap, subst, ◌∙◌}
+use Rattle.std.specs.Prelude.{Bool, true, false, Option, Some, None, Result, Ok, Err, IfOk, nat_lt, if◌then◌else◌}
+use Rattle.nb_host.specs.Files.{File}
+use Rattle.nb_host.specs.World.{World}
+use Rattle.nb_host.specs.declared.refusals.Refusal.{Refusal}
+use Rattle.nb_host.specs.declared.refusals.Refusal.TheVariants.{BadScript, NoFile, ScriptLong, Usage}
+use Rattle.nb_page.specs.Quiet.{Quiet}
+use Rattle.nb_model.specs.declared.reply.Reply.TheVariants.{Refused as RefusedReply}
+use Rattle.nb_model.specs.Output.{status_after}
+use Rattle.nb_model.specs.declared.statement.Statement.{Statement}
+use Rattle.nb_script.specs.FirstLine.{first_at}
+use Rattle.nb_script.specs.Statements.{statement_at}
+use Rattle.nb_script.specs.Scripts.{Plan, Numbered, started, with_statement, or_bad, with_lines, order_in, with_order, of_lines, script_of}
+use Rattle.nb_script.specs.Lines.{left, lines_of}
+use Rattle.nb_catalog.specs.Answers.{with_first}
+use Rattle.nb_catalog.specs.NameLists.{is_next, list_of, names_on, some_names_on}
+use Rattle.nb_catalog.specs.Turns.{names_in}
+use Rattle.nb_session.specs.declared.stop.Stop.{Stop}
+use Rattle.nb_top.specs.declared.status.Status.{Status}
+use Rattle.nb_top.specs.declared.status.Status.TheVariants.{Refused}
+use Rattle.nb_top.specs.Goes.{Goes}
+use Rattle.nb_top.specs.Numbers.{number_of}
+use Rattle.nb_top.specs.Requests.{script_in, to_plan}
+use Rattle.nb_top.proofs.GoesLaws.{goes_quietly, goes_turn_quietly}
+use Rattle.nb_model.proofs.TodoLaws.{status_refused}
+
+-- a plan that begins with calls that change nothing
+pub plan_quietly : (tells : Bool) (old mid new : World) (keep : ℕ) (names : Result (List (List ℕ)) Refusal) (result : Result Status Stop) → Quiet old mid → Goes tells result mid new (to_plan keep names) → Goes tells result old new (to_plan keep names)
+plan_quietly tells old mid new keep (Ok names) result quiet goes = goes_turn_quietly tells old mid new _ result quiet goes
+plan_quietly tells old mid new keep (Err refusal) result quiet goes = goes_quietly tells old mid new (Err refusal) result quiet goes
+
+-- ---- a list is never refused as words are that name no job
+
+abbrev IsFine : Result (List (List ℕ)) Refusal → Type 0
+IsFine (Ok names) = Unit {0}
+IsFine (Err refusal) = refusal ≢ Usage
+
+bad_line : (line : ℕ) → BadScript line ≢ Usage
+bad_line line h = cc
+
+too_long : (bytes : ℕ) → ScriptLong bytes ≢ Usage
+too_long bytes h = cc
+
+no_list : (name : List ℕ) → NoFile name ≢ Usage
+no_list name h = cc
+
+first_fine : (name : List ℕ) (rest : Result (List (List ℕ)) Refusal) → IsFine rest → IsFine (with_first name rest)
+first_fine name (Ok names) h = tt
+first_fine name (Err refusal) h = h
+
+names_fine : (most : ℕ) (before : List (List ℕ)) (lines : List Numbered) → IsFine (names_on most before lines)
+unfolding names_on
+names_fine zero before [] = tt
+names_fine (suc most) before [] = tt
+names_fine zero before (line ∷ lines) = bad_line line.0
+names_fine (suc most) before (line ∷ lines) = by (is_next before line.1) (names_fine most (before ++ line.1 ∷ []) lines)
+  where
+    by : (b : Bool) → IsFine (names_on most (before ++ line.1 ∷ []) lines) → IsFine (if b then with_first line.1 (names_on most (before ++ line.1 ∷ []) lines) else Err (BadScript line.0))
+    by true rest = first_fine line.1 (names_on most (before ++ line.1 ∷ []) lines) rest
+    by false rest = bad_line line.0
+
+some_fine : (count : ℕ) (lines : List Numbered) → IsFine (some_names_on count lines)
+unfolding some_names_on
+some_fine count [] = bad_line (count + 1)
+some_fine count (line ∷ lines) = names_fine 1000 [] (line ∷ lines)
+
+list_fine : (bytes : List ℕ) → IsFine (list_of bytes)
+unfolding list_of
+list_fine bytes = by (nat_lt 1048576 (length bytes))
+  where
+    by : (b : Bool) → IsFine (if b then Err (ScriptLong (length bytes)) else some_names_on (length (lines_of bytes)) (left 0 bytes))
+    by true = too_long (length bytes)
+    by false = some_fine (length (lines_of bytes)) (left 0 bytes)
+
+in_fine : (list : List ℕ) (file : File) → IsFine (names_in list file)
+in_fine list None = no_list list
+in_fine list (Some bytes) = list_fine bytes
+
+-- so its status is that of a refusal
+pub list_number : (list : List ℕ) (file : File) (refusal : Refusal) → names_in list file ≡ Err refusal → (result : Result Status Stop) → IfOk result (λ status. status ≡ Refused) → IfOk result (λ status. number_of status ≡ status_after (RefusedReply refusal))
+list_number list file refusal is (Ok status) ended = ap number_of ended ∙ sym (status_refused refusal (subst IsFine is (in_fine list file)))
+list_number list file refusal is (Err e) ended = tt
+
+-- ---- a file that can't be read, as a script or as a list
+
+-- a script is broken at a line, or spelled
+abbrev IsBroken : Result Plan Refusal → Type 0
+IsBroken (Ok plan) = Unit {0}
+IsBroken (Err refusal) = (line : ℕ) × (refusal ≡ BadScript line)
+
+read_broken : (line : Numbered) (o : Option (ℕ × Statement)) (next : ℕ × Statement → Result Plan Refusal) → ((read : ℕ × Statement) → IsBroken (next read)) → IsBroken (or_bad line o next)
+read_broken line None next all = (line.0, refl)
+read_broken line (Some read) next all = all read
+
+lines_broken : (taken : ℕ) (plan : Plan) (lines : List Numbered) → IsBroken (with_lines taken plan lines)
+unfolding with_lines
+lines_broken taken plan [] = tt
+lines_broken taken plan (line ∷ lines) = read_broken line (if nat_lt taken 10000 then statement_at line.1 else None) _ (λ read. lines_broken (taken + 1) (with_statement plan read) lines)
+
+all_broken : (count : ℕ) (lines : List Numbered) → IsBroken (of_lines count lines)
+unfolding of_lines with_order
+all_broken count [] = (count + 1, refl)
+all_broken count (line ∷ lines) = read_broken line (first_at line.1) _ (λ first. lines_broken 1 (started first.0 first.1 (order_in lines).0) (order_in lines).1)
+
+-- what isn't refused for a line is refused for both alike
+pub unread_list : (name : List ℕ) (file : File) (refusal : Refusal) → ((line : ℕ) → refusal ≢ BadScript line) → script_in name file ≡ Err refusal → names_in name file ≡ Err refusal
+unfolding script_of list_of
+unread_list name None refusal other is = no_file is
+  where
+    no_file : ◌≡◌ {A = Result Plan Refusal} (Err (NoFile name)) (Err refusal) → ◌≡◌ {A = Result (List (List ℕ)) Refusal} (Err (NoFile name)) (Err refusal)
+    no_file h = cc
+unread_list name (Some bytes) refusal other is = by (nat_lt 1048576 (length bytes)) is
+  where
+    by : (b : Bool) → (if b then Err (ScriptLong (length bytes)) else of_lines (length (lines_of bytes)) (left 0 bytes)) ≡ Err refusal
+        → (if b then Err (ScriptLong (length bytes)) else some_names_on (length (lines_of bytes)) (left 0 bytes)) ≡ Err refusal
+    by true long = too_long_both long
+      where
+        too_long_both : ◌≡◌ {A = Result Plan Refusal} (Err (ScriptLong (length bytes))) (Err refusal) → ◌≡◌ {A = Result (List (List ℕ)) Refusal} (Err (ScriptLong (length bytes))) (Err refusal)
+        too_long_both h = cc
+    by false broken = let line = subst IsBroken broken (all_broken (length (lines_of bytes)) (left 0 bytes)) in absurd (other line.0 line.1)

@@ -1,0 +1,60 @@
+-- The line that is shown of a script which breaks its form.
+use Rattle.std.proofs.Common.{◌≡◌, ◌≢◌, ℕ, List, refl, sym, ap, subst}
+use Rattle.std.specs.Prelude.{Option, Some, None, Result, Ok, Err, IsErr}
+use Rattle.nb_host.specs.declared.refusals.Refusal.{Refusal}
+use Rattle.nb_host.specs.declared.refusals.Refusal.TheVariants.{BadScript, Usage}
+use Rattle.nb_session.specs.declared.stop.Stop.{Stop}
+use Rattle.nb_top.specs.declared.broken.Broken.{Broken}
+use Rattle.nb_top.specs.declared.status.Status.{Status}
+use Rattle.nb_top.specs.declared.status.Status.TheVariants.{Device, Memory}
+use Rattle.nb_top.specs.Requests.{Request, Deed, Asked, Runs, Does, to_plan}
+use Rattle.nb_top.specs.Shown.{Names, BreaksAt, IfShown, IsShownOf, IsShown}
+
+-- it isn't refused for a line
+abbrev pub IsUnbroken : Asked → Type 0
+IsUnbroken asked = (line : ℕ) → asked ≢ Runs (Err (BadScript line))
+
+pub run_unbroken : (r : Request) → IsUnbroken (Runs (Ok r))
+run_unbroken r line h = cc
+
+pub deed_unbroken : (deed : Deed) → IsUnbroken (Does deed)
+deed_unbroken deed line h = cc
+
+-- a plan that is refused is refused for a line of its list or for another reason
+pub plan_unbroken : (keep : ℕ) (names : List (List ℕ)) → IsUnbroken (to_plan keep (Ok names))
+plan_unbroken keep names line h = cc
+
+-- nor are words that name no job
+pub usage_unbroken : IsUnbroken (Runs (Err Usage))
+usage_unbroken line h = cc
+
+-- nothing was noted
+pub unshown : (result : Result Status Stop) (broken : Option Broken) (asked : Asked) → broken ≡ None → IsUnbroken asked → IsShownOf result broken asked
+unshown (Ok status) broken asked none other = subst (λ (b : Option Broken). BreaksAt b asked) (sym none) other
+unshown (Err e) broken asked none other = subst (λ (b : Option Broken). IfShown b asked) (sym none) tt
+
+-- where it ended early nothing has to be
+pub unshown_early : (result : Result Status Stop) (broken : Option Broken) (asked : Asked) → broken ≡ None → IsErr result → IsShownOf result broken asked
+unshown_early (Ok status) broken asked none failed = absurd (cc failed)
+unshown_early (Err e) broken asked none failed = subst (λ (b : Option Broken). IfShown b asked) (sym none) tt
+
+pub same_refusal : (r q : Refusal) → Runs (Err r) ≡ Runs (Err q) → r ≡ q
+same_refusal r q h = cc
+
+-- what was noted is the line of the refusal
+pub shown_by : (result : Result Status Stop) (broken : Option Broken) (refusal : Refusal) → Names broken refusal → IsShownOf result broken (Runs (Err refusal))
+shown_by (Ok status) (Some b) refusal names = ap (λ (r : Refusal). Runs (Err r)) names
+shown_by (Ok status) None refusal names = λ line h. names line (same_refusal refusal (BadScript line) h)
+shown_by (Err e) (Some b) refusal names = ap (λ (r : Refusal). Runs (Err r)) names
+shown_by (Err e) None refusal names = tt
+
+-- behind the run
+pub shown_ended : (status : Status) (broken : Option Broken) (asked : Asked) → IsShownOf (Ok status) broken asked → IsShown status broken asked
+shown_ended status None asked shown = record { right = tt; exact = λ d m. shown }
+shown_ended status (Some b) asked shown = record { right = shown; exact = λ d m. shown }
+
+pub shown_device : (stop : Stop) (broken : Option Broken) (asked : Asked) → IsShownOf (Err stop) broken asked → IsShown Device broken asked
+shown_device stop broken asked shown = record { right = shown; exact = λ d m. absurd (d refl) }
+
+pub shown_memory : (stop : Stop) (broken : Option Broken) (asked : Asked) → IsShownOf (Err stop) broken asked → IsShown Memory broken asked
+shown_memory stop broken asked shown = record { right = shown; exact = λ d m. absurd (m refl) }
