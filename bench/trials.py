@@ -125,11 +125,10 @@ class Files:
         self.guids = list(guids)
 
     def named(self, text):
-        """The text with the k-th GUID that is said as a host in memory draws it."""
-        for guid in GUID.findall(text):
-            if guid != NIL and guid not in self.guids:
-                self.guids.append(guid)
-        return GUID.sub(lambda guid: f"{NIL[:-12]}{self.guids.index(guid[0]) + 1:012}" if guid[0] != NIL else NIL, text)
+        """The text with the k-th GUID that is said as a host in memory draws it. One that the trial itself wrote, which looks like that, stays."""
+        drawn = [guid for guid in GUID.findall(text) if not guid.startswith(NIL[:-12])]
+        self.guids.extend(guid for guid in dict.fromkeys(drawn) if guid not in self.guids)
+        return GUID.sub(lambda guid: f"{NIL[:-12]}{self.guids.index(guid[0]) + 1:012}" if guid[0] in self.guids else guid[0], text)
 
     def word(self, word):
         """The GUID that a word stands for."""
