@@ -14,7 +14,7 @@ use Rattle.nb_state.specs.Open.{Held, name_of}
 use Rattle.nb_session.specs.declared.stop.Stop.{Stop}
 use Rattle.nb_session.specs.declared.told.Told.{Told}
 use Rattle.nb_session.specs.Acts.{Touched}
-use Rattle.nb_session.specs.ByTurns.{ByTurns, OfLast, GoesByTurns}
+use Rattle.nb_session.specs.ByTurns.{ByTurns, OfLast, StillInLast, GoesByTurns}
 use Rattle.nb_session.specs.InTurn.{InTurn, EndsBy}
 use Rattle.nb_session.specs.Others.{LeavesOthers}
 use Rattle.nb_session.specs.Steps.{touching_by}
@@ -79,9 +79,15 @@ module _ {H : Type 0} (world : H → World) (timely : (h : H) → IsTimely (worl
   last_leaves (Ok refused) [] old new before after t now named plays = out_leaves (Ok false) old new before after t now named plays
   last_leaves (Ok refused) (x ∷ rest) old new before after t now named plays = absurd plays
   last_leaves (Err stop) [] old new before after t now named plays = out_leaves (Err stop) old new before after t now named plays
-  last_leaves (Err stop) (x ∷ rest) old new before after t now named plays =
+  last_leaves (Err stop) (x ∷ rest) old new before after t now named ends =
       subst (λ (n : List ℕ). LeavesOthers (world old) (world new) (Touched n (touching_by x now))) named
-      (plays_leave (Err stop) (world old) (world new) before after t now (told_turns how (one_turn x now)) (touching_by x now) (timely new) (reads new) plays)
+      (plays_leave (Err stop) (world old) (world new) before after t now (told_turns how (one_turn x now)) (touching_by x now) (timely new) (reads new) ends.0)
+
+  last_still : (result : Result Bool Stop) (rest : List ℕ) (old new : World) (before after : Held) (t : Trail) (now : Now) → EndsBy result how rest old new before after t now → StillInLast rest now old new
+  last_still (Ok refused) [] old new before after t now plays = tt
+  last_still (Ok refused) (x ∷ rest) old new before after t now plays = absurd plays
+  last_still (Err stop) [] old new before after t now plays = tt
+  last_still (Err stop) (x ∷ rest) old new before after t now ends = ends.1
 
   -- all turns
   pub goes_by : (result : Result Bool Stop) (old new : H) (before after : Held) (t : Trail) (now : Now) (schedule : List ℕ) → name_of before ≡ now.name → PlaysInTurn world result old new before after t how now schedule
@@ -96,4 +102,5 @@ module _ {H : Type 0} (world : H → World) (timely : (h : H) → IsTimely (worl
         mid = runs.mid;
         taken = turns_by runs.front old runs.mid before runs.between t now named runs.taken;
         last = last_leaves result runs.rest runs.mid new runs.between after (after_steps t (steps_of (play runs.front now).0)) (play runs.front now).1 (named_then runs.front old runs.mid before runs.between t now named runs.taken) runs.last;
+        still = last_still result runs.rest (world runs.mid) (world new) runs.between after (after_steps t (steps_of (play runs.front now).0)) (play runs.front now).1 runs.last;
       }

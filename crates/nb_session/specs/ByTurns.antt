@@ -35,6 +35,11 @@ abbrev pub OfLast : (rest : List ℕ) → Now → Names
 OfLast [] now = OfFiles now.name
 OfLast (session ∷ rest) now = OfTurn session now
 
+-- where the turn that ended early was only to tell something, all files read as before it, byte for byte
+abbrev pub StillInLast : (rest : List ℕ) → Now → (old new : World) → Type 0
+StillInLast [] now old new = Unit {0}
+StillInLast (session ∷ rest) now old new = list_all only_told (one_turn session now).0 ≡ true → new.files ≡ old.files
+
 -- The turns of a schedule and then of rounds, to the end of all or up to one that ended early. Behind them what waits was written out, or not all of it.
 pub record GoesByTurns {H : Type 0} (world : H → World) (told : List Event → List Event) (old new : H) (now : Now) (schedule : List ℕ) : Type 0 where
   pub how_often : ℕ
@@ -44,3 +49,4 @@ pub record GoesByTurns {H : Type 0} (world : H → World) (told : List Event →
   pub mid : H
   pub taken : ByTurns world told front old mid now
   pub last : LeavesOthers (world mid) (world new) (OfLast rest (play front now).1)
+  pub still : StillInLast rest (play front now).1 (world mid) (world new)

@@ -8,6 +8,7 @@ use Rattle.nb_host.specs.Calls.{IsStill}
 use Rattle.nb_host.specs.Moments.{IsNow, IsTimely, Passes}
 use Rattle.nb_host.specs.declared.faults.Fault.{Fault}
 use Rattle.nb_host.specs.declared.faults.Fault.TheVariants.{Refused, Device, Memory}
+use Rattle.nb_host.specs.declared.refusals.Refusal.{Refusal}
 use Rattle.nb_change.proofs.MomentLaws.{started, untouched_begun}
 use Rattle.nb_change.proofs.ChangesLaws.{weaker_has}
 use Rattle.nb_change.proofs.CallLaws.{still_alone}
@@ -223,14 +224,20 @@ scn_other image ne = ap (λ (b : Bool). elim b as (λ z. ℕ) [ true ↦ image_s
 unless_none : (cause : Cause) (strokes : List Stroke) → cause ≡ None → unless_by cause strokes ≡ strokes
 unless_none cause strokes none = ap (λ (c : Cause). unless_by c strokes) none
 
+none_some : {r : Refusal} → None ≡ Some r → ⊥
+none_some e = cc
+
 -- A backup that may begin, with the GUID that was given.
 module _ (old mid new : World) (before after : Held) (t : Trail) (guid : List ℕ) (ask : Option Ask) (is : IsOpen old before t) (allowed : begin_cause t.base.image ≡ None) (struck : Strikes old new (name_of before) t (begin guid ask ∷ []))
     (gave : mid.guids ≡ old.guids ++ guid ∷ []) (nothing : GaveNothing mid new) (times : mid.times ≡ old.times) (running : after.running ≡ before.running) (name : name_of after ≡ name_of before) where
   left : Strikes old new (name_of before) t (unless_by (begin_cause t.base.image) (begin guid ask ∷ []))
   left = subst (λ (ss : List Stroke). Strikes old new (name_of before) t ss) (sym (unless_none (begin_cause t.base.image) (begin guid ask ∷ []) allowed)) struck
 
+  allows : (r : Refusal) → begin_cause t.base.image ≡ Some r → Quiet old new
+  allows r some = absurd (none_some (sym allowed ∙ some))
+
   pub begin_failed : Begins (Err Device) old new before after t guid ask
-  begin_failed = record { test = tt; left = left; opened = tt; answer = tt; gave = tt; times = nothing.times ∙ times; refused = tt; running = running; name = name }
+  begin_failed = record { test = tt; left = left; opened = tt; answer = tt; gave = tt; times = nothing.times ∙ times; refused = tt; idle = allows; running = running; name = name }
 
   pub begin_done : (scn : ℕ) → scn ≡ before.scn + 1 → IsOpen new after (after_strokes t (begin guid ask ∷ [])) → Begins (Ok scn) old new before after t guid ask
   begin_done scn next opened = record {
@@ -241,6 +248,7 @@ module _ (old mid new : World) (before after : Held) (t : Trail) (guid : List �
     gave = nothing.guids ∙ gave;
     times = nothing.times ∙ times;
     refused = tt;
+    idle = allows;
     running = running;
     name = name;
   }
@@ -255,10 +263,11 @@ end_refused w held t session (Refused r) is quiet test = record {
   begins = tt;
   gave = gave_none w w quiet;
   refused = (refl, quiet);
+  idle = λ r some. quiet;
   name = refl;
 }
-end_refused w held t session Device is quiet test = record { test = tt; left = none_yet w w held t _ quiet is; opened = tt; answer = tt; begins = tt; gave = gave_none w w quiet; refused = tt; name = refl }
-end_refused w held t session Memory is quiet test = record { test = tt; left = none_yet w w held t _ quiet is; opened = tt; answer = tt; begins = tt; gave = gave_none w w quiet; refused = tt; name = refl }
+end_refused w held t session Device is quiet test = record { test = tt; left = none_yet w w held t _ quiet is; opened = tt; answer = tt; begins = tt; gave = gave_none w w quiet; refused = tt; idle = λ r some. quiet; name = refl }
+end_refused w held t session Memory is quiet test = record { test = tt; left = none_yet w w held t _ quiet is; opened = tt; answer = tt; begins = tt; gave = gave_none w w quiet; refused = tt; idle = λ r some. quiet; name = refl }
 
 -- An end that may be.
 module _ (old new : World) (before after : Held) (t : Trail) (session : ℕ) (allowed : end_cause t.base.image before.running session ≡ None) (struck : Strikes old new (name_of before) t (end_strokes t.base.image)) (gave : GaveNothing old new)
@@ -266,11 +275,14 @@ module _ (old new : World) (before after : Held) (t : Trail) (session : ℕ) (al
   end_left : Strikes old new (name_of before) t (unless_by (end_cause t.base.image before.running session) (end_strokes t.base.image))
   end_left = subst (λ (ss : List Stroke). Strikes old new (name_of before) t ss) (sym (unless_none (end_cause t.base.image before.running session) (end_strokes t.base.image) allowed)) struck
 
+  end_allows : (r : Refusal) → end_cause t.base.image before.running session ≡ Some r → Quiet old new
+  end_allows r some = absurd (none_some (sym allowed ∙ some))
+
   pub end_failed : Ends (Err Device) old new before after t session
-  end_failed = record { test = tt; left = end_left; opened = tt; answer = tt; begins = tt; gave = gave; refused = tt; name = name }
+  end_failed = record { test = tt; left = end_left; opened = tt; answer = tt; begins = tt; gave = gave; refused = tt; idle = end_allows; name = name }
 
   pub end_done : (scn : ℕ) → scn ≡ end_scn t.base.image → IsOpen new after (after_strokes t (end_strokes t.base.image)) → after.running ≡ Some session → after.merged ≡ 0 → Ends (Ok scn) old new before after t session
-  end_done scn is opened running merged = record { test = allowed; left = end_left; opened = opened; answer = is; begins = (running, merged); gave = gave; refused = tt; name = name }
+  end_done scn is opened running merged = record { test = allowed; left = end_left; opened = opened; answer = is; begins = (running, merged); gave = gave; refused = tt; idle = end_allows; name = name }
 
 -- A turn of a merge that failed.
 pub merge_failed : (old new : World) (before after : Held) (t : Trail) (result : Result Progress Fault) → result ≡ Err Device → Strikes old new (name_of before) t (finish ∷ []) → (before.merged < length t.base.diverted → Strikes old new (name_of before) t [])

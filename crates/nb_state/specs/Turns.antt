@@ -3,6 +3,7 @@ use Rattle.std.specs.Prelude.{◌≡◌, ◌⊎◌, ℕ, ◌+◌, ◌<◌, ◌�
 use Rattle.nb_host.specs.Files.{Files}
 use Rattle.nb_host.specs.World.{World}
 use Rattle.nb_host.specs.declared.faults.Fault.{Fault}
+use Rattle.nb_host.specs.declared.refusals.Refusal.{Refusal}
 use Rattle.nb_host.specs.declared.refusals.Refusal.TheVariants.{WrongState}
 use Rattle.nb_page.specs.Quiet.{Quiet}
 use Rattle.nb_change.specs.Gave.{GaveNothing}
@@ -32,7 +33,7 @@ end_cause image running session = first_cause (when (image_state image == 0) (Wr
 abbrev pub GaveAtMost : (old new : World) (guid : List ℕ) → Type 0
 GaveAtMost old new guid = (new.guids ≡ old.guids) ⊎ (new.guids ≡ old.guids ++ guid ∷ [])
 
--- A backup begins with this GUID, or is refused and changes nothing.
+-- A backup begins with this GUID; or there is a cause to refuse it, and nothing changes, whatever is answered.
 pub record Begins (result : Result ℕ Fault) (old new : World) (before after : Held) (t : Trail) (guid : List ℕ) (ask : Option Ask) : Type 0 where
   pub test : Tested result (begin_cause t.base.image)
   pub left : Strikes old new (name_of before) t (unless_by (begin_cause t.base.image) (begin guid ask ∷ []))
@@ -41,10 +42,11 @@ pub record Begins (result : Result ℕ Fault) (old new : World) (before after : 
   pub gave : OnOk result (new.guids ≡ old.guids ++ guid ∷ [])
   pub times : new.times ≡ old.times
   pub refused : WhereRefused result ((after ≡ before) × Quiet old new)
+  pub idle : (r : Refusal) → begin_cause t.base.image ≡ Some r → Quiet old new
   pub running : after.running ≡ before.running
   pub name : name_of after ≡ name_of before
 
--- The stalled state ends, or a stopped merge begins again; or it is refused and changes nothing.
+-- The stalled state ends, or a stopped merge begins again; or there is a cause to refuse it, and nothing changes, whatever is answered.
 pub record Ends (result : Result ℕ Fault) (old new : World) (before after : Held) (t : Trail) (session : ℕ) : Type 0 where
   pub test : Tested result (end_cause t.base.image before.running session)
   pub left : Strikes old new (name_of before) t (unless_by (end_cause t.base.image before.running session) (end_strokes t.base.image))
@@ -53,6 +55,7 @@ pub record Ends (result : Result ℕ Fault) (old new : World) (before after : He
   pub begins : OnOk result ((after.running ≡ Some session) × (after.merged ≡ 0))
   pub gave : GaveNothing old new
   pub refused : WhereRefused result ((after ≡ before) × Quiet old new)
+  pub idle : (r : Refusal) → end_cause t.base.image before.running session ≡ Some r → Quiet old new
   pub name : name_of after ≡ name_of before
 
 -- How far a merge has come behind one turn more, whatever the host tells.

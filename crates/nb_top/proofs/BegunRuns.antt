@@ -28,7 +28,8 @@ use Rattle.nb_script.specs.Asked.{IsAskable}
 use Rattle.nb_script.specs.Scripts.{Plan}
 use Rattle.nb_session.specs.declared.stop.Stop.{Stop}
 use Rattle.nb_session.specs.Acts.{Touched}
-use Rattle.nb_session.specs.Replies.{only_tells, only_told}
+use Rattle.nb_state.specs.Does.{only_tells}
+use Rattle.nb_session.specs.Replies.{only_told}
 use Rattle.nb_session.specs.Stops.{StopLeft}
 use Rattle.nb_top.specs.declared.status.Status.{Status}
 use Rattle.nb_top.specs.Numbers.{number_of}

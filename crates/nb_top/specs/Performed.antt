@@ -48,7 +48,8 @@ use Rattle.nb_state.specs.Open.{Held}
 use Rattle.nb_gen.specs.Texts.{generated_first}
 use Rattle.nb_script.specs.Scripts.{Plan, script_of}
 use Rattle.nb_session.specs.declared.stop.Stop.{Stop}
-use Rattle.nb_session.specs.Replies.{is_refusal, only_tells, only_told}
+use Rattle.nb_state.specs.Does.{only_tells}
+use Rattle.nb_session.specs.Replies.{is_refusal, only_told}
 use Rattle.nb_session.specs.Acts.{MadeLeft, AreKept as AreFilesKept}
 use Rattle.nb_session.specs.Stops.{IsSaid, IsFront, AreWhole, Plays}
 use Rattle.nb_top.specs.declared.status.Status.{Status}
