@@ -1,6 +1,6 @@
 -- A page is written into the main file where an entry hides it: what is seen stays, at each moment. The page may be zeros.
 use Rattle.std.proofs.Common.{◌≡◌, ◌≢◌, ⊎_elim, ℕ, ◌*◌, ◌<◌, ◌≤◌, [], List, length, take, refl, sym, ap, subst, ◌∙◌, inl, inr, arith}
-use Rattle.std.specs.Prelude.{Some, IsTrue, Ok, Result}
+use Rattle.std.specs.Prelude.{Bool, Some, IsTrue, Ok, Result}
 use Rattle.nb_host.specs.Files.{File, Files, bytes_of, with_file, with_page as with_page_at}
 use Rattle.nb_host.specs.World.{World}
 use Rattle.nb_host.specs.Crash.{PageLeft}
@@ -11,10 +11,10 @@ use Rattle.nb_change.proofs.NameLaws.{with_file-same, with_file-other}
 use Rattle.nb_change.proofs.ChangesLaws.{begun}
 use Rattle.nb_change.proofs.CallLaws.{page_more}
 use Rattle.nb_model.specs.Account.{Base}
-use Rattle.nb_model.specs.Image.{Page, Image, page_at, first_page, image_size, image_state, trimmed, written_at}
+use Rattle.nb_model.specs.Image.{Page, Image, page_at, image_size, image_state, trimmed, written_at}
 use Rattle.nb_model.specs.Owner.{delta_name, entry_for, owner}
 use Rattle.nb_model.specs.Sound.{IsOfSize}
-use Rattle.nb_model.specs.Trail.{Trail, ShowsIn, IsFirm}
+use Rattle.nb_model.specs.Trail.{Trail, IsFirm}
 use Rattle.nb_model.proofs.HeaderLaws.{same-header, same-number}
 use Rattle.nb_model.proofs.ImageLaws.{all-left}
 use Rattle.nb_model.proofs.MainLaws.{some_page}

@@ -249,8 +249,8 @@ module _ (size : ℕ) (main : Image) (delta table : List ℕ) (p : ℕ) (page : 
         | inr w ↦ omega (arith, has, longer, inside, w.1, ap length (written_inner size p page main (omega (arith, inside, w.1)) whole))
       ])
       (λ q below. owned-page size main delta table q below
-          ∙ sym (owned_alike size (trimmed new) main delta table q (ap (take 64) (trimmed_at new 0 there) ∙ front_stays)
-          (λ none. trimmed_page size new (written_sizes size p page main sizes wide) q ∙ other_page size p page main q (λ same. none_some (sym none ∙ ap (λ n. entry_for n table) same ∙ is))))))
+      ∙ sym (owned_alike size (trimmed new) main delta table q (ap (take 64) (trimmed_at new 0 there) ∙ front_stays)
+      (λ none. trimmed_page size new (written_sizes size p page main sizes wide) q ∙ other_page size p page main q (λ same. none_some (sym none ∙ ap (λ n. entry_for n table) same ∙ is))))))
 
 -- The difference file changes, and the main file stays.
 module _ (size : ℕ) (main : Image) (delta new : List ℕ) where

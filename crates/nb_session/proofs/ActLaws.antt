@@ -31,7 +31,7 @@ use Rattle.nb_model.proofs.StepsLaws.{steps_plain, after_settling}
 use Rattle.nb_base.specs.Open.{OfFiles}
 use Rattle.nb_base.specs.Takes.{Strikes, after_strokes}
 use Rattle.nb_state.specs.Open.{Held, IsOpen, but_pages, name_of}
-use Rattle.nb_state.specs.Does.{WhereEnded, WhereRefused, Answers, Does}
+use Rattle.nb_state.specs.Does.{WhereEnded, Answers, Does}
 use Rattle.nb_state.specs.Turns.{GaveAtMost}
 use Rattle.nb_state.proofs.MakesLaws.{where_ended, none_yet}
 use Rattle.nb_state.proofs.TurnLaws.{no_call}

@@ -55,6 +55,8 @@ use Rattle.nb_session.specs.Askers.{IsBackup, file_asked, copy_first, copy_rest}
 use Rattle.nb_session.specs.Ready.{IsReady, IsApart}
 use Rattle.nb_session.specs.Steps.{begun_in, left_making, touching, IsBehind}
 use Rattle.nb_session.proofs.ActLaws.{trail_plain, ended_map, kept_none, says_none, idle_unchanged, first_given, most_given, grows_at_most}
+use Rattle.nb_state.specs.Does.{has_only_told}
+use Rattle.nb_session.specs.Replies.{only_told}
 use Rattle.nb_session.proofs.EventLaws.{unsaid}
 use Rattle.nb_session.proofs.CopyLaws.{apart_one, one_file, file_left, each_one, kept_one, made_by, no_stroke, stalled_now}
 use Rattle.nb_session.proofs.GiftLaws.{given_nothing, grows_none}

@@ -1,4 +1,4 @@
-use Rattle.std.proofs.Common.{◌≡◌, ◌-◌, length, sym, ap, subst, ◌∙◌}
+use Rattle.std.proofs.Common.{sym, ap, subst, ◌∙◌}
 use Rattle.nb_delta.specs.Known.{Known}
 use Rattle.nb_model.specs.Owner.{entry_for}
 use Rattle.nb_base.specs.Open.{Held, IsOpen}
@@ -19,4 +19,4 @@ returns-in-None-clause-count g c t tells given =
     let old = g.H.Host.world c.args.host.now in
     let is = subst (λ (h : Held). IsOpen old h t) (sym c.self.view_is) given in
     none_cut old (the_view c.self.inside) t is
-    (ap (λ n. entry_for n c.self.inside.delta.entries) (sym c.saturating_sub.ensures) ∙ none_found _ c.self.inside.delta.entries (c.in_ok-slot.ensures.none c.in-None.is))
+    (ap (λ n. entry_for n c.self.inside.delta.entries) (sym c.saturating_sub.ensures) ∙ none_found _ c.self.inside.delta.entries (c.in_ok-slot_of.ensures.none c.in-None.is))

@@ -1,4 +1,4 @@
-use Rattle.std.proofs.Common.{◌≡◌, ◌≤◌, length, refl, ap, sym, subst, ◌∙◌, arith}
+use Rattle.std.proofs.Common.{◌≤◌, length, refl, ap, sym, subst, ◌∙◌, arith}
 use Rattle.nb_page.proofs.QuietLemmas.{quiet_begun, quiet_joined}
 use Rattle.nb_model.proofs.TrimLaws.{trimmed_length}
 use Rattle.nb_base.specs.Open.{Held, IsOpen}

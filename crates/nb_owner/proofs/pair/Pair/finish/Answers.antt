@@ -1,4 +1,4 @@
-use Rattle.std.proofs.Common.{◌≡◌, ◌-◌, [], ◌∷◌, length, refl, ap, sym, subst, ◌∙◌, arith, nat_eq}
+use Rattle.std.proofs.Common.{◌≡◌, ◌-◌, length, ap, sym, subst, ◌∙◌, arith, nat_eq}
 use Rattle.std.specs.List.{IsDistinct}
 use Rattle.std.specs.Map.{keys_of}
 use Rattle.nb_model.specs.Strokes.{finish}
@@ -15,8 +15,8 @@ use Rattle.nb_owner.proofs.pair.Pair.finish.Goals as goal
 pub returns-in_err-finish_files-clause-takes : goal.returns-in_err-finish_files-clause-takes
 returns-in_err-finish_files-clause-takes g c t tells is merged = record { left = (c.finish_files.ensures.takes t tells is merged).left; done = not_done c.from_residual.result _ c.from_residual.ensures.0 }
 
-pub forget_behind-requires-clause-none : goal.forget_behind-requires-clause-none
-forget_behind-requires-clause-none g c = c.in_ok-finish_files.ensures.none
+pub forget_behind-requires : goal.forget_behind-requires
+forget_behind-requires g c = record { none = c.in_ok-finish_files.ensures.none }
 
 pub returns-clause-takes : goal.returns-clause-takes
 returns-clause-takes g c t tells given merged =

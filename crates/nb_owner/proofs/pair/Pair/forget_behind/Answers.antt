@@ -1,4 +1,4 @@
-use Rattle.std.proofs.Common.{◌≡◌, ◌-◌, ◌≤◌, suc, ℕ, refl, ap, sym, subst, ◌∙◌, arith, nat_eq}
+use Rattle.std.proofs.Common.{◌≡◌, ◌-◌, ap, sym, ◌∙◌, arith, nat_eq}
 use Rattle.std.specs.Map.{remove_entry}
 use Rattle.nb_owner.specs.Open.{Held, Pages, but_below}
 use Rattle.nb_owner.proofs.OpenLaws.{below_none, below_next}

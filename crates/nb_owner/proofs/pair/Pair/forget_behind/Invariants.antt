@@ -1,4 +1,4 @@
-use Rattle.std.proofs.Common.{◌≡◌, ℕ, ◌-◌, ◌≤◌}
+use Rattle.std.proofs.Common.{◌≡◌, ◌-◌, ◌≤◌}
 use Rattle.nb_cache.specs.Held.{NoneWaits}
 use Rattle.nb_owner.specs.Open.{but_below}
 use Rattle.nb_owner.proofs.pair.Pair.forget_behind.Given as goal
