@@ -12,7 +12,6 @@ pub mod BackupLaws
 pub mod FindLaws
 pub mod PlaceTests
 pub mod MakeLaws
-pub mod RoundLaws
 pub mod FullLaws
 pub mod WhereLaws
 pub mod NewLaws

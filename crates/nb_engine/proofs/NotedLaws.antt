@@ -147,6 +147,11 @@ kind_is x kind k p is =
     let parts = kind_parts x kind p is in
     ap (λ (t : Bool). t && kind_of (page_at x p) == k) (elim (leb_tells (suc p) (length x)) [ inl w ↦ w.0 | inr w ↦ absurd (let low = parts.0 in omega (arith, w.1, low)) ]) ∙ ap (λ (n : ℕ). n == k) parts.1
 
+-- a page that stays keeps its kind
+kind_stays : (x y : Image) (k r : ℕ) → length y ≡ length x → page_at y r ≡ page_at x r → is_kind y k r ≡ is_kind x k r
+unfolding is_kind
+kind_stays x y k r long same = ap (λ (n : ℕ). nat_lt r n && kind_of (page_at y r) == k) long ∙ ap (λ (q : Page). nat_lt r (length x) && kind_of q == k) same
+
 -- a page is written, of the kind that it has or that was noted
 notes_written : (x : Image) (e : Draft) (ps : List ℕ) (p kind : ℕ) (payload : List ℕ) → Notes x e ps → 1 ≤ p → p < length e.image → 16 + length payload ≤ image_size e.image → (is_kind e.image kind p ≡ true) ⊎ In p e.broken
     → Notes x (written p kind payload e) ps
@@ -182,8 +187,7 @@ notes_written x e ps p kind payload h some low room met = record {
     here = kind_from y kind p (omega (arith, long, low)) w.here
 
     other : (k r : ℕ) → r ≢ p → is_kind y k r ≡ is_kind e.image k r
-    unfolding is_kind
-    other k r ne = ap (λ (n : ℕ). nat_lt r n && kind_of (page_at y r) == k) long ∙ ap (λ (q : Page). nat_lt r (length e.image) && kind_of q == k) (w.others r ne)
+    other k r ne = kind_stays e.image y k r long (w.others r ne)
 
 -- The SCN entry of page p is raised.
 module _ (x : Image) (p : ℕ) (inside : scn_page_of x p < length x) where

@@ -16,7 +16,7 @@ use Rattle.nb_engine.specs.Put.{Reads}
 use Rattle.nb_engine.specs.Find.{IsMap, need_cause}
 use Rattle.nb_model.specs.Way.{next_place, maps_up_to, maps_on, entry_on, map_entry_on, own_entry_on, needed_on, IsMadeBehind, same_made, made_here, IsFreshBehind, same_fresh, fresh_here}
 use Rattle.nb_engine.specs.Way.{way_cause}
-use Rattle.nb_engine.proofs.CauseLaws.{first_next, first_here}
+use Rattle.nb_engine.proofs.CauseLaws.{first_next, first_here, none_behind}
 use Rattle.nb_engine.proofs.PlaceTests.{system_second}
 
 no : (a b : ℕ) → a ≢ b → (a == b) ≡ false
@@ -68,12 +68,6 @@ kept_there x p t system is = ap (λ (u : Bool). u && is_kind x (system_kind x p)
 pub kept_plain : (x : Image) (p : ℕ) → is_system_place (image_size x) p ≡ false → is_kept x p ≡ false
 unfolding is_kept
 kept_plain x p plain = ap (λ (u : Bool). u && is_kind x (system_kind x p) p) plain
-
--- one cause, with none behind it
-alone : (c : Cause) → first_cause (c ∷ None ∷ []) ≡ c
-unfolding first_cause
-alone None = refl
-alone (Some r) = refl
 
 -- The tests in order: the inventory pages, whether a page is left, and the SCN pages.
 module _ (x : Image) (from made fresh p : ℕ) (at : p ≡ next_place x from fresh) where
@@ -128,7 +122,7 @@ module _ (x : Image) (from made fresh p : ℕ) (at : p ≡ next_place x from fre
       pub way_own : need_cause (first_not x (map_entry_on x from made p)) ≡ None → way_cause x from made fresh ≡ need_cause (first_not x (own_entry_on x made p))
       way_own e =
           asked_is ∙ ap (λ (o : Option ℕ). first_cause (need_cause (first_behind o (first_not x (own_entry_on x made p))) ∷ None ∷ [])) (need_none (first_not x (map_entry_on x from made p)) e)
-          ∙ ap (λ (o : Option ℕ). first_cause (need_cause o ∷ None ∷ [])) (behind_none (first_not x (own_entry_on x made p))) ∙ alone (need_cause (first_not x (own_entry_on x made p)))
+          ∙ ap (λ (o : Option ℕ). first_cause (need_cause o ∷ None ∷ [])) (behind_none (first_not x (own_entry_on x made p))) ∙ none_behind (need_cause (first_not x (own_entry_on x made p)))
 
 -- where the search goes on, and what it reads for that
 pub place_fresh : (x : Image) (from fresh : ℕ) → inventory_of x from ≡ fresh → next_place x from fresh ≡ from

@@ -58,12 +58,12 @@ pub record Here (image : Image) (place : ℕ) : Type 0 where
 
 pub here : (kind : ℕ) (payload : ℕ → List ℕ) (image : Image) (place : ℕ) (strokes : List Stroke) (number : ℕ) → Rest kind payload image place strokes number → Here image place
 here kind payload image place strokes number rest = subst (Here image) rest.at (record {
-    five = found.low;
-    there = found.high;
-    below = (let high = found.high in let most = rest.most in omega (arith, high, most, other));
-    maps = all.maps;
-    ready = all.ready other;
-  })
+  five = found.low;
+  there = found.high;
+  below = (let high = found.high in let most = rest.most in omega (arith, high, most, other));
+  maps = all.maps;
+  ready = all.ready other;
+})
   where
     found : IsLowestFree image 5 (length image) (lowest_free image)
     found = lowest_is image rest.shaped.least

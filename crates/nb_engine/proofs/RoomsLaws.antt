@@ -26,7 +26,7 @@ use Rattle.nb_engine.specs.Make.{new_of}
 use Rattle.nb_engine.specs.Search.{IsShort, Finds, EndsBy}
 use Rattle.nb_engine.proofs.BehindLaws.{other_page, lowest_min}
 use Rattle.nb_model.proofs.ReadLaws.{lt_no, lt_yes}
-use Rattle.nb_engine.proofs.CauseLaws.{first_next, first_here, one_cause}
+use Rattle.nb_engine.proofs.CauseLaws.{first_next, first_here, one_cause, none_behind}
 use Rattle.nb_engine.proofs.FullLaws.{put_full}
 use Rattle.nb_engine.proofs.PutLaws.{no_entry_cause, entry_cause-is}
 use Rattle.nb_engine.proofs.TestLaws.{applies, rests}
@@ -236,20 +236,20 @@ no_entry_broken x p none = by (has_entry x p) refl none
     by false e h = no_entry_cause x p e
     by true e h = entry_cause-is x p e ∙ ap (λ (t : Bool). when (not t) (NotDatabase (scn_page_of x p))) (none_broken x 10 (scn_page_of x p) h)
 
+nothing_judged : judged [] false ≡ None
+unfolding first_cause lowest_broken
+nothing_judged = refl
+
 pub free_behind : (d : Draft) (p : ℕ) → behind_cause d p ≡ None → IsFreeBehind d p
 free_behind d p none =
     let all = judged_empty (other_kind d.image 5 p ++ (entry_broken d.image p ++ d.broken)) d.full none in
     let page = both_empty (other_kind d.image 5 p) (entry_broken d.image p ++ d.broken) all.0 in
     let entry = both_empty (entry_broken d.image p) d.broken page.1 in
     record {
-      clear = ap (λ (ps : List ℕ). judged ps d.full) entry.1 ∙ ap (λ (t : Bool). judged [] t) all.1 ∙ none_judged;
+      clear = ap (λ (ps : List ℕ). judged ps d.full) entry.1 ∙ ap (λ (t : Bool). judged [] t) all.1 ∙ nothing_judged;
       kind = none_broken d.image 5 p page.0;
       entry = no_entry_broken d.image p entry.0;
     }
-  where
-    none_judged : judged [] false ≡ None
-    unfolding first_cause lowest_broken
-    none_judged = refl
 
 -- why new pages aren't made
 pub unmade_short : (image : Image) (d : Draft) → length image < 5 → unmade image d ≡ Some (NotDatabase (length image))
@@ -268,15 +268,15 @@ pub grown_unmade : (image : Image) (chain : Chain) (pages slots : List ℕ) → 
 grown_unmade image chain pages slots long = unmade_long image (grown chain pages slots (drafted image)).0 long ∙ grown_judged chain pages slots (drafted image)
 
 -- the same by two causes
+last_grouped : (a b c : Cause) → first_cause (a ∷ b ∷ c ∷ []) ≡ first_cause (a ∷ first_cause (b ∷ c ∷ []) ∷ [])
+unfolding first_cause
+last_grouped (Some r) b c = refl
+last_grouped None (Some r) c = refl
+last_grouped None None None = refl
+last_grouped None None (Some r) = refl
+
 pub unmade_is : (image : Image) (d : Draft) → unmade image d ≡ first_cause (too_short image ∷ draft_cause d ∷ [])
-unmade_is image d = grouped (too_short image) (not_of_form d) (no_room d)
-  where
-    grouped : (a b c : Cause) → first_cause (a ∷ b ∷ c ∷ []) ≡ first_cause (a ∷ first_cause (b ∷ c ∷ []) ∷ [])
-    unfolding first_cause
-    grouped (Some r) b c = refl
-    grouped None (Some r) c = refl
-    grouped None None None = refl
-    grouped None None (Some r) = refl
+unmade_is image d = last_grouped (too_short image) (not_of_form d) (no_room d)
 
 pub grown_named : (image : Image) (chain : Chain) (pages slots : List ℕ) (d : Draft) → unmade image (grown chain pages slots d).0 ≡ unmade_behind image (new_page 5 (λ p. data_payload 0 (owner_of chain) slots) d).0 (last_of pages)
 grown_named image chain pages slots d = unmade_is image (grown chain pages slots d).0 ∙ ap (λ (c : Cause). first_cause (too_short image ∷ c ∷ [])) (grown_judged chain pages slots d)
@@ -290,12 +290,8 @@ joined_clear d e none =
     let all = judged_empty (e.broken ++ d.broken) (e.full || d.full) none in
     let pages = both_empty e.broken d.broken all.0 in
     let full = neither e.full d.full all.1 in
-    (ap (λ (ps : List ℕ). judged ps d.full) pages.1 ∙ ap (judged []) full.1 ∙ no_cause, ap (λ (ps : List ℕ). judged ps e.full) pages.0 ∙ ap (judged []) full.0 ∙ no_cause)
+    (ap (λ (ps : List ℕ). judged ps d.full) pages.1 ∙ ap (judged []) full.1 ∙ nothing_judged, ap (λ (ps : List ℕ). judged ps e.full) pages.0 ∙ ap (judged []) full.0 ∙ nothing_judged)
   where
-    no_cause : judged [] false ≡ None
-    unfolding first_cause lowest_broken
-    no_cause = refl
-
     neither : (a b : Bool) → (a || b) ≡ false → (a ≡ false) × (b ≡ false)
     neither false b e = (refl, e)
     neither true b e = absurd (true≢false e)
@@ -318,9 +314,4 @@ unfolding put_slot
 slot_alone image p slot bytes =
     let payload : List ℕ = drop 16 (with_part (32 + 256 * slot) bytes (page_at image p)) in
     ap (λ (ps : List ℕ). judged ps (put p 5 payload (drafted image)).full) (put_broken p 5 payload (drafted image) ∙ append-nil (entry_broken image p))
-    ∙ ap (judged (entry_broken image p)) (put_full p 5 payload (drafted image)) ∙ ap (λ (c : Cause). first_cause (c ∷ None ∷ [])) (entry_lowest image p) ∙ alone (entry_cause image p)
-  where
-    alone : (c : Cause) → first_cause (c ∷ None ∷ []) ≡ c
-    unfolding first_cause
-    alone None = refl
-    alone (Some r) = refl
+    ∙ ap (judged (entry_broken image p)) (put_full p 5 payload (drafted image)) ∙ ap (λ (c : Cause). first_cause (c ∷ None ∷ [])) (entry_lowest image p) ∙ none_behind (entry_cause image p)

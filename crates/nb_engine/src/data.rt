@@ -163,11 +163,7 @@ impl Engine {
 
     /// The SCN page that writing page `number` changes, where that isn't of its kind. It changes nothing but which pages are in memory, and
     /// refuses nothing.
-    pub fn data_ready<H: Host>(
-        &mut self,
-        host: &mut H,
-        number: u32,
-    ) -> Result<Option<u32>, Fault>
+    pub fn data_ready<H: Host>(&mut self, host: &mut H, number: u32) -> Result<Option<u32>, Fault>
         requires low { 0 < number }
         requires high { number < 1048576 }
         ensures test { Tested result None }
@@ -188,11 +184,7 @@ impl Engine {
 
     /// The lowest page that isn't of its kind, of those that giving page `number` back changes: its inventory page, and the SCN page of that. It
     /// changes nothing but which pages are in memory, and refuses nothing.
-    pub fn free_ready<H: Host>(
-        &mut self,
-        host: &mut H,
-        number: u32,
-    ) -> Result<Option<u32>, Fault>
+    pub fn free_ready<H: Host>(&mut self, host: &mut H, number: u32) -> Result<Option<u32>, Fault>
         requires high { number < 1048576 }
         ensures test { Tested result None }
         ensures value { (t : Trail) → IsTrue H.tells → IsOpen (H.world host.old) self.old t → IfOk result (λ lacking. need_cause lacking ≡ lowest_broken (give_broken t.base.image number)) }

@@ -151,12 +151,7 @@ impl Engine {
     /// The refusals are `NotDatabase` of a database of fewer than five pages, by its length, or of the lowest page that isn't of its kind: one
     /// that the new pages need, the SCN page of page `behind`, or that page itself, where the search for the new pages makes a system page of
     /// it; and `Full`, where fewer pages are left, in this order.
-    pub fn room_for<H: Host>(
-        &mut self,
-        host: &mut H,
-        pages: u32,
-        behind: u32,
-    ) -> Result<(), Fault>
+    pub fn room_for<H: Host>(&mut self, host: &mut H, pages: u32, behind: u32) -> Result<(), Fault>
         requires some { 1 ≤ pages }
         requires few { pages ≤ 2 }
         requires low { 0 < behind }

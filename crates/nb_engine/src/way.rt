@@ -193,7 +193,21 @@ fn check_map_entry<H: Host>(
     check_unless(store, host, place, way.made, scn_page)
 }
 
-/// Whether the system page of that place stands there.
+/// Whether a page is of its kind, by how its read ended: it was refused where the page isn't.
+fn was_there(read: Result<(), Fault>) -> Result<bool, Fault>
+    ensures test { Tested result None }
+    ensures value { (image : Image) (kind place : ℕ) → Tested read (not_kind image kind place) → IfOk result (λ there. there ≡ is_kind image kind place) }
+    ensures cause { (old new : ℕ) → CountsDevice read old new → CountsDevice result old new }
+{
+    match read {
+        Ok(()) => Ok(true),
+        Err(Fault::Refused(_)) => Ok(false),
+        Err(Fault::Device) => Err(Fault::Device),
+        Err(Fault::Memory) => Err(Fault::Memory),
+    }
+}
+
+/// Whether the system page of that place stands there. It refuses nothing.
 pub(crate) fn is_there<H: Host>(
     store: &mut Store,
     host: &mut H,
@@ -215,17 +229,12 @@ pub(crate) fn is_there<H: Host>(
     ensures cause { CountsDevice result (H.faults host.old) (H.faults host.new) }
 {
     let page_size = store.page_size();
-    let read = if nb_pip::is_place(page_size, place) {
-        map.read(store, host, place)
-    } else {
-        scn_page.read(store, host, place)
-    };
-    match read {
-        Ok(()) => Ok(true),
-        Err(Fault::Refused(_)) => Ok(false),
-        Err(Fault::Device) => Err(Fault::Device),
-        Err(Fault::Memory) => Err(Fault::Memory),
+    if nb_pip::is_place(page_size, place) {
+        let map_read = map.read(store, host, place);
+        return was_there(map_read);
     }
+    let scn_read = scn_page.read(store, host, place);
+    was_there(scn_read)
 }
 
 /// Goes past a place of a system page: where the page doesn't stand there, it will be made, and the SCN page with its entry is tested. The

@@ -58,7 +58,7 @@ returns-in_err-put_map-clause-makes g c t tells is low plain holds =
     let size : IsTrue (is_page_size (image_size u.base.image)) =
     subst (λ (n : ℕ). IsTrue (is_page_size n)) (c.requires.room ∙ sym c.in_ok-make_page.ensures.goes.page_size ∙ opened.files.agrees.page_size) c.requires.size in
     tries_passed c.from_residual-in_err-put_map.result fault (λ r. MakesWhere (IsSupplied image p) (λ value x. p < length x) r old new c.args.store.now c.put_map.new.store t (take_page p e).strokes) c.from_residual-in_err-put_map.ensures
-    (take_after t p e (put_of t.base p kind payload) (IsSupplied image p) (λ value x. (p < length x) × IsMap x p map) (Err fault) old mid new c.args.store.now c.make_page.new.store c.put_map.new.store 
+    (take_after t p e (put_of t.base p kind payload) (IsSupplied image p) (λ value x. (p < length x) × IsMap x p map) (Err fault) old mid new c.args.store.now c.make_page.new.store c.put_map.new.store
     (λ w. mark_put image p kind payload w.shaped w.ready (w.ready.entry (kept_plain image p plain)) c.requires.low low (room w.shaped.size)) first size first.ends.0 (c.in_err-put_map.ensures.tries u tells opened first.ends.1.kind first.ends.1.page))
 
 pub returns-clause-makes : goal.returns-clause-makes
@@ -84,5 +84,5 @@ returns-clause-makes g c t tells is low plain holds =
     let opened = first.some.makes.opened in
     let size : IsTrue (is_page_size (image_size u.base.image)) =
     subst (λ (n : ℕ). IsTrue (is_page_size n)) (c.requires.room ∙ sym c.in_ok-make_page.ensures.goes.page_size ∙ opened.files.agrees.page_size) c.requires.size in
-    take_after t p e (put_of t.base p kind payload) (IsSupplied image p) (λ value x. (p < length x) × IsMap x p map) (Ok tt) old mid new c.args.store.now c.make_page.new.store c.put_map.new.store 
+    take_after t p e (put_of t.base p kind payload) (IsSupplied image p) (λ value x. (p < length x) × IsMap x p map) (Ok tt) old mid new c.args.store.now c.make_page.new.store c.put_map.new.store
     (λ w. mark_put image p kind payload w.shaped w.ready (w.ready.entry (kept_plain image p plain)) c.requires.low low (room w.shaped.size)) first size first.ends.0 (c.in_ok-put_map.ensures.tries u tells opened first.ends.1.kind first.ends.1.page)

@@ -41,7 +41,7 @@ returns-in_err-mark-clause-makes g c t tells is low system =
     let size : IsTrue (is_page_size (image_size u.base.image)) =
     subst (λ (n : ℕ). IsTrue (is_page_size n)) (c.requires.room ∙ sym c.in_ok-make_system.ensures.goes.page_size ∙ opened.files.agrees.page_size) c.requires.size in
     tries_passed c.from_residual-in_err-mark.result fault (λ r. MakesWhere (IsSupplied image p) (λ value x. p < length x) r old new c.args.store.now c.mark.new.store t (round image p).strokes) c.from_residual-in_err-mark.ensures
-    (take_after t p e (system_of t.base p) (IsSupplied image p) (λ value x. p < length x) (Err fault) old mid new c.args.store.now c.make_system.new.store c.mark.new.store 
+    (take_after t p e (system_of t.base p) (IsSupplied image p) (λ value x. p < length x) (Err fault) old mid new c.args.store.now c.make_system.new.store c.mark.new.store
     (λ w. system_marks t.base p w.shaped w.ready c.requires.low low system) first size first.ends (c.in_err-mark.ensures.tries u tells opened))
 
 pub returns-clause-makes : goal.returns-clause-makes
@@ -59,5 +59,5 @@ returns-clause-makes g c t tells is low system =
     let opened = first.some.makes.opened in
     let size : IsTrue (is_page_size (image_size u.base.image)) =
     subst (λ (n : ℕ). IsTrue (is_page_size n)) (c.requires.room ∙ sym c.in_ok-make_system.ensures.goes.page_size ∙ opened.files.agrees.page_size) c.requires.size in
-    take_after t p e (system_of t.base p) (IsSupplied image p) (λ value x. p < length x) (Ok tt) old mid new c.args.store.now c.make_system.new.store c.mark.new.store 
+    take_after t p e (system_of t.base p) (IsSupplied image p) (λ value x. p < length x) (Ok tt) old mid new c.args.store.now c.make_system.new.store c.mark.new.store
     (λ w. system_marks t.base p w.shaped w.ready c.requires.low low system) first size first.ends (c.in_ok-mark.ensures.tries u tells opened)
