@@ -12,6 +12,7 @@ use Rattle.nb_model.specs.Causes.{first_cause, lowest_of, lowest_broken}
 use Rattle.nb_model.specs.Image.{Image, image_size}
 use Rattle.nb_model.specs.Forms.{is_kind, other_kind, has_entry, scn_page_of}
 use Rattle.nb_model.specs.Way.{IsMadeBehind, same_made, made_here, IsFreshBehind, same_fresh, fresh_here}
+use Rattle.nb_model.proofs.ReadLaws.{eq_no, eq_yes}
 use Rattle.nb_model.proofs.SoundLaws.{scn_page_there, scn_place_some}
 use Rattle.nb_model.proofs.NewSound.{plain_place}
 use Rattle.nb_model.proofs.OnwardLaws.{kind_same}
@@ -20,12 +21,6 @@ use Rattle.nb_engine.specs.declared.behind.Behind.{Behind}
 use Rattle.nb_engine.specs.Behind.{judged, entry_broken, page_in, page_if, IsKnown, EndsAlike, passed, gone}
 use Rattle.nb_engine.specs.Find.{need_cause}
 use Rattle.nb_engine.proofs.PlaceTests.{system_second}
-
-eq_yes : (a b : ℕ) → a ≡ b → (a == b) ≡ true
-eq_yes a b same = elim (eqb_tells a b) [ inl w ↦ w.0 | inr w ↦ absurd (w.1 same) ]
-
-eq_no : (a b : ℕ) → a ≢ b → (a == b) ≡ false
-eq_no a b other = elim (eqb_tells a b) [ inl w ↦ absurd (other w.1) | inr w ↦ w.0 ]
 
 or_false : (t : Bool) → (t || false) ≡ t
 or_false true = refl
@@ -67,8 +62,8 @@ either_none false xs e = refl
 
 -- The search came to page p, a system place or one where the new page is made, and left it of that kind.
 module _ (old now next : Image) (p kind : ℕ) (b : Behind) (known : IsKnown old now b) (now_size : image_size now ≡ image_size old) (size : IsTrue (is_page_size (image_size old))) (five : 5 ≤ p) (on : IsVisited now next p kind) (there : p ≤ length now) where
-  abbrev q : ℕ
-  q = scn_page_of old b.page
+  abbrev entries : ℕ
+  entries = scn_page_of old b.page
 
   next_size : image_size next ≡ image_size old
   next_size = on.size ∙ now_size
@@ -80,16 +75,16 @@ module _ (old now next : Image) (p kind : ℕ) (b : Behind) (known : IsKnown old
   same k r ne = kind_same now next p kind k r on there ne
 
   -- the SCN page with its entry is another
-  entry_same : q ≢ p → entry_broken next b.page ≡ entry_broken now b.page
+  entry_same : entries ≢ p → entry_broken next b.page ≡ entry_broken now b.page
   entry_same ne =
       entry_by old next b.page next_size
-      ∙ ap (λ (xs : List ℕ). elim (has_entry old b.page) as (λ z. List ℕ) [ true ↦ xs | false ↦ [] ]) (other_by now next 10 q (same 10 q ne)) ∙ sym (entry_by old now b.page now_size)
+      ∙ ap (λ (xs : List ℕ). elim (has_entry old b.page) as (λ z. List ℕ) [ true ↦ xs | false ↦ [] ]) (other_by now next 10 entries (same 10 entries ne)) ∙ sym (entry_by old now b.page now_size)
 
   -- or stands there
-  entry_none : (x : Image) → image_size x ≡ image_size old → is_kind x 10 q ≡ true → entry_broken x b.page ≡ []
-  entry_none x is found = entry_by old x b.page is ∙ either_none (has_entry old b.page) (other_kind x 10 q) (other_none x 10 q found)
+  entry_none : (x : Image) → image_size x ≡ image_size old → is_kind x 10 entries ≡ true → entry_broken x b.page ≡ []
+  entry_none x is found = entry_by old x b.page is ∙ either_none (has_entry old b.page) (other_kind x 10 entries) (other_none x 10 entries found)
 
-  entry_place : q ≡ p → is_scn_place (image_size old) p ≡ true
+  entry_place : entries ≡ p → is_scn_place (image_size old) p ≡ true
   entry_place e = ap (is_scn_place (image_size old)) (sym e) ∙ scn_page_there (image_size old) (b.page / entries_in (image_size old)) size
 
   -- no page is named where none is broken
@@ -115,11 +110,11 @@ module _ (old now next : Image) (p kind : ℕ) (b : Behind) (known : IsKnown old
   }
     where
       kept : (b.lost ≡ true → ⊥) → not b.lost ≡ true
-      kept no = by b.lost refl
+      kept never = by b.lost refl
         where
           by : (t : Bool) → b.lost ≡ t → not b.lost ≡ true
           by false e = ap not e
-          by true e = absurd (no e)
+          by true e = absurd (never e)
 
   module _ (system : is_system_place (image_size old) p ≡ true) (of_map : is_inventory_place (image_size old) p ≡ true → kind ≡ 2) (of_entries : is_scn_place (image_size old) p ≡ true → kind ≡ 10) where
     not_data : kind ≢ 5
@@ -132,7 +127,7 @@ module _ (old now next : Image) (p kind : ℕ) (b : Behind) (known : IsKnown old
     no_data : is_kind next 5 p ≡ false
     no_data = one_kind next kind 5 p not_data here
 
-    entry_here : q ≡ p → entry_broken next b.page ≡ []
+    entry_here : entries ≡ p → entry_broken next b.page ≡ []
     entry_here e = entry_none next next_size (ap (is_kind next 10) e ∙ subst (λ (n : ℕ). is_kind next n p ≡ true) (of_entries (entry_place e)) here)
 
     -- its system page stood there
@@ -143,7 +138,7 @@ module _ (old now next : Image) (p kind : ℕ) (b : Behind) (known : IsKnown old
         | inr w ↦ same 5 b.page w.1 ∙ known.kind
       ];
       place = known.place;
-      entry = elim (eqb_tells q p) [
+      entry = elim (eqb_tells entries p) [
         | inl w ↦
             let none : entry_broken now b.page ≡ [] = entry_none now now_size (ap (is_kind now 10) w.1 ∙ subst (λ (n : ℕ). is_kind now n p ≡ true) (of_entries (entry_place w.1)) stood) in
             entry_here w.1 ∙ sym none ∙ known.entry
@@ -163,7 +158,7 @@ module _ (old now next : Image) (p kind : ℕ) (b : Behind) (known : IsKnown old
         | inl w ↦ ap (is_system_place (image_size old)) (sym w.1) ∙ system
         | inr w ↦ known.place (sym (ap (λ (t : Bool). b.lost || t) w.0 ∙ or_false b.lost) ∙ lost)
       ];
-      entry = by (eqb_tells p b.entry) (eqb_tells q p);
+      entry = by (eqb_tells p b.entry) (eqb_tells entries p);
       page = λ some. elim (eqb_tells p b.entry) [
         | inl w ↦ absurd (some (ap (λ (t : Bool). elim t as (λ z. ℕ) [ true ↦ 0 | false ↦ b.entry ]) w.0))
         | inr w ↦
@@ -175,10 +170,10 @@ module _ (old now next : Image) (p kind : ℕ) (b : Behind) (known : IsKnown old
         N : ℕ → List ℕ
         N n = page_if (nat_lt 0 n) n
 
-        by : (((p == b.entry) ≡ true) × (p ≡ b.entry)) ⊎ (((p == b.entry) ≡ false) × (p ≢ b.entry)) → (((q == p) ≡ true) × (q ≡ p)) ⊎ (((q == p) ≡ false) × (q ≢ p)) → entry_broken next b.page ≡ N (passed p b).entry
+        by : (((p == b.entry) ≡ true) × (p ≡ b.entry)) ⊎ (((p == b.entry) ≡ false) × (p ≢ b.entry)) → (((entries == p) ≡ true) × (entries ≡ p)) ⊎ (((entries == p) ≡ false) × (entries ≢ p)) → entry_broken next b.page ≡ N (passed p b).entry
         by (inl w) v =
             let some : b.entry ≢ 0 = λ e. absurd (omega (arith, e, w.1, five)) in
-            let at : q ≡ p = sym (known.page some) ∙ sym w.1 in
+            let at : entries ≡ p = sym (known.page some) ∙ sym w.1 in
             entry_here at ∙ sym (ap N (ap (λ (t : Bool). elim t as (λ z. ℕ) [ true ↦ 0 | false ↦ b.entry ]) w.0))
         by (inr w) (inl v) =
             let none : b.entry ≡ 0 = elim (eqb_tells b.entry 0) [ inl z ↦ z.1 | inr z ↦ absurd (w.1 (sym (known.page z.1 ∙ v.1))) ] in
@@ -282,8 +277,8 @@ judged_page page other (q ∷ qs) full some = ap (λ (n : ℕ). Some (NotDatabas
 -- or was refused otherwise
 pub judged_other : (page : ℕ) (r : Refusal) (pages : List ℕ) (full : Bool) → ((other : ℕ) → r ≢ NotDatabase other) → judged pages full ≡ Some r → judged (page ∷ pages) full ≡ Some (NotDatabase page)
 unfolding first_cause lowest_broken
-judged_other page r [] full no some = refl
-judged_other page r (q ∷ qs) full no some = absurd (no (lowest_of q qs) (sym (same some)))
+judged_other page r [] full never some = refl
+judged_other page r (q ∷ qs) full never some = absurd (never (lowest_of q qs) (sym (same some)))
   where
     same : Some (NotDatabase (lowest_of q qs)) ≡ Some r → NotDatabase (lowest_of q qs) ≡ r
     same e = cc

@@ -166,19 +166,19 @@ new_below t kind payload number strokes low same =
     let of : IsOf t.base (new_of kind payload t.base.image).0 = new_keeps (IsOf t.base) (drafts_are t.base) (length t.base.image + 4) kind payload (drafted t.base.image) (drafted_is t.base) in
     subst (λ (x : Image). number < length x) (image_is t 0 (new_of kind payload t.base.image).0 of strokes same) low
 
+first_grouped : (a b c : Cause) → first_cause (a ∷ b ∷ c ∷ []) ≡ first_cause (first_cause (a ∷ b ∷ []) ∷ c ∷ [])
+unfolding first_cause
+first_grouped None None c = refl
+first_grouped None (Some r) c = refl
+first_grouped (Some r) b c = refl
+
 -- why the history doesn't grow
 module _ (image : Image) (pages : List ℕ) where
   abbrev history : Draft
   history = (grown History pages [] (drafted image)).0
 
   grow_is : grow_cause image pages ≡ first_cause (draft_cause history ∷ no_scn image ∷ [])
-  grow_is = grouped (not_of_form history) (no_room history) (no_scn image)
-    where
-      grouped : (a b c : Cause) → first_cause (a ∷ b ∷ c ∷ []) ≡ first_cause (first_cause (a ∷ b ∷ []) ∷ c ∷ [])
-      unfolding first_cause
-      grouped None None c = refl
-      grouped None (Some r) c = refl
-      grouped (Some r) b c = refl
+  grow_is = first_grouped (not_of_form history) (no_room history) (no_scn image)
 
   pub grow_refused : (r : Refusal) → draft_cause history ≡ Some r → grow_cause image pages ≡ Some r
   grow_refused r e = grow_is ∙ first_here (draft_cause history) (no_scn image ∷ []) r e

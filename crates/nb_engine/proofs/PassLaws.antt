@@ -1,8 +1,7 @@
 -- The tests of a search for new pages at one page, each as a need that is met or not.
-use Rattle.std.proofs.Common.{◌≡◌, ◌≢◌, inl, inr, ℕ, ◌+◌, ◌-◌, List, [], ◌∷◌, ◌++◌, length, refl, sym, ap, ◌∙◌}
+use Rattle.std.proofs.Common.{◌≡◌, ◌≢◌, ℕ, ◌+◌, ◌-◌, List, [], ◌∷◌, ◌++◌, length, refl, sym, ap, ◌∙◌}
 use Rattle.std.specs.Prelude.{Bool, true, false, not, ◌==◌, ◌&&◌, nat_lt, IsTrue, Option, Some, None, Result, Ok, Err, OnOk}
 use Rattle.std.proofs.lemmas.Bool.{true≢false}
-use Rattle.std.proofs.lemmas.Bool.Decides.{eqb_tells}
 use Rattle.nb_fields.specs.Places.{is_page_size, is_inventory_place, is_scn_place, is_system_place}
 use Rattle.nb_host.specs.declared.faults.Fault.{Fault}
 use Rattle.nb_host.specs.declared.refusals.Refusal.{Refusal}
@@ -10,6 +9,7 @@ use Rattle.nb_host.specs.declared.refusals.Refusal.TheVariants.{NotDatabase, Ful
 use Rattle.nb_model.specs.Image.{Page, Image, page_at, image_size}
 use Rattle.nb_model.specs.Forms.{is_kind, inventory_of, scn_page_of, has_entry, free_from, system_kind, Need, first_not, entry_page, is_kept}
 use Rattle.nb_model.specs.Causes.{Cause, first_cause, when, not_kind}
+use Rattle.nb_model.proofs.ReadLaws.{eq_no, eq_yes}
 use Rattle.nb_model.proofs.NeedLaws.{first_behind, first_append, behind_none, behind_some, first_none}
 use Rattle.nb_model.proofs.NewSound.{plain_place, places_apart}
 use Rattle.nb_engine.specs.Put.{Reads}
@@ -19,22 +19,16 @@ use Rattle.nb_engine.specs.Way.{way_cause}
 use Rattle.nb_engine.proofs.CauseLaws.{first_next, first_here, none_behind}
 use Rattle.nb_engine.proofs.PlaceTests.{system_second}
 
-no : (a b : ℕ) → a ≢ b → (a == b) ≡ false
-no a b other = elim (eqb_tells a b) [ inl w ↦ absurd (other w.1) | inr w ↦ w.0 ]
-
-yes : (a b : ℕ) → a ≡ b → (a == b) ≡ true
-yes a b same = elim (eqb_tells a b) [ inl w ↦ w.0 | inr w ↦ absurd (w.1 same) ]
-
 -- the SCN page of an entry: it is made on the way, or there is no entry, or it is tested
 pub entry_made : (x : Image) (made q : ℕ) → scn_page_of x q ≡ made → need_cause (first_not x (entry_on x made q)) ≡ None
-entry_made x made q same = ap (λ (t : Bool). need_cause (first_not x (elim t as (λ z. List Need) [ true ↦ [] | false ↦ entry_page x q ]))) (yes (scn_page_of x q) made same) ∙ ap need_cause (first_none x)
+entry_made x made q same = ap (λ (t : Bool). need_cause (first_not x (elim t as (λ z. List Need) [ true ↦ [] | false ↦ entry_page x q ]))) (eq_yes (scn_page_of x q) made same) ∙ ap need_cause (first_none x)
 
 entry_is : (x : Image) (q : ℕ) (t : Bool) → has_entry x q ≡ t → entry_page x q ≡ elim t as (λ z. List Need) [ true ↦ record { kind = 10; page = scn_page_of x q } ∷ [] | false ↦ [] ]
 unfolding entry_page
 entry_is x q t e = ap (λ (u : Bool). elim u as (λ z. List Need) [ true ↦ record { kind = 10; page = scn_page_of x q } ∷ [] | false ↦ [] ]) e
 
 entry_asked : (x : Image) (made q : ℕ) → scn_page_of x q ≢ made → entry_on x made q ≡ entry_page x q
-entry_asked x made q other = ap (λ (t : Bool). elim t as (λ z. List Need) [ true ↦ [] | false ↦ entry_page x q ]) (no (scn_page_of x q) made other)
+entry_asked x made q other = ap (λ (t : Bool). elim t as (λ z. List Need) [ true ↦ [] | false ↦ entry_page x q ]) (eq_no (scn_page_of x q) made other)
 
 pub entry_none : (x : Image) (made q : ℕ) → scn_page_of x q ≢ made → has_entry x q ≡ false → need_cause (first_not x (entry_on x made q)) ≡ None
 entry_none x made q other none = ap (λ (ns : List Need). need_cause (first_not x ns)) (entry_asked x made q other ∙ entry_is x q false none) ∙ ap need_cause (first_none x)
@@ -107,13 +101,13 @@ module _ (x : Image) (from made fresh p : ℕ) (at : p ≡ next_place x from fre
 
     pub way_full : p ≡ 1048576 → way_cause x from made fresh ≡ Some (Full 1048576)
     way_full end =
-        rest_is ∙ ap (λ (t : Bool). first_cause (need_cause (first_not x (asks t)) ∷ when t (Full 1048576) ∷ [])) (yes p 1048576 end)
+        rest_is ∙ ap (λ (t : Bool). first_cause (need_cause (first_not x (asks t)) ∷ when t (Full 1048576) ∷ [])) (eq_yes p 1048576 end)
         ∙ first_next (need_cause (first_not x [])) (Some (Full 1048576) ∷ []) (ap need_cause (first_none x)) ∙ first_here (Some (Full 1048576)) [] (Full 1048576) refl
 
     module _ (other : p ≢ 1048576) where
       asked_is : way_cause x from made fresh ≡ first_cause (need_cause (first_behind (first_not x (map_entry_on x from made p)) (first_not x (own_entry_on x made p))) ∷ None ∷ [])
       asked_is =
-          rest_is ∙ ap (λ (t : Bool). first_cause (need_cause (first_not x (asks t)) ∷ when t (Full 1048576) ∷ [])) (no p 1048576 other)
+          rest_is ∙ ap (λ (t : Bool). first_cause (need_cause (first_not x (asks t)) ∷ when t (Full 1048576) ∷ [])) (eq_no p 1048576 other)
           ∙ ap (λ (o : Option ℕ). first_cause (need_cause o ∷ None ∷ [])) (first_append x (map_entry_on x from made p) (own_entry_on x made p))
 
       pub way_map_entry : (r : Refusal) → need_cause (first_not x (map_entry_on x from made p)) ≡ Some r → way_cause x from made fresh ≡ Some r
@@ -126,16 +120,16 @@ module _ (x : Image) (from made fresh p : ℕ) (at : p ≡ next_place x from fre
 
 -- where the search goes on, and what it reads for that
 pub place_fresh : (x : Image) (from fresh : ℕ) → inventory_of x from ≡ fresh → next_place x from fresh ≡ from
-place_fresh x from fresh own = ap (λ (t : Bool). elim t as (λ z. ℕ) [ true ↦ from | false ↦ free_from (length x - from) from x ]) (yes (inventory_of x from) fresh own)
+place_fresh x from fresh own = ap (λ (t : Bool). elim t as (λ z. ℕ) [ true ↦ from | false ↦ free_from (length x - from) from x ]) (eq_yes (inventory_of x from) fresh own)
 
 pub place_free : (x : Image) (from fresh : ℕ) → inventory_of x from ≢ fresh → next_place x from fresh ≡ free_from (length x - from) from x
-place_free x from fresh other = ap (λ (t : Bool). elim t as (λ z. ℕ) [ true ↦ from | false ↦ free_from (length x - from) from x ]) (no (inventory_of x from) fresh other)
+place_free x from fresh other = ap (λ (t : Bool). elim t as (λ z. ℕ) [ true ↦ from | false ↦ free_from (length x - from) from x ]) (eq_no (inventory_of x from) fresh other)
 
 pub maps_fresh : (x : Image) (from fresh p : ℕ) → inventory_of x from ≡ fresh → need_cause (first_not x (maps_on x from fresh p)) ≡ None
-maps_fresh x from fresh p own = ap (λ (t : Bool). need_cause (first_not x (elim t as (λ z. List Need) [ true ↦ [] | false ↦ maps_up_to x from p ]))) (yes (inventory_of x from) fresh own) ∙ ap need_cause (first_none x)
+maps_fresh x from fresh p own = ap (λ (t : Bool). need_cause (first_not x (elim t as (λ z. List Need) [ true ↦ [] | false ↦ maps_up_to x from p ]))) (eq_yes (inventory_of x from) fresh own) ∙ ap need_cause (first_none x)
 
 pub maps_free : (x : Image) (from fresh p : ℕ) → inventory_of x from ≢ fresh → maps_on x from fresh p ≡ maps_up_to x from p
-maps_free x from fresh p other = ap (λ (t : Bool). elim t as (λ z. List Need) [ true ↦ [] | false ↦ maps_up_to x from p ]) (no (inventory_of x from) fresh other)
+maps_free x from fresh p other = ap (λ (t : Bool). elim t as (λ z. List Need) [ true ↦ [] | false ↦ maps_up_to x from p ]) (eq_no (inventory_of x from) fresh other)
 
 -- where no fresh inventory page is at hand, it is refused as its search of the inventories is
 pub maps_cause : (x : Image) (from fresh p : ℕ) → inventory_of x from ≢ fresh → p ≡ free_from (length x - from) from x

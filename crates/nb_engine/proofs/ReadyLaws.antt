@@ -83,15 +83,15 @@ module _ (b : Base) (p kind : ℕ) (payload : List ℕ) (size : IsTrue (is_page_
       ∙ ap (λ (q : Page). elim (nat_lt p (length x)) as (λ z. Page) [ true ↦ q | false ↦ replicate (size_of (page_at y 0)) 0 ]) here
       ∙ ap (λ (q : Page). elim (nat_lt p (length x)) as (λ z. Page) [ true ↦ page_at x p | false ↦ replicate (size_of q) 0 ]) first
 
+  no_stroke : (base_after b []).image ≡ b.image
+  unfolding base_after
+  no_stroke = refl
+
   as_before : before.image ≡ (base_after b (raise_strokes b.image p)).image → over (old_page p before.image) (image_scn before.image) ≡ over (old_page p b.image) (image_scn b.image)
   as_before is = by (has_entry b.image p) refl
     where
       by : (t : Bool) → has_entry b.image p ≡ t → over (old_page p before.image) (image_scn before.image) ≡ over (old_page p b.image) (image_scn b.image)
       by false e = ap (λ (x : Image). over (old_page p x) (image_scn x)) (is ∙ ap (λ (ss : List Stroke). (base_after b ss).image) (raised_not b.image p (not_raised b.image p e)) ∙ no_stroke)
-        where
-          no_stroke : (base_after b []).image ≡ b.image
-          unfolding base_after
-          no_stroke = refl
       by true e =
           let alone : RaisesAlone b.image before.image p = subst (λ (x : Image). RaisesAlone b.image x p) (sym is) (raise_alone b p none) in
           let q : ℕ = scn_page_of b.image p in

@@ -38,8 +38,8 @@ held (Err Device) P p = tt
 held (Err Memory) P p = tt
 
 pub not_lost : (t : Bool) → (t ≡ true → ⊥) → not t ≡ true
-not_lost false no = refl
-not_lost true no = absurd (no refl)
+not_lost false never = refl
+not_lost true never = absurd (never refl)
 
 -- P holds where a call ended, and tells what it tested.
 pub tested_where : {T : Type 0} (result : Result T Fault) (P : Type 0) (cause : Cause) → WhereEnded result P → (P → Tested result cause) → Tested result cause

@@ -390,15 +390,8 @@ module _ (old start now : Image) (first from made fresh tries : ℕ) (s : Search
           none_is : None ≡ Some r → ⊥
           none_is h = cc
 
--- From a place of a system page the search goes on, and at another page it ends.
+-- At a page that isn't the place of a system page the search ends.
 module _ (old start : Image) (first place made fresh : ℕ) (h : AtPlace old start first place made fresh) (most : length old ≤ 1048576) where
-  pub onward_at : is_system_place (image_size old) place ≡ true → (next : Image) × (left : ℕ) × Searches old start next first (place + 1) made fresh left
-  onward_at system = (
-    (round_at place h.now).image,
-    h.left,
-    search_on old start h.now first h.from h.made_before h.fresh_before h.left h.search most place h.at h.none h.other system made fresh h.made_is h.fresh_is,
-  )
-
   module _ (plain : is_system_place (image_size old) place ≡ false) (kind : ℕ) (payload : ℕ → List ℕ) (short : length (payload place) ≤ 1008) where
     pub found_at : draft_cause (new_page kind payload (drafted start)).0 ≡ None
     found_at = search_found old start h.now first h.from h.made_before h.fresh_before h.left h.search most place h.at h.none h.other plain kind payload short
@@ -427,6 +420,7 @@ goes_begin old start from made fresh b way = record { now = start; tries = lengt
 -- it comes to the next page,
 pub goes_at : (old start : Image) (first from made fresh : ℕ) (before after : Behind) → GoesTo old start first from made fresh before after → length old ≤ 1048576 → (place m f : ℕ) → place ≡ next_place old from fresh → way_cause old from made fresh ≡ None
     → IsMadeBehind old place made m → IsFreshBehind old place fresh f → AtKnown old start first place m f before after
+unfolding at_place
 goes_at old start first from made fresh before after s most place m f at none made_is fresh_is = record { at = at_place old start s.now first from made fresh s.tries s.search most place m f at none made_is fresh_is; known = s.known }
 
 -- it goes on behind the place of a system page,

@@ -201,9 +201,11 @@ fn was_there(read: Result<(), Fault>) -> Result<bool, Fault>
 {
     match read {
         Ok(()) => Ok(true),
-        Err(Fault::Refused(_)) => Ok(false),
-        Err(Fault::Device) => Err(Fault::Device),
-        Err(Fault::Memory) => Err(Fault::Memory),
+        Err(fault) => match fault {
+            Fault::Refused(_) => Ok(false),
+            Fault::Device => Err(Fault::Device),
+            Fault::Memory => Err(Fault::Memory),
+        },
     }
 }
 

@@ -1,7 +1,6 @@
 use Rattle.std.proofs.Common.{◌≡◌, List, ℕ, ◌∷◌, ◌++◌, sym, ap, subst, ◌∙◌}
-use Rattle.std.specs.Prelude.{Bool, true, false, Some, Result}
+use Rattle.std.specs.Prelude.{Bool, true, Result, Err}
 use Rattle.nb_host.specs.declared.faults.Fault.{Fault}
-use Rattle.nb_host.specs.declared.refusals.Refusal.TheVariants.{NotDatabase}
 use Rattle.nb_state.specs.Does.{Tested}
 use Rattle.nb_engine.specs.Behind.{judged, page_if}
 use Rattle.nb_engine.proofs.BehindLaws.{judged_none}
@@ -21,4 +20,5 @@ returns-in-Ok-clause-test c pages full tested =
 pub returns-in-Err-Refused-clause-test : goal.returns-in-Err-Refused-clause-test
 returns-in-Err-Refused-clause-test c pages full tested =
     counted c.args.counts c.args.page pages full c.if-not-counts.false
-    ∙ c.lower-in-Err-Refused.ensures pages full (subst (λ (r : Result ℕ Fault). Tested r (judged pages full)) c.in-Err-Refused.is tested)
+    ∙ c.lower.ensures pages full
+    (subst (λ (f : Fault). Tested {T = ℕ} (Err f) (judged pages full)) c.in-Err-Refused.field-0-is (subst (λ (r : Result ℕ Fault). Tested r (judged pages full)) c.in-Err-Refused.is tested))

@@ -16,7 +16,7 @@ use Rattle.nb_engine.proofs.make.make_new.Goals as goal
 
 pub loop-store-init : goal.loop-store-init
 loop-store-init g c = record {
-  so_far = λ t tells is at low holds. so_far_begun (code_of c.args.kind) (content c.args.own c.args.payload.now) (g.H.Host.world c.args.host.now) c.args.store.now t c.args.first c.args.map.now (quiet_begun (g.H.Host.world c.args.host.now) (g.met.H.Host.timely c.args.host.now)) is (omega (arith, is.files.agrees.count, c.count-_count.ensures.value, c.count-_count.ensures.most)) at low holds;
+  so_far = λ t tells is at low holds. so_far_begun (code_of c.args.kind) (content c.args.own c.args.payload.now) (g.H.Host.world c.args.host.now) c.args.store.now t c.args.first c.args.map.now (quiet_begun (g.H.Host.world c.args.host.now) (g.met.H.Host.timely c.args.host.now)) is (omega (arith, is.files.agrees.count, c.count-count.ensures.value, c.count-count.ensures.most)) at low holds;
   goes = goes_nowhere c.args.store.now c.args.store.now refl;
   low = c.requires.low;
   behind = omega arith;

@@ -24,13 +24,13 @@ returns-clause-shaped g c t kind payload tells is shaped short =
 
 pub returns-clause-value : goal.returns-clause-value
 returns-clause-value g c t tells is =
-    let size : IsTrue (is_page_size (image_size t.base.image)) = subst (λ (s : ℕ). IsTrue (is_page_size s)) (c.page_size-_page_size.ensures.value ∙ is.files.agrees.page_size) c.page_size-_page_size.ensures.one_of in
+    let size : IsTrue (is_page_size (image_size t.base.image)) = subst (λ (s : ℕ). IsTrue (is_page_size s)) (c.page_size-page_size.ensures.value ∙ is.files.agrees.page_size) c.page_size-page_size.ensures.one_of in
     let begins = place_begins t.base.image _ _ c.begin-way.ensures.from c.begin-way.ensures.fresh size in
     subst (λ (n : ℕ). IfOk c.find_room.result (λ first. first ≡ n)) begins.1 (c.find_room.ensures.value t tells is)
 
 pub returns-clause-map : goal.returns-clause-map
 returns-clause-map g c t tells is =
-    let size : IsTrue (is_page_size (image_size t.base.image)) = subst (λ (s : ℕ). IsTrue (is_page_size s)) (c.page_size-_page_size.ensures.value ∙ is.files.agrees.page_size) c.page_size-_page_size.ensures.one_of in
+    let size : IsTrue (is_page_size (image_size t.base.image)) = subst (λ (s : ℕ). IsTrue (is_page_size s)) (c.page_size-page_size.ensures.value ∙ is.files.agrees.page_size) c.page_size-page_size.ensures.one_of in
     let begins = place_begins t.base.image _ _ c.begin-way.ensures.from c.begin-way.ensures.fresh size in
     c.find_room.ensures.map t tells is begins.0
 

@@ -60,3 +60,6 @@ returns-clause-least g c = value_found c.find_rooms-found.result c.judge.result 
 
 pub returns-clause-below : goal.returns-clause-below
 returns-clause-below g c = value_found c.find_rooms-found.result c.judge.result (λ page. page < 1048576) c.judge.ensures.value c.find_rooms-found.ensures.below
+
+pub returns-clause-open : goal.returns-clause-open
+returns-clause-open g c t tells is = c.find_rooms-found.ensures.open t tells (c.in_ok-behind.ensures.open t tells is)

@@ -1,5 +1,5 @@
 use Rattle.std.proofs.Common.{ℕ, sym, ap, subst, ◌∙◌, arith}
-use Rattle.std.specs.Prelude.{true, false, IsTrue, Ok, nat_lt}
+use Rattle.std.specs.Prelude.{true, false, IsTrue, Ok}
 use Rattle.std.proofs.lemmas.Bool.{true≢false}
 use Rattle.nb_fields.specs.Places.{is_page_size}
 use Rattle.nb_model.specs.Image.{image_size}
@@ -33,22 +33,22 @@ returns-then-not-second-clause-one g c t first tells is shaped short known count
     ends_judged (Ok c.in_ok-first.first) t.base.image t.base.image _ _ _ _ _ first short known (c.in_ok-first.ensures.ends t t.base.image tells is way)
 
 pub returns-then-not-second-clause-two : goal.returns-then-not-second-clause-two
-returns-then-not-second-clause-two g c t first second tells is shaped short small known count_is = absurd (true≢false (ap (nat_lt 1) (sym count_is) ∙ c.if-not-second.true))
+returns-then-not-second-clause-two g c t first second tells is shaped short small known count_is = absurd (omega (arith, count_is, c.if-not-second.true))
 
 pub returns-then-not-second-clause-value : goal.returns-then-not-second-clause-value
 returns-then-not-second-clause-value g c t tells is =
-    let size : IsTrue (is_page_size (image_size t.base.image)) = subst (λ (s : ℕ). IsTrue (is_page_size s)) (c.page_size-_page_size.ensures.value ∙ is.files.agrees.page_size) c.page_size-_page_size.ensures.one_of in
+    let size : IsTrue (is_page_size (image_size t.base.image)) = subst (λ (s : ℕ). IsTrue (is_page_size s)) (c.page_size-page_size.ensures.value ∙ is.files.agrees.page_size) c.page_size-page_size.ensures.one_of in
     let begins = place_begins t.base.image _ _ c.begin-way.ensures.from c.begin-way.ensures.fresh size in
     c.in_ok-first.ensures.value t tells is ∙ begins.1
 
 pub returns-then-not-second-clause-map : goal.returns-then-not-second-clause-map
 returns-then-not-second-clause-map g c t tells is count_is =
-    let size : IsTrue (is_page_size (image_size t.base.image)) = subst (λ (s : ℕ). IsTrue (is_page_size s)) (c.page_size-_page_size.ensures.value ∙ is.files.agrees.page_size) c.page_size-_page_size.ensures.one_of in
+    let size : IsTrue (is_page_size (image_size t.base.image)) = subst (λ (s : ℕ). IsTrue (is_page_size s)) (c.page_size-page_size.ensures.value ∙ is.files.agrees.page_size) c.page_size-page_size.ensures.one_of in
     let begins = place_begins t.base.image _ _ c.begin-way.ensures.from c.begin-way.ensures.fresh size in
     c.in_ok-first.ensures.map t tells is begins.0
 
 pub returns-in_err-find_room-clause-one : goal.returns-in_err-find_room-clause-one
-returns-in_err-find_room-clause-one g c t first tells is shaped short known count_is = absurd (true≢false (sym c.if-not-second.false ∙ ap (nat_lt 1) count_is))
+returns-in_err-find_room-clause-one g c t first tells is shaped short known count_is = absurd (omega (arith, count_is, c.if-not-second.false))
 
 pub returns-in_err-find_room-clause-two : goal.returns-in_err-find_room-clause-two
 returns-in_err-find_room-clause-two g c t first second tells is shaped short small known count_is =
@@ -59,7 +59,7 @@ returns-in_err-find_room-clause-two g c t first second tells is shaped short sma
     (ends_passed ℕ ℕ _ _ t.base.image (new_of 5 first t.base.image).0.image _ _ _ _ _ c.from_residual-in_err-find_room.ensures (c.in_err-find_room.ensures.ends t (new_of 5 first t.base.image).0.image tells still (found.way 5 first short)))
 
 pub returns-clause-one : goal.returns-clause-one
-returns-clause-one g c t first tells is shaped short known count_is = absurd (true≢false (sym c.if-not-second.false ∙ ap (nat_lt 1) count_is))
+returns-clause-one g c t first tells is shaped short known count_is = absurd (omega (arith, count_is, c.if-not-second.false))
 
 pub returns-clause-two : goal.returns-clause-two
 returns-clause-two g c t first second tells is shaped short small known count_is =
@@ -70,7 +70,7 @@ returns-clause-two g c t first second tells is shaped short small known count_is
     (c.in_ok-find_room.ensures.ends t (new_of 5 first t.base.image).0.image tells still (found.way 5 first short))
 
 pub returns-then-not-second-clause-still : goal.returns-then-not-second-clause-still
-returns-then-not-second-clause-still g c t first tells is shaped short known count_is = absurd (true≢false (ap (nat_lt 1) (sym count_is) ∙ c.if-not-second.true))
+returns-then-not-second-clause-still g c t first tells is shaped short known count_is = absurd (omega (arith, count_is, c.if-not-second.true))
 
 pub returns-clause-still : goal.returns-clause-still
 returns-clause-still g c t first tells is shaped short known count_is kept =
@@ -82,9 +82,12 @@ returns-clause-still g c t first tells is shaped short known count_is kept =
 
 pub returns-clause-value : goal.returns-clause-value
 returns-clause-value g c t tells is =
-    let size : IsTrue (is_page_size (image_size t.base.image)) = subst (λ (s : ℕ). IsTrue (is_page_size s)) (c.page_size-_page_size.ensures.value ∙ is.files.agrees.page_size) c.page_size-_page_size.ensures.one_of in
+    let size : IsTrue (is_page_size (image_size t.base.image)) = subst (λ (s : ℕ). IsTrue (is_page_size s)) (c.page_size-page_size.ensures.value ∙ is.files.agrees.page_size) c.page_size-page_size.ensures.one_of in
     let begins = place_begins t.base.image _ _ c.begin-way.ensures.from c.begin-way.ensures.fresh size in
     c.in_ok-first.ensures.value t tells is ∙ begins.1
 
 pub returns-clause-map : goal.returns-clause-map
-returns-clause-map g c t tells is count_is = absurd (true≢false (sym c.if-not-second.false ∙ ap (nat_lt 1) count_is))
+returns-clause-map g c t tells is count_is = absurd (omega (arith, count_is, c.if-not-second.false))
+
+pub returns-clause-open : goal.returns-clause-open
+returns-clause-open g c t tells is = c.in_ok-find_room.ensures.open t tells (c.in_ok-first.ensures.open t tells is)

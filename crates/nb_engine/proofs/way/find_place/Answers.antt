@@ -89,3 +89,9 @@ pub returns-clause-map : goal.returns-clause-map
 returns-clause-map g c t tells is other low =
     let found = c.in_ok-place.ensures in
     c.in_ok-hold_last.ensures.map t tells (found.open t tells is) (found.map t tells is)
+
+pub returns-in_err-hold_last-clause-open : goal.returns-in_err-hold_last-clause-open
+returns-in_err-hold_last-clause-open g c t tells is = c.in_err-hold_last.ensures.open t tells (c.in_ok-place.ensures.open t tells is)
+
+pub returns-clause-open : goal.returns-clause-open
+returns-clause-open g c t tells is = c.in_ok-hold_last.ensures.open t tells (c.in_ok-place.ensures.open t tells is)

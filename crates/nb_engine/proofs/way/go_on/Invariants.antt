@@ -10,8 +10,8 @@ use Rattle.nb_engine.specs.Find.{HoldsMap}
 use Rattle.nb_engine.specs.Search.{AtKnown}
 use Rattle.nb_engine.proofs.way.go_on.Given as goal
 
-abbrev pub invariant-loop-store : goal.invariant-loop-store
-invariant-loop-store g l = record {
+abbrev pub invariant-loop-behind : goal.invariant-loop-behind
+invariant-loop-behind g l = record {
   at : (t : Trail) (start : Image) (begun : ℕ) (before : Behind) → IsTrue g.H.Host.tells → IsOpen (g.H.Host.world l.fn.host) l.fn.store t → AtKnown t.base.image start begun l.fn.first l.fn.way.made l.fn.way.fresh before l.fn.behind
       → AtKnown t.base.image start begun l.place l.way.made l.way.fresh before l.behind;
   held : (t : Trail) → IsTrue g.H.Host.tells → IsOpen (g.H.Host.world l.fn.host) l.fn.store t → HoldsMap t.base.image l.fn.first l.fn.map → HoldsMap t.base.image l.fn.first l.map;
@@ -33,5 +33,5 @@ invariant-loop-store g l = record {
   cause : g.H.Host.faults l.host ≡ g.H.Host.faults l.fn.host;
 }
 
-abbrev pub decreases-loop-store : goal.decreases-loop-store
-decreases-loop-store g l = 1048576 - l.place
+abbrev pub decreases-loop-behind : goal.decreases-loop-behind
+decreases-loop-behind g l = 1048576 - l.place
