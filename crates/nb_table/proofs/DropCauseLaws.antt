@@ -9,7 +9,7 @@ use Rattle.nb_fields.proofs.SizeLemmas.{SizeFacts, size_facts}
 use Rattle.nb_host.specs.declared.refusals.Refusal.TheVariants.{Full}
 use Rattle.nb_model.specs.Causes.{lowest_broken, not_of_form, no_room, when}
 use Rattle.nb_model.specs.Chains.{RowsFrom, Slot, Spot, first_in, found_pages, free_slot, put_slot}
-use Rattle.nb_model.specs.Forms.{Draft, drafted, is_kind, inventory_of, scn_page_of, set_bit, give_page}
+use Rattle.nb_model.specs.Forms.{Draft, drafted, is_kind, needs, inventory_of, scn_page_of, bit_number, with_bit, set_bit, give_page}
 use Rattle.nb_model.specs.Image.{Image, image_size, page_at}
 use Rattle.nb_model.specs.Tables.{all_given}
 use Rattle.nb_model.proofs.SoundLaws.{all_at, scn_place_before}
@@ -49,6 +49,7 @@ module _ (x : Image) (shaped : IsShaped x) where
 
   -- pages are given back one after the other
   pub given_noted : (pages : List ℕ) (d : Draft) (noted : List ℕ) → AreBelow x pages → Notes x d noted → Notes x (all_given pages d) (drop_broken x pages noted)
+  unfolding all_given
   given_noted [] d noted below h = h
   given_noted (q ∷ qs) d noted below h = given_noted qs (give_page q d) (give_broken x q ++ noted) below.1 (notes_given x shaped q below.0.0 below.0.1 d noted h)
 
@@ -59,9 +60,12 @@ noted_lowest x d noted h = lowest_same d.broken noted h.to h.back
 -- it asks for no page
 give_full : (p : ℕ) (d : Draft) → (give_page p d).full ≡ d.full
 unfolding set_bit
-give_full p d = put_full _ 2 _ _ ∙ needs_full 2 (inventory_of d.image p) d
+give_full p d =
+    put_full (inventory_of d.image p) 2 (drop 16 (with_bit (bit_number d.image p) 1 (page_at d.image (inventory_of d.image p)))) (needs 2 (inventory_of d.image p) d)
+    ∙ needs_full 2 (inventory_of d.image p) d
 
 pub given_full : (pages : List ℕ) (d : Draft) → (all_given pages d).full ≡ d.full
+unfolding all_given
 given_full [] d = refl
 given_full (p ∷ ps) d = given_full ps (give_page p d) ∙ give_full p d
 

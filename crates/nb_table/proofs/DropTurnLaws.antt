@@ -16,6 +16,12 @@ use Rattle.nb_table.specs.Rows.{chain_cause, rows_cause}
 use Rattle.nb_table.proofs.DropCauseLaws.{dropped_full}
 use Rattle.nb_table.proofs.InTableLaws.{chain_formed, table_refused, table_goes}
 
+-- of two causes the first, where there is no second
+alone : (a b : Cause) → b ≡ None → first_cause (a ∷ b ∷ []) ≡ a
+unfolding first_cause
+alone None b e = ap (λ (c : Cause). first_cause (c ∷ [])) e
+alone (Some r) b e = refl
+
 module _ (s : Seen) (table : List ℕ) where
   abbrev image : Image
   image = s.base.image
@@ -43,8 +49,3 @@ module _ (s : Seen) (table : List ℕ) where
   drop_says none spot has =
       table_goes s (read_only image) table None drops none spot has.found ∙ judged_by s [] (dropped image spot) Done first_none
       ∙ ap (λ (c : Cause). unless s c (says s Done (dropped image spot).strokes)) (alone (not_of_form (dropped image spot)) (no_room (dropped image spot)) (dropped_full image spot))
-    where
-      alone : (a b : Cause) → b ≡ None → first_cause (a ∷ b ∷ []) ≡ a
-      unfolding first_cause
-      alone None b e = ap (λ (c : Cause). first_cause (c ∷ [])) e
-      alone (Some r) b e = refl

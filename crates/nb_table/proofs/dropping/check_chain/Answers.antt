@@ -35,7 +35,7 @@ returns-then-next-eq0-clause-test g c t pages noted tells is found before =
     let image = t.base.image in
     let still = l.invariant.opened t tells is in
     let checks = l.invariant.checks t pages noted tells is found before in
-    c.check_none-then-next-eq0.ensures.test (drop_broken image pages noted)
+    c.check_none.ensures.test (drop_broken image pages noted)
     (checks_last (RowsFrom c.args.first) image pages noted l.left l.number l.lacking some checks c.in_ok-found.found c.in_ok-found.next
     (c.in_ok-found.ensures.lacking t checks.behind tells still checks.lowest) (c.in_ok-found.ensures.next t tells still) c.if-next-eq0.true)
 

@@ -1,5 +1,6 @@
 use Rattle.std.proofs.Common.{◌≡◌, ℕ, sym, ap, ◌∙◌}
 use Rattle.std.specs.Prelude.{Some, None, Ok, Err}
+use Rattle.nb_model.specs.Chains.{next_in}
 use Rattle.nb_model.specs.Forms.{drafted, give_page}
 use Rattle.nb_host.specs.declared.refusals.Refusal.{Refusal}
 use Rattle.nb_engine.specs.Data.{not_data}
@@ -39,7 +40,7 @@ returns-clause-tries g c t tells is none =
     (tries_valued tt c.get-next.result _ _ _ _ t _ _ (free.tries t tells still))
 
 pub returns-clause-next : goal.returns-clause-next
-returns-clause-next g c t tells is = c.get-next.ensures.value ∙ ap Rattle.nb_model.specs.Chains.next_in ((c.in_ok-data_read.ensures.reads t tells is).page)
+returns-clause-next g c t tells is = c.get-next.ensures.value ∙ ap next_in ((c.in_ok-data_read.ensures.reads t tells is).page)
 
 pub returns-in_err-data_read-clause-stays_open : goal.returns-in_err-data_read-clause-stays_open
 returns-in_err-data_read-clause-stays_open g c t tells is = let read = c.in_err-data_read.ensures in stays_still _ _ _ _ _ t _ read.same read.quiet is (read.open t tells is)
