@@ -1,5 +1,5 @@
 -- A run turn by turn, put together from the calls that it makes.
-use Rattle.std.proofs.Common.{◌≡◌, ◌⊎◌, inl, inr, ⊎_elim, ℕ, List, [], ◌∷◌, ◌++◌, sym, ap, subst, ◌∙◌}
+use Rattle.std.proofs.Common.{◌≡◌, inl, inr, ℕ, List, [], ◌∷◌, ◌++◌, sym, ap, subst, ◌∙◌}
 use Rattle.std.specs.Prelude.{Bool, true, false, not, Option, None, Some, Result, Ok, Err, IsErr}
 use Rattle.nb_host.specs.World.{World}
 use Rattle.nb_host.specs.Crash.{LeavesAll}
@@ -31,7 +31,7 @@ use Rattle.nb_session.proofs.OthersLaws.{leaves_line, leaves_quiet, leaves_then}
 use Rattle.nb_top.specs.declared.status.Status.{Status}
 use Rattle.nb_top.specs.declared.telling.Telling.{Telling}
 use Rattle.nb_top.specs.declared.telling.Telling.TheVariants.{Sparingly}
-use Rattle.nb_top.specs.ByTurns.{AskedByTurns, EndsEarly, OpensAndGoes, ReadByTurns, RunByTurns, ScriptByTurns, TakesTold, TurnsFrom, WrittenByTurns}
+use Rattle.nb_top.specs.ByTurns.{EndsEarly, ReadByTurns, RunByTurns, ScriptByTurns, TakesTold, TurnsFrom, WrittenByTurns}
 use Rattle.nb_top.specs.Performed.{pages_first, told_later}
 use Rattle.nb_top.specs.Requests.{Request, ToRun, ToGenerate}
 

@@ -1,5 +1,5 @@
 -- GUIDs that count on from those that were given are new.
-use Rattle.std.proofs.Common.{◌≡◌, ◌≢◌, ℕ, zero, suc, ◌+◌, ◌^◌, ◌<◌, ◌≤◌, List, [], ◌∷◌, length, refl, sym, ap, subst, ◌∙◌, arith}
+use Rattle.std.proofs.Common.{◌≡◌, ℕ, zero, suc, ◌+◌, ◌^◌, ◌<◌, ◌≤◌, List, length, refl, sym, ap, subst, ◌∙◌, arith}
 use Rattle.std.specs.Prelude.{Some, Contains}
 use Rattle.nb_host.specs.Files.{Files}
 use Rattle.nb_host.specs.World.{World}
@@ -7,7 +7,6 @@ use Rattle.nb_mem.specs.Histories.{guid_of, guids_behind}
 use Rattle.nb_mem.proofs.GuidLemmas.{behind_apart, guid_not_nil, guids_apart}
 use Rattle.nb_model.specs.Account.{Kept}
 use Rattle.nb_model.specs.NewGuids.{AreNew, ComeOnce}
-use Rattle.nb_model.specs.Stands.{nil}
 use Rattle.nb_top.specs.Worlds.{NameNone, StartsFrom}
 
 sixteen : (n : ℕ) → length (guid_of n) ≡ 16

@@ -64,17 +64,17 @@ pub kept_trail : (b : Base) (session : ℕ) (reply : Reply) → after_steps (set
 unfolding after_steps after_step made
 kept_trail b session reply = refl
 
-made_none : (image : Image) → guids_in (make image ∷ []) ≡ []
+pub made_none : (image : Image) → guids_in (make image ∷ []) ≡ []
 unfolding guids_in
 made_none image = refl
 
-kept_none : guids_in [] ≡ []
+pub kept_none : guids_in [] ≡ []
 unfolding guids_in
 kept_none = refl
 
 module _ (account : Account) (given : Given) (plan : Plan) (name : List ℕ) where
   -- where its sessions go on
-  goes_on_as : (first : Statement) (now : Now) → plan.first ≡ first → (opening account given plan.sessions plan.first_session first).now ≡ Some now → (opening account given plan.sessions plan.first_session plan.first).now ≡ Some now
+  pub goes_on_as : (first : Statement) (now : Now) → plan.first ≡ first → (opening account given plan.sessions plan.first_session first).now ≡ Some now → (opening account given plan.sessions plan.first_session plan.first).now ≡ Some now
   goes_on_as first now is goes = ap (λ (s : Statement). (opening account given plan.sessions plan.first_session s).now) is ∙ goes
 
   -- creating under a free name

@@ -1,9 +1,8 @@
 -- Files keep names that a host may give them.
-use Rattle.std.proofs.Common.{◌≡◌, ◌⊎◌, inl, inr, ⊎_elim, ℕ, ◌+◌, ◌-◌, ◌≤◌, zero, suc, List, [], ◌∷◌, ◌++◌, length, get_or, refl, sym, ap, subst, ◌∙◌, arith, length-append, true, false}
+use Rattle.std.proofs.Common.{◌≡◌, ◌⊎◌, inl, inr, ℕ, ◌+◌, ◌-◌, suc, List, [], ◌∷◌, ◌++◌, length, get_or, refl, sym, ap, subst, ◌∙◌, arith, length-append, true, false}
 use Rattle.std.specs.Prelude.{Bool, ◌&&◌, Option, None, Some, Result, Ok, Err, not, nat_le, nat_lt}
 use Rattle.std.specs.List.{AllByRecursion, list_all}
-use Rattle.std.proofs.lemmas.Bool.{and_from, and_parts, lt-ltb, true≢false}
-use Rattle.std.proofs.lemmas.Bool.Decides.{leb_tells}
+use Rattle.std.proofs.lemmas.Bool.{and_from, and_parts, le-leb, leb-true, lt-ltb, true≢false}
 use Rattle.nb_host.specs.Files.{Files}
 use Rattle.nb_host.specs.Names.{delta_suffix, is_delta, is_name, is_name_byte}
 use Rattle.nb_host.specs.World.{World}
@@ -29,7 +28,7 @@ use Rattle.nb_script.specs.Scripts.{Plan, script_of}
 use Rattle.nb_script.proofs.AskedLemmas.{answer_is_askable}
 use Rattle.nb_session.specs.MadeNames.{AnyAsks, AnySessionAsks, Asks, ScriptMakes}
 use Rattle.nb_session.specs.Others.{LeavesOthers}
-use Rattle.nb_top.specs.Performed.{Target, target_named}
+use Rattle.nb_top.specs.Performed.{target_named}
 use Rattle.nb_top.specs.Requests.{Asked, FitsJob, Runs, request_asked, request_of, script_in, to_plan, to_run}
 use Rattle.nb_top.specs.Touched.{OfAsked, OfTarget, ReadMakes}
 use Rattle.nb_top.specs.Worlds.{HaveNames, LeaveNames, StartsFrom}
@@ -43,18 +42,12 @@ all_append : (xs ys : List ℕ) → list_all is_name_byte xs ≡ true → list_a
 all_append [] ys all more = more
 all_append (x ∷ xs) ys all more = let both = and_parts (is_name_byte x) (list_all is_name_byte xs) all in and_from (is_name_byte x) (list_all is_name_byte (xs ++ ys)) both.0 (all_append xs ys both.1 more)
 
-is_le : (m n : ℕ) → m ≤ n → nat_le m n ≡ true
-is_le m n low = elim (leb_tells m n) [ inl yes ↦ yes.0 | inr no ↦ absurd (omega (arith, low, no.1)) ]
-
-short : (name : List ℕ) → nat_le (length name) 94 ≡ true → length name ≤ 94
-short name is = elim (leb_tells (length name) 94) [ inl yes ↦ yes.1 | inr no ↦ absurd (true≢false (sym is ∙ no.0)) ]
-
 delta_is_name : (name : List ℕ) → is_name name ≡ true → nat_le (length name) 94 ≡ true → is_name (delta_name name) ≡ true
 delta_is_name name named few =
     let parts = and_parts (nat_lt 0 (length name) && nat_le (length name) 100) (list_all is_name_byte name) named in
     let long : length (delta_name name) ≡ length name + 6 = length-append name delta_suffix in
     and_from (nat_lt 0 (length (delta_name name)) && nat_le (length (delta_name name)) 100) (list_all is_name_byte (delta_name name))
-    (and_from (nat_lt 0 (length (delta_name name))) (nat_le (length (delta_name name)) 100) (lt-ltb 0 (length (delta_name name)) (omega (arith, long))) (is_le (length (delta_name name)) 100 (omega (arith, long, short name few))))
+    (and_from (nat_lt 0 (length (delta_name name))) (nat_le (length (delta_name name)) 100) (lt-ltb 0 (length (delta_name name)) (omega (arith, long))) (le-leb (length (delta_name name)) 100 (omega (arith, long, leb-true (length name) 94 few))))
     (all_append name delta_suffix parts.1 refl)
 
 -- ---- the names of a script
@@ -75,16 +68,16 @@ in_session [] m asks = absurd asks
 in_session (statements ∷ others) m (inl asks) = (0, asks)
 in_session (statements ∷ others) m (inr asks) = let later = in_session others m asks in (suc later.0, later.1)
 
+own_named : (name m : List ℕ) → is_name name ≡ true → nat_le (length name) 94 ≡ true → OfFiles name m → is_name m ≡ true
+own_named name m named few (inl same) = ap is_name same ∙ named
+own_named name m named few (inr delta) = ap is_name delta ∙ delta_is_name name named few
+
 module _ (plan : Plan) (askable : IsAskable plan) where
   makes_named : (m : List ℕ) → ScriptMakes plan m → is_name m ≡ true
   makes_named m asks =
       let there = in_session plan.sessions m asks in
       let same : there.0 + 1 - 1 ≡ there.0 = omega arith in
       any_named (get_or plan.sessions there.0 []) (subst (λ (k : ℕ). AllByRecursion IsFurther (get_or plan.sessions k [])) same (askable.further (there.0 + 1))) m there.1
-
-  own_named : (name m : List ℕ) → is_name name ≡ true → nat_le (length name) 94 ≡ true → OfFiles name m → is_name m ≡ true
-  own_named name m named few (inl same) = ap is_name same ∙ named
-  own_named name m named few (inr delta) = ap is_name delta ∙ delta_is_name name named few
 
   target_is_named : (m : List ℕ) → OfTarget (target_named plan.first) m → is_name m ≡ true
   target_is_named m own = elim (first_opens plan.first askable.first) [

@@ -4,7 +4,7 @@
 -- before it ended: it leaves alone every file but the database's two and those that this turn may touch, and where it only tells something, as a
 -- refusal, all files read after it as before it, byte for byte. So a file that a later statement makes stays as it is until the first turn of that
 -- statement has come.
-use Rattle.std.specs.Prelude.{◌≡◌, ◌⊎◌, ℕ, List, Bool, Option, None, Some, Result, Ok, Err, IsErr}
+use Rattle.std.specs.Prelude.{◌≡◌, ◌⊎◌, ℕ, List, Bool, None, Some, Result, Ok, Err, IsErr}
 use Rattle.nb_host.specs.World.{World}
 use Rattle.nb_host.specs.declared.refusals.Refusal.{Refusal}
 use Rattle.nb_change.specs.Changes.{Only}
