@@ -77,6 +77,7 @@ fn look_further<H: Host>(
     lacking: Option<u32>,
     page: &mut [u8],
 ) -> Result<(Option<u32>, u32), Fault>
+    requires size { IsTrue (is_page_size (length page.old)) }
     requires room { length page.old ≡ engine.old.files.page_size }
     ensures test { (t : Trail) → IsTrue H.tells → IsOpen (H.world host.old) engine.old t → Tested result (not_data t.base.image owner number) }
     ensures lacking { (t : Trail) (pages : List ℕ) → IsTrue H.tells → IsOpen (H.world host.old) engine.old t → need_cause lacking ≡ lowest_broken pages → IfOk result (λ (found, next). need_cause found ≡ lowest_broken (give_broken t.base.image number ++ pages)) }
@@ -101,6 +102,7 @@ fn check_chain<H: Host>(
     before: Option<u32>,
     page: &mut [u8],
 ) -> Result<(), Fault>
+    requires size { IsTrue (is_page_size (length page.old)) }
     requires room { length page.old ≡ engine.old.files.page_size }
     ensures test { (t : Trail) (pages noted : List ℕ) → IsTrue H.tells → IsOpen (H.world host.old) engine.old t → pages_of (RowsFrom first) t.base.image ≡ Ok pages → need_cause before ≡ lowest_broken noted
         → Tested result (lowest_broken (drop_broken t.base.image pages noted)) }
@@ -132,6 +134,7 @@ fn check_drop<H: Host>(
     rows: &Rows,
     page: &mut [u8],
 ) -> Result<(), Fault>
+    requires size { IsTrue (is_page_size (length page.old)) }
     requires room { length page.old ≡ engine.old.files.page_size }
     requires placed { IsPlaced engine.old.files.page_size rows.now.table.place }
     ensures test { (t : Trail) (pages : List ℕ) → IsTrue H.tells → IsOpen (H.world host.old) engine.old t → pages_of (RowsFrom rows.now.first) t.base.image ≡ Ok pages

@@ -171,5 +171,5 @@ returns-in_ok-create_behind-in-None-clause-stays_open g c t tells is =
     let opened = tests.open t tells is in
     stays_after _ _ _ _ _ _ _ t _ tests.same tests.quiet is opened (c.in_ok-create_behind-in-None.ensures.stays_open t tells opened)
 
-pub create_behind-in-None-requires-clause-name : goal.create_behind-in-None-requires-clause-name
-create_behind-in-None-requires-clause-name g c = omega (arith, name_short c.args.table.now c.as_str-name.ensures.name)
+pub create_behind-requires-clause-name : goal.create_behind-requires-clause-name
+create_behind-requires-clause-name g c = omega (arith, name_short c.args.table.now c.as_str-name.ensures.name)
