@@ -71,6 +71,7 @@ module _ {H : Type 0} (world : H → World) (f g : List Event → List Event) (s
     mid = goes.mid;
     taken = told_so goes.front old goes.mid now goes.taken;
     last = goes.last;
+    still = goes.still;
   }
 
 -- Turns that sessions told are told so.
