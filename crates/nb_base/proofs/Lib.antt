@@ -7,6 +7,7 @@ pub mod CreateLaws
 pub mod CreatedLaws
 pub mod EndLaws
 pub mod EnterLaws
+pub mod HiddenLaws
 pub mod LeftLaws
 pub mod MakingLaws
 pub mod MergeLaws

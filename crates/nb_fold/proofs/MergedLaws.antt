@@ -14,9 +14,9 @@ use Rattle.nb_model.specs.Strokes.{as_standby, merged, standby_page}
 use Rattle.nb_model.proofs.HeaderLaws.{header-other}
 use Rattle.nb_model.proofs.ImageLaws.{Trimming, all-left, trimming, zeros-are}
 use Rattle.nb_model.proofs.OwnerLaws.{main_here, main_past}
+use Rattle.nb_model.proofs.TrimLaws.{main_tail, trimmed_alike, trimmed_page}
 use Rattle.nb_restore.proofs.CopiedLaws.{written-sizes}
 use Rattle.nb_inplace.proofs.ControlLaws.{standby-long, standby-size}
-use Rattle.nb_inplace.proofs.PagesLaws.{main_tail, trimmed_alike, trimmed_page}
 use Rattle.nb_fold.specs.Folding.{folded, folded_pages, last_page, page_of, pages_of_each}
 use Rattle.nb_fold.specs.Merging.{AllRise}
 use Rattle.nb_fold.specs.Same.{IsMergedInto, merged_each}
