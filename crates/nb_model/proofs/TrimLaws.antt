@@ -1,8 +1,8 @@
 -- Pages of zeros at the end of an image: what is seen of the image without them, and the end of a merge, which drops them.
-use Rattle.std.proofs.Common.{◌≡◌, inl, inr, ℕ, zero, suc, ◌<◌, ◌≤◌, List, [], ◌∷◌, ◌++◌, length, replicate, refl, sym, ap, subst, ◌∙◌, arith, length-append}
+use Rattle.std.proofs.Common.{◌≡◌, inl, inr, ℕ, zero, suc, ◌-◌, ◌<◌, ◌≤◌, List, [], ◌∷◌, ◌++◌, length, replicate, refl, sym, ap, subst, ◌∙◌, arith, length-append}
 use Rattle.std.specs.Prelude.{true, false}
 use Rattle.std.proofs.lemmas.Bool.{cases_lt}
-use Rattle.std.proofs.lemmas.List.{get_or_append_left}
+use Rattle.std.proofs.lemmas.List.{get_or_append_left, get_or-append_right}
 use Rattle.nb_fields.specs.Bytes.{is_zeros}
 use Rattle.nb_fields.specs.Header.{is_header}
 use Rattle.nb_model.specs.Account.{Base}
@@ -72,6 +72,13 @@ trimmed_length image = let cut : Trimming image = trimming image in omega (arith
 
 pub trimmed_at : (image : Image) (p : ℕ) → p < length (trimmed image) → page_at (trimmed image) p ≡ page_at image p
 trimmed_at image p low = let cut : Trimming image = trimming image in sym (ap (λ (x : Image). page_at x p) cut.is ∙ get_or_append_left (trimmed image) cut.rest [] p low)
+
+-- and each page behind is zeros
+pub trimmed_zeros : (image : Image) (p : ℕ) → length (trimmed image) ≤ p → p < length image → is_zeros (page_at image p) ≡ true
+trimmed_zeros image p past low =
+    let cut : Trimming image = trimming image in
+    ap (λ (x : Image). is_zeros (page_at x p)) cut.is ∙ ap is_zeros (get_or-append_right (trimmed image) cut.rest (length (trimmed image)) p [] refl past)
+    ∙ all_at (λ (z : Page). is_zeros z ≡ true) cut.rest cut.zeros (p - length (trimmed image)) (omega (arith, past, low, ap length cut.is, length-append (trimmed image) cut.rest))
 
 -- The end of a merge, as it computes.
 pub finish_base : (b : Base) → on_base finish b ≡ record b { image = with_control 0 (image_scn b.image) (image_guid b.image) (trimmed b.image); diverted = [] }

@@ -5,6 +5,8 @@ use Rattle.nb_host.specs.World.{World}
 use Rattle.nb_delta.specs.Known.{Known}
 use Rattle.nb_model.specs.Image.{image_in}
 use Rattle.nb_model.specs.Owner.{delta_name, owned_page}
+use Rattle.std.specs.Prelude.{slice_index}
+use Rattle.nb_base.specs.Merging.{PutsPage}
 use Rattle.nb_base.specs.Open.{Held, IsOpen, AreMerged}
 use Rattle.nb_base.specs.Takes.{StrikesFirm}
 use Rattle.nb_base.specs.contracts.files.TwoFiles.{the_view}
@@ -117,3 +119,18 @@ returns-clause-merged g c t tells given so_far =
     let before =
     subst (λ (h : _). AreMerged (g.H.Host.world h) (the_view c.self.inside) c.args.k) (sym still) (subst (λ (h : Held). AreMerged (g.H.Host.world c.args.host.now) h c.args.k) (sym c.self.view_is) so_far) in
     subst (λ (h : Held). AreMerged (g.H.Host.world c.write_page.new.self) h (c.args.k + 1)) same (merged_next first _ t is merges c.args.k inside c.in_ok-number.ensures.apart c.in_ok-number.number names c.in_ok-number.ensures.below c.deref.result.now long owned (g.H.Host.world c.write_page.new.self).files put (g.H.Host.world c.write_page.new.self) refl before)
+
+pub returns-clause-put : goal.returns-clause-put
+returns-clause-put g c tells =
+    let size : c.self.inside.delta.page_size ≡ length c.deref_mut.result.now = omega (arith, c.deref_mut.ensures.len, c.self.invariant.3) in
+    let into : length c.read_owned.new.into ≡ c.self.inside.page.len = omega (arith, c.read_owned.auto.into, c.deref_mut.ensures.len) in
+    let long : length c.deref.result.now ≡ c.self.inside.delta.page_size = omega (arith, c.deref.ensures.len, into, c.read_owned.auto.into, size) in
+    let names = number_is _ _ c.in_ok-number.ensures.page in
+    let still = c.in_ok-read_owned.ensures.quiet.still.files ∙ ap (λ h. (g.H.Host.world h).files) c.in_ok-number.ensures.no_call in
+    let put = subst (λ (f : Files). (g.H.Host.world c.write_page.new.self).files ≡ with_file f c.self.inside.name (with_page (f c.self.inside.name) (c.in_ok-number.number * length c.deref.result.now) c.deref.result.now)) still (c.in_ok-write_page.ensures.files.files tells) in
+    subst (λ (h : Held). PutsPage (g.H.Host.world c.args.host.now).files (g.H.Host.world c.write_page.new.self).files h.name h.page_size (slice_index h.entries c.args.k)) c.self.view_is
+    (record {
+      page = c.deref.result.now;
+      long = long;
+      put = put ∙ ap (λ n. with_file (g.H.Host.world c.args.host.now).files c.self.inside.name (with_page ((g.H.Host.world c.args.host.now).files c.self.inside.name) n c.deref.result.now)) (ap (λ n. n * length c.deref.result.now) names ∙ ap (λ n. slice_index c.self.inside.delta.entries c.args.k * n) long);
+    })
