@@ -41,7 +41,7 @@ ended_entries : (b : Base) → (on_base ends b).diverted ≡ b.diverted
 unfolding on_base
 ended_entries b = refl
 
-finished_length : (b : Base) → length (on_base finish b).image ≡ length (trimmed b.image)
+pub finished_length : (b : Base) → length (on_base finish b).image ≡ length (trimmed b.image)
 finished_length b = ap (λ (c : Base). length c.image) (finish_base b) ∙ with_control-length _ _ _ (trimmed b.image)
 
 finished_entries : (b : Base) → (on_base finish b).diverted ≡ []

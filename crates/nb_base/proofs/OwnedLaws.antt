@@ -1,14 +1,15 @@
 -- What two files hold of a database, in each backup state, and what a change of one of them makes of its image.
-use Rattle.std.proofs.Common.{◌≡◌, ◌≢◌, inl, inr, ℕ, zero, suc, ◌+◌, ◌<◌, ◌≤◌, List, [], ◌∷◌, ◌++◌, length, get_or, take, drop, refl, sym, ap, subst, ◌∙◌, arith}
+use Rattle.std.proofs.Common.{◌≡◌, ◌≢◌, inl, inr, ℕ, zero, suc, ◌+◌, ◌<◌, ◌≤◌, List, [], ◌∷◌, ◌++◌, length, get_or, take, drop, refl, sym, ap, subst, ◌∙◌, arith, length-append}
 use Rattle.std.specs.Prelude.{Bool, true, false, ◌==◌, Option, Some, None, Result, Ok, Err, max}
 use Rattle.std.proofs.lemmas.Bool.Decides.{leb_tells, eqb_tells}
-use Rattle.std.proofs.lemmas.List.{ext_get_or}
+use Rattle.std.proofs.lemmas.List.{ext_get_or, length-drop, length-replicate, length-take-le}
 use Rattle.nb_fields.specs.Header.{is_header, state_of, size_of}
 use Rattle.nb_fields.specs.Table.{table_of, page_in, slot_place}
 use Rattle.nb_host.specs.Files.{File, bytes_of}
 use Rattle.nb_host.specs.declared.refusals.Refusal.{Refusal}
 use Rattle.nb_host.specs.declared.refusals.Refusal.TheVariants.{BadDelta, Unfinished}
 use Rattle.nb_delta.specs.Slots.{HasTable}
+use Rattle.nb_delta.proofs.PageLemmas.{length-page_in}
 use Rattle.nb_model.specs.Image.{Page, Image, page_at, first_page, image_size, image_state, image_in, trimmed, with_page, written_at}
 use Rattle.nb_model.specs.Sound.{IsOfSize}
 use Rattle.nb_model.specs.Causes.{Cause, not_database}
@@ -17,10 +18,10 @@ use Rattle.nb_model.specs.Strokes.{merged_page}
 use Rattle.nb_model.specs.Owner.{entry_for, behind_entries, slot_page, main_page, owned_page, owned_from, owned, diverted_base, owner_with, owner_in, owner}
 use Rattle.nb_model.proofs.FormLaws.{formed}
 use Rattle.nb_model.proofs.HeaderLaws.{header-long, header-state, same-header, same-number}
-use Rattle.nb_model.proofs.MainLaws.{laid, laid-front, some_page, owner-none, owner-refused, owner-formed, owner_in-normal, owned-first, owned-front, ok_same}
-use Rattle.nb_model.proofs.OwnerLaws.{main_here, other_page, written_length, named}
-use Rattle.nb_model.proofs.SoundLaws.{with_page_length}
-use Rattle.nb_model.proofs.ImageLaws.{IsTrimmed}
+use Rattle.nb_model.proofs.MainLaws.{laid, laid-front, laid-wide, some_page, owner-none, owner-refused, owner-formed, owner_in-normal, owned-first, owned-front, ok_same}
+use Rattle.nb_model.proofs.OwnerLaws.{main_here, main_past, other_page, written_length, named}
+use Rattle.nb_model.proofs.SoundLaws.{all_at, with_page_length}
+use Rattle.nb_model.proofs.ImageLaws.{IsTrimmed, all-left}
 use Rattle.nb_model.proofs.StrokeLaws.{with_page_same, with_page_other}
 use Rattle.nb_model.proofs.TrimLaws.{trimmed_length, trimmed_at, trimmed_page}
 use Rattle.nb_base.proofs.WrittenLaws.{HasMain, laid_formed, laid_image, written_same, written_inner, written_sizes}
@@ -58,6 +59,29 @@ module _ (size : ℕ) (main : Image) (delta table : List ℕ) where
   pub owned-none : (p : ℕ) → entry_for p table ≡ None → owned_page size main delta table p ≡ main_page size main p
   unfolding owned_page
   owned-none p is = ap (λ (x : Option ℕ). elim x as (λ z. Page) [ Some k ↦ slot_page size main delta p k | None ↦ main_page size main p ]) is
+
+-- each page of them has the size of a page
+module _ (size : ℕ) (main : Image) (delta table : List ℕ) (sizes : IsOfSize size main) (wide : 64 ≤ size) (some : 1 ≤ length main) where
+  main_wide : (p : ℕ) → length (main_page size main p) ≡ size
+  main_wide p = elim (leb_tells (suc p) (length main)) [
+    | inl w ↦ ap length (main_here size main p w.1) ∙ all_at (λ page. length page ≡ size) main sizes p w.1
+    | inr w ↦ ap length (main_past size main p (omega (arith, w.1))) ∙ length-replicate {A = ℕ} size 0
+  ]
+
+  slot_wide : (p k : ℕ) → length (slot_page size main delta p k) ≡ size
+  unfolding slot_page
+  slot_wide zero k =
+      let page : List ℕ = page_in size delta (slot_place size k) in
+      let front : length (take 64 (page_at main 0)) ≡ 64 = length-take-le 64 (page_at main 0) (omega (arith, wide, all_at (λ page. length page ≡ size) main sizes 0 some)) in
+      omega (arith, length-append (take 64 (page_at main 0)) (drop 64 page), front, length-drop 64 page, length-page_in size delta (slot_place size k), wide)
+  slot_wide (suc p) k = length-page_in size delta (slot_place size k)
+
+  owned-sizes : (p : ℕ) → length (owned_page size main delta table p) ≡ size
+  owned-sizes p = by (entry_for p table) refl
+    where
+      by : (x : Option ℕ) → entry_for p table ≡ x → length (owned_page size main delta table p) ≡ size
+      by None is = ap length (owned-none size main delta table p is) ∙ main_wide p
+      by (Some k) is = ap length (owned-entry size main delta table p k is) ∙ slot_wide p k
 
 -- where there are no entries it is the main file's
 pub owned-alone : (size : ℕ) (main : Image) (delta : List ℕ) → main ≡ owned size main delta []
@@ -509,3 +533,10 @@ module _ (b : Base) (m d : File) (h : Holds b m d) where
 
   pub base-page : (p : ℕ) → p < length b.image → page_at b.image p ≡ owned_page (image_size h.main) h.main (bytes_of d) b.diverted p
   base-page p low = ap (λ (x : Image). page_at x p) h.image ∙ owned-page (image_size h.main) h.main (bytes_of d) b.diverted p (omega (arith, low, ap length h.image))
+
+  -- each page has the size of a page
+  pub base-sizes : (p : ℕ) → p < length b.image → length (page_at b.image p) ≡ image_size b.image
+  base-sizes p low =
+      let wide : 1024 ≤ image_size h.main = laid-wide h.main h.has.bytes h.has.laid in
+      ap length (base-page p low)
+      ∙ owned-sizes (image_size h.main) h.main (bytes_of d) b.diverted (all-left (λ page. length page ≡ image_size h.main) h.main h.has.laid.rest h.has.laid.sizes) (omega (arith, wide)) main-some p ∙ sym base-size

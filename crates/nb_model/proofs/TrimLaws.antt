@@ -73,6 +73,16 @@ trimmed_length image = let cut : Trimming image = trimming image in omega (arith
 pub trimmed_at : (image : Image) (p : ℕ) → p < length (trimmed image) → page_at (trimmed image) p ≡ page_at image p
 trimmed_at image p low = let cut : Trimming image = trimming image in sym (ap (λ (x : Image). page_at x p) cut.is ∙ get_or_append_left (trimmed image) cut.rest [] p low)
 
+-- there is no page behind the end of either
+pub trimmed_past : (image : Image) (p : ℕ) → length image ≤ p → page_at (trimmed image) p ≡ page_at image p
+trimmed_past image p past = none (trimmed image) p (omega (arith, past, trimmed_length image)) ∙ sym (none image p past)
+  where
+    none : (xs : Image) (q : ℕ) → length xs ≤ q → page_at xs q ≡ []
+    none [] zero low = refl
+    none [] (suc q) low = refl
+    none (x ∷ xs) zero low = absurd (omega (arith, low))
+    none (x ∷ xs) (suc q) low = none xs q (omega (arith, low))
+
 -- and each page behind is zeros
 pub trimmed_zeros : (image : Image) (p : ℕ) → length (trimmed image) ≤ p → p < length image → is_zeros (page_at image p) ≡ true
 trimmed_zeros image p past low =
