@@ -12,7 +12,7 @@ use Rattle.nb_change.proofs.MomentLaws.{started, untouched_begun}
 use Rattle.nb_change.proofs.ChangesLaws.{weaker_has}
 use Rattle.nb_change.proofs.CallLaws.{still_alone}
 use Rattle.nb_change.proofs.ReachedLaws.{strokes_composed, reached_front}
-use Rattle.nb_model.specs.Image.{Image, first_page, image_state, image_scn, image_guid}
+use Rattle.nb_model.specs.Image.{Image, first_page, image_state, image_scn, image_guid, trimmed}
 use Rattle.nb_model.specs.Account.{Ask, Base}
 use Rattle.nb_model.specs.Causes.{Cause}
 use Rattle.nb_model.specs.Strokes.{Stroke, begin, ends, finish, on_base, with_control}
@@ -22,6 +22,7 @@ use Rattle.nb_model.proofs.ControlLaws.{control_state}
 use Rattle.nb_model.proofs.HeaderLaws.{header-long, header-room}
 use Rattle.nb_model.proofs.MainLaws.{some_page}
 use Rattle.nb_model.proofs.TrailLaws.{trail_base}
+use Rattle.nb_model.proofs.TrimLaws.{trimmed_front, finish_base}
 use Rattle.nb_base.specs.Open.{OfFiles, AreMerged}
 use Rattle.nb_base.specs.Takes.{Strikes}
 use Rattle.nb_base.proofs.ControlLaws.{with_control-first}
@@ -33,7 +34,7 @@ use Rattle.nb_state.specs.Open.{Held, AgreesWith, IsOpen, name_of, pair_of}
 use Rattle.nb_state.specs.Does.{Tested, unless_by}
 use Rattle.nb_state.specs.Turns.{begin_cause, end_cause, Begins, Ends, Merges}
 use Rattle.nb_state.specs.declared.turns.Progress.{Progress}
-use Rattle.nb_state.proofs.AgreeLaws.{agrees_control}
+use Rattle.nb_state.proofs.AgreeLaws.{agrees_front, agrees_control}
 use Rattle.nb_state.proofs.MakesLaws.{none_yet, gave_none}
 
 -- no call is quiet
@@ -73,10 +74,6 @@ begun_image b guid ask = refl
 ended_image : (b : Base) → (on_base ends b).image ≡ with_control 2 (image_scn b.image + 1) (image_guid b.image) b.image
 unfolding on_base
 ended_image b = refl
-
-finished_image : (b : Base) → (on_base finish b).image ≡ with_control 0 (image_scn b.image) (image_guid b.image) b.image
-unfolding on_base
-finished_image b = refl
 
 module _ (old new : World) (held : Held) (t : Trail) (is : IsOpen old held t) (pair : Rattle.nb_owner.specs.Open.Held) where
   header : is_header (first_page t.base.image) ≡ true
@@ -126,19 +123,29 @@ module _ (old new : World) (held : Held) (t : Trail) (is : IsOpen old held t) (p
     abbrev finished : Base
     finished = (after_stroke finish t).base
 
-    finished_is : finished.image ≡ with_control 0 (image_scn t.base.image) (image_guid t.base.image) t.base.image
-    finished_is = ap (λ (b : Base). b.image) (trail_base finish t) ∙ finished_image t.base
+    -- without the pages of zeros at its end
+    abbrev cut : Base
+    cut = record t.base { image = trimmed t.base.image }
+
+    front : first_page (trimmed t.base.image) ≡ first_page t.base.image
+    front = trimmed_front t.base.image header
+
+    cut_header : is_header (first_page (trimmed t.base.image)) ≡ true
+    cut_header = ap is_header front ∙ header
+
+    finished_is : finished.image ≡ with_control 0 (image_scn t.base.image) (image_guid t.base.image) (trimmed t.base.image)
+    finished_is = ap (λ (b : Base). b.image) (trail_base finish t ∙ finish_base t.base)
 
     sixteen_there : length (image_guid t.base.image) ≡ 16
     sixteen_there = ap length (sym is.agrees.guid) ∙ sixteen
 
     normal : pair.files.state ≡ 0
-    normal = opened.agrees.state ∙ state_control t.base finished 0 (image_scn t.base.image) (image_guid t.base.image) header sixteen_there (omega arith) finished_is
+    normal = opened.agrees.state ∙ state_control cut finished 0 (image_scn t.base.image) (image_guid t.base.image) cut_header sixteen_there (omega arith) finished_is
 
     pub open_finished : IsOpen new (record held { files = pair.files; pages = pair.pages; cap = pair.cap; running = None }) (after_stroke finish t)
     open_finished = record {
       files = opened;
-      agrees = agrees_control held (record held { files = pair.files; pages = pair.pages; cap = pair.cap; running = None }) t.base finished 0 (image_scn t.base.image) (image_guid t.base.image) is.agrees header sixteen_there (omega (arith, low, is.agrees.scn)) finished_is is.agrees.scn
+      agrees = agrees_control held (record held { files = pair.files; pages = pair.pages; cap = pair.cap; running = None }) cut finished 0 (image_scn t.base.image) (image_guid t.base.image) (agrees_front held t.base cut front is.agrees) cut_header sixteen_there (omega (arith, low, is.agrees.scn)) finished_is is.agrees.scn
           is.agrees.guid refl refl;
       merged = λ two. absurd (omega (arith, two, normal));
       most = λ two. absurd (omega (arith, two, normal));

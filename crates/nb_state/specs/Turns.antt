@@ -1,5 +1,6 @@
 -- The turns of a backup: begin, end, and the merge.
-use Rattle.std.specs.Prelude.{◌≡◌, ◌⊎◌, ℕ, ◌+◌, ◌<◌, ◌≤◌, List, [], ◌∷◌, ◌++◌, length, Option, Some, None, Result, Ok, Err, OnOk, IfOk, ◌==◌}
+use Rattle.std.specs.Prelude.{◌≡◌, ◌⊎◌, ℕ, ◌+◌, ◌<◌, ◌≤◌, List, [], ◌∷◌, ◌++◌, length, Option, Some, None, Result, Ok, Err, OnOk, IfOk, slice_index, ◌==◌}
+use Rattle.nb_host.specs.Files.{Files}
 use Rattle.nb_host.specs.World.{World}
 use Rattle.nb_host.specs.declared.faults.Fault.{Fault}
 use Rattle.nb_host.specs.declared.refusals.Refusal.TheVariants.{WrongState}
@@ -10,7 +11,9 @@ use Rattle.nb_model.specs.Image.{Image, image_state, image_scn}
 use Rattle.nb_model.specs.Causes.{Cause, first_cause, when, not_state, no_scn, runs_other}
 use Rattle.nb_model.specs.Pages.{end_strokes, end_scn}
 use Rattle.nb_model.specs.Strokes.{begin, finish}
+use Rattle.nb_model.specs.Owner.{delta_name}
 use Rattle.nb_model.specs.Trail.{Trail}
+use Rattle.nb_base.specs.Merging.{PutsPage}
 use Rattle.nb_base.specs.Takes.{Strikes, after_strokes}
 use Rattle.nb_state.specs.Open.{Held, IsOpen, name_of}
 use Rattle.nb_state.specs.Does.{Tested, WhereRefused, unless_by}
@@ -57,6 +60,12 @@ abbrev pub GoesOn : Progress → (before after : Held) → Type 0
 GoesOn More before after =
     (before.merged < length before.files.entries) × (after.merged ≡ before.merged + 1) × (after.files.state ≡ 2) × (after.running ≡ before.running) × (after.files.entries ≡ before.files.entries)
 GoesOn Finished before after = length before.files.entries ≤ before.merged
+
+-- What a turn of a merge changes of the files, whatever they hold: one page of the main file, that of the next entry; or behind the last one the
+-- difference file is gone.
+abbrev pub PutsOn : Progress → (old new : Files) (before : Held) → Type 0
+PutsOn More old new before = PutsPage old new (name_of before) before.files.page_size (slice_index before.files.entries before.merged)
+PutsOn Finished old new before = new (delta_name (name_of before)) ≡ None
 
 -- One entry more is merged, or all are and the merge is over.
 abbrev pub MergesOn : Result Progress Fault → (new : World) (before after : Held) → Trail → Type 0
