@@ -101,6 +101,7 @@ finish_full b full = finish_base b ∙ ap (λ (x : Image). record b { image = wi
 
 -- Behind it no page of zeros stands at the end, so it is an image that a main file may have.
 pub finish_whole : (b : Base) → HasHeader b.image → IsTrimmed (on_base finish b).image
+unfolding with_control
 finish_whole b header = subst (λ (x : Image). IsTrimmed x) (sym (ap (λ (c : Base). c.image) (finish_base b))) (by (trimmed b.image) (trimming b.image).whole (trimmed_front b.image header.header))
   where
     may : MayControl 0 (image_scn b.image) (image_guid b.image) b.image
@@ -111,7 +112,6 @@ finish_whole b header = subst (λ (x : Image). IsTrimmed x) (sym (ap (λ (c : Ba
         (control_header 0 (image_scn b.image) (image_guid b.image) (first_page b.image) (header-long (first_page b.image) header.header) may.sixteen header.header may.sound (omega arith) may.four)
 
     by : (x : Image) → IsTrimmed x → first_page x ≡ first_page b.image → IsTrimmed (with_control 0 (image_scn b.image) (image_guid b.image) x)
-    unfolding with_control
     by [] whole first = whole
     by (p ∷ ps) whole first =
         trimmed-before [] (controlled 0 (image_scn b.image) (image_guid b.image) p) ps (ap (λ (y : Page). is_zeros (controlled 0 (image_scn b.image) (image_guid b.image) y)) first ∙ other) (trimmed-drop 1 (p ∷ ps) whole)

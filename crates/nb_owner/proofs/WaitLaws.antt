@@ -121,6 +121,14 @@ settled_none w held t is none p = by (rank_of held.pages p) refl
     by None at = ap is_some at
     by (Some rank) at = absurd ((is.waits.each p rank at).unsettled none)
 
+-- Nor does one where writes are forced.
+pub forced_none : (w : World) (held : Held) (t : Trail) → IsOpen w held t → is_forced t.base.image ≡ true → (p : ℕ) → waits held.pages p ≡ false
+forced_none w held t is forced p = by (rank_of held.pages p) refl
+  where
+    by : (o : Option ℕ) → rank_of held.pages p ≡ o → waits held.pages p ≡ false
+    by None at = ap is_some at
+    by (Some rank) at = absurd (true≢false (sym forced ∙ (is.waits.each p rank at).loose))
+
 -- Calls that change nothing leave it open.
 pub still_open : (old new : World) (held : Held) (t : Trail) → IsStill old new → IsOpen old held t → IsOpen new held t
 still_open old new held t still is = open_of new held is.sees t (seen_still old new held.files.name is.sees still is.files) is.agrees is.waits is.pages

@@ -139,6 +139,18 @@ returns-in_err-write_through-clause-stays g c merges memory =
     let same = c.in_err-write_through.ensures.on_memory (sym (passed_on c.from_residual-in_err-write_through.result _ c.from_residual-in_err-write_through.ensures) ∙ memory) in
     (same.0 ∙ idle.1, same.1 ∙ idle.2)
 
+pub returns-in_err-write_through-clause-forced : goal.returns-in_err-write_through-clause-forced
+returns-in_err-write_through-clause-forced g c t tells is forced memory =
+    let idle = c.write_out.ensures.at_forced t tells is forced in
+    let same = c.in_err-write_through.ensures.on_memory (sym (passed_on c.from_residual-in_err-write_through.result _ c.from_residual-in_err-write_through.ensures) ∙ memory) in
+    (same.0 ∙ idle.1, same.1 ∙ idle.2)
+
+pub returns-in_err-write_through-clause-idle : goal.returns-in_err-write_through-clause-idle
+returns-in_err-write_through-clause-idle g c none no_drafts memory =
+    let idle = c.write_out.ensures.idle none no_drafts in
+    let same = c.in_err-write_through.ensures.on_memory (sym (passed_on c.from_residual-in_err-write_through.result _ c.from_residual-in_err-write_through.ensures) ∙ memory) in
+    (same.0 ∙ idle.1, same.1 ∙ idle.2)
+
 pub returns-then-may_wait-clause-goes_out : goal.returns-then-may_wait-clause-goes_out
 returns-then-may_wait-clause-goes_out g c goes = absurd (true≢false (sym c.if-may_wait.true ∙ c.may_wait.ensures.value ∙ goes))
 
