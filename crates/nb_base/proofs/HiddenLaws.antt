@@ -1,5 +1,5 @@
 -- A page is written into the main file where an entry hides it: what is seen stays, at each moment. The page may be zeros.
-use Rattle.std.proofs.Common.{◌≡◌, ◌≢◌, ⊎_elim, ℕ, ◌*◌, ◌<◌, ◌≤◌, [], List, length, take, refl, sym, ap, subst, ◌∙◌, inl, arith}
+use Rattle.std.proofs.Common.{◌≡◌, ◌≢◌, ⊎_elim, ℕ, ◌*◌, ◌<◌, ◌≤◌, [], List, length, take, refl, sym, ap, subst, ◌∙◌, inl, inr, arith}
 use Rattle.std.specs.Prelude.{Some, IsTrue, Ok, Result}
 use Rattle.nb_host.specs.Files.{File, Files, bytes_of, with_file, with_page as with_page_at}
 use Rattle.nb_host.specs.World.{World}
@@ -27,7 +27,7 @@ use Rattle.nb_base.specs.Takes.{StrikesFirm}
 use Rattle.nb_base.proofs.LeftLaws.{fits_left, state_left, size_left}
 use Rattle.nb_base.proofs.OwnedLaws.{Holds, holds, shows, main-some, main-long, base-front, base-state, base-size, front_stays, main_hidden}
 use Rattle.nb_base.proofs.StepLaws.{main_moved}
-use Rattle.nb_base.proofs.WrittenLaws.{HasMain, MayLay, main_layed}
+use Rattle.nb_base.proofs.WrittenLaws.{HasMain, MayLay, main_overlaid}
 use Rattle.nb_base.proofs.WriteLaws.{delta_apart}
 
 -- a page that may be written behind an entry that hides it
@@ -75,7 +75,7 @@ module _ (t : Trail) (p : ℕ) (bytes : Page) (is : MayHide t p bytes) (merges :
         (h.image ∙ sym (main_hidden (image_size h.main) h.main (bytes_of d) b.diverted p bytes (main-some b m d h) (main-long b m d h) front_main k at sizes h.has.laid.whole (is.long ∙ sym main_size) there))
 
     hidden_main : (k : ℕ) → entry_for p b.diverted ≡ Some k → (c : File) → PageLeft (p * length bytes) bytes m c → Holds b c d
-    hidden_main k at c step = ⊎_elim (stays c) (hidden k at c) (main_layed h.main m c p bytes h.has may_lay step)
+    hidden_main k at c step = ⊎_elim (stays c) (hidden k at c) (main_overlaid h.main m c p bytes h.has may_lay step)
 
   module _ (name : List ℕ) (k : ℕ) (at : entry_for p t.base.diverted ≡ Some k) where
     stands_hidden : (m d c : File) → StandsFirmOn name t m d → PageLeft (p * length bytes) bytes m c → StandsFirmOn name t c d

@@ -33,7 +33,7 @@ use Rattle.nb_base.proofs.MergeLaws.{page_in-main}
 use Rattle.nb_base.proofs.OwnedLaws.{Holds, entry-first, entry-later, later, owned-entry, base-length, base-page, base-size, bytes-size, main-some, main-long}
 use Rattle.nb_base.proofs.HiddenLaws.{MayHide, may_lay}
 use Rattle.nb_base.proofs.StrokeLaws.{h0}
-use Rattle.nb_base.proofs.WrittenLaws.{HasMain, MayLay, main_lay, written_same, written_sizes, laid_formed, laid_image}
+use Rattle.nb_base.proofs.WrittenLaws.{HasMain, MayLay, main_over, written_same, written_sizes, laid_formed, laid_image}
 use Rattle.nb_base.proofs.WriteLaws.{delta_apart}
 
 -- no page is named twice, so that each entry is its page's
@@ -123,7 +123,7 @@ module _ (old : World) (held : Held) (t : Trail) (is : IsOpen old held t) (merge
       laying = may_lay t number page its_hiding two t.base (itself_firm t) _ _ g
 
       has : HasMain after (new held.name)
-      has = main_lay g.main (old.files held.name) (new held.name) number page g.has laying (ap (λ (f : Files). f held.name) put ∙ with_file-same old.files held.name _)
+      has = main_over g.main (old.files held.name) (new held.name) number page g.has laying (ap (λ (f : Files). f held.name) put ∙ with_file-same old.files held.name _)
 
       beside : new (delta_name held.name) ≡ old.files (delta_name held.name)
       beside = ap (λ (f : Files). f (delta_name held.name)) put ∙ with_file-other old.files held.name _ (delta_name held.name) (delta_apart held.name)

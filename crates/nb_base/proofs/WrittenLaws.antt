@@ -288,8 +288,8 @@ main_put image file c p page h may put = record {
 }
 
 -- the page laid there, zeros or not
-pub main_lay : (image : Image) (file c : File) (p : ℕ) (page : Page) → HasMain image file → MayLay p page image → c ≡ with_page_at file (p * length page) page → HasMain (trimmed (written_at (image_size image) (p, page) image)) c
-main_lay image file c p page h may put = record {
+pub main_over : (image : Image) (file c : File) (p : ℕ) (page : Page) → HasMain image file → MayLay p page image → c ≡ with_page_at file (p * length page) page → HasMain (trimmed (written_at (image_size image) (p, page) image)) c
+main_over image file c p page h may put = record {
   bytes = put_at h.bytes (p * image_size image) page;
   there = put ∙ ap (λ (x : File). with_page_at x (p * length page) page) h.there ∙ ap (λ n. Some (put_at h.bytes n page)) (ap (λ x. p * x) may.long);
   laid = trimmed_laid (written_at (image_size image) (p, page) image) _ (laid_out image h.bytes h.laid p page may);
@@ -314,5 +314,5 @@ page_left image after file c p page h may done (inr (inr (k, fits, grown))) =
 pub main_written : (image : Image) (file c : File) (p : ℕ) (page : Page) → HasMain image file → MayWrite p page image → PageLeft (p * length page) page file c → HasMain image c ⊎ HasMain (written_at (image_size image) (p, page) image) c
 main_written image file c p page h may = page_left image (written_at (image_size image) (p, page) image) file c p page h (lays p page image may) (main_put image file c p page h may)
 
-pub main_layed : (image : Image) (file c : File) (p : ℕ) (page : Page) → HasMain image file → MayLay p page image → PageLeft (p * length page) page file c → HasMain image c ⊎ HasMain (trimmed (written_at (image_size image) (p, page) image)) c
-main_layed image file c p page h may = page_left image (trimmed (written_at (image_size image) (p, page) image)) file c p page h may (main_lay image file c p page h may)
+pub main_overlaid : (image : Image) (file c : File) (p : ℕ) (page : Page) → HasMain image file → MayLay p page image → PageLeft (p * length page) page file c → HasMain image c ⊎ HasMain (trimmed (written_at (image_size image) (p, page) image)) c
+main_overlaid image file c p page h may = page_left image (trimmed (written_at (image_size image) (p, page) image)) file c p page h may (main_over image file c p page h may)

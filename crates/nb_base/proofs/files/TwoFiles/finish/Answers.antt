@@ -10,8 +10,8 @@ use Rattle.nb_base.proofs.StrokeLaws.{not_struck}
 use Rattle.nb_base.proofs.WriteLaws.{not_done}
 use Rattle.nb_base.proofs.files.TwoFiles.finish.Goals as goal
 
-pub returns-in_err-count_filled-clause-takes : goal.returns-in_err-count_filled-clause-takes
-returns-in_err-count_filled-clause-takes g c t tells is equal =
+pub returns-in_err-count-clause-takes : goal.returns-in_err-count-clause-takes
+returns-in_err-count-clause-takes g c t tells is equal =
     let old : World = g.H.Host.world c.args.host.now in
     let mid : World = g.H.Host.world c.count_filled.new.host in
     record {

@@ -15,8 +15,8 @@ use Rattle.nb_owner.proofs.pair.Pair.finish.Goals as goal
 pub returns-in_err-finish_files-clause-takes : goal.returns-in_err-finish_files-clause-takes
 returns-in_err-finish_files-clause-takes g c t tells is merged = record { left = (c.finish_files.ensures.takes t tells is merged).left; done = not_done c.from_residual.result _ c.from_residual.ensures.0 }
 
-pub forget_behind-requires : goal.forget_behind-requires
-forget_behind-requires g c = c.in_ok-finish_files.ensures.none
+pub forget_behind-requires-clause-none : goal.forget_behind-requires-clause-none
+forget_behind-requires-clause-none g c = c.in_ok-finish_files.ensures.none
 
 pub returns-clause-takes : goal.returns-clause-takes
 returns-clause-takes g c t tells given merged =
@@ -27,7 +27,7 @@ returns-clause-takes g c t tells given merged =
     let takes = ok.takes t tells given merged in
     let mid = c.finish_files.new.self in
     let count = finished_count new mid.files t takes.done in
-    let before = is.agrees.count in
+    let before = c.count-before.ensures.value ∙ is.agrees.count in
     let once = c.self.invariant.0.once in
     let pages : mid.pages ≡ behind_first c.self.inside.cache.pages = ok.others ∙ ap (λ (h : Held). behind_first h.pages) (sym c.self.view_is) in
     let kept : c.forget_behind.new.self.pages ≡ but_below (length t.base.image - mid.files.count) (length t.base.image) (behind_first c.self.inside.cache.pages) =
@@ -43,4 +43,9 @@ returns-clause-takes g c t tells given merged =
 
 pub returns-clause-others : goal.returns-clause-others
 returns-clause-others g c =
-    ap (λ (h : Held). h.pages) c.forget_behind.ensures ∙ ap (λ (h : Held). but_below (c.self.inside.files.count - c.finish_files.new.self.files.count) h.files.count c.finish_files.new.self.pages) c.self.view_is
+    let mid = c.finish_files.new.self in
+    let new = c.forget_behind.new.self in
+    let old = c.args.self.now in
+    ap (λ (h : Held). h.pages) c.forget_behind.ensures ∙ ap (λ n. but_below (n - mid.files.count) n mid.pages) (c.count-before.ensures.value ∙ ap (λ (h : Held). h.files.count) c.self.view_is)
+    ∙ ap (λ n. but_below (old.files.count - n) old.files.count mid.pages) (ap (λ (h : Held). h.files.count) (sym c.forget_behind.ensures))
+    ∙ ap (but_below (old.files.count - new.files.count) old.files.count) c.in_ok-finish_files.ensures.others

@@ -9,7 +9,7 @@ loop-number-init c = record {
   most = omega arith;
   pages = ap (λ (ps : Pages). record c.args.self.now { pages = ps }) (sym (below_none c.args.before c.args.self.now.pages));
   least = omega arith;
-  none = c.requires;
+  none = c.requires.none;
 }
 
 pub loop-number-preserved : goal.loop-number-preserved
