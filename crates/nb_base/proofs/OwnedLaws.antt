@@ -72,7 +72,8 @@ module _ (size : ℕ) (main : Image) (delta table : List ℕ) (sizes : IsOfSize 
   unfolding slot_page
   slot_wide zero k =
       let page : List ℕ = page_in size delta (slot_place size k) in
-      let front : length (take 64 (page_at main 0)) ≡ 64 = length-take-le 64 (page_at main 0) (omega (arith, wide, all_at (λ page. length page ≡ size) main sizes 0 some)) in
+      let full : length (page_at main 0) ≡ size = all_at (λ page. length page ≡ size) main sizes 0 some in
+      let front : length (take 64 (page_at main 0)) ≡ 64 = length-take-le 64 (page_at main 0) (omega (arith, wide, full)) in
       omega (arith, length-append (take 64 (page_at main 0)) (drop 64 page), front, length-drop 64 page, length-page_in size delta (slot_place size k), wide)
   slot_wide (suc p) k = length-page_in size delta (slot_place size k)
 

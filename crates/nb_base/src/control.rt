@@ -156,7 +156,6 @@ impl TwoFiles {
         ensures gone { IsTrue H.tells → OnOk result ((H.world host.new).files (delta_name self.old.name) ≡ None) }
         ensures gave { GaveNothing (H.world host.old) (H.world host.new) }
         ensures state { OnOk result (self.new.state ≡ 0) }
-        ensures fewer { OnOk result (self.new.count ≤ self.old.count) }
         ensures name { self.new.name ≡ self.old.name }
         ensures page_size { self.new.page_size ≡ self.old.page_size }
         ensures cause { CountsFault result (H.faults host.old) (H.faults host.new) }

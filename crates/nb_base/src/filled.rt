@@ -46,7 +46,7 @@ impl TwoFiles {
     /// isn't zeros: then nothing is read.
     pub(crate) fn count_filled<H: Host>(&mut self, host: &mut H) -> Result<u32, HostFault>
         ensures count { (t : Trail) → IsTrue H.tells → IsOpen (H.world host.old) self.old t → IfOk result (λ count. count ≡ length (trimmed t.base.image)) }
-        ensures most { IfOk result (λ count. count ≤ self.old.count) }
+        ensures most { IfOk result (λ count. count ≤ 1048576) }
         ensures same { self.new ≡ self.old }
         ensures quiet { Quiet (H.world host.old) (H.world host.new) }
         ensures cause { CountsFault result (H.faults host.old) (H.faults host.new) }

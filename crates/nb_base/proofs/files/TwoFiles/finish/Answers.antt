@@ -1,5 +1,7 @@
-use Rattle.std.proofs.Common.{[], ◌∷◌, length, sym, ap, subst, ◌∙◌}
+use Rattle.std.proofs.Common.{◌≡◌, [], ◌∷◌, length, sym, ap, subst, ◌∙◌}
+use Rattle.std.specs.Prelude.{None}
 use Rattle.nb_host.specs.World.{World}
+use Rattle.nb_model.specs.Owner.{delta_name}
 use Rattle.nb_model.specs.Strokes.{finish}
 use Rattle.nb_base.specs.Open.{Held, IsOpen, AreMerged}
 use Rattle.nb_base.specs.Takes.{StrikesFirm}
@@ -46,3 +48,9 @@ returns-clause-takes g c t tells is equal =
       left = quiet_struck old mid new c.args.self.now t (finish ∷ []) quiet is (subst (λ (h : Held). StrikesFirm mid new h.name t (finish ∷ [])) c.count_filled.ensures.same takes.left);
       done = takes.done;
     }
+
+pub finish_with-requires-clause-merge : goal.finish_with-requires-clause-merge
+finish_with-requires-clause-merge g c = ap (λ (h : Held). h.state) c.count_filled.ensures.same ∙ c.requires.merge
+
+pub returns-clause-gone : goal.returns-clause-gone
+returns-clause-gone g c tells = subst (λ (h : Held). (g.H.Host.world c.finish_with.new.host).files (delta_name h.name) ≡ None) c.count_filled.ensures.same (c.in_ok-finish_with.ensures.gone tells)
