@@ -26,5 +26,5 @@ loop-number-preserved c =
 pub returns : goal.returns
 returns c =
     let loop = c.loop-number.invariant in
-    let end : c.args.before - c.loop-number.number ≡ c.args.before - c.args.self.now.files.count = omega (arith, loop.most, loop.least, c.loop-number-test.false, c.count.ensures.value, ap (λ (h : Held). h.files.count) c.self.view_is) in
+    let end : c.args.before - c.loop-number.number ≡ c.args.before - c.args.self.now.files.count = omega (arith, loop.most, loop.least, c.loop-number-test.false, c.count-count.ensures.value, ap (λ (h : Held). h.files.count) c.self.view_is) in
     loop.pages ∙ ap (λ n. record c.args.self.now { pages = but_below n c.args.before c.args.self.now.pages }) end
