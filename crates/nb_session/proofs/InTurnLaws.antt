@@ -28,7 +28,7 @@ unfolding play
 play_none now = refl
 
 -- what a session that has none does is nothing
-play_idle : (session : ℕ) (order : List ℕ) (now : Now) → HasNone session now → play (session ∷ order) now ≡ play order now
+pub play_idle : (session : ℕ) (order : List ℕ) (now : Now) → HasNone session now → play (session ∷ order) now ≡ play order now
 unfolding play
 play_idle session order now none = ap (λ (p : Played). (p.0 ++ (play order p.1).0, (play order p.1).1)) (one_turn_idle session now none)
 

@@ -42,6 +42,7 @@ use Rattle.nb_session.specs.Told.{told_events, told_turns}
 use Rattle.nb_session.proofs.AllLaws.{all_append}
 use Rattle.nb_session.proofs.EndLaws.{turns_end}
 use Rattle.nb_session.proofs.GiftLaws.{foretold_first, grows_joined}
+use Rattle.nb_session.proofs.GuidsTaken.{given_taken}
 use Rattle.nb_session.proofs.InTurnLaws.{told_trail}
 use Rattle.nb_session.proofs.MadeLaws.{among_left}
 use Rattle.nb_session.proofs.NameLaws.{HaveNames, made_named, begun_plain}
@@ -184,6 +185,7 @@ module _ {H : Type 0} (tells : Bool) (told : IsTrue tells) (world : H → World)
             taken = far.in_turn;
             last = plays_none (world after.host) after.shared (after_steps t (steps_of p.0)) p.1 timely_then ready_then;
           };
+          guids = λ some. given_taken (world old) (world after.host) order now making far.plays.done.given some;
         }
 
     -- A turn ended early, and these would have come behind it.
@@ -259,6 +261,7 @@ module _ {H : Type 0} (tells : Bool) (told : IsTrue tells) (world : H → World)
               taken = far.in_turn;
               last = subst (λ (u : Trail). Plays (Err stop) (world e.last.host) (world after.host) e.last.shared after.shared u p.1 (told_turns how (one_turn e.session p.1)) (touching_by e.session p.1)) (told_trail how t p) last;
             };
+            guids = tt;
           }
 
     -- what was given meanwhile
