@@ -1,13 +1,12 @@
 -- What turns taken one by one leave of the files.
-use Rattle.std.proofs.Common.{◌≡◌, inl, inr, ℕ, List, [], ◌∷◌, ◌++◌, sym, ap, subst, ◌∙◌}
-use Rattle.std.specs.Prelude.{Bool, false, Result, Ok, Err, Contains}
+use Rattle.std.proofs.Common.{◌≡◌, inl, inr, ℕ, List, [], ◌∷◌, sym, ap, subst, ◌∙◌}
+use Rattle.std.specs.Prelude.{Bool, false, Result, Ok, Err}
 use Rattle.nb_host.specs.World.{World}
 use Rattle.nb_host.specs.Crash.{LeavesAll}
 use Rattle.nb_host.specs.Moments.{IsTimely}
-use Rattle.nb_change.specs.Changes.{Names}
 use Rattle.nb_change.proofs.MomentLaws.{weaker}
 use Rattle.nb_model.specs.Making.{MadeFile}
-use Rattle.nb_model.specs.Run.{Event, Now, Played, one_turn, play, rounds}
+use Rattle.nb_model.specs.Run.{Now, Played, one_turn, play}
 use Rattle.nb_model.specs.Steps.{steps_of, after_steps}
 use Rattle.nb_model.specs.Trail.{Trail}
 use Rattle.nb_base.specs.Open.{OfFiles}
@@ -15,8 +14,8 @@ use Rattle.nb_state.specs.Open.{Held, name_of}
 use Rattle.nb_session.specs.declared.stop.Stop.{Stop}
 use Rattle.nb_session.specs.declared.told.Told.{Told}
 use Rattle.nb_session.specs.Acts.{Touched}
-use Rattle.nb_session.specs.ByTurns.{OfTurn, LeavesTurn, ByTurns, OfLast, GoesByTurns}
-use Rattle.nb_session.specs.InTurn.{InTurn, EndsBy, RunsInTurn}
+use Rattle.nb_session.specs.ByTurns.{ByTurns, OfLast, GoesByTurns}
+use Rattle.nb_session.specs.InTurn.{InTurn, EndsBy}
 use Rattle.nb_session.specs.Others.{LeavesOthers}
 use Rattle.nb_session.specs.Steps.{touching_by}
 use Rattle.nb_session.specs.Stops.{Plays}

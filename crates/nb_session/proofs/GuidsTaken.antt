@@ -17,10 +17,9 @@ use Rattle.nb_model.specs.Image.{Page, image_scn, image_state}
 use Rattle.nb_model.specs.NewGuids.{guids_in}
 use Rattle.nb_model.specs.Outcomes.{Turn, Begins, Copies, ClosesBackup, ClosesCopy, Ends, Merges, Finishes, Outcome, Seen, Given, next_guid}
 use Rattle.nb_model.specs.Pages.{ends_by, end_strokes}
-use Rattle.nb_model.specs.Run.{Event, Now, Played, event_of, outcome, one_turn, play, stands_then, strokes_of}
-use Rattle.nb_model.specs.Strokes.{Stroke, page, begin, ends, finish, on_base}
+use Rattle.nb_model.specs.Run.{Now, Played, outcome, one_turn, play, stands_then, strokes_of}
+use Rattle.nb_model.specs.Strokes.{Stroke, page, begin, ends, on_base}
 use Rattle.nb_model.specs.Turns.{first_turn, turn}
-use Rattle.nb_model.specs.Well.{is_on_pages}
 use Rattle.nb_model.proofs.FitLaws.{AreFitting}
 use Rattle.nb_model.proofs.GoingLaws.{making_turn, one_cases}
 use Rattle.nb_model.proofs.GuidLaws.{guids_append}

@@ -1,6 +1,6 @@
 -- One turn, by what it made of the database and by its line.
 use Rattle.std.proofs.Common.{◌≡◌, ℕ, ◌-◌, List, [], ◌∷◌, ◌++◌, Bool, false, refl, sym, ap, subst, ◌∙◌}
-use Rattle.std.specs.Prelude.{true, Result, Ok, Err, IsErr, IsErrAnd, IfOk, IfErr, Option, Some, None, IsTrue, if◌then◌else◌}
+use Rattle.std.specs.Prelude.{true, Result, Ok, Err, IsErr, IsErrAnd, IfOk, IfErr, Option, Some, None, if◌then◌else◌}
 use Rattle.std.specs.List.{slice_index_or}
 use Rattle.std.proofs.lemmas.List.{append-nil}
 use Rattle.nb_host.specs.World.{World}
