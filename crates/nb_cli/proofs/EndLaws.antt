@@ -1,15 +1,11 @@
 -- How the program ends.
-use Rattle.std.proofs.Common.{◌≡◌, ◌≢◌, ◌⊎◌, inl, inr, ℕ, refl, sym, ap, subst, ◌∙◌, arith}
+use Rattle.std.proofs.Common.{inl, refl, arith}
 use Rattle.std.specs.Prelude.{Bool}
-use Rattle.nb_host.specs.Calls.{IsSilent, IsStill}
-use Rattle.nb_host.specs.Moments.{Passes}
 use Rattle.nb_host.specs.World.{World}
 use Rattle.nb_top.specs.declared.status.Status.{Status}
-use Rattle.nb_top.specs.declared.status.Status.TheVariants.{Done, Refused, Usage, Device, Memory}
 use Rattle.nb_top.specs.Goes.{IsRun}
 use Rattle.nb_top.specs.Requests.{Asked}
 use Rattle.nb_cli.specs.Ended.{EndsRun}
-use Rattle.nb_cli.specs.Exit.{number_of}
 
 -- nothing is written behind the run
 pub ends_at_once : {H : Type 0} (tells : Bool) (world : H → World) (status : Status) (old new : H) (asked : Asked) → IsRun tells status (world old) (world new) asked → EndsRun tells world status old new asked

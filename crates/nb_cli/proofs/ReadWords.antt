@@ -1,18 +1,14 @@
 -- What was read of the words, and what they ask for.
-use Rattle.std.proofs.Common.{◌≡◌, ◌≢◌, ◌⊎◌, inl, inr, ⊎_elim, ℕ, List, refl, sym, subst, ◌∙◌}
-use Rattle.std.specs.Prelude.{String, Option, Some, None, Result, Ok, Err, IsErr, IfOk, IfErr, map, string_bytes}
+use Rattle.std.proofs.Common.{◌≡◌, ⊎_elim, ℕ, List, sym, subst, ◌∙◌}
+use Rattle.std.specs.Prelude.{String, Result, Ok, Err, map, string_bytes}
 use Rattle.std.specs.Global.{Global, Vec}
-use Rattle.std.specs.IoError.{error_kind}
 use Rattle.std.specs.declared.io.Error.{Error}
-use Rattle.std.specs.declared.io.ErrorKind.TheVariants.{OutOfMemory}
 use Rattle.nb_host.specs.Files.{Files}
 use Rattle.nb_host.specs.declared.faults.Fault.{Fault}
 use Rattle.nb_host.specs.declared.faults.Fault.TheVariants.{Refused, Device, Memory}
-use Rattle.nb_host.specs.declared.refusals.Refusal.{Refusal}
 use Rattle.nb_host.specs.declared.refusals.Refusal.TheVariants.{Usage}
 use Rattle.nb_model.specs.declared.job.Job.{Job}
-use Rattle.nb_model.specs.Words.{job_of}
-use Rattle.nb_top.specs.Requests.{Asked, IsAskedBy, IsReadJob, NamesNone}
+use Rattle.nb_top.specs.Requests.{Asked, IsAskedBy, IsReadJob}
 use Rattle.nb_top.proofs.RequestLaws.{asked_job, asked_usage, fits_words}
 use Rattle.nb_cli.specs.Ended.{IsAskedOf, IsReadOf}
 

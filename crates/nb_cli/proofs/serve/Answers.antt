@@ -1,4 +1,4 @@
-use Rattle.std.proofs.Common.{◌≡◌, sym, subst}
+use Rattle.std.proofs.Common.{sym, subst}
 use Rattle.nb_top.specs.Requests.{IsAskedBy}
 use Rattle.nb_cli.specs.Ended.{EndsRun}
 use Rattle.nb_cli.proofs.ReadWords.{asked_by, can_be_read}

@@ -12,4 +12,4 @@ pub loop-name-preserved : goal.loop-name-preserved
 loop-name-preserved c =
     let name : List ℕ = c.name-item.result in
     one_name_more c.args.names.now c.loop-name.name-index name c.args.line.now.items c.loop-name.line.items c.push_words.new.line.items (omega arith) c.loop-name.invariant
-        (subst (λ (n : List ℕ). c.push_words.new.line.items ≡ c.loop-name.line.items ++ spaced (is n ∷ [])) c.name-item.is c.in_ok-push_words.ensures)
+    (subst (λ (n : List ℕ). c.push_words.new.line.items ≡ c.loop-name.line.items ++ spaced (is n ∷ [])) c.name-item.is c.in_ok-push_words.ensures)
