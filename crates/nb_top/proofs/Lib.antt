@@ -1,5 +1,7 @@
 pub mod MadeRuns
 pub mod FirstReady
+pub mod ReadsLaws
+pub mod ByTurnsLaws
 pub mod QuietRuns
 pub mod RefusedRuns
 pub mod LeftLaws

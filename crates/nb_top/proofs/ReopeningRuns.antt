@@ -35,6 +35,7 @@ use Rattle.nb_top.specs.Performed.{cache_asked, KnowsNames, MayBeGiven, RunsTo, 
 use Rattle.nb_top.specs.declared.telling.Telling.{Telling}
 use Rattle.nb_top.specs.Requests.{ToRun}
 use Rattle.nb_top.proofs.QuietRuns.{left_quietly, quiet_gave}
+use Rattle.nb_top.proofs.ReadsLaws.{reads_quiet}
 use Rattle.nb_top.proofs.FirstLaws.{First, first_opened, opened_base}
 use Rattle.nb_top.proofs.FirstReady.{IsBehind, base_name, first_ready, opened_making}
 use Rattle.nb_top.proofs.BegunRuns.{first_fails}
@@ -79,9 +80,11 @@ module _ (old : World) (account : Account) (given : Given) (plan : Plan) (tellin
         performed = performed_refused telling plan account given plan.first_session refusal account given (refused_ran refusal is);
         opened = inl tt;
         stops = left_quietly old new account _ _ quiet;
+        reads = reads_quiet old new quiet account _ _;
         finished = tt;
       }
-      by (Ok b) is = first_fails old account given plan telling askable (first_opened account given plan name cache first_is b (there b is)) new e (inr quiet) (λ n. left_quietly old new account _ _ quiet)
+      by (Ok b) is =
+          first_fails old account given plan telling askable (first_opened account given plan name cache first_is b (there b is)) new e (inr quiet) (λ n. left_quietly old new account _ _ quiet) (λ n. reads_quiet old new quiet account _ _)
 
   module _ (names : KnowsNames old.files account) (may : MayBeGiven given) (mid : World) (result : Result Held Fault) (attaches : Attaches result old mid name) (quiet : Quiet old mid) (scn : IfOk result (λ held. held.scn < 4294967296)) (cap : IfOk result (λ held. held.cap ≡ cache_asked plan.first)) where
     pub attaches_begins : Beginning old account given plan telling askable mid result
