@@ -1,14 +1,15 @@
 -- A run turn by turn, put together from the calls that it makes.
 use Rattle.std.proofs.Common.{◌≡◌, ◌⊎◌, inl, inr, ⊎_elim, ℕ, List, [], ◌∷◌, ◌++◌, sym, ap, subst, ◌∙◌}
-use Rattle.std.specs.Prelude.{Bool, Option, None, Some, Result, Ok, Err, IsErr}
+use Rattle.std.specs.Prelude.{Bool, true, false, not, Option, None, Some, Result, Ok, Err, IsErr}
 use Rattle.nb_host.specs.World.{World}
 use Rattle.nb_host.specs.Crash.{LeavesAll}
 use Rattle.nb_host.specs.Moments.{IsTimely}
 use Rattle.nb_host.specs.declared.refusals.Refusal.{Refusal}
+use Rattle.nb_host.specs.declared.refusals.Refusal.TheVariants.{FileExists}
 use Rattle.nb_change.specs.Changes.{Only}
 use Rattle.nb_page.specs.Quiet.{Quiet}
-use Rattle.nb_model.specs.Account.{Account}
-use Rattle.nb_model.specs.Causes.{Cause, not_free}
+use Rattle.nb_model.specs.Account.{Plain, Account, with_entry}
+use Rattle.nb_model.specs.Causes.{Cause, is_free_entry, not_free}
 use Rattle.nb_model.specs.Generated.{generated}
 use Rattle.nb_model.specs.Outcomes.{Given}
 use Rattle.nb_model.specs.Output.{output}
@@ -29,6 +30,7 @@ use Rattle.nb_session.proofs.ByTurnsLaws.{goes_by}
 use Rattle.nb_session.proofs.OthersLaws.{leaves_line, leaves_quiet, leaves_then}
 use Rattle.nb_top.specs.declared.status.Status.{Status}
 use Rattle.nb_top.specs.declared.telling.Telling.{Telling}
+use Rattle.nb_top.specs.declared.telling.Telling.TheVariants.{Sparingly}
 use Rattle.nb_top.specs.ByTurns.{AskedByTurns, EndsEarly, OpensAndGoes, ReadByTurns, RunByTurns, ScriptByTurns, TakesTold, TurnsFrom, WrittenByTurns}
 use Rattle.nb_top.specs.Performed.{pages_first, told_later}
 use Rattle.nb_top.specs.Requests.{Request, ToRun, ToGenerate}
@@ -40,6 +42,10 @@ early_err (Ok status) is = absurd (no_err is)
     no_err : IsErr {T = Status} {E = Stop} (Ok status) → ⊥
     no_err h = cc
 early_err (Err e) is = tt
+
+-- a value is no early end
+pub never_err : {T : Type 0} (value : T) (P : Type 0) → IsErr {T = T} {E = Stop} (Ok value) → P
+never_err value P is = absurd (cc is)
 
 -- Turns that are told as others, event by event, are told so.
 module _ {H : Type 0} (world : H → World) (f g : List Event → List Event) (same : (events : List Event) → f events ≡ g events) where
@@ -166,10 +172,8 @@ module _ {H : Type 0} (world : H → World) (early : Type 0) (old mid new : H) (
   run_quietly (Ok (ToRun plan telling)) turns = script_quietly world early account given plan telling old mid new quiet turns
   run_quietly (Ok (ToGenerate number name)) turns = by (not_free name (account.entry name)) turns
     where
-      abbrev Written : H → Cause → Type 0
-      Written from cause = elim cause as (λ z. Type 0) [ Some refusal ↦ (world new).files ≡ (world from).files | None ↦ WrittenByTurns world early from new name (generated number) account given ]
-
-      by : (cause : Cause) → Written mid cause → Written old cause
+      by : (cause : Cause) → elim cause as (λ z. Type 0) [ Some refusal ↦ (world new).files ≡ (world mid).files | None ↦ WrittenByTurns world early mid new name (generated number) account given ]
+          → elim cause as (λ z. Type 0) [ Some refusal ↦ (world new).files ≡ (world old).files | None ↦ WrittenByTurns world early old new name (generated number) account given ]
       by (Some refusal) same = same ∙ quiet.still.files
       by None (inl goes) = inl (record {
         written = goes.written;
@@ -191,13 +195,27 @@ module _ {H : Type 0} (world : H → World) (early : Type 0) (ends : early) (old
 
 -- The script of a number, which is written first.
 module _ {H : Type 0} (world : H → World) (early : Type 0) (number : ℕ) (name : List ℕ) (account : Account) (given : Given) where
+  abbrev cause_by : Bool → Cause
+  cause_by free = elim (not free) as (λ z. Option Refusal) [ true ↦ Some (FileExists name) | false ↦ None ]
+
   abbrev written_by : (old new : H) → Cause → Type 0
   written_by old new cause = elim cause as (λ z. Type 0) [ Some refusal ↦ (world new).files ≡ (world old).files | None ↦ WrittenByTurns world early old new name (generated number) account given ]
 
   -- its name isn't free
-  pub number_refused : (old new : H) (refusal : Refusal) → not_free name (account.entry name) ≡ Some refusal → (world new).files ≡ (world old).files → RunByTurns world early old new (Ok (ToGenerate number name)) account given
-  number_refused old new refusal taken same = subst (written_by old new) (sym taken) same
+  pub number_taken : (old new : H) → is_free_entry (account.entry name) ≡ false → (world new).files ≡ (world old).files → RunByTurns world early old new (Ok (ToGenerate number name)) account given
+  number_taken old new taken same = subst (λ (free : Bool). written_by old new (cause_by free)) (sym taken) same
 
   -- it is
-  pub number_written : (old new : H) → not_free name (account.entry name) ≡ None → WrittenByTurns world early old new name (generated number) account given → RunByTurns world early old new (Ok (ToGenerate number name)) account given
-  number_written old new free turns = subst (written_by old new) (sym free) turns
+  free_by : (old new : H) → is_free_entry (account.entry name) ≡ true → WrittenByTurns world early old new name (generated number) account given → RunByTurns world early old new (Ok (ToGenerate number name)) account given
+  free_by old new free turns = subst (λ (free : Bool). written_by old new (cause_by free)) (sym free) turns
+
+  pub number_early : (old new : H) → is_free_entry (account.entry name) ≡ true → early → LeavesOthers (world old) (world new) (Only name) → RunByTurns world early old new (Ok (ToGenerate number name)) account given
+  number_early old new free ends leaves = free_by old new free (inr (ends, leaves))
+
+  pub number_then : (old written new : H) → is_free_entry (account.entry name) ≡ true → LeavesOthers (world old) (world written) (Only name) → (read : Result Plan Refusal) → script_of (generated number) ≡ read
+      → ReadByTurns world early written new read Sparingly (with_entry name (Plain (generated number) None) account) given → RunByTurns world early old new (Ok (ToGenerate number name)) account given
+  number_then old written new free leaves read is goes = free_by old new free (inl (record {
+    written = written;
+    leaves = leaves;
+    goes = subst (λ (r : Result Plan Refusal). ReadByTurns world early written new r Sparingly (with_entry name (Plain (generated number) None) account) given) (sym is) goes;
+  }))

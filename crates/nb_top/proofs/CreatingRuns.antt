@@ -1,6 +1,6 @@
 -- A run whose first statement creates its database.
 use Rattle.std.proofs.Common.{◌≡◌, ◌≢◌, inl, inr, ⊎_elim, ℕ, List, [], ◌∷◌, ◌++◌, length, take, true, false, refl, sym, ap, subst, ◌∙◌, arith}
-use Rattle.std.specs.Prelude.{Bool, Some, Result, Ok, Err, Contains, IfOk}
+use Rattle.std.specs.Prelude.{Bool, None, Some, Result, Ok, Err, Contains, IfOk}
 use Rattle.std.proofs.lemmas.Bool.{true≢false}
 use Rattle.std.proofs.lemmas.List.{append-nil, take-append-le, take_all}
 use Rattle.nb_fields.specs.Free.{is_free_file}
@@ -28,7 +28,7 @@ use Rattle.nb_model.specs.Image.{Image}
 use Rattle.nb_model.specs.Making.{MadeFile, IsNoneOf}
 use Rattle.nb_model.specs.Outcomes.{Given}
 use Rattle.nb_model.specs.Owner.{delta_name}
-use Rattle.nb_model.specs.Run.{Event, IsRun, base_now, files_made, rounds}
+use Rattle.nb_model.specs.Run.{Event, IsRun, Opening, base_now, files_made, opening, rounds}
 use Rattle.nb_model.specs.Steps.{Step, steps_in, steps_of}
 use Rattle.nb_model.specs.Trail.{Trail, ShowsIn, StandsIn, settled}
 use Rattle.nb_model.proofs.FreshImageLaws.{fresh_length}
@@ -48,6 +48,7 @@ use Rattle.nb_script.specs.Scripts.{Plan}
 use Rattle.nb_session.specs.declared.stop.Stop.{Stop}
 use Rattle.nb_session.specs.Acts.{MadeLeft}
 use Rattle.nb_session.specs.Stops.{IsSaid}
+use Rattle.nb_session.proofs.OthersLaws.{leaves_among, leaves_changes}
 use Rattle.nb_top.specs.Performed.{cache_asked, KnowsNames, MayBeGiven, ReadsAsked, RunReads, RunsTo, HasSmallScn, first_event, opened_reply, pages_first, refused_at, seen_after, target_of}
 use Rattle.nb_top.specs.declared.telling.Telling.{Telling}
 use Rattle.nb_top.specs.Requests.{ToRun}
@@ -58,6 +59,7 @@ use Rattle.nb_top.proofs.FirstReady.{IsBehind, apart_play, base_name, begins_mak
 use Rattle.nb_top.proofs.MadeRuns.{made_behind, none_yet}
 use Rattle.nb_top.proofs.BegunRuns.{Left, events, first_one, first_fails}
 use Rattle.nb_top.proofs.BegunRuns.{later as later_told}
+use Rattle.nb_top.proofs.ByTurnsLaws.{OpensBeside, beside_none, beside_now}
 use Rattle.nb_top.proofs.Beginnings.{Beginning, FirstRefused, FirstDone}
 use Rattle.nb_top.proofs.ToldLaws.{Ran, later_files, told_first_made, told_first_steps, performed_refused}
 
@@ -80,6 +82,11 @@ module _ (old : World) (account : Account) (given : Given) (plan : Plan) (tellin
   taken_ran taken =
       subst (λ (first : Statement). IsRun account given plan.first_session first plan.schedule plan.sessions (refused_at plan.first_session (FileExists name)) account given) (sym first_is)
       (run_ends account given plan.first_session (CreateDb name size raw cache) plan.schedule plan.sessions (RefusedReply (FileExists name)) (not_created account given plan.sessions plan.first_session name size raw cache taken))
+
+  taken_ends : is_free_entry (account.entry name) ≡ false → (opening account given plan.sessions plan.first_session plan.first).now ≡ None
+  taken_ends taken =
+      ap (λ (s : Statement). (opening account given plan.sessions plan.first_session s).now) first_is
+      ∙ ap (λ (o : Opening). o.now) (not_created account given plan.sessions plan.first_session name size raw cache taken)
 
   taken_fails : (new : World) (e : Stop) → is_free_entry (account.entry name) ≡ false → Quiet old new → RunsTo (Err e) old new (Ok (ToRun plan telling)) account given
   taken_fails new e taken quiet = record {
@@ -237,8 +244,16 @@ module _ (old : World) (account : Account) (given : Given) (plan : Plan) (tellin
 
     pub creates_begins : Beginning old account given plan telling askable mid result
     unfolding first_created
-    creates_begins = record { fails = fails; refused = refused; done = done }
+    creates_begins = record { fails = fails; refused = refused; done = done; beside = by_free (is_free_entry (account.entry name)) refl }
       where
+        by_free : (free : Bool) → is_free_entry (account.entry name) ≡ free → OpensBeside old mid account given plan
+        by_free true is =
+            let one : First account given plan = first is in
+            let own : name ≡ one.now.name = sym one.name_is in
+            beside_now old mid account given plan one.now one.goes_on
+            (leaves_among old mid (Only name) (OfFiles one.now.name) (λ m same. inl (same ∙ own)) (leaves_changes old mid (Only name) _ creates.left))
+        by_free false is = beside_none old mid account given plan (taken_ends is) (creates.taken (knows ∙ is)).still.files
+
         fails : (e : Stop) → RunsTo (Err e) old mid (Ok (ToRun plan telling)) account given
         fails e = by (is_free_entry (account.entry name)) refl
           where
@@ -252,6 +267,7 @@ module _ (old : World) (account : Account) (given : Given) (plan : Plan) (tellin
             record {
               quiet = creates.taken answer.0;
               ran = subst (λ (r : Refusal). Ran account given plan (refused_at plan.first_session r) account given) (sym answer.1) (taken_ran (sym knows ∙ answer.0));
+              ends = taken_ends (sym knows ∙ answer.0);
               not_usage = λ e. exists_usage (sym answer.1 ∙ e);
             }
           where

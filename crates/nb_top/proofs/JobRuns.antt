@@ -23,7 +23,7 @@ use Rattle.nb_session.specs.Says.{SaysLine}
 use Rattle.nb_top.specs.declared.status.Status.{Status}
 use Rattle.nb_top.specs.declared.status.Status.TheVariants.{Refused as RefusedStatus, Usage as UsageStatus, Device, Memory}
 use Rattle.nb_top.specs.Numbers.{number_of}
-use Rattle.nb_top.specs.Performed.{HasSmallScn, RunLeft, RunStands, RunsTo, GoesTo, KnowsAsked, Performs, PerformsRun, Finished, IsPerformed, IsSure, IsUndone, Knows, MayBeGiven, kept_after, target_of, first_event, refused_job}
+use Rattle.nb_top.specs.Performed.{HasSmallScn, RunLeft, RunReads, RunStands, RunsTo, GoesTo, KnowsAsked, Performs, PerformsRun, Finished, IsPerformed, IsSure, IsUndone, Knows, MayBeGiven, kept_after, target_of, first_event, refused_job}
 use Rattle.nb_top.specs.Standing.{HoldsKept, StandsFor}
 use Rattle.nb_top.specs.Requests.{Request, ToRun, ToGenerate, Deed, ToRestore, ToFix, ToMerge, ToFold, ToPlan, Asked, Runs, Does, script_in}
 use Rattle.nb_top.specs.OneTurn.{DoesTurn, TurnEnded, leaves_all, one_turn}
@@ -37,6 +37,7 @@ use Rattle.nb_top.proofs.GeneratedSure.{generated_left, generated_end}
 use Rattle.nb_top.proofs.LeftLaws.{left_first, first_count}
 use Rattle.nb_top.proofs.MadeRuns.{none_alone}
 use Rattle.nb_top.proofs.QuietRuns.{left_quietly}
+use Rattle.nb_top.proofs.ReadsLaws.{reads_quiet}
 use Rattle.nb_top.proofs.RefusedRuns.{refused_runs}
 use Rattle.nb_top.proofs.RequestLaws.{CanBeAsked, CanBeDone, CanBeMet}
 use Rattle.nb_top.proofs.Restored.{restore_sound}
@@ -57,6 +58,7 @@ module _ (old new : World) (account : Account) (given : Given) (e : Stop) (quiet
     performed = (refl, refl, refl);
     opened = inl tt;
     stops = left_quietly old new account (target_of (Err refusal) (refused_job refusal)) (refused_job refusal) quiet;
+    reads = reads_quiet old new quiet account (target_of (Err refusal) (refused_job refusal)) (refused_job refusal);
     finished = tt;
   }
 
@@ -100,16 +102,16 @@ module _ (old : World) (account : Account) (given : Given) (sixteen : MayBeGiven
 
   -- at its end
   sure_end : (asked : Result Request Refusal) → CanBeMet (Runs asked) → IsPerformed old.files asked account given events last left → IsSure old account events → HasSmallScn account (target_of asked events)
-      → (new : World) → IsTimely new → ((name : List ℕ) → Leaves new name (new.files name)) → AtEachMoment old new (RunLeft old account (target_of asked events) events) → (status : Status)
-      → Finished status old new account (target_of asked events) events given left → StandsFor new last
-  sure_end (Err refusal) can performed sure small new timely reads stops status done =
+      → (new : World) → IsTimely new → ((name : List ℕ) → Leaves new name (new.files name)) → AtEachMoment old new (RunLeft old account (target_of asked events) events)
+      → RunReads old new account (target_of asked events) events → (status : Status) → Finished status old new account (target_of asked events) events given left → StandsFor new last
+  sure_end (Err refusal) can performed sure small new timely reads stops beside status done =
       subst (StandsFor new) (sym performed.1)
-      (still_stands old new account sure.stands reads (λ m. done.others m tt (none_refused events refusal performed.0 m))
+      (still_stands old new account sure.stands reads (λ m. beside.others m tt (none_refused events refusal performed.0 m))
       (λ files leaves m. (stops.each files new.said (timely.counts_now old.moment files stops.later leaves)).others m tt (none_refused events refusal performed.0 m)))
-  sure_end (Ok (ToRun plan telling)) can performed sure small new timely reads stops status done =
-      script_end old plan telling can account given before events last left performed sixteen sure small new timely reads stops status done
-  sure_end (Ok (ToGenerate number name)) can performed sure small new timely reads stops status done =
-      generated_end old number name account given can before sixteen events last left performed sure new timely reads stops status done
+  sure_end (Ok (ToRun plan telling)) can performed sure small new timely reads stops beside status done =
+      script_end old plan telling can account given before events last left performed sixteen sure small new timely reads stops beside status done
+  sure_end (Ok (ToGenerate number name)) can performed sure small new timely reads stops beside status done =
+      generated_end old number name account given can before sixteen events last left performed sure new timely reads stops beside status done
 
 module _ (old new : World) (asked : Result Request Refusal) (can : CanBeMet (Runs asked)) (account : Account) (given : Given) (sixteen : MayBeGiven given)
     (before : (name : List ℕ) → Leaves old name (old.files name)) (timely : IsTimely new) (reads : (name : List ℕ) → Leaves new name (new.files name)) where
@@ -130,7 +132,7 @@ module _ (old new : World) (asked : Result Request Refusal) (can : CanBeMet (Run
   performs status result runs ends = ⊎_elim
       (λ small.
       with_stops (weaker old new _ _ runs.stops (λ files said left. record { left = left; stands = λ sure. sure_left old account given sixteen before runs.events runs.last runs.left asked can runs.performed sure small files said left }))
-      (λ d m sure. sure_end old account given sixteen before runs.events runs.last runs.left asked can runs.performed sure small new timely reads runs.stops status (ends d m).1))
+      (λ d m sure. sure_end old account given sixteen before runs.events runs.last runs.left asked can runs.performed sure small new timely reads runs.stops runs.reads status (ends d m).1))
       (λ undone.
       with_stops (weaker old new _ _ (undone_quiet result undone).moments nothing_left)
       (λ d m. never_ended result undone (ends d m).0))
@@ -147,6 +149,7 @@ module _ (old new : World) (asked : Result Request Refusal) (can : CanBeMet (Run
         performed = runs.performed;
         stops = stops;
         now = stops.each new.files new.said (timely.counts_now old.moment new.files stops.later reads);
+        reads = runs.reads;
         finished = λ d m. (ends d m).1;
         stands = ended;
       }

@@ -35,7 +35,7 @@ use Rattle.nb_script.specs.Asked.{IsAskable}
 use Rattle.nb_script.specs.Fits.{FitsFirst}
 use Rattle.nb_script.specs.Scripts.{Plan}
 use Rattle.nb_top.specs.declared.status.Status.{Status}
-use Rattle.nb_top.specs.Performed.{RunLeft, Finished, HasSmallScn, IsScriptRun, IsSure, MayBeGiven, Target, begins_refused, kept_after, pages_first, seen_after, target_named, target_of}
+use Rattle.nb_top.specs.Performed.{RunLeft, RunReads, Finished, HasSmallScn, IsScriptRun, IsSure, MayBeGiven, Target, begins_refused, kept_after, pages_first, seen_after, target_named, target_of}
 use Rattle.nb_top.specs.Standing.{HoldsKept, StandsFor}
 use Rattle.nb_top.specs.declared.telling.Telling.{Telling}
 use Rattle.nb_top.specs.Requests.{Request, ToRun}
@@ -342,12 +342,13 @@ module _ (old : World) (plan : Plan) (telling : Telling) (askable : IsAskable pl
         by None is few l = sure.stands.left files (λ m. l.others m tt (none_made is m))
         by (Some target) is few l = target_left old account sure.stands before target events last sure.new (sure_run target is few) files said l
 
-    pub script_end : (new : World) → IsTimely new → ((name : List ℕ) → Leaves new name (new.files name)) → AtEachMoment old new (RunLeft old account (target_of asked events) events) → (status : Status)
-        → Finished status old new account (target_of asked events) events given left → StandsFor new last
-    script_end new timely reads stops status finished = by (target_of asked events) refl small stops finished
+    pub script_end : (new : World) → IsTimely new → ((name : List ℕ) → Leaves new name (new.files name)) → AtEachMoment old new (RunLeft old account (target_of asked events) events)
+        → RunReads old new account (target_of asked events) events → (status : Status) → Finished status old new account (target_of asked events) events given left → StandsFor new last
+    script_end new timely reads stops read status finished = by (target_of asked events) refl small stops read finished
       where
-        by : (target : Option Target) → target_of asked events ≡ target → HasSmallScn account target → AtEachMoment old new (RunLeft old account target events) → Finished status old new account target events given left → StandsFor new last
-        by None is few moments done =
+        by : (target : Option Target) → target_of asked events ≡ target → HasSmallScn account target → AtEachMoment old new (RunLeft old account target events) → RunReads old new account target events
+            → Finished status old new account target events given left → StandsFor new last
+        by None is few moments beside done =
             subst (StandsFor new) (sym (refused_run is).1)
-            (still_stands old new account sure.stands reads (λ m. done.others m tt (none_made is m)) (λ files leaves m. (moments.each files new.said (timely.counts_now old.moment files moments.later leaves)).others m tt (none_made is m)))
-        by (Some target) is few moments done = target_end old account sure.stands before target events last sure.new (sure_run target is few) new timely reads moments given left status done
+            (still_stands old new account sure.stands reads (λ m. beside.others m tt (none_made is m)) (λ files leaves m. (moments.each files new.said (timely.counts_now old.moment files moments.later leaves)).others m tt (none_made is m)))
+        by (Some target) is few moments beside done = target_end old account sure.stands before target events last sure.new (sure_run target is few) new timely reads moments beside given left status done

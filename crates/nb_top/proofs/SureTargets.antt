@@ -14,7 +14,7 @@ use Rattle.nb_model.specs.Run.{Event, strokes_of}
 use Rattle.nb_model.specs.Steps.{steps_of}
 use Rattle.nb_model.specs.Trail.{StandsIn}
 use Rattle.nb_top.specs.declared.status.Status.{Status}
-use Rattle.nb_top.specs.Performed.{RunLeft, Finished, Target, kept_after, seen_after}
+use Rattle.nb_top.specs.Performed.{RunLeft, RunReads, Finished, Target, kept_after, seen_after}
 use Rattle.nb_top.specs.Standing.{HoldsKept, StandsFor}
 use Rattle.nb_top.proofs.SureFiles.{kept_none, stood_holds, unbegun_holds, ended_stands}
 use Rattle.nb_top.proofs.WellRuns.{IsWellRun}
@@ -37,8 +37,8 @@ module _ (old : World) (account : Account) (stands : StandsFor old account) (bef
       l.database
 
   -- at its end
-  pub target_end : (end : World) → IsTimely end → ((m : List ℕ) → Leaves end m (end.files m)) → AtEachMoment old end (RunLeft old account (Some target) events) → (given left : Given) (status : Status)
+  pub target_end : (end : World) → IsTimely end → ((m : List ℕ) → Leaves end m (end.files m)) → AtEachMoment old end (RunLeft old account (Some target) events) → RunReads old end account (Some target) events → (given left : Given) (status : Status)
       → Finished status old end account (Some target) events given left → StandsFor end last
-  target_end end timely reads stops given left status finished =
-      ended_stands old account stands before target.name known.plain events last known.run new end finished.database finished.kept finished.others reads
+  target_end end timely reads stops read given left status finished =
+      ended_stands old account stands before target.name known.plain events last known.run new end finished.database finished.kept read.others reads
       (λ files leaves. let l = stops.each files end.said (timely.counts_now old.moment files stops.later leaves) in (l.each, l.others))
