@@ -22,6 +22,7 @@ pub mod AsWas
 pub mod MadeStand
 pub mod MadeWhole
 pub mod MadeEnds
+pub mod MoreRecords
 pub mod SureLaws
 pub mod WellRuns
 pub mod SureFiles
