@@ -7,7 +7,7 @@
 -- is written, is as it was, unfinished or whole, and whole once that is acknowledged. No other file changes. At its end all lines were said,
 -- all steps stand, and all files are whole. Where the files stood for an account with the records of its backups, and the GUIDs that the outside gives are new, they stand for
 -- one at each moment, with the records of the backups that have begun by then.
-use Rattle.std.specs.Prelude.{◌≡◌, ◌≢◌, ◌⊎◌, ℕ, ◌<◌, List, [], ◌∷◌, ◌++◌, length, take, Bool, true, false, ◌&&◌, Option, None, Some, Result, Ok, Err, IfOk}
+use Rattle.std.specs.Prelude.{◌≡◌, ◌≢◌, ◌⊎◌, ℕ, ◌<◌, ◌≤◌, List, [], ◌∷◌, ◌++◌, length, take, Bool, true, false, ◌&&◌, Option, None, Some, Result, Ok, Err, IfOk}
 use Rattle.std.specs.Global.{Vec}
 use Rattle.std.specs.List.{AllByRecursion, list_all}
 use Rattle.nb_fields.specs.Free.{is_free_file}
@@ -327,9 +327,19 @@ pub record RunsTo (result : Result Status Stop) (old new : World) (asked : Resul
   pub reads : RunReads old new account (target_of asked events) events
   pub finished : IfOk result (λ status. Finished status old new account (target_of asked events) events given left)
 
+-- Behind a run, however it ended, the world stands for an account with the records of the backups that begin in a front of its steps. What a stop leaves now
+-- is behind no longer front. So the next run may begin.
+pub record StandsAfter (old new : World) (account : Account) (target : Option Target) (events : List Event) : Type 0 where
+  pub count : ℕ
+  pub last : (files : Files) → LeavesAll new files → (l : RunLeft old account target events files new.said) × (l.count ≤ count)
+  pub later : Account
+  pub stands : StandsFor new later
+  pub kept : later.kept ≡ kept_after account target (take count (steps_of events))
+
 -- What is done of a run. Its events are those that it asks for, with the account after it and what is left to give.
--- At each moment a stop leaves a front of it. So do the files as they read now, where it ended early too, and other files read as before. Where
--- no call of the host failed and memory was enough, it came to its end, and where it was sure the files stand for the account after.
+-- At each moment a stop leaves a front of it. So do the files as they read now, where it ended early too, and other files read as before. Where it
+-- was sure, the next run may begin. Where no call of the host failed and memory was enough, it came to its end, and where it was sure the files
+-- stand for the account after.
 pub record PerformsRun (status : Status) (old new : World) (asked : Result Request Refusal) (account : Account) (given : Given) : Type 0 where
   pub events : List Event
   pub last : Account
@@ -338,6 +348,7 @@ pub record PerformsRun (status : Status) (old new : World) (asked : Result Reque
   pub stops : AtEachMoment old new (RunStands old account asked events)
   pub now : RunStands old account asked events new.files new.said
   pub reads : RunReads old new account (target_of asked events) events
+  pub after : IsSure old account events → StandsAfter old new account (target_of asked events) events
   pub finished : status ≢ Device → status ≢ Memory → Finished status old new account (target_of asked events) events given left
   pub stands : status ≢ Device → status ≢ Memory → IsSure old account events → StandsFor new last
 
