@@ -30,6 +30,8 @@ pub mod SureRuns
 pub mod JobRuns
 pub mod RequestLaws
 pub mod KnownLaws
+pub mod NamesStay
+pub mod NextRuns
 pub mod JobLaws
 pub mod ToldLaws
 pub mod ChainRefusals

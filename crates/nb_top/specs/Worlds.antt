@@ -19,6 +19,10 @@ pub record StartsFrom (w : World) (files : Files) : Type 0 where
 abbrev pub HaveNames : Files → Type 0
 HaveNames files = (name bytes : List ℕ) → files name ≡ Some bytes → is_name name ≡ true
 
+-- so has each that a stop may leave
+abbrev pub LeaveNames : World → Type 0
+LeaveNames w = (name bytes : List ℕ) → Leaves w name (Some bytes) → is_name name ≡ true
+
 -- no file under any name
 abbrev pub no_files : Files
 no_files name = None
