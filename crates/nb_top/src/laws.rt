@@ -16,7 +16,7 @@ ghost use Rattle.nb_model.specs.Stands.{Stands};
 ghost use Rattle.nb_model.specs.declared.job.Job.{Job};
 ghost use Rattle.nb_session.specs.Others.{LeavesOthers};
 ghost use Rattle.nb_top.specs.declared.status.Status.{Status};
-ghost use Rattle.nb_top.specs.OneTurn.{DoesTurn, OneTurn, leaves_all, one_turn};
+ghost use Rattle.nb_top.specs.OneTurn.{DoesTurn, leaves_all, one_turn};
 ghost use Rattle.nb_top.specs.Performed.{IsPerformed, IsSure, KnowsAsked, PerformsRun};
 ghost use Rattle.nb_top.specs.Requests.{Deed, Does, Request, Runs, request_asked, request_of, run_of};
 ghost use Rattle.nb_top.specs.Standing.{HoldsKept, NextMayBegin, StandsFor};
@@ -45,8 +45,8 @@ pub fn a_next_run_may_begin<H: Host>(_host: &H)
 pub fn a_next_run_may_begin_at_once<H: Host>(_before: &H, _behind: &H)
     ensures runs { (status : Status) (asked : Result Request Refusal) (account : Account) (given : Given) (performs : PerformsRun status (H.world _before.now) (H.world _behind.now) asked account given)
         → IsSure (H.world _before.now) account performs.events → NextMayBegin (H.world _behind.now) account }
-    ensures turns { (status : Status) (job : OneTurn) (account : Account) → DoesTurn status (H.world _before.now) (H.world _behind.now) job account → StandsFor (H.world _before.now) account
-        → (leaves_all (job.turn account) ≡ false → job.takes account.kept) → NextMayBegin (H.world _behind.now) account }
+    ensures turns { (status : Status) (deed : Deed) (account : Account) → DoesTurn status (H.world _before.now) (H.world _behind.now) (one_turn (H.world _before.now).files deed) account → StandsFor (H.world _before.now) account
+        → (leaves_all ((one_turn (H.world _before.now).files deed).turn account) ≡ false → (one_turn (H.world _before.now).files deed).takes account.kept) → NextMayBegin (H.world _behind.now) account }
 {}
 
 /// Files keep names that a host may give them: where all that a stop may leave has such names as a run begins, it has at each moment of the run and
