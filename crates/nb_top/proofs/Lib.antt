@@ -32,6 +32,7 @@ pub mod RequestLaws
 pub mod KnownLaws
 pub mod NamesStay
 pub mod NextRuns
+pub mod CountedGuids
 pub mod JobLaws
 pub mod ToldLaws
 pub mod ChainRefusals

@@ -1,15 +1,16 @@
 // Laws of the whole program: each is a public function with an empty body, whose contract is the law. They show that what a run is
 // promised on holds where a first run begins and where the next one begins behind a stop, and that a job is what it asks for.
-ghost use Rattle.std.specs.Prelude.{◌≡◌, ℕ, List, [], ◌∷◌, Some, Result, false};
+ghost use Rattle.std.specs.Prelude.{◌≡◌, ℕ, ◌+◌, ◌^◌, ◌<◌, List, [], ◌∷◌, Some, Result, Contains, false};
 ghost use Rattle.nb_host.specs.Files.{Files, with_file};
 ghost use Rattle.nb_host.specs.Crash.{LeavesAll};
 ghost use Rattle.nb_host.specs.Moments.{AtEachMoment};
 ghost use Rattle.nb_host.specs.declared.refusals.Refusal.{Refusal};
 ghost use Rattle.nb_mem.specs.declared.entry.Entry.{Entry};
-ghost use Rattle.nb_mem.specs.Histories.{files_of, world_of};
+ghost use Rattle.nb_mem.specs.Histories.{files_of, guids_behind, world_of};
 ghost use Rattle.nb_mem.specs.Outcomes.{IsLeft, placed};
 ghost use Rattle.nb_model.specs.Account.{Account, Kept};
 ghost use Rattle.nb_model.specs.Jobs.{Asks, IsAttaching, asks_of, turn_of};
+ghost use Rattle.nb_model.specs.NewGuids.{AreNew};
 ghost use Rattle.nb_model.specs.Outcomes.{Given};
 ghost use Rattle.nb_model.specs.Run.{Event};
 ghost use Rattle.nb_model.specs.Stands.{Stands};
@@ -21,7 +22,7 @@ ghost use Rattle.nb_top.specs.Performed.{IsPerformed, IsSure, KnowsAsked, Perfor
 ghost use Rattle.nb_top.specs.Requests.{Deed, Does, Request, Runs, request_asked, request_of, run_of};
 ghost use Rattle.nb_top.specs.Standing.{HoldsKept, NextMayBegin, StandsFor};
 ghost use Rattle.nb_top.specs.Touched.{OfAsked};
-ghost use Rattle.nb_top.specs.Worlds.{AreCopies, ArePlain, HaveNames, HaveSound, LeaveNames, StartsFrom, account_of, empty, no_files};
+ghost use Rattle.nb_top.specs.Worlds.{AreCopies, ArePlain, HaveNames, HaveSound, LeaveNames, NameNone, StartsFrom, account_of, empty, no_files};
 
 use nb_host::Host;
 
@@ -72,6 +73,13 @@ pub fn hosts_in_memory_begin_so()
     ensures none { StartsFrom (world_of []) no_files }
     ensures placed { (es : List Entry) (files : Files) (name bytes : List ℕ) → StartsFrom (world_of es) files → StartsFrom (world_of (placed name (Some bytes) es)) (with_file files name (Some bytes)) }
     ensures left { (stopped left : List Entry) → IsLeft stopped left → LeavesAll (world_of stopped) (files_of left) × StartsFrom (world_of left) (files_of left) }
+{}
+
+/// On a host in memory the GUIDs of a next run are new. Behind a stop the host counts on from those that were given before, as
+/// `nb_mem::MemHost::behind_guids` lets it, so it gives none that a kept record has, and no GUID twice; where no file names one, they are new.
+pub fn counted_guids_are_new<H: Host>(_host: &H)
+    ensures { (files : Files) (kept : List Kept) (count more : ℕ) → count + more < 2 ^ 64 → StartsFrom (H.world _host.now) files → ((r : Kept) → Contains kept r → Contains (guids_behind 0 count) r.guid)
+        → NameNone files (guids_behind count more) → AreNew (H.world _host.now) kept (guids_behind count more) }
 {}
 
 /// An account for which the files stand knows what any words ask of it: of each name that a file may have it knows whether it is free, and of
