@@ -2,8 +2,8 @@
 use Rattle.std.proofs.Common.{◌≡◌, ◌⊎◌, inl, inr, ⊎_elim, ℕ, ◌+◌, ◌-◌, ◌≤◌, zero, suc, List, [], ◌∷◌, ◌++◌, length, get_or, refl, sym, ap, subst, ◌∙◌, arith, length-append, true, false}
 use Rattle.std.specs.Prelude.{Bool, ◌&&◌, Option, None, Some, Result, Ok, Err, not, nat_le, nat_lt}
 use Rattle.std.specs.List.{AllByRecursion, list_all}
-use Rattle.std.proofs.lemmas.Bool.{and_from, and_parts, true≢false}
-use Rattle.std.proofs.lemmas.Bool.Decides.{leb_tells, ltb_tells}
+use Rattle.std.proofs.lemmas.Bool.{and_from, and_parts, lt-ltb, true≢false}
+use Rattle.std.proofs.lemmas.Bool.Decides.{leb_tells}
 use Rattle.nb_host.specs.Files.{Files}
 use Rattle.nb_host.specs.Names.{delta_suffix, is_delta, is_name, is_name_byte}
 use Rattle.nb_host.specs.World.{World}
@@ -46,9 +46,6 @@ all_append (x ∷ xs) ys all more = let both = and_parts (is_name_byte x) (list_
 is_le : (m n : ℕ) → m ≤ n → nat_le m n ≡ true
 is_le m n low = elim (leb_tells m n) [ inl yes ↦ yes.0 | inr no ↦ absurd (omega (arith, low, no.1)) ]
 
-is_lt : (m n : ℕ) → suc m ≤ n → nat_lt m n ≡ true
-is_lt m n low = elim (ltb_tells m n) [ inl yes ↦ yes.0 | inr no ↦ absurd (omega (arith, low, no.1)) ]
-
 short : (name : List ℕ) → nat_le (length name) 94 ≡ true → length name ≤ 94
 short name is = elim (leb_tells (length name) 94) [ inl yes ↦ yes.1 | inr no ↦ absurd (true≢false (sym is ∙ no.0)) ]
 
@@ -57,7 +54,7 @@ delta_is_name name named few =
     let parts = and_parts (nat_lt 0 (length name) && nat_le (length name) 100) (list_all is_name_byte name) named in
     let long : length (delta_name name) ≡ length name + 6 = length-append name delta_suffix in
     and_from (nat_lt 0 (length (delta_name name)) && nat_le (length (delta_name name)) 100) (list_all is_name_byte (delta_name name))
-    (and_from (nat_lt 0 (length (delta_name name))) (nat_le (length (delta_name name)) 100) (is_lt 0 (length (delta_name name)) (omega (arith, long))) (is_le (length (delta_name name)) 100 (omega (arith, long, short name few))))
+    (and_from (nat_lt 0 (length (delta_name name))) (nat_le (length (delta_name name)) 100) (lt-ltb 0 (length (delta_name name)) (omega (arith, long))) (is_le (length (delta_name name)) 100 (omega (arith, long, short name few))))
     (all_append name delta_suffix parts.1 refl)
 
 -- ---- the names of a script
