@@ -10,3 +10,4 @@ pub mod SameLaws
 pub mod AmongLaws
 pub mod LeakLaws
 pub mod NameLaws
+mod GiveLaws

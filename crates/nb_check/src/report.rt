@@ -1,6 +1,5 @@
 // The leaked pages of a database.
 ghost use Rattle.std.specs.Prelude.{◌≡◌, ◌<◌, length, slice_index, nat_le};
-ghost use Rattle.nb_model.specs.Chains.{first_such};
 ghost use Rattle.nb_check.specs.Sets.{has, pages_in, is_among};
 
 use crate::set::PageSet;
@@ -65,18 +64,6 @@ impl Report {
         ensures { result ≡ nat_le (length self.now) 0 }
     {
         self.len == 0
-    }
-
-    /// The lowest leaked page from page `from` on. So all of them are come by in one walk over the database's pages.
-    pub fn page_from(&self, from: u32) -> Option<u32>
-        ensures { result ≡ first_such (nat_le from) self.now }
-    {
-        for page in from..self.pages.room() {
-            if self.pages.has(page) {
-                return Some(page);
-            }
-        }
-        None
     }
 
     /// The leaked page at place `i`, from 0. It walks over the pages before it.
