@@ -11,3 +11,5 @@ pub mod AmongLaws
 pub mod LeakLaws
 pub mod NameLaws
 mod GiveLaws
+mod BackLaws
+mod NeatBack

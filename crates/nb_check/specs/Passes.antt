@@ -10,8 +10,8 @@ use Rattle.nb_check.specs.Leaks.{is_taken_data}
 use Rattle.nb_check.specs.Sets.{has}
 
 -- the image has pages of that size, so many of them, and that current SCN
-pub record IsOf (image : Image) (size : ℕ) (extent : Extent) : Type 0 where
-  pub size : size ≡ image_size image
+pub record IsOf (image : Image) (page_size : ℕ) (extent : Extent) : Type 0 where
+  pub size : page_size ≡ image_size image
   pub count : extent.count ≡ length image
   pub scn : extent.scn ≡ image_scn image
 
