@@ -66,21 +66,22 @@ none_more p ps e = cc
 abbrev without : (ℕ → Bool) → List ℕ → ℕ → Bool
 without test ps q = test q && not (is_among q ps)
 
+-- what a test leaves of a range, by what it says of the first
+abbrev first_by : (test : ℕ → Bool) (n a : ℕ) → Bool → List ℕ
+first_by test n a t = cond t (a ∷ filter test (range_with_len (a + 1) n)) (filter test (range_with_len (a + 1) n))
+
 -- what is left behind a front
 filter_rest : (test : ℕ → Bool) (n a : ℕ) (ps qs : List ℕ) → filter test (range_with_len a n) ≡ ps ++ qs → filter (without test ps) (range_with_len a n) ≡ qs
 filter_rest test n a [] qs e = filter_same (without test []) test n a (λ q low high. and_true (test q)) ∙ e
 filter_rest test zero a (p ∷ ps) qs e = absurd (none_more p (ps ++ qs) e)
 filter_rest test (suc n) a (p ∷ ps) qs e = by (test a) refl
   where
-    abbrev rest : (ℕ → Bool) → List ℕ
-    rest t = filter t (range_with_len (a + 1) n)
-
-    is : (f : ℕ → Bool) (t : Bool) → f a ≡ t → filter f (range_with_len a (suc n)) ≡ cond t (a ∷ rest f) (rest f)
-    is f t same = ap (λ (u : Bool). cond u (a ∷ rest f) (rest f)) same
+    is : (f : ℕ → Bool) (t : Bool) → f a ≡ t → filter f (range_with_len a (suc n)) ≡ first_by f n a t
+    is f t same = ap (first_by f n a) same
 
     by : (t : Bool) → test a ≡ t → filter (without test (p ∷ ps)) (range_with_len a (suc n)) ≡ qs
     by true yes =
-        let first : a ∷ rest test ≡ p ∷ (ps ++ qs) = sym (is test true yes) ∙ e in
+        let first : a ∷ filter test (range_with_len (a + 1) n) ≡ p ∷ (ps ++ qs) = sym (is test true yes) ∙ e in
         let here : a ≡ p = head_same a p _ _ first in
         let gone : without test (p ∷ ps) a ≡ false = ap (λ (u : Bool). u && not (is_among a (p ∷ ps))) yes ∙ ap (λ (m : ℕ). true && not (is_among a (m ∷ ps))) (sym here) ∙ ap (λ (u : Bool). true && not u) (among_first a ps) in
         is (without test (p ∷ ps)) false gone
@@ -227,29 +228,28 @@ pub record IsOnWay (x y : Image) : Type 0 where
   pub are : leaked x ≡ front ++ rest
   pub back : IsBack x front y
 
+-- A number that a test leaves of a range passes it.
+module _ (test : ℕ → Bool) (p : ℕ) (qs : List ℕ) where
+  abbrev IsLeft : (a n : ℕ) → Type 0
+  IsLeft a n = (p < a + n) × (test p ≡ true)
+
+  left_passes : (n a : ℕ) (fs : List ℕ) → filter test (range_with_len a n) ≡ fs ++ (p ∷ qs) → IsLeft a n
+  left_passes zero a [] is = absurd (none_more p qs is)
+  left_passes zero a (f ∷ fs) is = absurd (none_more f (fs ++ (p ∷ qs)) is)
+  left_passes (suc n) a fs is = by (test a) refl fs is (λ gs same. let rest = left_passes n (a + 1) gs same in (omega (arith, rest.0), rest.1))
+    where
+      by : (t : Bool) → test a ≡ t → (gs : List ℕ) → filter test (range_with_len a (suc n)) ≡ gs ++ (p ∷ qs) → ((hs : List ℕ) → filter test (range_with_len (a + 1) n) ≡ hs ++ (p ∷ qs) → IsLeft a (suc n)) → IsLeft a (suc n)
+      by true here [] same later =
+          let first : a ∷ filter test (range_with_len (a + 1) n) ≡ p ∷ qs = sym (ap (first_by test n a) here) ∙ same in
+          let at : a ≡ p = head_same a p _ qs first in
+          (omega (arith, at), ap test (sym at) ∙ here)
+      by true here (g ∷ gs) same later = later gs (tail_same a g _ (gs ++ (p ∷ qs)) (sym (ap (first_by test n a) here) ∙ same))
+      by false here gs same later = later gs (sym (ap (first_by test n a) here) ∙ same)
+
 -- a leaked page of the list is leaked
 leaked_in : (x : Image) (p : ℕ) (ps qs : List ℕ) → leaked x ≡ ps ++ (p ∷ qs) → (p < length x) × (is_leaked x p ≡ true)
 unfolding leaked
-leaked_in x p ps qs e = passes (is_leaked x) (length x) 0 ps e
-  where
-    passes : (test : ℕ → Bool) (n a : ℕ) (fs : List ℕ) → filter test (range_with_len a n) ≡ fs ++ (p ∷ qs) → (p < a + n) × (test p ≡ true)
-    passes test zero a [] is = absurd (none_more p qs is)
-    passes test zero a (f ∷ fs) is = absurd (none_more f (fs ++ (p ∷ qs)) is)
-    passes test (suc n) a fs is = by (test a) refl fs is
-      where
-        abbrev tail : List ℕ
-        tail = filter test (range_with_len (a + 1) n)
-
-        later : (gs : List ℕ) → tail ≡ gs ++ (p ∷ qs) → (p < a + suc n) × (test p ≡ true)
-        later gs same = let rest = passes test n (a + 1) gs same in (omega (arith, rest.0), rest.1)
-
-        by : (t : Bool) → test a ≡ t → (gs : List ℕ) → filter test (range_with_len a (suc n)) ≡ gs ++ (p ∷ qs) → (p < a + suc n) × (test p ≡ true)
-        by true here [] same =
-            let first : a ∷ tail ≡ p ∷ qs = sym (ap (λ (u : Bool). cond u (a ∷ tail) tail) here) ∙ same in
-            let at : a ≡ p = head_same a p tail qs first in
-            (omega (arith, at), ap test (sym at) ∙ here)
-        by true here (g ∷ gs) same = later gs (tail_same a g tail (gs ++ (p ∷ qs)) (sym (ap (λ (u : Bool). cond u (a ∷ tail) tail) here) ∙ same))
-        by false here gs same = later gs (sym (ap (λ (u : Bool). cond u (a ∷ tail) tail) here) ∙ same)
+leaked_in x p ps qs e = let found = left_passes (is_leaked x) p qs (length x) 0 ps e in (omega (arith, found.0), found.1)
 
 module _ (x : Image) (header : HasHeader x) (sound : IsSoundImage x) where
   pub given_along : (qs ps : List ℕ) (b : Base) → leaked x ≡ ps ++ qs → IsBack x ps b.image → Along (IsOnWay x) b (all_given qs (drafted b.image)).strokes
