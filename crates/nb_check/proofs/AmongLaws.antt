@@ -24,6 +24,10 @@ module _ (test : ℕ → Bool) (p : ℕ) where
   among_before zero a low = refl
   among_before (suc n) a low = among_other a n (test a) (eq_no p a (λ e. omega (arith, e, low))) ∙ among_before n (a + 1) (omega (arith, low))
 
+  pub among_behind : (n a : ℕ) → a + n ≤ p → among (filter test (range_with_len a n)) ≡ false
+  among_behind zero a far = refl
+  among_behind (suc n) a far = among_other a n (test a) (eq_no p a (λ e. omega (arith, e, far))) ∙ among_behind n (a + 1) (omega (arith, far))
+
   among_here : (n : ℕ) (t : Bool) → nat_eq p p ≡ true → among (by_test p n t) ≡ t
   among_here n true same = ap (λ (u : Bool). u || among (filter test (range_with_len (p + 1) n))) same
   among_here n false same = among_before n (p + 1) (omega arith)

@@ -13,3 +13,5 @@ pub mod NameLaws
 mod GiveLaws
 mod BackLaws
 mod NeatBack
+mod SetBits
+mod ReportLaws
