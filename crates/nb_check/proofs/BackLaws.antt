@@ -124,10 +124,10 @@ module _ (x : Image) (sound : IsSoundImage x) (ps : List ℕ) (y : Image) (back 
   reach = reached_same x y back.alike sound.sound back.whole.sound.sound
 
   -- with some given back, these are still leaked
-  still : (free among data : Bool) (reaches : Bool) → ((not (free || among) && data) && not reaches) ≡ (((not free && data) && not reaches) && not among)
-  still true among data reaches = refl
-  still false true data reaches = sym (and_none ((true && data) && not reaches))
-  still false false data reaches = sym (and_true ((true && data) && not reaches))
+  still : (free among of_data : Bool) (reaches : Bool) → ((not (free || among) && of_data) && not reaches) ≡ (((not free && of_data) && not reaches) && not among)
+  still true among of_data reaches = refl
+  still false true of_data reaches = sym (and_none ((true && of_data) && not reaches))
+  still false false of_data reaches = sym (and_true ((true && of_data) && not reaches))
 
   leaked_each : (q : ℕ) → q < length x → is_leaked y q ≡ without (is_leaked x) ps q
   leaked_each q low =

@@ -38,7 +38,7 @@ fn taken_data<H: Host>(
     requires room { length page.old ≡ engine.old.files.page_size }
     requires map { length map.old ≡ engine.old.files.page_size }
     ensures test { (t : Trail) → IsTrue H.tells → IsOpen (H.world host.old) engine.old t → Tested result (unsound_by (unsound t.base.image)) }
-    ensures data { (t : Trail) → IsTrue H.tells → IsOpen (H.world host.old) engine.old t → 5 ≤ length t.base.image → IfOk result (HoldsTaken t.base.image (length t.base.image)) }
+    ensures taken { (t : Trail) → IsTrue H.tells → IsOpen (H.world host.old) engine.old t → 5 ≤ length t.base.image → IfOk result (HoldsTaken t.base.image (length t.base.image)) }
     ensures set_room { IfOk result (λ set. engine.old.files.count ≤ room_of set) }
     ensures sizes { (t : Trail) → IsTrue H.tells → IsOpen (H.world host.old) engine.old t → OnOk result (AreSized t.base.image (length t.base.image) (image_size t.base.image)) }
     ensures open { (t : Trail) → IsTrue H.tells → IsOpen (H.world host.old) engine.old t → IsOpen (H.world host.new) engine.new t }
@@ -50,17 +50,17 @@ fn taken_data<H: Host>(
     let mut entries = vec![in alloc; 0; engine.page_size() as usize]?;
     let mut found = Found {
         broken: None,
-        data: PageSet::new(alloc, engine.count())?,
+        taken: PageSet::new(alloc, engine.count())?,
     };
     pass(host, engine, page, map, entries.as_mut_slice(), &mut found)?;
-    let Found { broken, data } = found;
+    let Found { broken, taken } = found;
     if let Some(broken) = broken {
         return Err(Fault::Refused(Refusal::Unsound {
             fact: broken.fact.number(),
             page: broken.page,
         }));
     }
-    Ok(data)
+    Ok(taken)
 }
 
 /// Tests whether the inventories, the chains and the pages of the database as it is seen agree, and answers its leaked pages: the data pages

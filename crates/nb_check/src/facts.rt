@@ -59,12 +59,17 @@ pub(crate) fn first_of(broken: Option<Broken>, fact: Option<Fact>, page: u32) ->
     let Some(fact) = fact else {
         return broken;
     };
-    if let Some(first) = broken {
-        if first.fact.number() <= fact.number() {
-            return broken;
+    let here = Broken { fact, page };
+    match broken {
+        None => Some(here),
+        Some(first) => {
+            if first.fact.number() <= fact.number() {
+                Some(first)
+            } else {
+                Some(here)
+            }
         }
     }
-    Some(Broken { fact, page })
 }
 
 /// Whether a system page has to stand at page `number` and that kind is another.
