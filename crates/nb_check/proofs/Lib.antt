@@ -15,3 +15,4 @@ mod BackLaws
 mod NeatBack
 mod SetBits
 mod ReportLaws
+mod EntryLaws
