@@ -16,3 +16,4 @@ mod NeatBack
 mod SetBits
 mod ReportLaws
 mod EntryLaws
+mod CoverLaws
