@@ -17,3 +17,4 @@ mod SetBits
 mod ReportLaws
 mod EntryLaws
 mod CoverLaws
+mod CauseLaws
