@@ -18,3 +18,4 @@ mod ReportLaws
 mod EntryLaws
 mod CoverLaws
 mod CauseLaws
+mod TriesLaws

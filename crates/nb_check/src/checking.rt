@@ -127,7 +127,7 @@ pub fn reclaim<H: Host>(alloc: Global, host: &mut H, engine: &mut Engine) -> Res
     ensures goes { Goes engine.old engine.new }
     ensures cause { CountsDevice result (H.faults host.old) (H.faults host.new) }
 {
-    if engine.access() == 1 {
+    if engine.store().is_read_only() {
         return Err(Fault::Refused(Refusal::Access { found: 1 }));
     }
     let report = check(alloc, host, engine)?;
