@@ -107,9 +107,10 @@ fn give_back<H: Host>(host: &mut H, engine: &mut Engine, report: &Report) -> Res
 {
     let count = engine.count();
     for number in 0..count {
-        if report.has(number) {
-            engine.data_free(host, number)?;
+        if !report.has(number) {
+            continue;
         }
+        engine.data_free(host, number)?;
     }
     Ok(())
 }
