@@ -81,6 +81,8 @@ pub mod SpotLaws
 pub mod TableDrafts
 pub mod HeldLaws
 pub mod HeldRoom
+pub mod LeadLaws
+pub mod LeakTurns
 pub mod HeldTurns
 pub mod BackupWell
 pub mod TurnCases

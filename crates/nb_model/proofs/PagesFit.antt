@@ -9,6 +9,7 @@ use Rattle.nb_model.specs.Going.{IsNamed}
 use Rattle.nb_model.specs.Outcomes.{Begins, Seen, Outcome, unless, changes}
 use Rattle.nb_model.specs.Pages.{new_turn, write_turn, read_turn, free_turn, forced_turn, access_turn, header_turn, image_turn, cache_turn}
 use Rattle.nb_model.specs.Backups.{pages_turn}
+use Rattle.nb_model.specs.Checks.{check_turn}
 use Rattle.nb_model.specs.Turns.{first_turn}
 use Rattle.nb_model.specs.Sound.{IsSoundImage, HasHeader}
 use Rattle.nb_model.specs.Well.{is_on_pages}
@@ -17,6 +18,7 @@ use Rattle.nb_model.proofs.PutSound.{no_first, short_text, text_fits}
 use Rattle.nb_model.proofs.NoRows.{HasNoRows, no_rows}
 use Rattle.nb_model.proofs.HeadSound.{byte_fits}
 use Rattle.nb_model.proofs.BitSound.{give_fits}
+use Rattle.nb_model.proofs.LeakTurns.{reclaim_fits}
 use Rattle.nb_model.proofs.NewSound.{new_raw_fits}
 use Rattle.nb_model.proofs.TableTurns.{create_keeps, drop_keeps, insert_keeps, update_keeps, delete_keeps, get_keeps, scan_keeps}
 

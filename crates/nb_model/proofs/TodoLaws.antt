@@ -1,5 +1,5 @@
 -- Rounds of an order, and what statements answer: never the refusal of a call that is none.
-use Rattle.std.proofs.Common.{◌≡◌, ◌≢◌, ℕ, zero, suc, ◌+◌, ◌-◌, List, [], ◌∷◌, ◌++◌, length, max, refl, sym, ap, ◌∙◌, arith, append_assoc}
+use Rattle.std.proofs.Common.{◌≡◌, ◌≢◌, ℕ, zero, suc, ◌+◌, ◌-◌, List, [], ◌∷◌, ◌++◌, length, map, max, refl, sym, ap, ◌∙◌, arith, append_assoc}
 use Rattle.nb_fields.specs.Header.{is_header, size_of}
 use Rattle.std.specs.Prelude.{Bool, Option, Some, None, Result, Ok, Err, true, false, nat_lt, not, min, ◌/◌, ◌%◌, ◌==◌, ◌||◌, if◌then◌else◌}
 use Rattle.std.specs.List.{AllByRecursion, slice_index_or}
@@ -18,6 +18,9 @@ use Rattle.nb_model.specs.Outcomes.{Turn, Seen, Outcome, unless, changes}
 use Rattle.nb_model.specs.Pages.{new_turn, write_turn, read_turn, free_turn, begin_turn, end_turn, ends_by, forced_turn, access_turn, header_turn, image_turn, cache_turn}
 use Rattle.nb_model.specs.Tables.{with_spot, in_table, in_row, create_turn, drop_turn, insert_turn, update_turn, delete_turn, get_turn, scan_turn}
 use Rattle.nb_model.specs.Backups.{room_in, starts, backup_turn, since_turn, copy_turn, all_needed, pages_turn}
+use Rattle.nb_model.specs.Checks.{unsound_by, check_cause, check_turn, reclaim_turn}
+use Rattle.nb_model.specs.Facts.{unsound}
+use Rattle.nb_model.specs.Rows.{chains}
 use Rattle.nb_model.specs.Turns.{first_turn}
 use Rattle.nb_model.specs.Run.{Now, take_turn, one_turn, rounds, all_sessions}
 use Rattle.nb_model.specs.Output.{status_after}
