@@ -5,8 +5,7 @@ use Rattle.std.specs.List.{filter, range_with_len, list_any}
 use Rattle.std.proofs.lemmas.Bool.{cases_lt}
 use Rattle.nb_model.proofs.ReadLaws.{eq_no, eq_yes}
 use Rattle.nb_model.specs.Image.{Image}
-use Rattle.nb_check.specs.Leaks.{is_leaked, leaked}
-use Rattle.nb_check.specs.Sets.{is_among}
+use Rattle.nb_model.specs.Leaks.{is_among, is_leaked, leaked}
 
 module _ (test : ℕ → Bool) (p : ℕ) where
   abbrev among : List ℕ → Bool
@@ -23,6 +22,10 @@ module _ (test : ℕ → Bool) (p : ℕ) where
   among_before : (n a : ℕ) → p < a → among (filter test (range_with_len a n)) ≡ false
   among_before zero a low = refl
   among_before (suc n) a low = among_other a n (test a) (eq_no p a (λ e. omega (arith, e, low))) ∙ among_before n (a + 1) (omega (arith, low))
+
+  pub among_behind : (n a : ℕ) → a + n ≤ p → among (filter test (range_with_len a n)) ≡ false
+  among_behind zero a far = refl
+  among_behind (suc n) a far = among_other a n (test a) (eq_no p a (λ e. omega (arith, e, far))) ∙ among_behind n (a + 1) (omega (arith, far))
 
   among_here : (n : ℕ) (t : Bool) → nat_eq p p ≡ true → among (by_test p n t) ≡ t
   among_here n true same = ap (λ (u : Bool). u || among (filter test (range_with_len (p + 1) n))) same

@@ -7,10 +7,10 @@ use Rattle.nb_fields.specs.Places.{is_page_size, bits_in, entries_in, inventory_
 use Rattle.nb_fields.proofs.PlaceLemmas.{entries-least, bits-least}
 use Rattle.nb_model.specs.Image.{Image, image_size}
 use Rattle.nb_model.specs.Forms.{inventory_of, scn_page_of}
-use Rattle.nb_check.specs.declared.facts.Fact.{Fact}
-use Rattle.nb_check.specs.declared.facts.Fact.TheVariants.{BlankPage, SystemPlace, TakenPast, LateStamp, WrongEntry, HeaderStamp}
+use Rattle.nb_model.specs.declared.fact.Fact.{Fact}
+use Rattle.nb_model.specs.declared.fact.Fact.TheVariants.{BlankPage, SystemPlace, TakenPast, LateStamp, WrongEntry, HeaderStamp}
 use Rattle.nb_check.specs.declared.facts.Broken.{Broken}
-use Rattle.nb_check.specs.Facts.{breaks, number_of, facts, first_from, first_broken, covered, unsound}
+use Rattle.nb_model.specs.Facts.{breaks, number_of, facts, first_from, first_broken, covered, unsound}
 use Rattle.nb_check.specs.Passes.{IsBefore, IsFirstBelow}
 use Rattle.nb_check.proofs.FirstLaws.{first_none, first_all, first_found, some_none}
 

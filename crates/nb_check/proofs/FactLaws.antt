@@ -12,9 +12,9 @@ use Rattle.nb_pip.proofs.BitLemmas.{get_or-bits}
 use Rattle.nb_model.specs.Image.{Page, Image, page_at, first_page, image_size, image_scn}
 use Rattle.nb_model.specs.Forms.{inventory_of, bit_number, is_free_page}
 use Rattle.nb_model.proofs.ReadLaws.{eq_no, eq_yes, lt_yes, lt_no, le_no}
-use Rattle.nb_check.specs.declared.facts.Fact.{Fact}
-use Rattle.nb_check.specs.declared.facts.Fact.TheVariants.{BlankPage, SystemPlace, TakenPast, LateStamp, WrongEntry, HeaderStamp}
-use Rattle.nb_check.specs.Facts.{breaks, number_of}
+use Rattle.nb_model.specs.declared.fact.Fact.{Fact}
+use Rattle.nb_model.specs.declared.fact.Fact.TheVariants.{BlankPage, SystemPlace, TakenPast, LateStamp, WrongEntry, HeaderStamp}
+use Rattle.nb_model.specs.Facts.{breaks, number_of}
 use Rattle.nb_check.specs.Passes.{IsLowestAt}
 
 no_higher : (fact : Fact) → 6 < number_of fact → ⊥

@@ -2,7 +2,7 @@
 use Rattle.std.proofs.Common.{◌≡◌, inl, inr, ℕ, zero, suc, ◌+◌, ◌<◌, ◌≤◌, refl, sym, ap, subst, ◌∙◌, arith}
 use Rattle.std.specs.Prelude.{Bool, true, false, Option, Some, None}
 use Rattle.std.proofs.lemmas.Bool.{cases_lt}
-use Rattle.nb_check.specs.Facts.{first_from}
+use Rattle.nb_model.specs.Facts.{first_from}
 
 -- by the test of the first page
 abbrev by_first : (left p : ℕ) (test : ℕ → Bool) → Bool → Option ℕ

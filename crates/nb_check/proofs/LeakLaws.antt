@@ -35,8 +35,7 @@ use Rattle.nb_engine.specs.Tries.{Tries}
 use Rattle.nb_engine.proofs.DoesLaws.{unless_none, tries_made}
 use Rattle.nb_engine.proofs.NewLaws.{image_is}
 use Rattle.nb_engine.proofs.WhereLaws.{sure_of, makes_as, makes_valued}
-use Rattle.nb_check.specs.Leaks.{is_leaked, leaked, is_taken_data, reached}
-use Rattle.nb_check.specs.Sets.{is_among}
+use Rattle.nb_model.specs.Leaks.{is_among, is_leaked, leaked, is_taken_data, reached}
 
 -- the leaked pages from page n on
 abbrev pub leaked_from : Image → (n : ℕ) → List ℕ
@@ -88,11 +87,11 @@ leaked_two image header sound p low yes = by p refl
     by (suc zero) e = absurd (true≢false (sym (ap (is_system_place (image_size image)) e ∙ refl) ∙ leaked_plain image sound p low yes))
     by (suc (suc q)) e = omega (arith, e)
 
-given_first : (p : ℕ) (ps : List ℕ) (z : Image) → (all_given (p ∷ ps) (drafted z)).strokes ≡ (give_page p (drafted z)).strokes ++ (all_given ps (drafted (give_page p (drafted z)).image)).strokes
+pub given_first : (p : ℕ) (ps : List ℕ) (z : Image) → (all_given (p ∷ ps) (drafted z)).strokes ≡ (give_page p (drafted z)).strokes ++ (all_given ps (drafted (give_page p (drafted z)).image)).strokes
 unfolding all_given
 given_first p ps z = ap (λ (d : Draft). d.strokes) (join_given ps (give_page p (drafted z)))
 
-given_none : (z : Image) → (all_given [] (drafted z)).strokes ≡ []
+pub given_none : (z : Image) → (all_given [] (drafted z)).strokes ≡ []
 unfolding all_given
 given_none z = refl
 

@@ -10,3 +10,8 @@ pub mod SameLaws
 pub mod AmongLaws
 pub mod LeakLaws
 pub mod NameLaws
+mod GiveLaws
+mod BackLaws
+mod NeatBack
+mod SetBits
+mod ReportLaws

@@ -10,7 +10,7 @@ use Rattle.nb_model.specs.Chains.{Chain, RowsFrom, Slot, Spot, is_used, first_in
 use Rattle.nb_model.specs.Rows.{used, table_chains, pages_of_all}
 use Rattle.nb_engine.proofs.WalkLaws.{slots_step}
 use Rattle.nb_check.specs.Sets.{IsWithout}
-use Rattle.nb_check.specs.Turns.{chains_cause}
+use Rattle.nb_model.specs.Checks.{chains_cause}
 use Rattle.nb_check.specs.Walks.{chains_on}
 use Rattle.nb_check.proofs.SetLaws.{without_none, without_both}
 

@@ -8,9 +8,9 @@ use Rattle.nb_fields.specs.Places.{is_page_size, bits_in, entries_in, inventory_
 use Rattle.nb_fields.proofs.PlaceLemmas.{entries-least, bits-least}
 use Rattle.nb_model.specs.Image.{Page, Image, page_at, image_size}
 use Rattle.nb_model.proofs.ReadLaws.{eq_yes, lt_yes}
-use Rattle.nb_check.specs.declared.facts.Fact.{Fact}
+use Rattle.nb_model.specs.declared.fact.Fact.{Fact}
 use Rattle.nb_check.specs.declared.facts.Broken.{Broken}
-use Rattle.nb_check.specs.Facts.{breaks, number_of}
+use Rattle.nb_model.specs.Facts.{breaks, number_of}
 use Rattle.nb_check.specs.Passes.{IsLowestAt, IsBefore, IsFirstBelow, IsMapOf, HasEntryOf}
 
 pub below_more : (p n : ℕ) → p < n + 1 → (p < n) ⊎ (p ≡ n)

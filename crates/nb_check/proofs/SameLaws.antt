@@ -12,8 +12,8 @@ use Rattle.nb_model.specs.Chains.{Chain, Catalogue, History, RowsFrom, Spot, own
 use Rattle.nb_model.specs.Rows.{RowMap, rows, rows_in, used, table_chains, chains, pages_of_all}
 use Rattle.nb_model.proofs.ReadLaws.{eq_no, lt_no}
 use Rattle.nb_model.proofs.RoomLaws.{pages_found}
-use Rattle.nb_check.specs.Leaks.{reached}
-use Rattle.nb_check.specs.Turns.{chains_cause}
+use Rattle.nb_model.specs.Leaks.{reached}
+use Rattle.nb_model.specs.Checks.{chains_cause}
 
 -- every page but the system pages is the same
 pub record AreAlike (x y : Image) : Type 0 where

@@ -3,7 +3,8 @@ use Rattle.std.proofs.Common.{◌≡◌, ℕ, ◌+◌, ◌*◌, List, [], ◌∷
 use Rattle.std.specs.Prelude.{Bool, true, false, ◌&&◌, ◌||◌, not, nat_eq}
 use Rattle.std.specs.List.{list_any}
 use Rattle.std.proofs.lemmas.List.Folds.{list_any-append}
-use Rattle.nb_check.specs.Sets.{has, is_among, IsWithout}
+use Rattle.nb_check.specs.Sets.{has, IsWithout}
+use Rattle.nb_model.specs.Leaks.{is_among}
 
 and_all : (a : Bool) → a ≡ (a && true)
 and_all true = refl

@@ -16,11 +16,11 @@ use Rattle.nb_model.specs.Chains.{History, pages_of}
 use Rattle.nb_model.specs.Rows.{chains}
 use Rattle.nb_model.proofs.PutSound.{no_first}
 use Rattle.nb_model.proofs.RoomLaws.{in_chain, first_found}
-use Rattle.nb_check.specs.Turns.{unsound_by, chains_cause, check_cause}
+use Rattle.nb_model.specs.Checks.{unsound_by, chains_cause, check_cause}
 use Rattle.nb_check.proofs.FirstLaws.{some_none}
-use Rattle.nb_check.specs.declared.facts.Fact.{Fact}
-use Rattle.nb_check.specs.declared.facts.Fact.TheVariants.{BlankPage, SystemPlace, TakenPast, LateStamp, WrongEntry, HeaderStamp}
-use Rattle.nb_check.specs.Facts.{breaks, unsound, covered, is_entry_low, is_entry_late}
+use Rattle.nb_model.specs.declared.fact.Fact.{Fact}
+use Rattle.nb_model.specs.declared.fact.Fact.TheVariants.{BlankPage, SystemPlace, TakenPast, LateStamp, WrongEntry, HeaderStamp}
+use Rattle.nb_model.specs.Facts.{breaks, unsound, covered, is_entry_low, is_entry_late}
 use Rattle.nb_check.proofs.BreakLaws.{breaks_below, none_unsound, unsound_none}
 
 -- one half of a test

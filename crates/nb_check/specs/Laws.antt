@@ -8,9 +8,8 @@ use Rattle.nb_model.specs.Image.{Image, page_at, image_size}
 use Rattle.nb_model.specs.Rows.{rows}
 use Rattle.nb_model.specs.Sound.{IsSoundImage}
 use Rattle.nb_model.specs.Strokes.{Stroke, base_after}
-use Rattle.nb_check.specs.Leaks.{leaked}
-use Rattle.nb_check.specs.Sets.{is_among}
-use Rattle.nb_check.specs.Turns.{check_cause}
+use Rattle.nb_model.specs.Leaks.{is_among, leaked}
+use Rattle.nb_model.specs.Checks.{check_cause}
 
 -- Every page but the system pages is as it was, and so are the rows of every table and the history. Of the bits only those of leaked
 -- pages changed. A check is not refused.

@@ -2,16 +2,16 @@
 use Rattle.std.specs.Prelude.{◌≡◌, ◌⊎◌, ℕ, ◌<◌, List, length, Option, Some, None, true, false, ◌&&◌, nat_lt}
 use Rattle.nb_model.specs.Image.{Page, Image, page_at, image_size, image_scn}
 use Rattle.nb_model.specs.Forms.{inventory_of, scn_page_of}
-use Rattle.nb_check.specs.declared.facts.Fact.{Fact}
+use Rattle.nb_model.specs.declared.fact.Fact.{Fact}
 use Rattle.nb_check.specs.declared.facts.Broken.{Broken}
 use Rattle.nb_check.specs.declared.facts.Extent.{Extent}
-use Rattle.nb_check.specs.Facts.{breaks, number_of}
-use Rattle.nb_check.specs.Leaks.{is_taken_data}
+use Rattle.nb_model.specs.Facts.{breaks, number_of}
+use Rattle.nb_model.specs.Leaks.{is_taken_data}
 use Rattle.nb_check.specs.Sets.{has}
 
 -- the image has pages of that size, so many of them, and that current SCN
-pub record IsOf (image : Image) (size : ℕ) (extent : Extent) : Type 0 where
-  pub size : size ≡ image_size image
+pub record IsOf (image : Image) (page_size : ℕ) (extent : Extent) : Type 0 where
+  pub size : page_size ≡ image_size image
   pub count : extent.count ≡ length image
   pub scn : extent.scn ≡ image_scn image
 

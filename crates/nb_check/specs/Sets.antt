@@ -1,7 +1,8 @@
 -- A set of pages, as its bytes hold it: one bit for each page.
-use Rattle.std.specs.Prelude.{◌≡◌, ℕ, ◌*◌, ◌/◌, ◌%◌, List, length, slice_index, Bool, ◌&&◌, ◌==◌, not, nat_eq}
+use Rattle.std.specs.Prelude.{◌≡◌, ℕ, ◌*◌, ◌/◌, ◌%◌, List, length, slice_index, Bool, ◌&&◌, ◌==◌, not}
 use Rattle.std.specs.Int.{bit_at}
-use Rattle.std.specs.List.{filter, list_any, range_with_len}
+use Rattle.std.specs.List.{filter, range_with_len}
+use Rattle.nb_model.specs.Leaks.{is_among}
 
 -- the set has page p
 unfoldable pub has : List ℕ → (p : ℕ) → Bool
@@ -14,10 +15,6 @@ room_of set = 8 * length set
 -- the pages of the set, rising
 unfoldable pub pages_in : List ℕ → List ℕ
 pages_in set = filter (has set) (range_with_len 0 (room_of set))
-
--- page p is one of these
-abbrev pub is_among : (p : ℕ) → List ℕ → Bool
-is_among p ps = list_any (nat_eq p) ps
 
 -- the set without these pages
 abbrev pub IsWithout : (before : List ℕ) (ps : List ℕ) (after : List ℕ) → Type 0

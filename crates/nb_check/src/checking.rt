@@ -3,7 +3,7 @@ ghost use Rattle.std.specs.Prelude.{◌≡◌, ◌≢◌, ◌+◌, ◌≤◌, �
 ghost use Rattle.nb_host.specs.declared.faults.Fault.TheVariants.{Memory};
 ghost use Rattle.nb_change.specs.Counts.{CountsDevice};
 ghost use Rattle.nb_page.specs.Quiet.{Quiet};
-ghost use Rattle.nb_model.specs.declared.reply.Reply.{Reply};
+ghost use Rattle.nb_model.specs.declared.reply.Reply.TheVariants.{Leaked, Freed};
 ghost use Rattle.nb_model.specs.Chains.{Catalogue, found_pages};
 ghost use Rattle.nb_model.specs.Image.{image_size};
 ghost use Rattle.nb_model.specs.Outcomes.{Seen};
@@ -12,11 +12,11 @@ ghost use Rattle.nb_model.specs.Trail.{Trail};
 ghost use Rattle.nb_state.specs.Open.{IsOpen, but_pages};
 ghost use Rattle.nb_state.specs.Does.{Does, Goes, Tested};
 ghost use Rattle.nb_engine.specs.Tries.{Tries};
-ghost use Rattle.nb_check.specs.Facts.{unsound};
-ghost use Rattle.nb_check.specs.Leaks.{leaked, reached};
+ghost use Rattle.nb_model.specs.Facts.{unsound};
+ghost use Rattle.nb_model.specs.Leaks.{leaked, reached};
 ghost use Rattle.nb_check.specs.Passes.{HoldsTaken, AreSized};
 ghost use Rattle.nb_check.specs.Sets.{room_of};
-ghost use Rattle.nb_check.specs.Turns.{check_cause, check_turn, reclaim_turn, reclaimed, unsound_by};
+ghost use Rattle.nb_model.specs.Checks.{check_cause, check_turn, reclaim_turn, reclaimed, unsound_by};
 
 use crate::Report;
 use crate::pass::{Found, pass};
@@ -38,7 +38,7 @@ fn taken_data<H: Host>(
     requires room { length page.old ≡ engine.old.files.page_size }
     requires map { length map.old ≡ engine.old.files.page_size }
     ensures test { (t : Trail) → IsTrue H.tells → IsOpen (H.world host.old) engine.old t → Tested result (unsound_by (unsound t.base.image)) }
-    ensures data { (t : Trail) → IsTrue H.tells → IsOpen (H.world host.old) engine.old t → 5 ≤ length t.base.image → IfOk result (HoldsTaken t.base.image (length t.base.image)) }
+    ensures taken { (t : Trail) → IsTrue H.tells → IsOpen (H.world host.old) engine.old t → 5 ≤ length t.base.image → IfOk result (HoldsTaken t.base.image (length t.base.image)) }
     ensures set_room { IfOk result (λ set. engine.old.files.count ≤ room_of set) }
     ensures sizes { (t : Trail) → IsTrue H.tells → IsOpen (H.world host.old) engine.old t → OnOk result (AreSized t.base.image (length t.base.image) (image_size t.base.image)) }
     ensures open { (t : Trail) → IsTrue H.tells → IsOpen (H.world host.old) engine.old t → IsOpen (H.world host.new) engine.new t }
@@ -50,17 +50,17 @@ fn taken_data<H: Host>(
     let mut entries = vec![in alloc; 0; engine.page_size() as usize]?;
     let mut found = Found {
         broken: None,
-        data: PageSet::new(alloc, engine.count())?,
+        taken: PageSet::new(alloc, engine.count())?,
     };
     pass(host, engine, page, map, entries.as_mut_slice(), &mut found)?;
-    let Found { broken, data } = found;
+    let Found { broken, taken } = found;
     if let Some(broken) = broken {
         return Err(Fault::Refused(Refusal::Unsound {
             fact: broken.fact.number(),
             page: broken.page,
         }));
     }
-    Ok(data)
+    Ok(taken)
 }
 
 /// Tests whether the inventories, the chains and the pages of the database as it is seen agree, and answers its leaked pages: the data pages
@@ -72,8 +72,8 @@ fn taken_data<H: Host>(
 /// The refusals are `Unsound` of the lowest fact that fails and of the lowest page at which it does, and `NotDatabase` of the first page that
 /// breaks the form of a chain: of the catalogue, the history, and then of the tables in the catalogue's order.
 pub fn check<H: Host>(alloc: Global, host: &mut H, engine: &mut Engine) -> Result<Report, Fault>
-    ensures turn { (reply : List ℕ → Reply) (s : Seen) (t : Trail) → IsTrue H.tells → t.base ≡ s.base → IsOpen (H.world host.old) engine.old t
-        → Does reply result (H.world host.old) (H.world host.new) engine.old engine.new t (check_turn reply s) }
+    ensures turn { (s : Seen) (t : Trail) → IsTrue H.tells → t.base ≡ s.base → IsOpen (H.world host.old) engine.old t
+        → Does Leaked result (H.world host.old) (H.world host.new) engine.old engine.new t (check_turn s) }
     ensures open { (t : Trail) → IsTrue H.tells → IsOpen (H.world host.old) engine.old t → IsOpen (H.world host.new) engine.new t }
     ensures goes { Goes engine.old engine.new }
     ensures same { but_pages engine.new ≡ but_pages engine.old }
@@ -118,8 +118,8 @@ fn give_back<H: Host>(host: &mut H, engine: &mut Engine, report: &Report) -> Res
 /// given back. Want of memory ends it later only where the difference file grows by a page: then, as behind a stop or a fault, the last
 /// of the leaked pages are still leaked, and nothing else has changed.
 pub fn reclaim<H: Host>(alloc: Global, host: &mut H, engine: &mut Engine) -> Result<u32, Fault>
-    ensures turn { (reply : ℕ → Reply) (s : Seen) (t : Trail) → IsTrue H.tells → t.base ≡ s.base → IsOpen (H.world host.old) engine.old t
-        → Does reply result (H.world host.old) (H.world host.new) engine.old engine.new t (reclaim_turn reply s) }
+    ensures turn { (s : Seen) (t : Trail) → IsTrue H.tells → t.base ≡ s.base → IsOpen (H.world host.old) engine.old t
+        → Does Freed result (H.world host.old) (H.world host.new) engine.old engine.new t (reclaim_turn s) }
     ensures goes { Goes engine.old engine.new }
     ensures cause { CountsDevice result (H.faults host.old) (H.faults host.new) }
 {

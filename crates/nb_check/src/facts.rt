@@ -4,39 +4,14 @@ ghost use Rattle.nb_fields.specs.Page.{stamp_of};
 ghost use Rattle.nb_fields.specs.Places.{is_page_size, is_inventory_place, is_scn_place, bits_in};
 ghost use Rattle.nb_model.specs.Forms.{has_entry};
 ghost use Rattle.nb_model.specs.Image.{Image, page_at};
-ghost use Rattle.nb_check.specs.Facts.{breaks, number_of, is_entry_low, is_entry_late};
+ghost use Rattle.nb_model.specs.Facts.{breaks, number_of, is_entry_low, is_entry_late};
 ghost use Rattle.nb_check.specs.Passes.{IsOf, IsLowestAt, IsFirstBelow, IsMapOf, HasEntryOf};
-ghost use Rattle.nb_check.specs.declared.facts.Fact.TheVariants.{WrongEntry};
+ghost use Rattle.nb_model.specs.declared.fact.Fact.TheVariants.{WrongEntry};
 
 use nb_fields::{PageKind, are_zeros, bits_in, entries_in, is_inventory_place, is_scn_place};
+use nb_model::Fact;
 use nb_page::read_head;
 use nb_pip::is_used;
-
-/// What holds of the inventories and the pages of every database.
-#[derive(Clone, Copy, Debug, PartialEq, Eq)]
-pub(crate) enum Fact {
-    /// No page is all zeros.
-    BlankPage = 1,
-    /// Each system place has its system page.
-    SystemPlace = 2,
-    /// No page at or past the end is taken.
-    TakenPast = 3,
-    /// No stamp is above the current SCN.
-    LateStamp = 4,
-    /// Each SCN entry is at least the stamp of its page and at most the current SCN.
-    WrongEntry = 5,
-    /// The header's stamp is the current SCN.
-    HeaderStamp = 6,
-}
-
-impl Fact {
-    /// Its number.
-    pub(crate) fn number(self) -> u32
-        ensures { result ≡ number_of self }
-    {
-        self as u32
-    }
-}
 
 /// A fact that is broken, and a page that breaks it.
 #[derive(Clone, Copy, Debug, PartialEq, Eq)]
@@ -59,12 +34,17 @@ pub(crate) fn first_of(broken: Option<Broken>, fact: Option<Fact>, page: u32) ->
     let Some(fact) = fact else {
         return broken;
     };
-    if let Some(first) = broken {
-        if first.fact.number() <= fact.number() {
-            return broken;
+    let here = Broken { fact, page };
+    match broken {
+        None => Some(here),
+        Some(first) => {
+            if first.fact.number() <= fact.number() {
+                Some(first)
+            } else {
+                Some(here)
+            }
         }
     }
-    Some(Broken { fact, page })
 }
 
 /// Whether a system page has to stand at page `number` and that kind is another.

@@ -6,12 +6,11 @@ ghost use Rattle.nb_model.specs.Image.{Image, image_size};
 ghost use Rattle.nb_model.specs.RowChanges.{KeepsRows};
 ghost use Rattle.nb_model.specs.Rows.{IsNeat};
 ghost use Rattle.nb_model.specs.Sound.{HasHeader, IsOfSize, IsSoundImage, SoundInventory};
-ghost use Rattle.nb_check.specs.Facts.{unsound};
+ghost use Rattle.nb_model.specs.Facts.{unsound};
 ghost use Rattle.nb_check.specs.Laws.{Reclaims};
-ghost use Rattle.nb_check.specs.Leaks.{leaked, is_leaked};
+ghost use Rattle.nb_model.specs.Leaks.{is_among, leaked, is_leaked};
 ghost use Rattle.nb_check.specs.Passes.{IsFirstBelow};
-ghost use Rattle.nb_check.specs.Sets.{is_among};
-ghost use Rattle.nb_check.specs.Turns.{check_cause, reclaimed};
+ghost use Rattle.nb_model.specs.Checks.{check_cause, reclaimed};
 
 /// The inventories are sound exactly where no fact is broken, in any image of pages of one of the six sizes, however short. A database
 /// whose check isn't refused is sound as a whole: the chains of the catalogue and of the history make it five pages long. That its pages

@@ -6,7 +6,7 @@ ghost use Rattle.nb_page.specs.Quiet.{Quiet};
 ghost use Rattle.nb_model.specs.Image.{Image, page_at};
 ghost use Rattle.nb_model.specs.Trail.{Trail};
 ghost use Rattle.nb_state.specs.Open.{IsOpen, but_pages};
-ghost use Rattle.nb_check.specs.Facts.{covered};
+ghost use Rattle.nb_model.specs.Facts.{covered};
 ghost use Rattle.nb_check.specs.Passes.{IsOf, IsFirstBelow, HoldsTaken, AreSized, IsMapOf, HasEntryOf};
 ghost use Rattle.nb_check.specs.Sets.{room_of};
 
@@ -24,7 +24,7 @@ pub(crate) struct Found {
     /// The first fact that is broken, and the lowest page that breaks it.
     pub(crate) broken: Option<Broken>,
     /// The data pages that are taken.
-    pub(crate) data: PageSet,
+    pub(crate) taken: PageSet,
 }
 
 /// Looks at page `number`, one below the length, with its inventory pages of both kinds.
@@ -41,18 +41,18 @@ fn look_at(
     requires entries { length entries.now ≡ length page.now }
     requires below { number < extent.count }
     requires most { extent.count ≤ 1048576 }
-    requires room { extent.count ≤ room_of found.old.data }
+    requires room { extent.count ≤ room_of found.old.taken }
     ensures broken { (image : Image) → IsOf image (length page.now) extent → page.now ≡ page_at image number → HasEntryOf image number entries.now
         → IsFirstBelow image number found.old.broken → IsFirstBelow image (number + 1) found.new.broken }
-    ensures data { (image : Image) → IsOf image (length page.now) extent → page.now ≡ page_at image number → IsMapOf image number map.now → 1 < length image
-        → HoldsTaken image number found.old.data → HoldsTaken image (number + 1) found.new.data }
-    ensures room { length found.new.data ≡ length found.old.data }
+    ensures taken { (image : Image) → IsOf image (length page.now) extent → page.now ≡ page_at image number → IsMapOf image number map.now → 1 < length image
+        → HoldsTaken image number found.old.taken → HoldsTaken image (number + 1) found.new.taken }
+    ensures room { length found.new.taken ≡ length found.old.taken }
 {
     let fact = fact_at(extent, number, page, entries);
     found.broken = first_of(found.broken, fact, number);
     let bit = number % bits_in(page.len() as u32);
     if read_head(page).kind == PageKind::Data.code() && is_used(map, bit) {
-        found.data.insert(number);
+        found.taken.insert(number);
     }
 }
 
@@ -101,15 +101,15 @@ fn pass_page<H: Host>(
     requires entries { length entries.old ≡ length page.old }
     requires below { number < engine.old.files.count }
     requires most { engine.old.files.count ≤ 1048576 }
-    requires data { engine.old.files.count ≤ room_of found.old.data }
+    requires fits { engine.old.files.count ≤ room_of found.old.taken }
     ensures broken { (t : Trail) → IsTrue H.tells → IsOpen (H.world host.old) engine.old t → HasEntryOf t.base.image (number - 1) entries.old
         → IsFirstBelow t.base.image number found.old.broken → OnOk result (IsFirstBelow t.base.image (number + 1) found.new.broken) }
-    ensures data { (t : Trail) → IsTrue H.tells → IsOpen (H.world host.old) engine.old t → IsMapOf t.base.image number map.old → 1 < length t.base.image
-        → HoldsTaken t.base.image number found.old.data → OnOk result (HoldsTaken t.base.image (number + 1) found.new.data) }
+    ensures taken { (t : Trail) → IsTrue H.tells → IsOpen (H.world host.old) engine.old t → IsMapOf t.base.image number map.old → 1 < length t.base.image
+        → HoldsTaken t.base.image number found.old.taken → OnOk result (HoldsTaken t.base.image (number + 1) found.new.taken) }
     ensures map { (t : Trail) → IsTrue H.tells → IsOpen (H.world host.old) engine.old t → IsMapOf t.base.image number map.old → OnOk result (IsMapOf t.base.image (number + 1) map.new) }
     ensures entries { (t : Trail) → IsTrue H.tells → IsOpen (H.world host.old) engine.old t → HasEntryOf t.base.image (number - 1) entries.old → OnOk result (HasEntryOf t.base.image number entries.new) }
     ensures sized { (t : Trail) → IsTrue H.tells → IsOpen (H.world host.old) engine.old t → OnOk result (length (page_at t.base.image number) ≡ length page.old) }
-    ensures data_room { length found.new.data ≡ length found.old.data }
+    ensures taken_room { length found.new.taken ≡ length found.old.taken }
     ensures open { (t : Trail) → IsTrue H.tells → IsOpen (H.world host.old) engine.old t → IsOpen (H.world host.new) engine.new t }
     ensures same { but_pages engine.new ≡ but_pages engine.old }
     ensures quiet { Quiet (H.world host.old) (H.world host.new) }
@@ -141,7 +141,7 @@ fn look_past(found: &mut Found, extent: Extent, map: &[u8], entries: &[u8])
     requires most { extent.count ≤ 1048576 }
     ensures broken { (image : Image) → IsOf image (length map.now) extent → IsMapOf image extent.count map.now → HasEntryOf image (extent.count - 1) entries.now
         → IsFirstBelow image extent.count found.old.broken → IsFirstBelow image ((extent.count / bits_in (length map.now) + 1) * bits_in (length map.now)) found.new.broken }
-    ensures data { found.new.data ≡ found.old.data }
+    ensures taken { found.new.taken ≡ found.old.taken }
 {
     let bits = bits_in(map.len() as u32);
     let end = (extent.count / bits + 1) * bits;
@@ -164,15 +164,15 @@ fn pass_pages<H: Host>(
     requires room { length page.old ≡ engine.old.files.page_size }
     requires map { length map.old ≡ length page.old }
     requires entries { length entries.old ≡ length page.old }
-    requires data { engine.old.files.count ≤ room_of found.old.data }
+    requires fits { engine.old.files.count ≤ room_of found.old.taken }
     ensures broken { (t : Trail) → IsTrue H.tells → IsOpen (H.world host.old) engine.old t → HasEntryOf t.base.image 0 entries.old → IsFirstBelow t.base.image 0 found.old.broken
         → OnOk result (IsFirstBelow t.base.image engine.old.files.count found.new.broken) }
-    ensures data { (t : Trail) → IsTrue H.tells → IsOpen (H.world host.old) engine.old t → IsMapOf t.base.image 0 map.old → 1 < length t.base.image → HoldsTaken t.base.image 0 found.old.data
-        → OnOk result (HoldsTaken t.base.image engine.old.files.count found.new.data) }
+    ensures taken { (t : Trail) → IsTrue H.tells → IsOpen (H.world host.old) engine.old t → IsMapOf t.base.image 0 map.old → 1 < length t.base.image → HoldsTaken t.base.image 0 found.old.taken
+        → OnOk result (HoldsTaken t.base.image engine.old.files.count found.new.taken) }
     ensures map { (t : Trail) → IsTrue H.tells → IsOpen (H.world host.old) engine.old t → IsMapOf t.base.image 0 map.old → OnOk result (IsMapOf t.base.image engine.old.files.count map.new) }
     ensures entries { (t : Trail) → IsTrue H.tells → IsOpen (H.world host.old) engine.old t → HasEntryOf t.base.image 0 entries.old → OnOk result (HasEntryOf t.base.image (engine.old.files.count - 1) entries.new) }
     ensures sizes { (t : Trail) → IsTrue H.tells → IsOpen (H.world host.old) engine.old t → OnOk result (AreSized t.base.image engine.old.files.count (length page.old)) }
-    ensures data_room { length found.new.data ≡ length found.old.data }
+    ensures taken_room { length found.new.taken ≡ length found.old.taken }
     ensures open { (t : Trail) → IsTrue H.tells → IsOpen (H.world host.old) engine.old t → IsOpen (H.world host.new) engine.new t }
     ensures same { but_pages engine.new ≡ but_pages engine.old }
     ensures quiet { Quiet (H.world host.old) (H.world host.new) }
@@ -200,13 +200,13 @@ pub(crate) fn pass<H: Host>(
     requires room { length page.old ≡ engine.old.files.page_size }
     requires map { length map.old ≡ length page.old }
     requires entries { length entries.old ≡ length page.old }
-    requires data { engine.old.files.count ≤ room_of found.old.data }
+    requires fits { engine.old.files.count ≤ room_of found.old.taken }
     ensures broken { (t : Trail) → IsTrue H.tells → IsOpen (H.world host.old) engine.old t → IsFirstBelow t.base.image 0 found.old.broken
         → OnOk result (IsFirstBelow t.base.image (covered t.base.image) found.new.broken) }
-    ensures data { (t : Trail) → IsTrue H.tells → IsOpen (H.world host.old) engine.old t → 1 < length t.base.image → HoldsTaken t.base.image 0 found.old.data
-        → OnOk result (HoldsTaken t.base.image (length t.base.image) found.new.data) }
+    ensures taken { (t : Trail) → IsTrue H.tells → IsOpen (H.world host.old) engine.old t → 1 < length t.base.image → HoldsTaken t.base.image 0 found.old.taken
+        → OnOk result (HoldsTaken t.base.image (length t.base.image) found.new.taken) }
     ensures sizes { (t : Trail) → IsTrue H.tells → IsOpen (H.world host.old) engine.old t → OnOk result (AreSized t.base.image engine.old.files.count (length page.old)) }
-    ensures data_room { length found.new.data ≡ length found.old.data }
+    ensures taken_room { length found.new.taken ≡ length found.old.taken }
     ensures open { (t : Trail) → IsTrue H.tells → IsOpen (H.world host.old) engine.old t → IsOpen (H.world host.new) engine.new t }
     ensures same { but_pages engine.new ≡ but_pages engine.old }
     ensures quiet { Quiet (H.world host.old) (H.world host.new) }

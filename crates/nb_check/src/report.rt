@@ -1,9 +1,13 @@
 // The leaked pages of a database.
-ghost use Rattle.std.specs.Prelude.{◌≡◌, ◌<◌, length, slice_index, nat_le};
-ghost use Rattle.nb_model.specs.Chains.{first_such};
-ghost use Rattle.nb_check.specs.Sets.{has, pages_in, is_among};
+ghost use Rattle.std.specs.Prelude.{◌≡◌, ◌<◌, IfErr, IfOk, length, slice_index, nat_le};
+ghost use Rattle.nb_host.specs.declared.faults.Fault.TheVariants.{Memory};
+ghost use Rattle.nb_check.specs.Sets.{has, pages_in};
+ghost use Rattle.nb_model.specs.Leaks.{is_among};
 
 use crate::set::PageSet;
+use nb_host::Fault;
+use nb_model::PageList;
+use std::alloc::Global;
 use std::marker::Model;
 
 /// The pages of a database that are taken and that nothing reaches, in rising order. Contracts see it as the list of their numbers.
@@ -67,18 +71,6 @@ impl Report {
         self.len == 0
     }
 
-    /// The lowest leaked page from page `from` on. So all of them are come by in one walk over the database's pages.
-    pub fn page_from(&self, from: u32) -> Option<u32>
-        ensures { result ≡ first_such (nat_le from) self.now }
-    {
-        for page in from..self.pages.room() {
-            if self.pages.has(page) {
-                return Some(page);
-            }
-        }
-        None
-    }
-
     /// The leaked page at place `i`, from 0. It walks over the pages before it.
     pub fn page(&self, i: usize) -> u32
         requires { i < length self.now }
@@ -94,6 +86,20 @@ impl Report {
             }
         }
         0
+    }
+
+    /// All of them, as a list of numbers.
+    pub fn pages(&self, alloc: Global) -> Result<PageList, Fault>
+        ensures ok { IfOk result (λ pages. pages ≡ self.now) }
+        ensures only_memory { IfErr result (λ fault. fault ≡ Memory) }
+    {
+        let mut pages = PageList::new(alloc);
+        for page in 0..self.pages.room() {
+            if self.pages.has(page) {
+                pages.push(page)?;
+            }
+        }
+        Ok(pages)
     }
 
     /// Whether page `number` is leaked.

@@ -12,9 +12,9 @@ ghost use Rattle.nb_model.specs.Rows.{chains, pages_of_all, table_chains, used};
 ghost use Rattle.nb_model.specs.Trail.{Trail};
 ghost use Rattle.nb_state.specs.Open.{IsOpen, but_pages};
 ghost use Rattle.nb_state.specs.Does.{Tested};
-ghost use Rattle.nb_check.specs.Leaks.{reached};
+ghost use Rattle.nb_model.specs.Leaks.{reached};
 ghost use Rattle.nb_check.specs.Sets.{IsWithout};
-ghost use Rattle.nb_check.specs.Turns.{chains_cause};
+ghost use Rattle.nb_model.specs.Checks.{chains_cause};
 ghost use Rattle.nb_check.specs.Walks.{chain_by, not_linked, chains_on};
 
 use crate::set::PageSet;

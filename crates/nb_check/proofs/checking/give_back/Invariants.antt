@@ -4,7 +4,7 @@ use Rattle.nb_model.specs.Sound.{IsSoundImage}
 use Rattle.nb_model.specs.Trail.{Trail}
 use Rattle.nb_state.specs.Open.{IsOpen}
 use Rattle.nb_state.specs.Does.{Goes}
-use Rattle.nb_check.specs.Leaks.{leaked}
+use Rattle.nb_model.specs.Leaks.{leaked}
 use Rattle.nb_check.proofs.LeakLaws.{IsGiving}
 use Rattle.nb_check.proofs.checking.give_back.Given as goal
 

@@ -7,5 +7,5 @@ abbrev pub invariant-loop-number : goal.invariant-loop-number
 invariant-loop-number l = record {
   broken : (image : Image) → IsOf image (length l.map) l.extent → IsMapOf image l.extent.count l.map → HasEntryOf image (l.extent.count - 1) l.entries → IsFirstBelow image l.extent.count l.fn.found.broken
       → IsFirstBelow image l.number l.found.broken;
-  data : l.found.data ≡ l.fn.found.data;
+  taken : l.found.taken ≡ l.fn.found.taken;
 }

@@ -15,7 +15,7 @@ loop-number-preserved g c =
       same = passed.same ∙ loop.same;
       quiet = quiet_joined _ _ _ loop.quiet passed.quiet;
       broken = λ t tells is entries none. passed.broken t tells (loop.opened t tells is) (loop.entries t tells is entries) (loop.broken t tells is entries none);
-      data = λ t tells is map some none. passed.data t tells (loop.opened t tells is) (loop.map t tells is map) some (loop.data t tells is map some none);
+      taken = λ t tells is map some none. passed.taken t tells (loop.opened t tells is) (loop.map t tells is map) some (loop.taken t tells is map some none);
       map = λ t tells is map. passed.map t tells (loop.opened t tells is) (loop.map t tells is map);
       entries = λ t tells is entries.
           let back : n ≡ n + 1 - 1 = omega arith in
@@ -24,7 +24,7 @@ loop-number-preserved g c =
         | inl less ↦ loop.sizes t tells is p less
         | inr same ↦ ap (λ (m : ℕ). length (page_at t.base.image m)) same ∙ passed.sized t tells (loop.opened t tells is) ∙ loop.sized
       ];
-      room = passed.data_room ∙ loop.room;
+      room = passed.taken_room ∙ loop.room;
       sized = omega (arith, c.pass_page.auto.page, loop.sized);
       map_sized = omega (arith, c.pass_page.auto.map, loop.map_sized);
       entries_sized = omega (arith, c.pass_page.auto.entries, loop.entries_sized);

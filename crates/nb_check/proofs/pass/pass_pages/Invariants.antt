@@ -13,11 +13,11 @@ invariant-loop-number g l = record {
   same : but_pages l.engine ≡ but_pages l.fn.engine;
   quiet : Quiet (g.H.Host.world l.fn.host) (g.H.Host.world l.host);
   broken : (t : Trail) → IsTrue g.H.Host.tells → IsOpen (g.H.Host.world l.fn.host) l.fn.engine t → HasEntryOf t.base.image 0 l.fn.entries → IsFirstBelow t.base.image 0 l.fn.found.broken → IsFirstBelow t.base.image l.number l.found.broken;
-  data : (t : Trail) → IsTrue g.H.Host.tells → IsOpen (g.H.Host.world l.fn.host) l.fn.engine t → IsMapOf t.base.image 0 l.fn.map → 1 < length t.base.image → HoldsTaken t.base.image 0 l.fn.found.data → HoldsTaken t.base.image l.number l.found.data;
+  taken : (t : Trail) → IsTrue g.H.Host.tells → IsOpen (g.H.Host.world l.fn.host) l.fn.engine t → IsMapOf t.base.image 0 l.fn.map → 1 < length t.base.image → HoldsTaken t.base.image 0 l.fn.found.taken → HoldsTaken t.base.image l.number l.found.taken;
   map : (t : Trail) → IsTrue g.H.Host.tells → IsOpen (g.H.Host.world l.fn.host) l.fn.engine t → IsMapOf t.base.image 0 l.fn.map → IsMapOf t.base.image l.number l.map;
   entries : (t : Trail) → IsTrue g.H.Host.tells → IsOpen (g.H.Host.world l.fn.host) l.fn.engine t → HasEntryOf t.base.image 0 l.fn.entries → HasEntryOf t.base.image (l.number - 1) l.entries;
   sizes : (t : Trail) → IsTrue g.H.Host.tells → IsOpen (g.H.Host.world l.fn.host) l.fn.engine t → AreSized t.base.image l.number (length l.fn.page);
-  room : length l.found.data ≡ length l.fn.found.data;
+  room : length l.found.taken ≡ length l.fn.found.taken;
   sized : length l.page ≡ length l.fn.page;
   map_sized : length l.map ≡ length l.fn.map;
   entries_sized : length l.entries ≡ length l.fn.entries;
