@@ -25,7 +25,7 @@ use Rattle.nb_model.proofs.PutSound.{IsPlain, needs_image, header_whole}
 use Rattle.nb_model.proofs.RoomLaws.{AnyPage, any_history, in_chain, chain_owner, chain_plain, free_is_spot, IsSpotOf, made_fits, link_plain, link_low, old_there, data_short, put_full, no_system}
 use Rattle.nb_model.proofs.RoundLaws.{IsNew, new_is_new, no_place, bit_by, put_here, put_other, put_size, put_longer, put_inventory}
 use Rattle.nb_model.proofs.SlotLaws.{linked_slots, linked_next, linked_owner, new_slots, new_owner}
-use Rattle.nb_model.proofs.SlotPuts.{found_there}
+use Rattle.nb_model.proofs.FoundSpots.{found_there}
 use Rattle.nb_model.proofs.SoundLaws.{all_at, inventory_there}
 
 -- A page is held, links of the history lead to it, and what P says holds of each row that it uses.

@@ -81,6 +81,7 @@ pub mod SpotLaws
 pub mod TableDrafts
 pub mod HeldLaws
 pub mod HeldRoom
+pub mod FoundSpots
 pub mod LeadLaws
 pub mod LeakTurns
 pub mod HeldTurns
