@@ -196,7 +196,7 @@ module _ (P : Slot → Type 0) (b : Base) (h : HasHeader b.image) (is : IsSoundI
 
   -- The page for the row is held.
   pub room_held : not_of_form (room_in b.image).draft ≡ None → (room_in b.image).draft.full ≡ false → HoldsRows P (room_in b.image).page (room_in b.image).draft.image
-  unfolding room_in grown
+  unfolding room_in grown free_spot
   room_held formed left = by (free_spot (spots History b.image)) refl formed left
     where
       by : (o : Option Spot) → free_spot (spots History b.image) ≡ o → not_of_form (room o).draft ≡ None → (room o).draft.full ≡ false → HoldsRows P (room o).page (room o).draft.image
