@@ -15,3 +15,7 @@ mod BackLaws
 mod NeatBack
 mod SetBits
 mod ReportLaws
+mod EntryLaws
+mod CoverLaws
+mod CauseLaws
+mod TriesLaws

@@ -18,7 +18,7 @@ ghost use Rattle.nb_check.specs.Passes.{HoldsTaken, AreSized};
 ghost use Rattle.nb_check.specs.Sets.{room_of};
 ghost use Rattle.nb_model.specs.Checks.{check_cause, check_turn, reclaim_turn, reclaimed, unsound_by};
 
-use crate::Report;
+use crate::{LARGEST_PAGE, Report};
 use crate::pass::{Found, pass};
 use crate::set::PageSet;
 use crate::walk::leave_out_reached;
@@ -47,12 +47,14 @@ fn taken_data<H: Host>(
     ensures once { IsTrue H.tells → (H.world host.new).reads ≤ (H.world host.old).reads + engine.old.files.count + 3 }
     ensures cause { CountsDevice result (H.faults host.old) (H.faults host.new) }
 {
-    let mut entries = vec![in alloc; 0; engine.page_size() as usize]?;
+    let mut buffer = [0; LARGEST_PAGE];
+    let entries = &mut buffer[..engine.page_size() as usize];
+    let taken = PageSet::new(alloc, engine.count())?;
     let mut found = Found {
         broken: None,
-        taken: PageSet::new(alloc, engine.count())?,
+        taken,
     };
-    pass(host, engine, page, map, entries.as_mut_slice(), &mut found)?;
+    pass(host, engine, page, map, entries, &mut found)?;
     let Found { broken, taken } = found;
     if let Some(broken) = broken {
         return Err(Fault::Refused(Refusal::Unsound {
@@ -67,7 +69,7 @@ fn taken_data<H: Host>(
 /// that are taken and that no chain of the catalogue, of the history or of a table reaches. It changes nothing but which pages are in memory.
 ///
 /// Each page takes one read at most, page 0 and the first two inventory pages two; the pages of the chains take one more, and those of
-/// the catalogue two more. The memory, one bit for each page and three pages, is taken before the first read.
+/// the catalogue two more. The memory, one bit for each page, is taken before the first read.
 ///
 /// The refusals are `Unsound` of the lowest fact that fails and of the lowest page at which it does, and `NotDatabase` of the first page that
 /// breaks the form of a chain: of the catalogue, the history, and then of the tables in the catalogue's order.
@@ -87,10 +89,12 @@ pub fn check<H: Host>(alloc: Global, host: &mut H, engine: &mut Engine) -> Resul
     ensures cause { CountsDevice result (H.faults host.old) (H.faults host.new) }
 {
     let size = engine.page_size() as usize;
-    let mut page = vec![in alloc; 0; size]?;
-    let mut other = vec![in alloc; 0; size]?;
-    let mut rest = taken_data(alloc, host, engine, page.as_mut_slice(), other.as_mut_slice())?;
-    leave_out_reached(host, engine, other.as_mut_slice(), page.as_mut_slice(), &mut rest)?;
+    let mut first = [0; LARGEST_PAGE];
+    let mut second = [0; LARGEST_PAGE];
+    let page = &mut first[..size];
+    let other = &mut second[..size];
+    let mut rest = taken_data(alloc, host, engine, page, other)?;
+    leave_out_reached(host, engine, other, page, &mut rest)?;
     Ok(Report::of(rest))
 }
 
@@ -103,9 +107,10 @@ fn give_back<H: Host>(host: &mut H, engine: &mut Engine, report: &Report) -> Res
 {
     let count = engine.count();
     for number in 0..count {
-        if report.has(number) {
-            engine.data_free(host, number)?;
+        if !report.has(number) {
+            continue;
         }
+        engine.data_free(host, number)?;
     }
     Ok(())
 }
@@ -123,7 +128,7 @@ pub fn reclaim<H: Host>(alloc: Global, host: &mut H, engine: &mut Engine) -> Res
     ensures goes { Goes engine.old engine.new }
     ensures cause { CountsDevice result (H.faults host.old) (H.faults host.new) }
 {
-    if engine.access() == 1 {
+    if engine.store().is_read_only() {
         return Err(Fault::Refused(Refusal::Access { found: 1 }));
     }
     let report = check(alloc, host, engine)?;

@@ -5,8 +5,8 @@
 //! and that a data page is given back by the short form of that name. A layer above may rely on this: a check is refused exactly where
 //! the inventories aren't sound, by the lowest fact that fails and the lowest page at which it does, or where a chain isn't of the form;
 //! otherwise it answers the leaked pages of the database as it is seen, in every backup state. A reclaim gives those back, one after the
-//! other, and at each moment a stop leaves the last of them leaked and everything else as it was. The memory for both, one bit a page and
-//! three pages, is taken before the first page is read.
+//! other, and at each moment a stop leaves the last of them leaked and everything else as it was. The memory for both, one bit a page, is
+//! taken before the first page is read.
 //!
 //! Pages are leaked where the program was stopped: in an insert or a create, between the new page and the link to it, and in a drop,
 //! between the slot in the catalogue and the last page of the chain.
@@ -24,3 +24,6 @@ mod walk;
 pub use checking::{check, reclaim};
 pub use laws::{a_sound_image_breaks_no_fact, leaked_pages_are_given_back};
 pub use report::Report;
+
+/// The most bytes that a page has.
+const LARGEST_PAGE: usize = 32768;

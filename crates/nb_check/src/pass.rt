@@ -1,5 +1,5 @@
 // A pass over all pages, in rising order. Nothing changes.
-ghost use Rattle.std.specs.Prelude.{◌≡◌, ◌+◌, ◌-◌, ◌*◌, ◌/◌, ◌<◌, ◌≤◌, ℕ, IsTrue, IfErr, OnOk, length};
+ghost use Rattle.std.specs.Prelude.{◌≡◌, ◌+◌, ◌-◌, ◌*◌, ◌/◌, ◌<◌, ◌≤◌, ℕ, true, false, IsTrue, OnOk, length};
 ghost use Rattle.nb_fields.specs.Places.{is_page_size, bits_in};
 ghost use Rattle.nb_host.specs.Causes.{CountsFault};
 ghost use Rattle.nb_page.specs.Quiet.{Quiet};
@@ -51,9 +51,33 @@ fn look_at(
     let fact = fact_at(extent, number, page, entries);
     found.broken = first_of(found.broken, fact, number);
     let bit = number % bits_in(page.len() as u32);
-    if read_head(page).kind == PageKind::Data.code() && is_used(map, bit) {
-        found.taken.insert(number);
+    if read_head(page).kind != PageKind::Data.code() || !is_used(map, bit) {
+        return;
     }
+    found.taken.insert(number);
+}
+
+/// Reads page `number`, one behind page 0, where the database has it.
+fn read_there<H: Host>(
+    host: &mut H,
+    engine: &mut Engine,
+    number: u32,
+    into: &mut [u8],
+) -> Result<(), HostFault>
+    requires room { length into.old ≡ engine.old.files.page_size }
+    requires low { 0 < number }
+    ensures page { (t : Trail) → IsTrue H.tells → IsOpen (H.world host.old) engine.old t → number < length t.base.image → OnOk result (into.new ≡ page_at t.base.image number) }
+    ensures open { (t : Trail) → IsTrue H.tells → IsOpen (H.world host.old) engine.old t → IsOpen (H.world host.new) engine.new t }
+    ensures same { but_pages engine.new ≡ but_pages engine.old }
+    ensures quiet { Quiet (H.world host.old) (H.world host.new) }
+    ensures once { IsTrue H.tells → (H.world host.new).reads ≤ (H.world host.old).reads + 1 }
+    ensures cause { CountsFault result (H.faults host.old) (H.faults host.new) }
+{
+    if number >= engine.count() {
+        return Ok(());
+    }
+    engine.read(host, number, into)?;
+    Ok(())
 }
 
 /// Reads the first inventory pages of both kinds, where the database has them.
@@ -73,14 +97,20 @@ fn read_first<H: Host>(
     ensures once { IsTrue H.tells → (H.world host.new).reads ≤ (H.world host.old).reads + 2 }
     ensures cause { CountsFault result (H.faults host.old) (H.faults host.new) }
 {
-    let count = engine.count();
-    if count > 1 {
-        engine.read(host, 1, map)?;
-    }
-    if count > 2 {
-        engine.read(host, 2, entries)?;
-    }
+    read_there(host, engine, 1, map)?;
+    read_there(host, engine, 2, entries)?;
     Ok(())
+}
+
+/// Keeps a page where it is wanted.
+fn keep_wanted(wanted: bool, page: &[u8], kept: &mut [u8])
+    requires { length kept.old ≡ length page.now }
+    ensures new { wanted ≡ true → kept.new ≡ page.now }
+    ensures old { wanted ≡ false → kept.new ≡ kept.old }
+{
+    if wanted {
+        kept.copy_from_slice(page);
+    }
 }
 
 /// Reads and looks at page `number`. `map` is the page inventory page with its bit, and behind the call with that of the next page.
@@ -123,13 +153,9 @@ fn pass_page<H: Host>(
         scn: engine.store().scn(),
     };
     engine.read(host, number, page)?;
-    if is_scn_place(size, number) {
-        entries.copy_from_slice(page);
-    }
+    keep_wanted(is_scn_place(size, number), page, entries);
     look_at(found, extent, number, page, map, entries);
-    if is_inventory_place(size, number) {
-        map.copy_from_slice(page);
-    }
+    keep_wanted(is_inventory_place(size, number), page, map);
     Ok(())
 }
 
@@ -219,8 +245,9 @@ pub(crate) fn pass<H: Host>(
     };
     read_first(host, engine, map, entries)?;
     pass_pages(host, engine, page, map, entries, found)?;
-    if extent.count > 1 {
-        look_past(found, extent, map, entries);
+    if extent.count <= 1 {
+        return Ok(());
     }
+    look_past(found, extent, map, entries);
     Ok(())
 }

@@ -34,9 +34,10 @@ fn count_of(pages: &PageSet) -> u32
 {
     let mut count = 0;
     for page in 0..pages.room() {
-        if pages.has(page) {
-            count += 1;
+        if !pages.has(page) {
+            continue;
         }
+        count += 1;
     }
     count
 }
@@ -78,12 +79,13 @@ impl Report {
     {
         let mut left = i;
         for page in 0..self.pages.room() {
-            if self.pages.has(page) {
-                if left == 0 {
-                    return page;
-                }
-                left -= 1;
+            if !self.pages.has(page) {
+                continue;
             }
+            if left == 0 {
+                return page;
+            }
+            left -= 1;
         }
         0
     }

@@ -191,10 +191,11 @@ fn leave_out_listed<H: Host>(
     let mut slot = 0;
     while slot < count {
         let bytes = slot_at(listed, slot);
-        if use_of(bytes) == 1 {
-            leave_out(host, engine, Chain::Rows(first_page(bytes)), page, rest)?;
-        }
         slot += 1;
+        if use_of(bytes) != 1 {
+            continue;
+        }
+        leave_out(host, engine, Chain::Rows(first_page(bytes)), page, rest)?;
     }
     Ok(())
 }
