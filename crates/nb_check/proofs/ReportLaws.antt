@@ -37,11 +37,17 @@ module _ (test : ℕ → Bool) where
       let here : 0 + n ≡ n = omega arith in
       ap (filter test) (range_split n 1 0) ∙ filter-append test (range_with_len 0 n) (range_with_len (0 + n) 1) ∙ ap (λ (m : ℕ). up_to n ++ one m (test m)) here
 
+  pub one_more : (n : ℕ) → test n ≡ true → up_to (n + 1) ≡ up_to n ++ n ∷ []
+  one_more n yes = up_to_more n ∙ ap (λ (t : Bool). up_to n ++ one n t) yes
+
+  pub none_more : (n : ℕ) → test n ≡ false → up_to (n + 1) ≡ up_to n
+  none_more n no = up_to_more n ∙ ap (λ (t : Bool). up_to n ++ one n t) no ∙ append-nil (up_to n)
+
   pub counted : (n : ℕ) → test n ≡ true → length (up_to (n + 1)) ≡ length (up_to n) + 1
-  counted n yes = ap length (up_to_more n ∙ ap (λ (t : Bool). up_to n ++ one n t) yes) ∙ length-append (up_to n) (n ∷ [])
+  counted n yes = ap length (one_more n yes) ∙ length-append (up_to n) (n ∷ [])
 
   pub passed : (n : ℕ) → test n ≡ false → length (up_to (n + 1)) ≡ length (up_to n)
-  passed n no = ap length (up_to_more n ∙ ap (λ (t : Bool). up_to n ++ one n t) no ∙ append-nil (up_to n))
+  passed n no = ap length (none_more n no)
 
   front_get : (fs rs : List ℕ) (x : ℕ) → get_or (fs ++ x ∷ rs) (length fs) 0 ≡ x
   front_get [] rs x = refl

@@ -97,9 +97,10 @@ impl Report {
     {
         let mut pages = PageList::new(alloc);
         for page in 0..self.pages.room() {
-            if self.pages.has(page) {
-                pages.push(page)?;
+            if !self.pages.has(page) {
+                continue;
             }
+            pages.push(page)?;
         }
         Ok(pages)
     }
