@@ -9,3 +9,4 @@ pub mod History
 pub mod Room
 pub mod Data
 pub mod Stays
+pub mod Walks

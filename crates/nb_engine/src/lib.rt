@@ -11,13 +11,16 @@
 //! calls will need can be tested before the first.
 #![tactic(auto)]
 
+mod along;
 mod backup;
+mod chain;
 mod data;
 mod data_new;
 mod engine;
 mod find;
 mod flags;
 mod free;
+mod gather;
 mod grow;
 mod history;
 mod make;
@@ -31,6 +34,8 @@ mod rows;
 mod walk;
 mod write;
 
+pub use chain::Chain;
 pub use engine::Engine;
+pub use gather::{Gathers, Place};
 pub use rows::HistoryRow;
 pub use walk::Room;
