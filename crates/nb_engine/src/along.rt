@@ -61,7 +61,7 @@ fn come_by_page<G: Gathers>(gathering: &mut G, number: u32, page: &[u8]) -> Resu
     requires takes { (k : ℕ) → k < length (slots_in page.now) → G.takes gathering.old (slot_of page.now k) }
     requires low { 0 < number }
     requires high { number < 1048576 }
-    ensures gathered { (ss : List Spot) → G.gathered gathering.old ss → OnOk result (G.gathered gathering.new (ss ++ spots_on number 0 (slots_in page.now))) }
+    ensures gathers { (before : G) (ss : List Spot) → G.gathers before ss gathering.old → OnOk result (G.gathers before (ss ++ spots_on number 0 (slots_in page.now)) gathering.new) }
     ensures takes { (s : Slot) → G.takes gathering.old s → G.takes gathering.new s }
     ensures only_memory { IfErr result (λ fault. fault ≡ Memory) }
     ensures sure { IsTrue G.frugal → IsOk result }
@@ -92,8 +92,8 @@ fn take_link<H: Host, G: Gathers>(
     requires takes { TakesAll G.takes gathering.old chain }
     ensures test { (t : Trail) → IsTrue H.tells → IsOpen (H.world host.old) store.old t → Tested result (not_linked (chain_by chain) t.base.image number) }
     ensures next { (t : Trail) → IsTrue H.tells → IsOpen (H.world host.old) store.old t → IfOk result (λ next. next ≡ next_in (page_at t.base.image number)) }
-    ensures gathered { (t : Trail) (ss : List Spot) → IsTrue H.tells → IsOpen (H.world host.old) store.old t → G.gathered gathering.old ss
-        → OnOk result (G.gathered gathering.new (ss ++ spots_on number 0 (slots_in (page_at t.base.image number)))) }
+    ensures gathers { (t : Trail) (before : G) (ss : List Spot) → IsTrue H.tells → IsOpen (H.world host.old) store.old t → G.gathers before ss gathering.old
+        → OnOk result (G.gathers before (ss ++ spots_on number 0 (slots_in (page_at t.base.image number))) gathering.new) }
     ensures takes { TakesAll G.takes gathering.new chain }
     ensures high { OnOk result (number < 1048576) }
     ensures open { (t : Trail) → IsTrue H.tells → IsOpen (H.world host.old) store.old t → IsOpen (H.world host.new) store.new t }
@@ -121,7 +121,7 @@ pub(crate) fn walk_along<H: Host, G: Gathers>(
     requires room { length page.old ≡ store.old.files.page_size }
     requires takes { TakesAll G.takes gathering.old chain }
     ensures test { (t : Trail) → IsTrue H.tells → IsOpen (H.world host.old) store.old t → Tested result (broken_at (pages_of (chain_by chain) t.base.image)) }
-    ensures gathered { (t : Trail) → IsTrue H.tells → IsOpen (H.world host.old) store.old t → G.gathered gathering.old [] → OnOk result (G.gathered gathering.new (spots (chain_by chain) t.base.image)) }
+    ensures gathers { (t : Trail) → IsTrue H.tells → IsOpen (H.world host.old) store.old t → G.gathers gathering.old [] gathering.old → OnOk result (G.gathers gathering.old (spots (chain_by chain) t.base.image) gathering.new) }
     ensures last { (t : Trail) → IsTrue H.tells → IsOpen (H.world host.old) store.old t → IfOk result (λ last. last ≡ last_of (found_pages (chain_by chain) t.base.image)) }
     ensures low { IfOk result (λ last. 0 < last) }
     ensures high { IfOk result (λ last. last < 1048576) }
@@ -162,7 +162,7 @@ impl Engine {
         requires size { length page.old ≡ self.old.files.page_size }
         requires takes { TakesAll G.takes gathering.old chain }
         ensures test { (t : Trail) → IsTrue H.tells → IsOpen (H.world host.old) self.old t → Tested result (broken_at (pages_of (chain_by chain) t.base.image)) }
-        ensures gathered { (t : Trail) → IsTrue H.tells → IsOpen (H.world host.old) self.old t → G.gathered gathering.old [] → OnOk result (G.gathered gathering.new (spots (chain_by chain) t.base.image)) }
+        ensures gathers { (t : Trail) → IsTrue H.tells → IsOpen (H.world host.old) self.old t → G.gathers gathering.old [] gathering.old → OnOk result (G.gathers gathering.old (spots (chain_by chain) t.base.image) gathering.new) }
         ensures last { (t : Trail) → IsTrue H.tells → IsOpen (H.world host.old) self.old t → IfOk result (λ last. last ≡ last_of (found_pages (chain_by chain) t.base.image)) }
         ensures low { IfOk result (λ last. 0 < last) }
         ensures high { IfOk result (λ last. last < 1048576) }

@@ -16,8 +16,8 @@ pub struct Place {
 /// What a walk over a chain gathers. It comes by each slot of each page, in the order of the chain, once the slots of that page are known to
 /// be of the form.
 pub trait Gathers {
-    /// What it holds once it has come by just these slots, in this order. An empty list is what it begins with.
-    ghost gathered: { Self → List Spot → Type 0 };
+    /// It was this before, has come by just these slots since, in this order, and is that now.
+    ghost gathers: { Self → List Spot → Self → Type 0 };
 
     /// It takes only such slots. A walk over a chain asks that each slot of the form is one.
     ghost takes: { Self → Slot → Type 0 };
@@ -31,7 +31,7 @@ pub trait Gathers {
         requires takes { takes self.old slot.now }
         requires low { 0 < place.page }
         requires high { place.page < 1048576 }
-        ensures gathered { (ss : List Spot) → gathered self.old ss → OnOk result (gathered self.new (ss ++ spot_at place slot.now ∷ [])) }
+        ensures gathers { (before : Self) (ss : List Spot) → gathers before ss self.old → OnOk result (gathers before (ss ++ spot_at place slot.now ∷ []) self.new) }
         ensures takes { (s : Slot) → takes self.old s → takes self.new s }
         ensures only_memory { IfErr result (λ fault. fault ≡ Memory) }
         ensures sure { IsTrue frugal → IsOk result };
