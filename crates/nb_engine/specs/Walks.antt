@@ -1,5 +1,5 @@
 -- A walk over a chain of data pages.
-use Rattle.std.specs.Prelude.{◌≡◌, ℕ, ◌+◌, ◌*◌, Bool, true, not}
+use Rattle.std.specs.Prelude.{◌≡◌, ℕ, ◌+◌, ◌*◌, ◌<◌, ◌≤◌, Bool, true, not}
 use Rattle.nb_fields.specs.Bytes.{part}
 use Rattle.nb_host.specs.declared.refusals.Refusal.TheVariants.{NotDatabase}
 use Rattle.nb_model.specs.Causes.{Cause, when}
@@ -26,6 +26,12 @@ spot_at place slot = record { page = place.page; slot = place.slot; bytes = slot
 -- slot k of a page
 abbrev pub slot_of : Page → ℕ → Slot
 slot_of page k = part (32 + 256 * k) 256 page
+
+-- The slot is in a page of that size, which isn't page 0.
+pub record IsPlaced (page_size : ℕ) (place : Place) : Type 0 where
+  pub low : 0 < place.page
+  pub high : place.page < 1048576
+  pub inside : 288 + 256 * place.slot ≤ page_size
 
 -- it takes each slot of the chain that is of the form
 abbrev pub TakesAll : {G : Type 0} → (G → Slot → Type 0) → G → program.Chain → Type 0

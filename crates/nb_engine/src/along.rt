@@ -62,6 +62,7 @@ fn come_by_page<G: Gathers>(gathering: &mut G, number: u32, page: &[u8]) -> Resu
     requires low { 0 < number }
     requires high { number < 1048576 }
     ensures gathers { (before : G) (ss : List Spot) → G.gathers before ss gathering.old → OnOk result (G.gathers before (ss ++ spots_on number 0 (slots_in page.now)) gathering.new) }
+    ensures fits { G.fits gathering.old (length page.now) → OnOk result (G.fits gathering.new (length page.now)) }
     ensures takes { (s : Slot) → G.takes gathering.old s → G.takes gathering.new s }
     ensures only_memory { IfErr result (λ fault. fault ≡ Memory) }
     ensures sure { IsTrue G.frugal → IsOk result }
@@ -94,6 +95,7 @@ fn take_link<H: Host, G: Gathers>(
     ensures next { (t : Trail) → IsTrue H.tells → IsOpen (H.world host.old) store.old t → IfOk result (λ next. next ≡ next_in (page_at t.base.image number)) }
     ensures gathers { (t : Trail) (before : G) (ss : List Spot) → IsTrue H.tells → IsOpen (H.world host.old) store.old t → G.gathers before ss gathering.old
         → OnOk result (G.gathers before (ss ++ spots_on number 0 (slots_in (page_at t.base.image number))) gathering.new) }
+    ensures fits { G.fits gathering.old store.old.files.page_size → OnOk result (G.fits gathering.new store.old.files.page_size) }
     ensures takes { TakesAll G.takes gathering.new chain }
     ensures high { OnOk result (number < 1048576) }
     ensures open { (t : Trail) → IsTrue H.tells → IsOpen (H.world host.old) store.old t → IsOpen (H.world host.new) store.new t }
@@ -123,6 +125,7 @@ pub(crate) fn walk_along<H: Host, G: Gathers>(
     ensures test { (t : Trail) → IsTrue H.tells → IsOpen (H.world host.old) store.old t → Tested result (broken_at (pages_of (chain_by chain) t.base.image)) }
     ensures gathers { (t : Trail) → IsTrue H.tells → IsOpen (H.world host.old) store.old t → G.gathers gathering.old [] gathering.old → OnOk result (G.gathers gathering.old (spots (chain_by chain) t.base.image) gathering.new) }
     ensures last { (t : Trail) → IsTrue H.tells → IsOpen (H.world host.old) store.old t → IfOk result (λ last. last ≡ last_of (found_pages (chain_by chain) t.base.image)) }
+    ensures fits { G.fits gathering.old store.old.files.page_size → OnOk result (G.fits gathering.new store.old.files.page_size) }
     ensures low { IfOk result (λ last. 0 < last) }
     ensures high { IfOk result (λ last. last < 1048576) }
     ensures open { (t : Trail) → IsTrue H.tells → IsOpen (H.world host.old) store.old t → IsOpen (H.world host.new) store.new t }
@@ -164,6 +167,7 @@ impl Engine {
         ensures test { (t : Trail) → IsTrue H.tells → IsOpen (H.world host.old) self.old t → Tested result (broken_at (pages_of (chain_by chain) t.base.image)) }
         ensures gathers { (t : Trail) → IsTrue H.tells → IsOpen (H.world host.old) self.old t → G.gathers gathering.old [] gathering.old → OnOk result (G.gathers gathering.old (spots (chain_by chain) t.base.image) gathering.new) }
         ensures last { (t : Trail) → IsTrue H.tells → IsOpen (H.world host.old) self.old t → IfOk result (λ last. last ≡ last_of (found_pages (chain_by chain) t.base.image)) }
+        ensures fits { G.fits gathering.old self.old.files.page_size → OnOk result (G.fits gathering.new self.old.files.page_size) }
         ensures low { IfOk result (λ last. 0 < last) }
         ensures high { IfOk result (λ last. last < 1048576) }
         ensures open { (t : Trail) → IsTrue H.tells → IsOpen (H.world host.old) self.old t → IsOpen (H.world host.new) self.new t }

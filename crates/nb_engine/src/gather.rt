@@ -19,6 +19,9 @@ pub trait Gathers {
     /// It was this before, has come by just these slots since, in this order, and is that now.
     ghost gathers: { Self → List Spot → Self → Type 0 };
 
+    /// It may note places within pages of that size.
+    ghost fits: { Self → ℕ → Type 0 };
+
     /// It takes only such slots. A walk over a chain asks that each slot of the form is one.
     ghost takes: { Self → Slot → Type 0 };
 
@@ -31,6 +34,7 @@ pub trait Gathers {
         requires takes { takes self.old slot.now }
         requires low { 0 < place.page }
         requires high { place.page < 1048576 }
+        ensures fits { (size : ℕ) → IsPlaced size place → fits self.old size → OnOk result (fits self.new size) }
         ensures gathers { (before : Self) (ss : List Spot) → gathers before ss self.old → OnOk result (gathers before (ss ++ spot_at place slot.now ∷ []) self.new) }
         ensures takes { (s : Slot) → takes self.old s → takes self.new s }
         ensures only_memory { IfErr result (λ fault. fault ≡ Memory) }
