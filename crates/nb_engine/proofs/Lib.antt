@@ -17,7 +17,10 @@ pub mod FullLaws
 pub mod WhereLaws
 pub mod NewLaws
 pub mod NewTurn
+pub mod WayLaws
 pub mod NeedReads
+pub mod PassLaws
+pub mod RestLaws
 pub mod NameLaws
 pub mod SlotLaws
 pub mod WalkLaws

@@ -29,6 +29,7 @@ mod reads;
 mod room;
 mod rows;
 mod walk;
+mod way;
 mod write;
 
 pub use engine::Engine;
