@@ -21,6 +21,7 @@ pub mod WayLaws
 pub mod NeedReads
 pub mod PassLaws
 pub mod RestLaws
+pub mod ReadyLaws
 pub mod NameLaws
 pub mod SlotLaws
 pub mod WalkLaws
