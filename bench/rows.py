@@ -90,6 +90,12 @@ def is_merged(folder):
     return [at for at, pair in enumerate(zip(standby, restored)) if pair[0] != pair[1]] == [65] and standby[65] == 1 and whole(folder, "b.db.delta") == b"beside"
 
 
+def is_folded(folder):
+    """The pages 0, 2, 4, 6 and 7 in four runs; and a restore with the one file gives what a restore with both gave."""
+    file = whole(folder, "f.1")
+    return len(file) == 5212 and file[-8:] == bytes.fromhex("ffffffff05000000") and whole(folder, "d.db") == whole(folder, "e.db")
+
+
 def copied(name, to):
     return lambda folder: shutil.copy(folder.file(name), folder.file(to))
 
@@ -223,6 +229,61 @@ CASES = [
         ],
         "a chain restored",
         no_c,
+    ),
+    Case(
+        "plans of backup files",
+        [
+            left("l", b"a.0\na.1\na.2\nz.0\n"),
+            left("m", b"a.1\na.2\n"),
+            left("twice", b"a.0\na.1\n\na.0\n"),
+            left("dos", b"a.0\r\n"),
+            left("gone", b"a.0\nno.1\n"),
+            (words("plan 1 l"), "1: ok keep 3 drop 1 orphan 0 z.0", 0),
+            (words("plan 3 l"), "1: ok keep 4 drop 0 orphan 0", 0),
+            (words("plan 0 l"), "1: ok keep 0 drop 4 orphan 0 a.0 a.1 a.2 z.0", 0),
+            (words("plan 1 m"), "1: ok keep 0 drop 0 orphan 2 a.1 a.2", 0),
+            (words("plan 1 twice"), "0: refused 2 BadScript 4", 1),
+            (words("plan 1 dos"), "0: refused 2 BadScript 1", 1),
+            (words("plan 1 gone"), "1: refused 3 NoFile no.1", 1),
+            (words("plan 1 none"), "0: refused 3 NoFile none", 1),
+            (words("plan 01 l"), "0: refused 1 Usage", 2),
+        ],
+        "chains refused",
+    ),
+    Case(
+        "levels folded into one",
+        [
+            (script(OPEN, "1: write 7 'x'"), "1: ok pages 13 state 0|1: ok", 0),
+            (words("-B 2 a.db g.2"), "1: ok level 2 scn 5 pages 4 guid G3", 0),
+            (words("fold f.1 a.1 g.2"), "1: ok level 1 scn 5 pages 5 guid G3", 0),
+            (words("-R d.db a.0 f.1"), "1: ok pages 13", 0),
+            (words("-R e.db a.0 a.1 g.2"), "1: ok pages 13", 0),
+            (script("1: open 'd.db'", "1: read 6", "1: read 7"), "1: ok pages 13 state 0|1: ok 'new'|1: ok 'x'", 0),
+        ],
+        "level 1",
+        is_folded,
+    ),
+    Case(
+        "folds refused",
+        [
+            (words("fold k.1 g.2 a.1"), "1: refused 16 ChainLevel a.1 1 3", 1),
+            (words("fold k.1 a.0 a.1"), "1: refused 15 BadLevel a.0 0", 1),
+            (words("fold f.1 a.1 g.2"), "1: refused 4 FileExists f.1", 1),
+            (words("fold k.1 a.1"), "0: refused 1 Usage", 2),
+        ],
+        "levels folded into one",
+        lambda folder: is_missing(folder, "k.1"),
+    ),
+    Case(
+        "a fold merged into a standby",
+        [
+            (words("-R s.db a.0"), "1: ok pages 13", 0),
+            (script("1: open 's.db'", "1: access read_only"), "1: ok pages 13 state 0|1: ok", 0),
+            (words("-I -R s.db g.2"), "1: refused 17 ChainGuid g.2 G2 G1", 1),
+            (words("-I -R s.db f.1"), "1: ok pages 13", 0),
+            (script("1: open 's.db'", "1: read 6", "1: read 7"), "1: ok pages 13 state 0|1: ok 'new'|1: ok 'x'", 0),
+        ],
+        "levels folded into one",
     ),
     Case(
         "a standby",

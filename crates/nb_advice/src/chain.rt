@@ -131,6 +131,9 @@ pub(crate) fn plan(
         "ScriptLong" => Ok(Some(format!(in alloc;
             "{list} is too long: a list has 1,000 names and 1,048,576 bytes at most"
         )?)),
+        "BadScript" => Ok(Some(format!(in alloc;
+            "{list} has to name a file in each line, each of them once, and 1,000 at most"
+        )?)),
         _ => Ok(None),
     }
 }

@@ -11,3 +11,5 @@ pub mod ChainLaws
 pub mod TurnLemmas
 pub mod WholeLaws
 pub mod PlaceLaws
+pub mod DistinctLaws
+pub mod KeptFiles

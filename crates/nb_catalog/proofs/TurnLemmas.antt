@@ -9,9 +9,11 @@ use Rattle.nb_level.specs.declared.head.LevelHead.{LevelHead}
 use Rattle.nb_catalog.specs.Answers.{Says}
 use Rattle.nb_catalog.specs.Heads.{read_files}
 use Rattle.nb_catalog.specs.Plans.{Retention, plan_of}
-use Rattle.nb_catalog.specs.Chained.{IsSafe, KeepsChains}
+use Rattle.nb_catalog.specs.Chained.{IsSafe, KeepsChains, KeepsFiles}
+use Rattle.nb_catalog.specs.NameLists.{AreDistinct}
 use Rattle.nb_catalog.specs.Turns.{planned}
 use Rattle.nb_catalog.proofs.ChainLaws.{points_chained}
+use Rattle.nb_catalog.proofs.KeptFiles.{keeps_files}
 use Rattle.nb_catalog.proofs.KeptLaws.{is_safe}
 
 err_ok : (refusal : Refusal) (plan : Retention) → Err refusal ≡ Ok plan → ⊥
@@ -41,4 +43,8 @@ module _ (files : Files) (names : List (List ℕ)) (keep : ℕ) where
       by (Err refusal) read = absurd (err_ok refusal plan (sym (by_heads (Err refusal) read) ∙ is))
       by (Ok heads) read =
           let safe : IsSafe heads keep plan = is_safe heads keep plan (same_plan plan (plan_of heads keep) (sym is ∙ by_heads (Ok heads) read)) in
-          record { heads = heads; read = read; chained = λ e kept. points_chained files names heads read e (safe.points e kept); safe = safe }
+          record { heads = heads; read = read; chained = λ e kept. points_chained files names heads read e (safe.points e kept); safe = safe; by_name = keeps_files files names heads keep plan read (same_plan plan (plan_of heads keep) (sym is ∙ by_heads (Ok heads) read)) }
+
+  -- so no file of a kept line by its name, where no name stands twice
+  pub keeps_listed : (heads : List LevelHead) (plan : Retention) → planned files names keep ≡ Ok plan → read_files files names ≡ Ok heads → AreDistinct names → KeepsFiles names heads keep plan
+  keeps_listed heads plan is read = keeps_files files names heads keep plan read (same_plan plan (plan_of heads keep) (sym is ∙ by_heads (Ok heads) read))

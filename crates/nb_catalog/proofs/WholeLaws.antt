@@ -15,7 +15,7 @@ use Rattle.nb_catalog.proofs.EntryLemmas.{entry_at, in_entries, length-entries}
 use Rattle.nb_catalog.proofs.LineLemmas.{line_split}
 use Rattle.nb_catalog.proofs.ReadLaws.{parent_level}
 
-in_last : {X : Type 0} (xs : List X) (y x : X) → In (xs ++ y ∷ []) x → In xs x ⊎ (y ≡ x)
+pub in_last : {X : Type 0} (xs : List X) (y x : X) → In (xs ++ y ∷ []) x → In xs x ⊎ (y ≡ x)
 in_last [] y x (inl same) = inr same
 in_last [] y x (inr none) = absurd none
 in_last (z ∷ zs) y x (inl same) = inl (inl same)

@@ -6,6 +6,7 @@ use Rattle.nb_model.specs.Restoring.{Link, verdict}
 use Rattle.nb_level.specs.declared.head.LevelHead.{LevelHead}
 use Rattle.nb_catalog.specs.declared.entry.Entry.{Entry}
 use Rattle.nb_catalog.specs.Heads.{read_files}
+use Rattle.nb_catalog.specs.NameLists.{AreDistinct}
 use Rattle.nb_catalog.specs.Plans.{line, points, kept, Retention}
 
 -- the names in these places
@@ -25,9 +26,15 @@ pub record IsSafe (heads : List LevelHead) (keep : ℕ) (plan : Retention) : Typ
   pub points : (e : Entry) → Contains (kept heads keep) e → Contains (points heads) e
   pub needed : (e : Entry) (chain : List ℕ) (place : ℕ) → Contains (kept heads keep) e → line heads e ≡ Some chain → Contains chain place → ¬ Contains plan.dropped place
 
--- The plan of these files that were read: the files of each kept point's line are a chain that is accepted, and none of them is dropped.
+-- no file of a kept point's line has a name that is dropped
+abbrev pub KeepsFiles : (names : List (List ℕ)) (heads : List LevelHead) (keep : ℕ) (plan : Retention) → Type 0
+KeepsFiles names heads keep plan = (e : Entry) (chain : List ℕ) (name : List ℕ) → Contains (kept heads keep) e → line heads e ≡ Some chain → Contains (names_at names chain) name → ¬ Contains (names_at names plan.dropped) name
+
+-- The plan of these files that were read: the files of each kept point's line are a chain that is accepted, and none of them is dropped; nor is its
+-- name, where no name stands twice.
 pub record KeepsChains (files : Files) (names : List (List ℕ)) (keep : ℕ) (plan : Retention) : Type 0 where
   pub heads : List LevelHead
   pub read : read_files files names ≡ Ok heads
   pub chained : (e : Entry) → Contains (kept heads keep) e → IsChained files names heads e
   pub safe : IsSafe heads keep plan
+  pub by_name : AreDistinct names → KeepsFiles names heads keep plan

@@ -53,7 +53,7 @@ impl Catalogue {
         ensures exact { IfOk result (λ plan. plan ≡ plan_of self.now keep) }
         ensures whole { IfOk result (λ plan. plan.kept + length plan.dropped + length plan.orphans ≡ length self.now) }
         ensures within { IfOk result (λ plan. IsWithin (length self.now) plan) }
-    ensures safe { IfOk result (λ plan. IsSafe self.now keep plan) }
+        ensures safe { IfOk result (λ plan. IsSafe self.now keep plan) }
         ensures only_memory { IfErr result (λ fault. fault ≡ Memory) }
     {
         let alloc = *self.heads.allocator();

@@ -1,4 +1,4 @@
-ghost use Rattle.std.specs.Prelude.{◌≡◌, ◌≤◌, ℕ, length, is_some, IfSome, IfNone, IfOk};
+ghost use Rattle.std.specs.Prelude.{◌≡◌, ◌≤◌, ℕ, [], length, is_some, IfSome, IfNone, IfOk};
 ghost use Rattle.std.specs.Str.{IsUtf8};
 ghost use Rattle.nb_host.specs.declared.faults.Fault.TheVariants.{Refused};
 ghost use Rattle.nb_host.specs.declared.refusals.Refusal.TheVariants.{BadScript};
@@ -6,7 +6,7 @@ ghost use Rattle.nb_level.specs.Answers.{CountsDevice};
 ghost use Rattle.nb_model.specs.Words.{is_file};
 ghost use Rattle.nb_script.specs.Lines.{left};
 ghost use Rattle.nb_catalog.specs.Answers.{Says};
-ghost use Rattle.nb_catalog.specs.NameLists.{names_on, list_of};
+ghost use Rattle.nb_catalog.specs.NameLists.{AreDistinct, is_listed, is_next, names_on, list_of};
 
 use nb_host::{Fault, Name, Refusal};
 use nb_model::NameList;
@@ -36,15 +36,35 @@ fn name_on(line: &[u8]) -> Option<Name>
     if name.is_delta() { None } else { Some(name) }
 }
 
+/// Whether a name is one of these.
+fn is_listed(names: &[Name], name: &Name) -> bool
+    ensures { result ≡ is_listed names.now name.now }
+{
+    names.contains(name)
+}
+
+/// The name that a line spells, where a user may give it and it is none of those before.
+fn next_name(before: &[Name], line: &[u8]) -> Option<Name>
+    ensures exact { is_some result ≡ is_next before.now line.now }
+    ensures same { IfSome result (λ name. name ≡ line.now) }
+{
+    let name = name_on(line)?;
+    if is_listed(before, &name) {
+        None
+    } else {
+        Some(name)
+    }
+}
+
 fn bad(line: u32) -> Fault
     ensures { result ≡ Refused (BadScript line) }
 {
     Fault::Refused(Refusal::BadScript { line })
 }
 
-/// The names on these lines, 1,000 at most.
+/// The names on these lines, 1,000 at most, and each once.
 fn names_on(alloc: Global, mut lines: Lines<'_>) -> Result<NameList, Fault>
-    ensures exact { Says (names_on 1000 (left lines.entry.passed lines.entry.rest.now)) result }
+    ensures exact { Says (names_on 1000 [] (left lines.entry.passed lines.entry.rest.now)) result }
     ensures most { IfOk result (λ names. length names ≤ 1000) }
     ensures cause { (faults : ℕ) → CountsDevice result faults faults }
 {
@@ -53,7 +73,7 @@ fn names_on(alloc: Global, mut lines: Lines<'_>) -> Result<NameList, Fault>
         if names.len() == MOST_NAMES {
             return Err(bad(lines.passed()));
         }
-        let Some(name) = name_on(line) else {
+        let Some(name) = next_name(names.as_slice(), line) else {
             return Err(bad(lines.passed()));
         };
         names.push(name)?;
@@ -64,13 +84,14 @@ fn names_on(alloc: Global, mut lines: Lines<'_>) -> Result<NameList, Fault>
 /// The list of names that the bytes spell, one name a line. Empty lines and lines that begin with `#` are skipped.
 ///
 /// `ScriptLong` where there are more than 1,048,576 bytes, and `BadScript` otherwise: with the first line, from 1, that is no name
-/// which a user may give, or that has the 1,001st name; or, where no line has a name, with the number of lines plus 1. Want of
-/// memory is the only other fault.
+/// which a user may give, has a name that stood on a line before, or the 1,001st name; or, where no line has a name, with the number
+/// of lines plus 1. Want of memory is the only other fault.
 #[tactic(auto, unfolding(crate::specs::NameLists::list_of, crate::specs::NameLists::some_names_on))]
 pub fn read_list(alloc: Global, bytes: &[u8]) -> Result<NameList, Fault>
     ensures exact { Says (list_of bytes.now) result }
     ensures some { IfOk result (λ names. 1 ≤ length names) }
     ensures most { IfOk result (λ names. length names ≤ 1000) }
+    ensures distinct { IfOk result AreDistinct }
     ensures cause { (faults : ℕ) → CountsDevice result faults faults }
 {
     if bytes.len() > MOST_BYTES {

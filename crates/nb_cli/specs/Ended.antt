@@ -1,9 +1,9 @@
 -- How the program ends.
-use Rattle.std.specs.Prelude.{◌≡◌, ◌≢◌, ◌⊎◌, ℕ, Bool, List, map, string_bytes, None, Some, Result, Ok, Err, IfOk}
-use Rattle.std.specs.Global.{Vec, String}
+use Rattle.std.specs.Prelude.{◌≡◌, ◌≢◌, ◌⊎◌, ℕ, Bool, List, String, map, string_bytes, None, Some, Result, Ok, Err}
+use Rattle.std.specs.Global.{Global, Vec}
 use Rattle.std.specs.IoError.{error_kind}
-use Rattle.std_io.specs.declared.io.error.Error.{Error}
-use Rattle.std_io.specs.declared.io.kind.ErrorKind.TheVariants.{OutOfMemory}
+use Rattle.std.specs.declared.io.Error.{Error}
+use Rattle.std.specs.declared.io.ErrorKind.TheVariants.{OutOfMemory}
 use Rattle.nb_host.specs.Calls.{IsSilent, IsStill}
 use Rattle.nb_host.specs.Files.{Files}
 use Rattle.nb_host.specs.Moments.{Passes}
@@ -38,12 +38,12 @@ pub record ExitsAs {H : Type 0} (tells : Bool) (world : H → World) (code : ℕ
 
 -- What was read of the words: the job that they name, or that they name none, or that memory was too short to read them. A word that is no text
 -- names none.
-abbrev pub IsReadOf : Result (Vec String) Error → Result Job Fault → Type 0
+abbrev pub IsReadOf : Result (Vec (String Global)) Error → Result Job Fault → Type 0
 IsReadOf (Ok words) (Ok job) = job_of (map string_bytes words.items) ≡ Some job
 IsReadOf (Ok words) (Err fault) = (fault ≡ Memory) ⊎ ((fault ≡ Refused Usage) × (job_of (map string_bytes words.items) ≡ None))
 IsReadOf (Err error) read = ((read ≡ Err Memory) × (error_kind error ≡ OutOfMemory)) ⊎ ((read ≡ Err (Refused Usage)) × (error_kind error ≢ OutOfMemory))
 
 -- what they ask for, which isn't known where memory was too short to have them
-abbrev pub IsAskedOf : Result (Vec String) Error → Files → Asked → Type 0
+abbrev pub IsAskedOf : Result (Vec (String Global)) Error → Files → Asked → Type 0
 IsAskedOf (Ok words) files asked = asked ≡ request_asked files (map string_bytes words.items)
 IsAskedOf (Err error) files asked = (error_kind error ≢ OutOfMemory → asked ≡ Runs (Err Usage)) × (error_kind error ≡ OutOfMemory → (words : List (List ℕ)) × (asked ≡ request_asked files words))

@@ -138,8 +138,10 @@ where
         (Status::Done, _) => {}
         (Status::Usage, _) => show_usage(alloc, rt, words),
         (Status::Refused, Some(job)) => match (job, &end.broken) {
-            (Job::Run { script: name } | Job::Plan { list: name, .. }, Some(broken)) => {
-                show_line(rt, name, broken);
+            (Job::Run { script }, Some(broken)) => show_line(rt, script, broken),
+            (Job::Plan { list, .. }, Some(broken)) => {
+                show_line(rt, list, broken);
+                show_advice(alloc, rt, job, host.last_said());
             }
             _ => show_advice(alloc, rt, job, host.last_said()),
         },

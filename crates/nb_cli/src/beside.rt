@@ -105,7 +105,12 @@ where
 {
     ghost waiting = { λ host. host.waiting };
 
-    fn prepare(&mut self, alloc: Global, job: &Result<Job, Fault>, is_terminal: bool) -> Option<u16> {
+    fn prepare(
+        &mut self,
+        alloc: Global,
+        job: &Result<Job, Fault>,
+        is_terminal: bool,
+    ) -> Option<u16> {
         let Ok(job) = job else {
             return None;
         };

@@ -7,7 +7,7 @@
 //! (`look`), without a lock, and changes nothing.
 #![tactic(auto)]
 
-ghost use Rattle.std.specs.Prelude.{◌≡◌, ◌≢◌, None, Err, map, string_bytes, IfOk, IfErr};
+ghost use Rattle.std.specs.Prelude.{◌≡◌, ◌≢◌, None, Err, IsErr, map, string_bytes, IfOk, IfErr};
 ghost use Rattle.std.specs.Process.{exit_status};
 ghost use Rattle.std.specs.IoError.{error_kind};
 ghost use Rattle.nb_host.specs.Causes.{Rose};
@@ -74,7 +74,7 @@ fn run_out<H: Beside>(
     requires none { broken.old ≡ None }
     ensures ends { (asked : Asked) → IsAskedBy job.now (H.world host.old).files asked → EndsRun H.tells H.world result host.old host.new asked }
     ensures usage { result ≡ Status.Usage → NamesNone job.now }
-    ensures no_job { NamesNone job.now → result ≢ Status.Done × result ≢ Status.Refused }
+    ensures no_job { IsErr job.now → result ≢ Status.Done × result ≢ Status.Refused }
     ensures written { result ≢ Status.Device → result ≢ Status.Usage → H.waiting host.new ≡ None }
     ensures device { result ≡ Status.Device → Rose (H.faults host.old) (H.faults host.new) }
     ensures no_device { result ≢ Status.Device → H.faults host.new ≡ H.faults host.old }

@@ -1,12 +1,11 @@
 -- Page 0 stays where room is made in the history.
 use Rattle.std.proofs.Common.{◌≡◌, ℕ, zero, suc, ◌+◌, ◌/◌, ◌≤◌, List, [], ◌∷◌, ◌++◌, length, refl, sym, ap, subst, arith}
-use Rattle.std.specs.Prelude.{Bool, true, false, ◌==◌, ◌-◌, nat_lt, slice_set, IsTrue}
+use Rattle.std.specs.Prelude.{Bool, true, false, ◌==◌, ◌-◌, nat_lt, slice_set, IsTrue, Option, Some, None}
 use Rattle.nb_fields.specs.Header.{size_of}
 use Rattle.nb_fields.specs.Places.{is_page_size, entries_in, bits_in, is_system_place}
 use Rattle.nb_model.specs.Image.{Page, Image, first_page, image_size, image_scn, with_page}
-use Rattle.nb_model.specs.Forms.{Draft, wrote, written, needs, is_kind, has_entry, scn_page_of, scn_entry, entry_written, entry_raised, raised, put, set_bit, is_free_page, free_from, lowest_free, searched, system_kind, system_page, new_within}
+use Rattle.nb_model.specs.Forms.{Draft, wrote, written, needs, is_kind, has_entry, scn_page_of, scn_entry, entry_written, entry_raised, raised, put, set_bit, is_free_page, free_from, lowest_free, first_not, needed_at, system_kind, system_page, new_within}
 use Rattle.nb_model.proofs.DraftLaws.{either}
-use Rattle.nb_model.proofs.NewSound.{searched_image}
 use Rattle.nb_model.proofs.PutSound.{needs_image}
 use Rattle.nb_model.proofs.SoundLaws.{scn_place_some, inventory_place_some}
 
@@ -27,6 +26,10 @@ lowest_least image = free_least (length image - 5) 5 image
 either_page : (P : Draft → Type 0) (t : Bool) (x y : Draft × ℕ) → P x.0 → P y.0 → P (elim t as (λ z. Draft × ℕ) [ true ↦ x | false ↦ y ]).0
 either_page P true x y px py = px
 either_page P false x y px py = py
+
+either_need : (P : Draft → Type 0) (o : Option ℕ) (stop : ℕ → Draft × ℕ) (go : Draft × ℕ) → ((q : ℕ) → P (stop q).0) → P go.0 → P (elim o as (λ z. Draft × ℕ) [ Some q ↦ stop q | None ↦ go ]).0
+either_need P None stop go ps pg = pg
+either_need P (Some q) stop go ps pg = ps q
 
 -- an image begins with itself
 pub record Starts (f : Page) (image : Image) : Type 0 where
@@ -86,9 +89,6 @@ module _ (f : Page) (size : IsTrue (is_page_size (size_of f))) where
   unfolding set_bit
   bit_begins bit p d h = put_begins _ 2 _ _ (inventory_place_some (image_size d.image) (p / bits_in (image_size d.image)) (sized d h)) (needs_begins 2 _ d h)
 
-  searched_begins : (p : ℕ) (d : Draft) → Begins d → Begins (searched p d)
-  searched_begins p d h = subst (Starts f) (sym (searched_image p d)) h
-
   system_begins : (p : ℕ) (d : Draft) → 1 ≤ p → Begins d → Begins (system_page p d)
   unfolding system_page
   system_begins p d some h = either Begins (is_kind d.image (system_kind d.image p) p) _ _ h (put_begins p _ _ d some h)
@@ -100,8 +100,8 @@ module _ (f : Page) (size : IsTrue (is_page_size (size_of f))) where
       let p : ℕ = lowest_free d.image in
       let least = lowest_least d.image in
       let some : 1 ≤ p = omega (arith, least) in
-      let read : Begins (searched p d) = searched_begins p d h in
-      either_page Begins (p == 1048576) _ _ read
+      either_need Begins (first_not d.image (needed_at d.image p)) _ _ (λ q. h)
+      (either_page Begins (p == 1048576) _ _ h
       (either_page Begins (is_system_place (image_size d.image) p) _ _
-      (new_begins tries kind payload _ (bit_begins 0 p _ (system_begins p _ some read)))
-      (bit_begins 0 p _ (put_begins p kind (payload p) _ some read)))
+      (new_begins tries kind payload _ (bit_begins 0 p _ (system_begins p d some h)))
+      (bit_begins 0 p _ (put_begins p kind (payload p) d some h))))

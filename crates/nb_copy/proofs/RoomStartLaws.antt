@@ -18,8 +18,8 @@ use Rattle.nb_level.specs.declared.head.LevelHead.{LevelHead}
 use Rattle.nb_model.specs.declared.reply.Reply.TheVariants.{Refused}
 use Rattle.nb_model.specs.Account.{Ask, Base}
 use Rattle.nb_model.specs.Backups.{room_in}
-use Rattle.nb_model.specs.Causes.{Cause, first_cause, when, read_only, not_state, not_free, no_scn, no_room, not_of_form, broken_at}
-use Rattle.nb_model.specs.Chains.{History, pages_of}
+use Rattle.nb_model.specs.Causes.{Cause, first_cause, when, read_only, not_state, not_free, no_scn, no_room, not_of_form, broken_at, short_for}
+use Rattle.nb_model.specs.Chains.{History, pages_of, spots, free_spot}
 use Rattle.nb_model.specs.Image.{Page, Image, first_page, image_scn, image_size}
 use Rattle.nb_model.specs.Outcomes.{Backing, Outcome, Copies, ClosesBackup, Seen, next_guid, says}
 use Rattle.nb_model.specs.Sound.{IsSoundImage, HasHeader}
@@ -135,8 +135,16 @@ module _ (old mid : World) (a b : Held) (t : Trail) (s : Seen) (session : ℕ) (
     header : HasHeader image
     header = subst (λ (x : Base). HasHeader x.image) at (record { header = is.files.agrees.header; scn = omega (arith, is.agrees.scn, is.agrees.four) })
 
-    decided : (broken_at (pages_of History image) ≡ None) × (first_cause (not_of_form (room_in image).draft ∷ no_room (room_in image).draft ∷ no_scn image ∷ []) ≡ None)
-    decided = no_first (broken_at (pages_of History image)) (not_of_form (room_in image).draft ∷ no_room (room_in image).draft ∷ no_scn image ∷ []) tries.test
+    abbrev short : Cause
+    short = short_for (free_spot (spots History image)) image
+
+    abbrev room_tests : List Cause
+    room_tests = not_of_form (room_in image).draft ∷ no_room (room_in image).draft ∷ no_scn image ∷ []
+
+    decided : (broken_at (pages_of History image) ≡ None) × (first_cause room_tests ≡ None)
+    decided =
+        let linked = no_first (broken_at (pages_of History image)) (short ∷ room_tests) tries.test in
+        (linked.0, (no_first short room_tests linked.1).1)
 
     pub may_go_on : no_scn image ≡ None
     may_go_on =

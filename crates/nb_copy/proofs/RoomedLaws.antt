@@ -16,7 +16,7 @@ use Rattle.nb_model.specs.Causes.{broken_at}
 use Rattle.nb_model.specs.Chains.{History, Spot, pages_of, found_pages, spots, free_spot, last_of, grown}
 use Rattle.nb_model.specs.Backups.{Room, room_in, needs_taken}
 use Rattle.nb_model.specs.Sound.{IsSoundImage, HasHeader}
-use Rattle.nb_model.proofs.DraftLaws.{IsKept, IsOf, either, drafts_are, drafted_is, needs_keeps, put_keeps, new_keeps}
+use Rattle.nb_model.proofs.DraftLaws.{IsKept, IsOf, either, drafts_are, drafted_is, needs_keeps, grown_keeps}
 use Rattle.nb_model.proofs.DraftJoin.{join_put}
 use Rattle.nb_model.proofs.FitLaws.{IsWhole, fits_first}
 use Rattle.nb_model.proofs.HeaderLaws.{header-size}
@@ -52,13 +52,9 @@ taken_keeps : (P : Draft → Type 0) → IsKept P → (p : ℕ) (d : Draft) → 
 unfolding needs_taken
 taken_keeps P kept p d h = either P (is_free_page d.image p) _ _ (kept.reads _ d h) h
 
-grown_keeps : (P : Draft → Type 0) → IsKept P → (pages slots : List ℕ) (d : Draft) → P d → P (grown History pages slots d).0
-unfolding grown
-grown_keeps P kept pages slots d h = put_keeps P kept _ 5 _ _ (new_keeps P kept _ 5 _ d h)
-
 room_keeps : (b : Base) (o : Option Spot) → IsOf b (room_by b.image o).draft
 room_keeps b (Some s) = taken_keeps (IsOf b) (drafts_are b) s.page _ (needs_keeps (IsOf b) (drafts_are b) 10 _ _ (needs_keeps (IsOf b) (drafts_are b) 2 _ _ (drafted_is b)))
-room_keeps b None = grown_keeps (IsOf b) (drafts_are b) (found_pages History b.image) [] (drafted b.image) (drafted_is b)
+room_keeps b None = grown_keeps (IsOf b) (drafts_are b) History (found_pages History b.image) [] (drafted b.image) (drafted_is b)
 
 -- so its image is that behind its strokes
 pub roomed_is : (t : Trail) → (after_strokes t (room_in t.base.image).draft.strokes).base.image ≡ (room_in t.base.image).draft.image

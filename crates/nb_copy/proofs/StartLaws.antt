@@ -13,8 +13,8 @@ use Rattle.nb_level.specs.declared.head.LevelHead.{LevelHead}
 use Rattle.nb_model.specs.declared.reply.Reply.TheVariants.{Refused}
 use Rattle.nb_model.specs.Account.{Ask}
 use Rattle.nb_model.specs.Backups.{room_in, starts, backup_turn, since_turn}
-use Rattle.nb_model.specs.Causes.{Cause, first_cause, when, read_only, not_state, not_free, no_scn, no_room, not_of_form, broken_at}
-use Rattle.nb_model.specs.Chains.{History, Spot, pages_of}
+use Rattle.nb_model.specs.Causes.{Cause, first_cause, when, read_only, not_state, not_free, no_scn, no_room, not_of_form, broken_at, short_for}
+use Rattle.nb_model.specs.Chains.{History, Spot, pages_of, spots, free_spot}
 use Rattle.nb_model.specs.Image.{Image, image_scn}
 use Rattle.nb_model.specs.Outcomes.{Outcome, Copies, ClosesBackup, Seen, next_guid, without_guid, says, unless}
 use Rattle.nb_model.specs.Strokes.{Stroke, begin}
@@ -32,28 +32,30 @@ use Rattle.nb_copy.proofs.BesideLaws.{starts_quiet}
 use Rattle.nb_copy.proofs.StartCauses.{after_none}
 
 -- the tests in the order of the calls are those of the turn
-at_once : (a b c d e f g h : Cause) → first_cause (first_cause (first_cause (a ∷ b ∷ c ∷ []) ∷ first_cause (d ∷ e ∷ []) ∷ []) ∷ first_cause (d ∷ f ∷ g ∷ h ∷ []) ∷ []) ≡ first_cause (a ∷ b ∷ c ∷ d ∷ e ∷ f ∷ g ∷ h ∷ [])
+at_once : (a b c d e f g h i : Cause) → first_cause (first_cause (first_cause (a ∷ b ∷ c ∷ []) ∷ first_cause (d ∷ e ∷ []) ∷ []) ∷ first_cause (d ∷ f ∷ g ∷ h ∷ i ∷ []) ∷ []) ≡ first_cause (a ∷ b ∷ c ∷ d ∷ e ∷ f ∷ g ∷ h ∷ i ∷ [])
 unfolding first_cause
-at_once (Some r) b c d e f g h = refl
-at_once None (Some r) c d e f g h = refl
-at_once None None (Some r) d e f g h = refl
-at_once None None None (Some r) e f g h = refl
-at_once None None None None (Some r) f g h = refl
-at_once None None None None None (Some r) g h = refl
-at_once None None None None None None (Some r) h = refl
-at_once None None None None None None None (Some r) = refl
-at_once None None None None None None None None = refl
+at_once (Some r) b c d e f g h i = refl
+at_once None (Some r) c d e f g h i = refl
+at_once None None (Some r) d e f g h i = refl
+at_once None None None (Some r) e f g h i = refl
+at_once None None None None (Some r) f g h i = refl
+at_once None None None None None (Some r) g h i = refl
+at_once None None None None None None (Some r) h i = refl
+at_once None None None None None None None (Some r) i = refl
+at_once None None None None None None None None (Some r) = refl
+at_once None None None None None None None None None = refl
 
-none_early : (a b c d f g h : Cause) → first_cause (first_cause (first_cause (a ∷ b ∷ c ∷ []) ∷ None ∷ []) ∷ first_cause (d ∷ f ∷ g ∷ h ∷ []) ∷ []) ≡ first_cause (a ∷ b ∷ c ∷ d ∷ None ∷ f ∷ g ∷ h ∷ [])
+none_early : (a b c d f g h i : Cause) → first_cause (first_cause (first_cause (a ∷ b ∷ c ∷ []) ∷ None ∷ []) ∷ first_cause (d ∷ f ∷ g ∷ h ∷ i ∷ []) ∷ []) ≡ first_cause (a ∷ b ∷ c ∷ d ∷ None ∷ f ∷ g ∷ h ∷ i ∷ [])
 unfolding first_cause
-none_early (Some r) b c d f g h = refl
-none_early None (Some r) c d f g h = refl
-none_early None None (Some r) d f g h = refl
-none_early None None None (Some r) f g h = refl
-none_early None None None None (Some r) g h = refl
-none_early None None None None None (Some r) h = refl
-none_early None None None None None None (Some r) = refl
-none_early None None None None None None None = refl
+none_early (Some r) b c d f g h i = refl
+none_early None (Some r) c d f g h i = refl
+none_early None None (Some r) d f g h i = refl
+none_early None None None (Some r) f g h i = refl
+none_early None None None None (Some r) g h i = refl
+none_early None None None None None (Some r) h i = refl
+none_early None None None None None None (Some r) i = refl
+none_early None None None None None None None (Some r) = refl
+none_early None None None None None None None None = refl
 
 -- the turn of one that begins
 abbrev started_by : Seen → (session : ℕ) → (name : List ℕ) → Ask → Outcome
@@ -89,14 +91,15 @@ row_turn : (s : Seen) (session : ℕ) (name : List ℕ) (ask : Ask) (row : Optio
 unfolding starts
 row_turn s session name ask row missing =
     ap (λ (c : Cause). unless s c (started_by s session name ask))
-    (sym (at_once (read_only s.base.image) (not_state 0 s.base.image) (not_free name (s.entry name)) (broken_at (pages_of History s.base.image)) (when (is_none row) missing) (not_of_form (room_in s.base.image).draft)
-    (no_room (room_in s.base.image).draft) (no_scn s.base.image)))
+    (sym (at_once (read_only s.base.image) (not_state 0 s.base.image) (not_free name (s.entry name)) (broken_at (pages_of History s.base.image)) (when (is_none row) missing) (short_for (free_spot (spots History s.base.image)) s.base.image)
+    (not_of_form (room_in s.base.image).draft) (no_room (room_in s.base.image).draft) (no_scn s.base.image)))
 
 turn_by : (s : Seen) (session : ℕ) (since : Since) (name : List ℕ) → turn_since s session since name ≡ unless s (start_cause s session since name) (started s session since name)
 unfolding backup_turn since_turn starts
 turn_by s session (Level zero) name =
     ap (λ (c : Cause). unless s c (started s session (Level zero) name))
-    (sym (none_early (read_only s.base.image) (not_state 0 s.base.image) (not_free name (s.entry name)) (broken_at (pages_of History s.base.image)) (not_of_form (room_in s.base.image).draft) (no_room (room_in s.base.image).draft) (no_scn s.base.image)))
+    (sym (none_early (read_only s.base.image) (not_state 0 s.base.image) (not_free name (s.entry name)) (broken_at (pages_of History s.base.image)) (short_for (free_spot (spots History s.base.image)) s.base.image)
+    (not_of_form (room_in s.base.image).draft) (no_room (room_in s.base.image).draft) (no_scn s.base.image)))
 turn_by s session (Level (suc below)) name = row_turn s session name (ask_in (Level (suc below)) s.base.image) (earlier_row (Level (suc below)) s.base.image) (NoHistory below)
 turn_by s session (Guid guid) name = row_turn s session name (ask_in (Guid guid) s.base.image) (earlier_row (Guid guid) s.base.image) (NoGuid guid)
 

@@ -195,10 +195,11 @@ impl Copier {
     /// the file can't be made, the answer is `Device` and the database is in the normal state.
     ///
     /// The refusals are `Access`, `WrongState`, `FileExists`, `NotDatabase` of the first page of the history that breaks the form,
-    /// `NoHistory`, `NotDatabase` of an inventory page that isn't of its kind or of a page of the history whose bit is free, `Full` and
-    /// `ScnExhausted`, in this order. All is tested before the first write, and the memory is taken before it. Where the inventories agree
-    /// with the pages, a refused call changes nothing. What else fails leaves the file as it was, or empty, so that its name is free. Where
-    /// memory is short nothing has begun.
+    /// `NoHistory`, `NotDatabase` of a database of fewer than five pages, by its length, where the history has no free slot, `NotDatabase` of
+    /// an inventory page that isn't of its kind or of a page of the history whose bit is free, `Full` and `ScnExhausted`, in this order. All
+    /// is tested before the first write, and the memory is taken before it. Where the inventories agree with the pages, a refused call
+    /// changes nothing. What else fails leaves the file as it was, or empty, so that its name is free. Where memory is short nothing has
+    /// begun.
     pub fn start<H: Host>(
         alloc: Global,
         host: &mut H,

@@ -7,3 +7,5 @@ pub mod NextLaws
 pub mod MergeLaws
 pub mod FoldLaws
 pub mod SameLaws
+pub mod AcceptLaws
+pub mod MergedLaws

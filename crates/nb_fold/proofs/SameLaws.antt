@@ -27,7 +27,7 @@ use Rattle.nb_fold.proofs.FoldedLaws.{folded_rises, none_above, none_below}
 use Rattle.nb_fold.proofs.PagesLaws.{level_pages}
 
 -- the page that is seen where one is written, or none
-abbrev seen : Option Page → (before : Page) → Page
+abbrev pub seen : Option Page → (before : Page) → Page
 seen (Some page) before = page
 seen None before = before
 
@@ -36,7 +36,7 @@ seen-or (Some page) b before = refl
 seen-or None b before = refl
 
 -- the pages of a file over those of an image
-page_over : (size least : ℕ) (rs : List Numbered) (image : Image) (p : ℕ) → AreRising least rs → main_page size (overwritten size rs image) p ≡ seen (page_of p rs) (main_page size image p)
+pub page_over : (size least : ℕ) (rs : List Numbered) (image : Image) (p : ℕ) → AreRising least rs → main_page size (overwritten size rs image) p ≡ seen (page_of p rs) (main_page size image p)
 unfolding overwritten
 page_over size least [] image p rise = refl
 page_over size least (r ∷ rs) image p rise =
@@ -54,7 +54,7 @@ abbrev pub over_each : (size : ℕ) → List (List Numbered) → Image → Image
 over_each size [] image = image
 over_each size (rs ∷ rss) image = over_each size rss (overwritten size rs image)
 
-page_each : (size : ℕ) (rss : List (List Numbered)) (image : Image) (p : ℕ) → AllRise 0 rss → main_page size (over_each size rss image) p ≡ seen (last_page p rss) (main_page size image p)
+pub page_each : (size : ℕ) (rss : List (List Numbered)) (image : Image) (p : ℕ) → AllRise 0 rss → main_page size (over_each size rss image) p ≡ seen (last_page p rss) (main_page size image p)
 page_each size [] image p rise = refl
 page_each size (rs ∷ rss) image p rise =
     page_each size rss (overwritten size rs image) p rise.1 ∙ ap (seen (last_page p rss)) (page_over size 0 rs image p rise.0) ∙ seen-or (last_page p rss) (page_of p rs) (main_page size image p)
@@ -132,7 +132,7 @@ not_false : (b : Bool) → not b ≡ false → b ≡ true
 not_false true e = refl
 not_false false e = absurd (true≢false e)
 
-test_passed : (test : Bool) (r : Refusal) → when (not test) r ≡ None → test ≡ true
+pub test_passed : (test : Bool) (r : Refusal) → when (not test) r ≡ None → test ≡ true
 test_passed test r e = not_false test (when_clear (not test) r e)
 
 -- what a head names of the file before it

@@ -57,11 +57,19 @@ module _ {H : Type 0} (world : H → World) (told : Told) where
   unfolding play
   in_turn_then [] order old mid new before between after t now first second = from_start order old mid new before between after t now first.0 first.1 second
   in_turn_then (x ∷ front) order old mid new before between after t now (inl idle) second =
-      inl (idle.0, in_turn_then front order old mid new before between after t now idle.1
-      (subst (λ (p : Played). InTurn world told order mid new between after (after_steps t (steps_of p.0)) p.1) (play_idle x front now idle.0) second))
+      inl (
+        idle.0,
+        in_turn_then front order old mid new before between after t now idle.1
+            (subst (λ (p : Played). InTurn world told order mid new between after (after_steps t (steps_of p.0)) p.1) (play_idle x front now idle.0) second),
+      )
   in_turn_then (x ∷ front) order old mid new before between after t now (inr taken) second =
-      inr (taken.0, taken.1, taken.2, in_turn_then front order taken.0 mid new taken.1 between after (after_steps t (steps_of (one_turn x now).0)) (one_turn x now).1 taken.3
-      (subst (λ (u : Trail). InTurn world told order mid new between after u (play (x ∷ front) now).1) (play_then x front now t) second))
+      inr (
+        taken.0,
+        taken.1,
+        taken.2,
+        in_turn_then front order taken.0 mid new taken.1 between after (after_steps t (steps_of (one_turn x now).0)) (one_turn x now).1 taken.3
+            (subst (λ (u : Trail). InTurn world told order mid new between after u (play (x ∷ front) now).1) (play_then x front now t) second),
+      )
 
   module _ (front : List ℕ) (session : ℕ) (old mid new : H) (before between after : Held) (t : Trail) (now : Now) (taken : InTurn world told front old mid before between t now) where
     -- one number more, of a session that has nothing to do

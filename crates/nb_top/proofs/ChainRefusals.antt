@@ -181,14 +181,15 @@ with_fine : (cs : List Contents) (rest : Result (List Contents) Refusal) → IsF
 with_fine cs (Ok more) h = tt
 with_fine cs (Err refusal) h = h
 
+more_fine : (answer : Result Contents Refusal) (rest : Contents → Result (List Contents) Refusal) → IsFine answer → ((c : Contents) → IsFine (rest c))
+    → IsFine (elim answer as (λ z. Result (List Contents) Refusal) [ Err refusal ↦ Err refusal | Ok c ↦ with_files (c ∷ []) (rest c) ])
+more_fine (Err refusal) rest h later = h
+more_fine (Ok c) rest h later = with_fine (c ∷ []) (rest c) (later c)
+
 folds_fine : (files : Files) (last : Option Contents) (names : List (List ℕ)) → IsFine (files_after files last names)
 unfolding files_after
 folds_fine files last [] = tt
-folds_fine files last (name ∷ names) = by (file_after files last name) (after_fine files last name)
-  where
-    by : (answer : Result Contents Refusal) → IsFine answer → IsFine (elim answer as (λ z. Result (List Contents) Refusal) [ Err refusal ↦ Err refusal | Ok c ↦ with_files (c ∷ []) (files_after files (Some c) names) ])
-    by (Err refusal) h = h
-    by (Ok c) h = with_fine (c ∷ []) (files_after files (Some c) names) (folds_fine files (Some c) names)
+folds_fine files last (name ∷ names) = more_fine (file_after files last name) (λ (c : Contents). files_after files (Some c) names) (after_fine files last name) (λ c. folds_fine files (Some c) names)
 
 pub refused_files : (files : Files) (names : List (List ℕ)) (refusal : Refusal) → chained files names ≡ Err refusal → refusal ≢ Usage
 refused_files files names refusal is = subst (λ (r : Result (List Contents) Refusal). IsFine r) is (folds_fine files None names)
@@ -216,14 +217,15 @@ heads_fine : (head : LevelHead) (rest : Result (List LevelHead) Refusal) → IsF
 heads_fine head (Ok heads) h = tt
 heads_fine head (Err refusal) h = h
 
+head_fine : (answer : Result LevelHead Refusal) (rest : Result (List LevelHead) Refusal) → IsFine answer → IsFine rest
+    → IsFine (elim answer as (λ z. Result (List LevelHead) Refusal) [ Err refusal ↦ Err refusal | Ok head ↦ with_first head rest ])
+head_fine (Err refusal) rest h later = h
+head_fine (Ok head) rest h later = heads_fine head rest later
+
 reads_fine : (files : Files) (names : List (List ℕ)) → IsFine (read_files files names)
 unfolding read_files
 reads_fine files [] = tt
-reads_fine files (name ∷ names) = by (read_file name (files name)) (read_fine name (files name))
-  where
-    by : (answer : Result LevelHead Refusal) → IsFine answer → IsFine (elim answer as (λ z. Result (List LevelHead) Refusal) [ Err refusal ↦ Err refusal | Ok head ↦ with_first head (read_files files names) ])
-    by (Err refusal) h = h
-    by (Ok head) h = heads_fine head (read_files files names) (reads_fine files names)
+reads_fine files (name ∷ names) = head_fine (read_file name (files name)) (read_files files names) (read_fine name (files name)) (reads_fine files names)
 
 plan_fine : (files : Files) (names : List (List ℕ)) (keep : ℕ) → IsFine (planned files names keep)
 unfolding planned

@@ -1,6 +1,6 @@
 -- Where files stand for an account as a fold begins, they stand for one with the file that it makes.
 use Rattle.std.proofs.Common.{true≢false, ◌≡◌, ◌≢◌, ℕ, ◌≤◌, List, [], ◌∷◌, length, inl, inr, true, false, refl, sym, ap, subst, ◌∙◌, arith}
-use Rattle.std.specs.Prelude.{not, is_some, Some, None, Result, Ok, Err}
+use Rattle.std.specs.Prelude.{not, is_some, Some, None, Result, Ok}
 use Rattle.std.specs.List.{AllByRecursion}
 use Rattle.std.proofs.lemmas.Bool.{and_parts}
 use Rattle.nb_fields.specs.Free.{is_free_file}
@@ -17,7 +17,6 @@ use Rattle.nb_model.specs.Jobs.{account_behind}
 use Rattle.nb_model.specs.Levels.{Contents, file_for, read_level}
 use Rattle.nb_model.specs.Owner.{delta_name, entry_in}
 use Rattle.nb_model.specs.Run.{Event}
-use Rattle.nb_model.specs.Stands.{Stands}
 use Rattle.nb_model.proofs.MadeLaws.{IsInMaking, IsWholeFile, is_free, unfinished, span_whole, stands_closed, stands_making}
 use Rattle.nb_model.proofs.MakingLaws.{level_used}
 use Rattle.nb_model.proofs.OpeningLaws.{free_entry, with_kept}
@@ -76,7 +75,7 @@ module _ (old : World) (account : Account) (out : List ℕ) (names : List (List 
 
     was_free : (is_free_file (old.files out) ≡ true) × (old.files (delta_name out) ≡ None)
     was_free =
-        let both = and_parts (is_free_file (old.files out)) (not (is_some (old.files (delta_name out)))) (sym (free_entry old.files account out stands.now.same_image stands.now.no_stray plain) ∙ free) in
+        let both = and_parts (is_free_file (old.files out)) (not (is_some (old.files (delta_name out)))) (sym (free_entry old.files account out stands.now.same_image plain) ∙ free) in
         (both.0, not_some (old.files (delta_name out)) both.1)
 
     -- no difference file stands beside it

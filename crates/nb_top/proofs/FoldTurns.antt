@@ -1,6 +1,6 @@
 -- The one turn of a fold: what it must be, and what stands behind it.
 use Rattle.std.proofs.Common.{◌≡◌, ◌≢◌, ◌⊎◌, inl, inr, ℕ, List, true, false, refl, sym, ap, ◌∙◌}
-use Rattle.std.specs.Prelude.{Bool, Some, None, Result, Ok, Err}
+use Rattle.std.specs.Prelude.{Bool, None, Result, Ok, Err}
 use Rattle.nb_host.specs.Files.{Files}
 use Rattle.nb_host.specs.declared.refusals.Refusal.{Refusal}
 use Rattle.nb_host.specs.declared.refusals.Refusal.TheVariants.{FileExists, Usage}
@@ -9,7 +9,7 @@ use Rattle.nb_model.specs.Account.{Account, Plain, with_entry}
 use Rattle.nb_model.specs.Causes.{is_free_entry}
 use Rattle.nb_model.specs.Jobs.{only_refusal, account_behind}
 use Rattle.nb_model.specs.Levels.{Contents}
-use Rattle.nb_model.specs.Run.{Event, with_made}
+use Rattle.nb_model.specs.Run.{with_made}
 use Rattle.nb_fold.specs.Folding.{bytes_for, folded}
 use Rattle.nb_fold.specs.Verdict.{chained, fold_turn, fold_verdict, made_turn}
 use Rattle.nb_top.proofs.ChainRefusals.{refused_files}

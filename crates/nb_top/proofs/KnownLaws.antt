@@ -13,10 +13,11 @@ use Rattle.nb_model.specs.declared.job.Job.{Job}
 use Rattle.nb_model.specs.declared.job.Job.TheVariants.{Run, Stat, Gen, Backup, BackupSince, Restore, Apply, Lock, LockWithSize, Unlock, Fixup, Fold, Plan as PlanOf}
 use Rattle.nb_model.specs.declared.statement.Statement.{Statement}
 use Rattle.nb_model.specs.declared.statement.Statement.TheVariants.{OpenDb}
-use Rattle.nb_model.specs.Account.{Account}
+use Rattle.nb_model.specs.Account.{Base, IsBase, Account}
 use Rattle.nb_model.specs.Jobs.{usual_cache}
 use Rattle.nb_model.specs.Owner.{delta_name}
-use Rattle.nb_model.specs.Stands.{Stands, to_base}
+use Rattle.nb_model.specs.Sound.{IsSoundImage}
+use Rattle.nb_model.specs.Stands.{IsSameImage, Stands, to_base}
 use Rattle.nb_model.specs.Words.{is_file, job_of}
 use Rattle.nb_model.proofs.GoingLaws.{name_short}
 use Rattle.nb_model.proofs.OpeningLaws.{free_entry}
@@ -49,12 +50,13 @@ module _ (files : Files) (names : HaveNames files) where
         ∙ ap (λ (t : Bool). is_free_file (files name) && not t) (sym (none_long name long.1))
   ]
 
-module _ (files : Files) (names : HaveNames files) (account : Account) (stands : Stands files account) where
+-- The account has under each name what the files hold, and each database there is sound.
+module _ (files : Files) (names : HaveNames files) (account : Account) (same : IsSameImage files account) (sound : (name : List ℕ) (b : Base) → is_delta name ≡ false → account.entry name ≡ IsBase b → IsSoundImage b.image) where
   known_names : KnowsNames files account
-  known_names name plain = free_named files names name ∙ sym (free_entry files account name stands.same_image plain)
+  known_names name plain = free_named files names name ∙ sym (free_entry files account name same plain)
 
   known_under : (name : List ℕ) → is_delta name ≡ false → HoldsUnder files account name
-  known_under name plain = record { same = stands.same_image name plain; sound = λ b is. stands.sound_images.images b.image (to_base name b is refl) }
+  known_under name plain = record { same = same name plain; sound = λ b is. sound name b plain is }
 
   known_opened : (first : Statement) → FitsFirst first → KnowsOpened files account first
   known_opened (OpenDb name cache) fits = known_under name (base_name name fits.0).plain
@@ -80,11 +82,11 @@ module _ (files : Files) (names : HaveNames files) (account : Account) (stands :
   known_job (LockWithSize db) fits = known_first (OpenDb db usual_cache) (begin_askable db fits).first.fits
   known_job (Unlock db) fits = known_first (OpenDb db usual_cache) (end_askable db fits).first.fits
   known_job (Gen number name) fits = known_names
-  known_job (Fixup db) fits = stands.same_image db (plain_file db (and_parts (is_file db) (nat_le (length db) 94) fits).0)
+  known_job (Fixup db) fits = same db (plain_file db (and_parts (is_file db) (nat_le (length db) 94) fits).0)
   known_job (Restore db names) fits = known_names db (plain_file db (and_parts (is_file db) (nat_le (length db) 94) fits.0).0)
   known_job (Fold out names) fits = known_names out (plain_file out fits.0)
   known_job (PlanOf keep list) fits = known_plan keep (names_in list (files list))
-  known_job (Apply db file) fits = stands.same_image db (plain_file db (and_parts (is_file db) (nat_le (length db) 94) fits.0).0)
+  known_job (Apply db file) fits = same db (plain_file db (and_parts (is_file db) (nat_le (length db) 94) fits.0).0)
 
   pub known_asked : (words : List (List ℕ)) → KnowsAsked files account (request_asked files words)
   known_asked words = by (job_of words) refl
@@ -92,3 +94,7 @@ module _ (files : Files) (names : HaveNames files) (account : Account) (stands :
       by : (job : Option Job) → job_of words ≡ job → KnowsAsked files account (elim job as (λ z. Asked) [ None ↦ Runs (Err Usage) | Some k ↦ request_of files k ])
       by None is = tt
       by (Some job) is = known_job job (fits_words words job is)
+
+-- So it is of one for which the files stand.
+pub stands_known : (files : Files) (account : Account) → HaveNames files → Stands files account → (words : List (List ℕ)) → KnowsAsked files account (request_asked files words)
+stands_known files account names stands words = known_asked files names account stands.same_image (λ name b plain is. stands.sound_images.images b.image (to_base name b is refl)) words

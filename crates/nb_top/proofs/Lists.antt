@@ -1,5 +1,5 @@
 -- A list of names is read, and its files are planned for.
-use Rattle.std.proofs.Common.{◌≡◌, ◌≢◌, ℕ, zero, suc, ◌+◌, List, [], ◌∷◌, length, refl, sym, ap, subst, ◌∙◌}
+use Rattle.std.proofs.Common.{◌≡◌, ◌≢◌, ℕ, zero, suc, ◌+◌, List, [], ◌∷◌, ◌++◌, length, refl, sym, ap, subst, ◌∙◌}
 use Rattle.std.specs.Prelude.{Bool, true, false, Option, Some, None, Result, Ok, Err, IfOk, nat_lt, if◌then◌else◌}
 use Rattle.nb_host.specs.Files.{File}
 use Rattle.nb_host.specs.World.{World}
@@ -8,14 +8,13 @@ use Rattle.nb_host.specs.declared.refusals.Refusal.TheVariants.{BadScript, NoFil
 use Rattle.nb_page.specs.Quiet.{Quiet}
 use Rattle.nb_model.specs.declared.reply.Reply.TheVariants.{Refused as RefusedReply}
 use Rattle.nb_model.specs.Output.{status_after}
-use Rattle.nb_model.specs.Words.{is_file}
 use Rattle.nb_model.specs.declared.statement.Statement.{Statement}
 use Rattle.nb_script.specs.FirstLine.{first_at}
 use Rattle.nb_script.specs.Statements.{statement_at}
 use Rattle.nb_script.specs.Scripts.{Plan, Numbered, started, with_statement, or_bad, with_lines, order_in, with_order, of_lines, script_of}
 use Rattle.nb_script.specs.Lines.{left, lines_of}
 use Rattle.nb_catalog.specs.Answers.{with_first}
-use Rattle.nb_catalog.specs.NameLists.{list_of, names_on, some_names_on}
+use Rattle.nb_catalog.specs.NameLists.{is_next, list_of, names_on, some_names_on}
 use Rattle.nb_catalog.specs.Turns.{names_in}
 use Rattle.nb_session.specs.declared.stop.Stop.{Stop}
 use Rattle.nb_top.specs.declared.status.Status.{Status}
@@ -50,20 +49,21 @@ first_fine : (name : List ℕ) (rest : Result (List (List ℕ)) Refusal) → IsF
 first_fine name (Ok names) h = tt
 first_fine name (Err refusal) h = h
 
-names_fine : (most : ℕ) (lines : List Numbered) → IsFine (names_on most lines)
+names_fine : (most : ℕ) (before : List (List ℕ)) (lines : List Numbered) → IsFine (names_on most before lines)
 unfolding names_on
-names_fine most [] = tt
-names_fine zero (line ∷ lines) = bad_line line.0
-names_fine (suc most) (line ∷ lines) = by (is_file line.1) (names_fine most lines)
+names_fine zero before [] = tt
+names_fine (suc most) before [] = tt
+names_fine zero before (line ∷ lines) = bad_line line.0
+names_fine (suc most) before (line ∷ lines) = by (is_next before line.1) (names_fine most (before ++ line.1 ∷ []) lines)
   where
-    by : (b : Bool) → IsFine (names_on most lines) → IsFine (if b then with_first line.1 (names_on most lines) else Err (BadScript line.0))
-    by true rest = first_fine line.1 (names_on most lines) rest
+    by : (b : Bool) → IsFine (names_on most (before ++ line.1 ∷ []) lines) → IsFine (if b then with_first line.1 (names_on most (before ++ line.1 ∷ []) lines) else Err (BadScript line.0))
+    by true rest = first_fine line.1 (names_on most (before ++ line.1 ∷ []) lines) rest
     by false rest = bad_line line.0
 
 some_fine : (count : ℕ) (lines : List Numbered) → IsFine (some_names_on count lines)
 unfolding some_names_on
 some_fine count [] = bad_line (count + 1)
-some_fine count (line ∷ lines) = names_fine 1000 (line ∷ lines)
+some_fine count (line ∷ lines) = names_fine 1000 [] (line ∷ lines)
 
 list_fine : (bytes : List ℕ) → IsFine (list_of bytes)
 unfolding list_of

@@ -1,16 +1,13 @@
 -- The line that is shown of a script which breaks its form.
 use Rattle.std.proofs.Common.{◌≡◌, ◌≢◌, ℕ, List, refl, sym, ap, subst}
 use Rattle.std.specs.Prelude.{Option, Some, None, Result, Ok, Err, IsErr}
-use Rattle.nb_host.specs.Files.{File}
-use Rattle.nb_host.specs.declared.faults.Fault.{Fault}
 use Rattle.nb_host.specs.declared.refusals.Refusal.{Refusal}
-use Rattle.nb_host.specs.declared.refusals.Refusal.TheVariants.{BadScript}
-use Rattle.nb_script.specs.Scripts.{Plan}
+use Rattle.nb_host.specs.declared.refusals.Refusal.TheVariants.{BadScript, Usage}
 use Rattle.nb_session.specs.declared.stop.Stop.{Stop}
 use Rattle.nb_top.specs.declared.broken.Broken.{Broken}
 use Rattle.nb_top.specs.declared.status.Status.{Status}
 use Rattle.nb_top.specs.declared.status.Status.TheVariants.{Device, Memory}
-use Rattle.nb_top.specs.Requests.{Request, Deed, Asked, Runs, Does, to_plan, to_run}
+use Rattle.nb_top.specs.Requests.{Request, Deed, Asked, Runs, Does, to_plan}
 use Rattle.nb_top.specs.Shown.{Names, BreaksAt, IfShown, IsShownOf, IsShown}
 
 -- it isn't refused for a line
@@ -26,6 +23,10 @@ deed_unbroken deed line h = cc
 -- a plan that is refused is refused for a line of its list or for another reason
 pub plan_unbroken : (keep : ℕ) (names : List (List ℕ)) → IsUnbroken (to_plan keep (Ok names))
 plan_unbroken keep names line h = cc
+
+-- nor are words that name no job
+pub usage_unbroken : IsUnbroken (Runs (Err Usage))
+usage_unbroken line h = cc
 
 -- nothing was noted
 pub unshown : (result : Result Status Stop) (broken : Option Broken) (asked : Asked) → broken ≡ None → IsUnbroken asked → IsShownOf result broken asked

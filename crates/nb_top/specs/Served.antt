@@ -11,6 +11,7 @@ use Rattle.nb_change.specs.Changes.{Changes}
 use Rattle.nb_change.specs.Gave.{GaveNothing}
 use Rattle.nb_page.specs.Quiet.{Quiet}
 use Rattle.nb_model.specs.declared.reply.Reply.{Reply}
+use Rattle.nb_model.specs.declared.reply.Reply.TheVariants.{Refused as RefusedReply}
 use Rattle.nb_model.specs.Account.{Account}
 use Rattle.nb_model.specs.Jobs.{only_refusal}
 use Rattle.nb_model.specs.Output.{status_after}
@@ -18,6 +19,7 @@ use Rattle.nb_model.specs.Run.{Event}
 use Rattle.nb_session.specs.Others.{LeavesOthers}
 use Rattle.nb_session.specs.declared.stop.Stop.{Stop}
 use Rattle.nb_top.specs.declared.status.Status.{Status}
+use Rattle.nb_top.specs.declared.status.Status.TheVariants.{Done as DoneStatus, Refused as RefusedStatus}
 use Rattle.nb_top.specs.Requests.{Deed}
 use Rattle.nb_top.specs.OneTurn.{OneTurn, one_turn, OfName, IsDoneFor, IsOnItsWay, Read, TurnEnded, TurnLeft, leaves_all}
 
@@ -53,6 +55,16 @@ pub record Serves (result : Result Reply Fault) (old new : World) (job : OneTurn
 pub record IsTaken (tells : Bool) (result : Result Reply Fault) (begun now : World) (deed : Deed) : Type 0 where
   pub serves : (account : Account) → IsTrue tells → (one_turn begun.files deed).knows account → Serves result begun now (one_turn begun.files deed) ((one_turn begun.files deed).turn account)
   pub others : IsTrue tells → LeavesOthers begun now (OfName (one_turn begun.files deed).name)
+
+-- what is said of a turn that was taken
+abbrev pub reply_told : Result Reply Refusal → Reply
+reply_told (Ok reply) = reply
+reply_told (Err refusal) = RefusedReply refusal
+
+-- and how the run ends then
+abbrev pub status_told : Result Reply Refusal → Status
+status_told (Ok reply) = DoneStatus
+status_told (Err refusal) = RefusedStatus
 
 -- What a run does of the job.
 pub record TurnsTo (result : Result Status Stop) (old new : World) (job : OneTurn) (account : Account) : Type 0 where

@@ -16,7 +16,7 @@ ghost use Rattle.nb_top.specs.OneTurn.{one_turn};
 ghost use Rattle.nb_top.specs.Performed.{IsPerformed, KnowsAsked};
 ghost use Rattle.nb_top.specs.Requests.{Deed, Does, Runs, request_asked, request_of, run_of};
 ghost use Rattle.nb_top.specs.Standing.{HoldsKept, StandsFor};
-ghost use Rattle.nb_top.specs.Worlds.{AreCopies, ArePlain, HaveNames, StartsFrom, account_of, empty, no_files};
+ghost use Rattle.nb_top.specs.Worlds.{AreCopies, ArePlain, HaveNames, HaveSound, StartsFrom, account_of, empty, no_files};
 
 use nb_host::Host;
 
@@ -50,9 +50,12 @@ pub fn hosts_in_memory_begin_so()
 {}
 
 /// An account for which the files stand knows what any words ask of it: of each name that a file may have it knows whether it is free, and of
-/// each database it has what the files tell. The files have names that a host may give them.
+/// each database it has what the files tell. The files have names that a host may give them. Whatever else stands in them, as a difference file
+/// without its database, the account that has under each name what they hold knows it too, where the inventories of each database agree
+/// with its pages.
 pub fn what_stands_is_known()
-    ensures { (files : Files) (account : Account) (words : List (List ℕ)) → HaveNames files → Stands files account → KnowsAsked files account (request_asked files words) }
+    ensures stands { (files : Files) (account : Account) (words : List (List ℕ)) → HaveNames files → Stands files account → KnowsAsked files account (request_asked files words) }
+    ensures whatever { (files : Files) (kept : List Kept) (words : List (List ℕ)) → HaveNames files → HaveSound files → KnowsAsked files (account_of files kept) (request_asked files words) }
 {}
 
 /// A job that attaches is exactly the run of the script that opens its database and asks what the job asks. It says nothing of the opening

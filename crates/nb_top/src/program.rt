@@ -236,9 +236,11 @@ fn do_job<H: Host>(
 {
     match job {
         Ok(job) => run_job(alloc, host, job, broken),
-        Err(Fault::Refused(_)) => refuse_words(alloc, host),
-        Err(Fault::Memory) => Err(Stop::Memory),
-        Err(Fault::Device) => unreachable!(),
+        Err(fault) => match fault {
+            Fault::Refused(_) => refuse_words(alloc, host),
+            Fault::Memory => Err(Stop::Memory),
+            Fault::Device => unreachable!(),
+        },
     }
 }
 

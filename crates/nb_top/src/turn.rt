@@ -1,25 +1,26 @@
 // Jobs of one turn: a call of a crate below takes the turn, and its reply is said.
-ghost use Rattle.std.specs.Prelude.{◌≡◌, ◌⊎◌, ◌<◌, ◌≤◌, ◌^◌, ℕ, length, Some, IsTrue, IfOk};
+ghost use Rattle.std.specs.Prelude.{◌≡◌, ◌⊎◌, ◌<◌, ◌≤◌, ◌^◌, length, Some, IsTrue, IfOk};
 ghost use Rattle.nb_change.specs.Changes.{NoNames, Only};
 ghost use Rattle.nb_change.specs.Counts.{CountsDevice};
-ghost use Rattle.nb_host.specs.World.{World};
 ghost use Rattle.nb_catalog.specs.Turns.{plan_turn};
 ghost use Rattle.nb_fold.specs.Verdict.{fold_turn};
 ghost use Rattle.nb_model.specs.Account.{Account};
 ghost use Rattle.nb_model.specs.Jobs.{apply_turn, fixup_turn, restore_turn};
+ghost use Rattle.nb_model.specs.Lines.{line_text};
 ghost use Rattle.nb_session.specs.Causes.{CountsStop};
 ghost use Rattle.nb_session.specs.Others.{LeavesOthers};
+ghost use Rattle.nb_session.specs.Says.{SaysLine};
 ghost use Rattle.nb_top.specs.OneTurn.{OfName, fixing, folding, merging, one_turn, planning, restoring};
 ghost use Rattle.nb_top.specs.Goes.{Goes};
 ghost use Rattle.nb_top.specs.Requests.{Deed, Does, FitsJob, ToPlan, deed_of};
-ghost use Rattle.nb_top.specs.Served.{IsTaken, Serves};
+ghost use Rattle.nb_top.specs.Served.{Serves, reply_told, status_told};
 
 use crate::Status;
 use crate::script::{refuse, say_line, settled};
 use nb_catalog::{named, plan_files};
 use nb_fixup::fix_up;
 use nb_fold::fold;
-use nb_host::{Fault, Host, Name};
+use nb_host::{Fault, Host, Name, Refusal};
 use nb_inplace::apply;
 use nb_level::LevelHead;
 use nb_model::{Job, Reply};
@@ -89,12 +90,7 @@ fn folded<H: Host>(alloc: Global, host: &mut H, out: &Name, files: &[Name]) -> R
 
 /// Plans which of these backup files the last restore points need, so many of them, and answers how many files those are, and the names of the
 /// others: those that may go, and those from which no chain leads down to level 0.
-fn planned<H: Host>(
-    alloc: Global,
-    host: &mut H,
-    keep: u32,
-    files: &[Name],
-) -> Result<Reply, Fault>
+fn planned<H: Host>(alloc: Global, host: &mut H, keep: u32, files: &[Name]) -> Result<Reply, Fault>
     requires few { length files.now < 2 ^ 32 }
     ensures serves { IsTrue H.tells
         → Serves result (H.world host.old) (H.world host.new) (planning (H.world host.old).files keep files.now) (plan_turn (H.world host.old).files files.now keep) }
@@ -133,13 +129,14 @@ fn take_turn<H: Host>(alloc: Global, host: &mut H, job: &Job) -> Result<Reply, F
 fn say_taken<H: Host>(
     alloc: Global,
     host: &mut H,
-    taken: Result<Reply, Fault>,
+    taken: Result<Reply, Refusal>,
 ) -> Result<Status, Stop>
-    ensures goes { (begun : World) (deed : Deed) → IsTaken H.tells taken begun (H.world host.old) deed → Goes H.tells result begun (H.world host.new) (Does deed) }
+    ensures line { IsTrue H.tells → SaysLine result (H.world host.old) (H.world host.new) (line_text 1 (reply_told taken)) }
+    ensures ended { IfOk result (λ status. status ≡ status_told taken) }
     ensures done { IfOk result (λ status. (status ≡ Status.Done) ⊎ (status ≡ Status.Refused)) }
-    ensures cause { (before : ℕ) → CountsDevice taken before (H.faults host.old) → CountsStop result before (H.faults host.new) }
+    ensures cause { CountsStop result (H.faults host.old) (H.faults host.new) }
 {
-    match settled(taken)? {
+    match taken {
         Ok(reply) => {
             say_line(alloc, host, 1, &reply)?;
             Ok(Status::Done)
@@ -156,7 +153,7 @@ pub(crate) fn run_turn<H: Host>(alloc: Global, host: &mut H, job: &Job) -> Resul
     ensures done { IfOk result (λ status. (status ≡ Status.Done) ⊎ (status ≡ Status.Refused)) }
     ensures cause { CountsStop result (H.faults host.old) (H.faults host.new) }
 {
-    let taken = take_turn(alloc, host, job);
+    let taken = settled(take_turn(alloc, host, job))?;
     say_taken(alloc, host, taken)
 }
 
@@ -172,6 +169,6 @@ pub(crate) fn run_plan<H: Host>(
     ensures done { IfOk result (λ status. (status ≡ Status.Done) ⊎ (status ≡ Status.Refused)) }
     ensures cause { CountsStop result (H.faults host.old) (H.faults host.new) }
 {
-    let taken = planned(alloc, host, keep, files);
+    let taken = settled(planned(alloc, host, keep, files))?;
     say_taken(alloc, host, taken)
 }

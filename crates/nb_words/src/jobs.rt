@@ -136,12 +136,7 @@ fn restore(alloc: Global, words: &[&str]) -> Result<Option<Job>, Fault>
 }
 
 /// What the first of four words or more names.
-fn of_more(
-    alloc: Global,
-    verb: &str,
-    out: &str,
-    words: &[&str],
-) -> Result<Option<Job>, Fault>
+fn of_more(alloc: Global, verb: &str, out: &str, words: &[&str]) -> Result<Option<Job>, Fault>
     ensures exact { IfOk result (λ job. job ≡ fold_job (verb.now ∷ out.now ∷ words_of words.now)) }
     ensures only_memory { IfErr result (λ fault. fault ≡ Memory) }
 {

@@ -1,4 +1,4 @@
-use Rattle.std.proofs.Common.{◌≡◌, ◌-◌, ◌≤◌, length}
+use Rattle.std.proofs.Common.{◌≡◌, ◌-◌, ◌≤◌, [], length}
 use Rattle.nb_script.specs.Lines.{left}
 use Rattle.nb_catalog.specs.NameLists.{names_on}
 use Rattle.nb_catalog.proofs.FileLemmas.{with_all}
@@ -7,7 +7,7 @@ use Rattle.nb_catalog.proofs.name_list.names_on.Given as goal
 -- the names so far stand first
 abbrev pub invariant-loop-line : goal.invariant-loop-line
 invariant-loop-line l = record {
-  so_far : names_on 1000 (left l.fn.lines.passed l.fn.lines.rest.now) ≡ with_all l.names (names_on (1000 - length l.names) (left l.lines.passed l.lines.rest.now));
+  so_far : names_on 1000 [] (left l.fn.lines.passed l.fn.lines.rest.now) ≡ with_all l.names (names_on (1000 - length l.names) l.names (left l.lines.passed l.lines.rest.now));
   most : length l.names ≤ 1000;
 }
 

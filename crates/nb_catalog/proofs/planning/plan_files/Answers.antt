@@ -3,6 +3,7 @@ use Rattle.nb_host.specs.Files.{Files}
 use Rattle.nb_chain.proofs.AnswerLemmas.{passed}
 use Rattle.nb_catalog.specs.Answers.{Says}
 use Rattle.nb_catalog.specs.Turns.{planned}
+use Rattle.nb_catalog.proofs.KeptFiles.{keeps_files}
 use Rattle.nb_catalog.proofs.TurnLemmas.{planned_is, planned_fault}
 use Rattle.nb_catalog.proofs.planning.plan_files.Goals as goal
 
@@ -25,4 +26,5 @@ returns-clause-chains g c tells =
       read = c.in_ok-catalogue.ensures.answer tells;
       chained = λ e kept. c.in_ok-catalogue.ensures.chained tells e (safe.points e kept);
       safe = safe;
+      by_name = keeps_files (g.H.Host.world c.args.host.now).files c.args.files.now c.in_ok-catalogue.catalogue c.args.keep c.in_ok-plan.plan (c.in_ok-catalogue.ensures.answer tells) c.in_ok-plan.ensures.exact;
     }

@@ -38,7 +38,7 @@ pub returns-in-CacheShown : goal.returns-in-CacheShown
 returns-in-CacheShown c = rw c.in-CacheShown.is c.push_words-in-CacheShown.ensures
 
 pub returns-in-Planned : goal.returns-in-Planned
-returns-in-Planned c = rw c.in-Planned.is c.push_plan-in-Planned.ensures
+returns-in-Planned c = rw c.in-Planned.is c.push_plan.ensures
 
 pub returns-in_ok-push_rows-in-Rows : goal.returns-in_ok-push_rows-in-Rows
 returns-in_ok-push_rows-in-Rows c = rw (c.in-Rows.is, ← c.len.ensures) (words_then _ _ _ _ _ c.in_ok-push_words-in-Rows.ensures c.in_ok-push_rows-in-Rows.ensures)

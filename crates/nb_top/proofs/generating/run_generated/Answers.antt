@@ -27,84 +27,96 @@ use Rattle.nb_top.proofs.generating.run_generated.Goals as goal
 
 pub returns-in_err-is_free-clause-goes : goal.returns-in_err-is_free-clause-goes
 returns-in_err-is_free-clause-goes g c = record {
-  does = λ tells. ([], λ account given knows may told.
-    let old = g.H.Host.world c.args.host.now in
-    let new = g.H.Host.world c.is_free.new.host in
-    let name = c.args.name.now in
-    runs_err c.from_residual.result c.from_residual.ensures.0 (λ r. RunsTo r old new (Ok (ToGenerate c.args.number name)) account given)
-    (λ e. generated_unbegun old c.args.number name account given c.requires knows new e c.is_free.ensures.quiet));
+  does = λ tells. (
+    [],
+    λ account given knows may told.
+        let old = g.H.Host.world c.args.host.now in
+        let new = g.H.Host.world c.is_free.new.host in
+        let name = c.args.name.now in
+        runs_err c.from_residual.result c.from_residual.ensures.0 (λ r. RunsTo r old new (Ok (ToGenerate c.args.number name)) account given)
+        (λ e. generated_unbegun old c.args.number name account given c.requires knows new e c.is_free.ensures.quiet),
+  );
   grows = λ account tells knows. let old = g.H.Host.world c.args.host.now in
-    let new = g.H.Host.world c.is_free.new.host in
-    grows_none old new (quiet_gave old new c.is_free.ensures.quiet);
+      let new = g.H.Host.world c.is_free.new.host in
+      grows_none old new (quiet_gave old new c.is_free.ensures.quiet);
   touches = λ tells whole. let old = g.H.Host.world c.args.host.now in
-    let asked = g.H.Host.world c.is_free.new.host in
-    let number = c.args.number in
-    let name = c.args.name.now in
-    let request = Ok (ToGenerate number name) in
-    let quietly = leaves_quiet old asked (MayTouch request) c.is_free.ensures.quiet in
-    only_err old asked (MayTouch request) c.from_residual.result c.from_residual.ensures.0 quietly;
+      let asked = g.H.Host.world c.is_free.new.host in
+      let number = c.args.number in
+      let name = c.args.name.now in
+      let request = Ok (ToGenerate number name) in
+      let quietly = leaves_quiet old asked (MayTouch request) c.is_free.ensures.quiet in
+      only_err old asked (MayTouch request) c.from_residual.result c.from_residual.ensures.0 quietly;
 }
 
 pub returns-then-not-branch-clause-goes : goal.returns-then-not-branch-clause-goes
 returns-then-not-branch-clause-goes g c = record {
-  does = λ tells. ([], λ account given knows may told.
-    let old = g.H.Host.world c.args.host.now in
-    let mid = g.H.Host.world c.is_free.new.host in
-    let new = g.H.Host.world c.refuse.new.host in
-    let name = c.args.name.now in
-    let taken = sym (knows name c.requires) ∙ sym (c.in_ok-is_free.ensures.answer tells) ∙ c.if-not-branch.true in
-    let says = subst (λ n. SaysLine c.refuse.result mid new (line_text 1 (RefusedReply (FileExists n)))) c.copied-name.ensures (c.refuse.ensures.line tells) in
-    taken_refused old c.args.number name account given c.requires knows taken c.refuse.result c.refuse.result mid new c.is_free.ensures.quiet says c.refuse.ensures.ok says.said);
+  does = λ tells. (
+    [],
+    λ account given knows may told.
+        let old = g.H.Host.world c.args.host.now in
+        let mid = g.H.Host.world c.is_free.new.host in
+        let new = g.H.Host.world c.refuse.new.host in
+        let name = c.args.name.now in
+        let taken = sym (knows name c.requires) ∙ sym (c.in_ok-is_free.ensures.answer tells) ∙ c.if-not-branch.true in
+        let says = subst (λ n. SaysLine c.refuse.result mid new (line_text 1 (RefusedReply (FileExists n)))) c.copied-name.ensures (c.refuse.ensures.line tells) in
+        taken_refused old c.args.number name account given c.requires knows taken c.refuse.result c.refuse.result mid new c.is_free.ensures.quiet says c.refuse.ensures.ok says.said,
+  );
   grows = λ account tells knows. let old = g.H.Host.world c.args.host.now in
-    let mid = g.H.Host.world c.is_free.new.host in
-    let new = g.H.Host.world c.refuse.new.host in
-    grows_joined old mid new (grows_none old mid (quiet_gave old mid c.is_free.ensures.quiet)) (grows_none mid new c.refuse.ensures.gave);
+      let mid = g.H.Host.world c.is_free.new.host in
+      let new = g.H.Host.world c.refuse.new.host in
+      grows_joined old mid new (grows_none old mid (quiet_gave old mid c.is_free.ensures.quiet)) (grows_none mid new c.refuse.ensures.gave);
   touches = λ tells whole. let old = g.H.Host.world c.args.host.now in
-    let asked = g.H.Host.world c.is_free.new.host in
-    let number = c.args.number in
-    let name = c.args.name.now in
-    let request = Ok (ToGenerate number name) in
-    let quietly = leaves_quiet old asked (MayTouch request) c.is_free.ensures.quiet in
-    let new = g.H.Host.world c.refuse.new.host in
-    only_refused old asked new (MayTouch request) quietly (g.met.H.Host.timely c.refuse.new.host) (g.met.H.Host.reads_left c.refuse.new.host tells) c.refuse.result _ _ (c.refuse.ensures.line tells);
+      let asked = g.H.Host.world c.is_free.new.host in
+      let number = c.args.number in
+      let name = c.args.name.now in
+      let request = Ok (ToGenerate number name) in
+      let quietly = leaves_quiet old asked (MayTouch request) c.is_free.ensures.quiet in
+      let new = g.H.Host.world c.refuse.new.host in
+      only_refused old asked new (MayTouch request) quietly (g.met.H.Host.timely c.refuse.new.host) (g.met.H.Host.reads_left c.refuse.new.host tells) c.refuse.result _ _ (c.refuse.ensures.line tells);
 }
 
 pub returns-in_default-clause-goes : goal.returns-in_default-clause-goes
 returns-in_default-clause-goes g c = record {
-  does = λ tells. ([], λ account given knows may told.
-    let old = g.H.Host.world c.args.host.now in
-    let new = g.H.Host.world c.is_free.new.host in
-    generated_unbegun old c.args.number c.args.name.now account given c.requires knows new _ c.is_free.ensures.quiet);
+  does = λ tells. (
+    [],
+    λ account given knows may told.
+        let old = g.H.Host.world c.args.host.now in
+        let new = g.H.Host.world c.is_free.new.host in
+        generated_unbegun old c.args.number c.args.name.now account given c.requires knows new _ c.is_free.ensures.quiet,
+  );
   grows = λ account tells knows. let old = g.H.Host.world c.args.host.now in
-    let new = g.H.Host.world c.is_free.new.host in
-    grows_none old new (quiet_gave old new c.is_free.ensures.quiet);
+      let new = g.H.Host.world c.is_free.new.host in
+      grows_none old new (quiet_gave old new c.is_free.ensures.quiet);
   touches = λ tells whole. let old = g.H.Host.world c.args.host.now in
-    let asked = g.H.Host.world c.is_free.new.host in
-    let number = c.args.number in
-    let name = c.args.name.now in
-    let request = Ok (ToGenerate number name) in
-    let quietly = leaves_quiet old asked (MayTouch request) c.is_free.ensures.quiet in
-    only_err old asked (MayTouch request) _ (refl) quietly;
+      let asked = g.H.Host.world c.is_free.new.host in
+      let number = c.args.number in
+      let name = c.args.name.now in
+      let request = Ok (ToGenerate number name) in
+      let quietly = leaves_quiet old asked (MayTouch request) c.is_free.ensures.quiet in
+      only_err old asked (MayTouch request) _ (refl) quietly;
 }
 
 pub returns-in_err-script-clause-goes : goal.returns-in_err-script-clause-goes
 returns-in_err-script-clause-goes g c = record {
-  does = λ tells. ([], λ account given knows may told.
-    let old = g.H.Host.world c.args.host.now in
-    let new = g.H.Host.world c.is_free.new.host in
-    let name = c.args.name.now in
-    runs_err c.from_residual-in_err-script.result c.from_residual-in_err-script.ensures.0 (λ r. RunsTo r old new (Ok (ToGenerate c.args.number name)) account given)
-    (λ e. generated_unbegun old c.args.number name account given c.requires knows new e c.is_free.ensures.quiet));
+  does = λ tells. (
+    [],
+    λ account given knows may told.
+        let old = g.H.Host.world c.args.host.now in
+        let new = g.H.Host.world c.is_free.new.host in
+        let name = c.args.name.now in
+        runs_err c.from_residual-in_err-script.result c.from_residual-in_err-script.ensures.0 (λ r. RunsTo r old new (Ok (ToGenerate c.args.number name)) account given)
+        (λ e. generated_unbegun old c.args.number name account given c.requires knows new e c.is_free.ensures.quiet),
+  );
   grows = λ account tells knows. let old = g.H.Host.world c.args.host.now in
-    let new = g.H.Host.world c.is_free.new.host in
-    grows_none old new (quiet_gave old new c.is_free.ensures.quiet);
+      let new = g.H.Host.world c.is_free.new.host in
+      grows_none old new (quiet_gave old new c.is_free.ensures.quiet);
   touches = λ tells whole. let old = g.H.Host.world c.args.host.now in
-    let asked = g.H.Host.world c.is_free.new.host in
-    let number = c.args.number in
-    let name = c.args.name.now in
-    let request = Ok (ToGenerate number name) in
-    let quietly = leaves_quiet old asked (MayTouch request) c.is_free.ensures.quiet in
-    only_err old asked (MayTouch request) c.from_residual-in_err-script.result c.from_residual-in_err-script.ensures.0 quietly;
+      let asked = g.H.Host.world c.is_free.new.host in
+      let number = c.args.number in
+      let name = c.args.name.now in
+      let request = Ok (ToGenerate number name) in
+      let quietly = leaves_quiet old asked (MayTouch request) c.is_free.ensures.quiet in
+      only_err old asked (MayTouch request) c.from_residual-in_err-script.result c.from_residual-in_err-script.ensures.0 quietly;
 }
 
 pub write_script-requires : goal.write_script-requires
@@ -112,127 +124,136 @@ write_script-requires g c = subst IsScriptText (sym (c.deref-2.ensures.value ∙
 
 pub returns-in_err-write_script-clause-goes : goal.returns-in_err-write_script-clause-goes
 returns-in_err-write_script-clause-goes g c = record {
-  does = λ tells. ([], λ account given knows may told.
-    let old = g.H.Host.world c.args.host.now in
-    let asked = g.H.Host.world c.is_free.new.host in
-    let mid = g.H.Host.world c.write_script.new.host in
-    let number = c.args.number in
-    let name = c.args.name.now in
-    let quiet = c.is_free.ensures.quiet in
-    let free = sym (knows name c.requires) ∙ sym (c.in_ok-is_free.ensures.answer tells) ∙ c.if-not-branch.false in
-    let text = c.deref-2.ensures.value ∙ c.in-Ok.ensures.script in
-    let written = subst (λ bytes. Changes asked mid (Only name) (Remade asked name (IsUnfinishedOr bytes))) text (c.write_script.ensures.left tells) in
-    runs_err c.from_residual-in_err-write_script.result c.from_residual-in_err-write_script.ensures.0 (λ r. RunsTo r old mid (Ok (ToGenerate number name)) account given)
-    (λ e. runs_quietly (Err e) old asked mid (Ok (ToGenerate number name)) account given quiet
-    (writing_fails asked number name account given c.requires (knows_quietly old asked account (Ok (ToGenerate number name)) quiet knows) free may mid written e)));
+  does = λ tells. (
+    [],
+    λ account given knows may told.
+        let old = g.H.Host.world c.args.host.now in
+        let asked = g.H.Host.world c.is_free.new.host in
+        let mid = g.H.Host.world c.write_script.new.host in
+        let number = c.args.number in
+        let name = c.args.name.now in
+        let quiet = c.is_free.ensures.quiet in
+        let free = sym (knows name c.requires) ∙ sym (c.in_ok-is_free.ensures.answer tells) ∙ c.if-not-branch.false in
+        let text = c.deref-2.ensures.value ∙ c.in-Ok.ensures.script in
+        let written = subst (λ bytes. Changes asked mid (Only name) (Remade asked name (IsUnfinishedOr bytes))) text (c.write_script.ensures.left tells) in
+        runs_err c.from_residual-in_err-write_script.result c.from_residual-in_err-write_script.ensures.0 (λ r. RunsTo r old mid (Ok (ToGenerate number name)) account given)
+        (λ e. runs_quietly (Err e) old asked mid (Ok (ToGenerate number name)) account given quiet
+        (writing_fails asked number name account given c.requires (knows_quietly old asked account (Ok (ToGenerate number name)) quiet knows) free may mid written e)),
+  );
   grows = λ account tells knows. let old = g.H.Host.world c.args.host.now in
-    let mid = g.H.Host.world c.is_free.new.host in
-    let new = g.H.Host.world c.write_script.new.host in
-    grows_joined old mid new (grows_none old mid (quiet_gave old mid c.is_free.ensures.quiet)) (grows_none mid new c.write_script.ensures.gave);
+      let mid = g.H.Host.world c.is_free.new.host in
+      let new = g.H.Host.world c.write_script.new.host in
+      grows_joined old mid new (grows_none old mid (quiet_gave old mid c.is_free.ensures.quiet)) (grows_none mid new c.write_script.ensures.gave);
   touches = λ tells whole. let old = g.H.Host.world c.args.host.now in
-    let asked = g.H.Host.world c.is_free.new.host in
-    let number = c.args.number in
-    let name = c.args.name.now in
-    let request = Ok (ToGenerate number name) in
-    let quietly = leaves_quiet old asked (MayTouch request) c.is_free.ensures.quiet in
-    let mid = g.H.Host.world c.write_script.new.host in
-    let leaves = leaves_then old asked mid (MayTouch request) quietly (leaves_only asked mid name _ (MayTouch request) (inr (inl refl)) (c.write_script.ensures.left tells)) in
-    only_err old mid (MayTouch request) c.from_residual-in_err-write_script.result c.from_residual-in_err-write_script.ensures.0 leaves;
+      let asked = g.H.Host.world c.is_free.new.host in
+      let number = c.args.number in
+      let name = c.args.name.now in
+      let request = Ok (ToGenerate number name) in
+      let quietly = leaves_quiet old asked (MayTouch request) c.is_free.ensures.quiet in
+      let mid = g.H.Host.world c.write_script.new.host in
+      let leaves = leaves_then old asked mid (MayTouch request) quietly (leaves_only asked mid name _ (MayTouch request) (inr (inl refl)) (c.write_script.ensures.left tells)) in
+      only_err old mid (MayTouch request) c.from_residual-in_err-write_script.result c.from_residual-in_err-write_script.ensures.0 leaves;
 }
 
 pub returns-in-Ok-script-clause-goes : goal.returns-in-Ok-script-clause-goes
 returns-in-Ok-script-clause-goes g c = record {
-  does = λ tells. ((c.run_script.ensures.goes.does tells).0, λ account given knows may told.
-    let old = g.H.Host.world c.args.host.now in
-    let asked = g.H.Host.world c.is_free.new.host in
-    let mid = g.H.Host.world c.write_script.new.host in
-    let new = g.H.Host.world c.run_script.new.host in
-    let number = c.args.number in
-    let name = c.args.name.now in
-    let plan = c.in-Ok-script.script in
-    let quiet = c.is_free.ensures.quiet in
-    let free = sym (knows name c.requires) ∙ sym (c.in_ok-is_free.ensures.answer tells) ∙ c.if-not-branch.false in
-    let text = c.deref-2.ensures.value ∙ c.in-Ok.ensures.script in
-    let written = subst (λ bytes. Changes asked mid (Only name) (Remade asked name (IsUnfinishedOr bytes))) text (c.write_script.ensures.left tells) in
-    let kept = subst (IsKept mid name) text (c.in_ok-write_script.ensures.kept tells) in
-    let parsed = settled_value c.in_ok-script.script plan (λ value. c.parse.result ≡ Ok value) c.in-Ok-script.is c.in_ok-script.ensures.value in
-    let read = ap script_of (sym (c.deref.ensures.value ∙ c.in-Ok.ensures.script)) ∙ subst (λ answer. IsAnswer answer (script_of c.deref.result.now)) parsed c.parse.ensures.exact in
-    let knows_then = knows_quietly old asked account (Ok (ToGenerate number name)) quiet knows in
-    runs_quietly c.run_script.result old asked new (Ok (ToGenerate number name)) account given quiet
-    (written_runs asked number name account given c.requires knows_then free may mid written kept c.write_script.ensures.gave new (g.met.H.Host.timely c.run_script.new.host) (g.met.H.Host.reads_left c.run_script.new.host tells)
-    (Ok plan) read c.run_script.result
-    ((c.run_script.ensures.goes.does tells).1 (with_script name (generated number) account) given (knows_script asked number name account given c.requires knows_then free mid written kept plan read) may
-    (foretold_from asked mid new given _ c.write_script.ensures.gave (foretold_from old asked new given _ (quiet_gave old asked quiet) told)))));
+  does = λ tells. (
+    (c.run_script.ensures.goes.does tells).0,
+    λ account given knows may told.
+        let old = g.H.Host.world c.args.host.now in
+        let asked = g.H.Host.world c.is_free.new.host in
+        let mid = g.H.Host.world c.write_script.new.host in
+        let new = g.H.Host.world c.run_script.new.host in
+        let number = c.args.number in
+        let name = c.args.name.now in
+        let plan = c.in-Ok-script.script in
+        let quiet = c.is_free.ensures.quiet in
+        let free = sym (knows name c.requires) ∙ sym (c.in_ok-is_free.ensures.answer tells) ∙ c.if-not-branch.false in
+        let text = c.deref-2.ensures.value ∙ c.in-Ok.ensures.script in
+        let written = subst (λ bytes. Changes asked mid (Only name) (Remade asked name (IsUnfinishedOr bytes))) text (c.write_script.ensures.left tells) in
+        let kept = subst (IsKept mid name) text (c.in_ok-write_script.ensures.kept tells) in
+        let parsed = settled_value c.in_ok-script.script plan (λ value. c.parse.result ≡ Ok value) c.in-Ok-script.is c.in_ok-script.ensures.value in
+        let read = ap script_of (sym (c.deref.ensures.value ∙ c.in-Ok.ensures.script)) ∙ subst (λ answer. IsAnswer answer (script_of c.deref.result.now)) parsed c.parse.ensures.exact in
+        let knows_then = knows_quietly old asked account (Ok (ToGenerate number name)) quiet knows in
+        runs_quietly c.run_script.result old asked new (Ok (ToGenerate number name)) account given quiet
+        (written_runs asked number name account given c.requires knows_then free may mid written kept c.write_script.ensures.gave new (g.met.H.Host.timely c.run_script.new.host) (g.met.H.Host.reads_left c.run_script.new.host tells)
+        (Ok plan) read c.run_script.result
+        ((c.run_script.ensures.goes.does tells).1 (with_script name (generated number) account) given (knows_script asked number name account given c.requires knows_then free mid written kept plan read) may
+        (foretold_from asked mid new given _ c.write_script.ensures.gave (foretold_from old asked new given _ (quiet_gave old asked quiet) told)))),
+  );
   grows = λ account tells knows. let old = g.H.Host.world c.args.host.now in
-    let asked = g.H.Host.world c.is_free.new.host in
-    let mid = g.H.Host.world c.write_script.new.host in
-    let new = g.H.Host.world c.run_script.new.host in
-    let number = c.args.number in
-    let name = c.args.name.now in
-    let plan = c.in-Ok-script.script in
-    let quiet = c.is_free.ensures.quiet in
-    let free = sym (knows name c.requires) ∙ sym (c.in_ok-is_free.ensures.answer tells) ∙ c.if-not-branch.false in
-    let text = c.deref-2.ensures.value ∙ c.in-Ok.ensures.script in
-    let written = subst (λ bytes. Changes asked mid (Only name) (Remade asked name (IsUnfinishedOr bytes))) text (c.write_script.ensures.left tells) in
-    let kept = subst (IsKept mid name) text (c.in_ok-write_script.ensures.kept tells) in
-    let parsed = settled_value c.in_ok-script.script plan (λ value. c.parse.result ≡ Ok value) c.in-Ok-script.is c.in_ok-script.ensures.value in
-    let read = ap script_of (sym (c.deref.ensures.value ∙ c.in-Ok.ensures.script)) ∙ subst (λ answer. IsAnswer answer (script_of c.deref.result.now)) parsed c.parse.ensures.exact in
-    let knows_then = knows_quietly old asked account (Ok (ToGenerate number name)) quiet knows in
-    grows_joined old asked new (grows_none old asked (quiet_gave old asked quiet)) (grows_joined asked mid new (grows_none asked mid c.write_script.ensures.gave)
-    (c.run_script.ensures.goes.grows (with_script name (generated number) account) tells (knows_script asked number name account no_given c.requires knows_then free mid written kept plan read)));
+      let asked = g.H.Host.world c.is_free.new.host in
+      let mid = g.H.Host.world c.write_script.new.host in
+      let new = g.H.Host.world c.run_script.new.host in
+      let number = c.args.number in
+      let name = c.args.name.now in
+      let plan = c.in-Ok-script.script in
+      let quiet = c.is_free.ensures.quiet in
+      let free = sym (knows name c.requires) ∙ sym (c.in_ok-is_free.ensures.answer tells) ∙ c.if-not-branch.false in
+      let text = c.deref-2.ensures.value ∙ c.in-Ok.ensures.script in
+      let written = subst (λ bytes. Changes asked mid (Only name) (Remade asked name (IsUnfinishedOr bytes))) text (c.write_script.ensures.left tells) in
+      let kept = subst (IsKept mid name) text (c.in_ok-write_script.ensures.kept tells) in
+      let parsed = settled_value c.in_ok-script.script plan (λ value. c.parse.result ≡ Ok value) c.in-Ok-script.is c.in_ok-script.ensures.value in
+      let read = ap script_of (sym (c.deref.ensures.value ∙ c.in-Ok.ensures.script)) ∙ subst (λ answer. IsAnswer answer (script_of c.deref.result.now)) parsed c.parse.ensures.exact in
+      let knows_then = knows_quietly old asked account (Ok (ToGenerate number name)) quiet knows in
+      grows_joined old asked new (grows_none old asked (quiet_gave old asked quiet)) (grows_joined asked mid new (grows_none asked mid c.write_script.ensures.gave)
+      (c.run_script.ensures.goes.grows (with_script name (generated number) account) tells (knows_script asked number name account no_given c.requires knows_then free mid written kept plan read)));
   touches = λ tells whole. let old = g.H.Host.world c.args.host.now in
-    let asked = g.H.Host.world c.is_free.new.host in
-    let number = c.args.number in
-    let name = c.args.name.now in
-    let request = Ok (ToGenerate number name) in
-    let quietly = leaves_quiet old asked (MayTouch request) c.is_free.ensures.quiet in
-    let mid = g.H.Host.world c.write_script.new.host in
-    let leaves = leaves_then old asked mid (MayTouch request) quietly (leaves_only asked mid name _ (MayTouch request) (inr (inl refl)) (c.write_script.ensures.left tells)) in
-    let new = g.H.Host.world c.run_script.new.host in
-    let plan = c.in-Ok-script.script in
-    let parsed = settled_value c.in_ok-script.script plan (λ value. c.parse.result ≡ Ok value) c.in-Ok-script.is c.in_ok-script.ensures.value in
-    let read = ap script_of (sym (c.deref.ensures.value ∙ c.in-Ok.ensures.script)) ∙ subst (λ answer. IsAnswer answer (script_of c.deref.result.now)) parsed c.parse.ensures.exact in
-    touches_then old mid new request leaves c.run_script.result (Ok (ToRun plan Sparingly)) (generated_among number name plan read Sparingly) (c.run_script.ensures.goes.touches tells (generated_whole number name plan read mid.files Sparingly));
+      let asked = g.H.Host.world c.is_free.new.host in
+      let number = c.args.number in
+      let name = c.args.name.now in
+      let request = Ok (ToGenerate number name) in
+      let quietly = leaves_quiet old asked (MayTouch request) c.is_free.ensures.quiet in
+      let mid = g.H.Host.world c.write_script.new.host in
+      let leaves = leaves_then old asked mid (MayTouch request) quietly (leaves_only asked mid name _ (MayTouch request) (inr (inl refl)) (c.write_script.ensures.left tells)) in
+      let new = g.H.Host.world c.run_script.new.host in
+      let plan = c.in-Ok-script.script in
+      let parsed = settled_value c.in_ok-script.script plan (λ value. c.parse.result ≡ Ok value) c.in-Ok-script.is c.in_ok-script.ensures.value in
+      let read = ap script_of (sym (c.deref.ensures.value ∙ c.in-Ok.ensures.script)) ∙ subst (λ answer. IsAnswer answer (script_of c.deref.result.now)) parsed c.parse.ensures.exact in
+      touches_then old mid new request leaves c.run_script.result (Ok (ToRun plan Sparingly)) (generated_among number name plan read Sparingly) (c.run_script.ensures.goes.touches tells (generated_whole number name plan read mid.files Sparingly));
 }
 
 pub returns-clause-goes : goal.returns-clause-goes
 returns-clause-goes g c = record {
-  does = λ tells. ([], λ account given knows may told.
-    let old = g.H.Host.world c.args.host.now in
-    let asked = g.H.Host.world c.is_free.new.host in
-    let mid = g.H.Host.world c.write_script.new.host in
-    let new = g.H.Host.world c.refuse-in-Err.new.host in
-    let number = c.args.number in
-    let name = c.args.name.now in
-    let refusal = c.in-Err.refusal in
-    let behind = with_script name (generated number) account in
-    let quiet = c.is_free.ensures.quiet in
-    let free = sym (knows name c.requires) ∙ sym (c.in_ok-is_free.ensures.answer tells) ∙ c.if-not-branch.false in
-    let text = c.deref-2.ensures.value ∙ c.in-Ok.ensures.script in
-    let written = subst (λ bytes. Changes asked mid (Only name) (Remade asked name (IsUnfinishedOr bytes))) text (c.write_script.ensures.left tells) in
-    let kept = subst (IsKept mid name) text (c.in_ok-write_script.ensures.kept tells) in
-    let parsed = settled_refusal c.in_ok-script.script refusal (λ r. c.parse.result ≡ Err (Refused r)) c.in-Err.is c.in_ok-script.ensures.refusal in
-    let read = ap script_of (sym (c.deref.ensures.value ∙ c.in-Ok.ensures.script)) ∙ subst (λ answer. IsAnswer answer (script_of c.deref.result.now)) parsed c.parse.ensures.exact in
-    let says = c.refuse-in-Err.ensures.line tells in
-    let refused = job_refused c.refuse-in-Err.result c.refuse-in-Err.result mid new (Err refusal) refusal behind given refl says
-    (script_number name (Some (generated number)) refusal read c.refuse-in-Err.result c.refuse-in-Err.ensures.ok) says.said in
-    runs_quietly c.refuse-in-Err.result old asked new (Ok (ToGenerate number name)) account given quiet
-    (written_runs asked number name account given c.requires (knows_quietly old asked account (Ok (ToGenerate number name)) quiet knows) free may mid written kept c.write_script.ensures.gave
-    new (g.met.H.Host.timely c.refuse-in-Err.new.host) (g.met.H.Host.reads_left c.refuse-in-Err.new.host tells) (Err refusal) read c.refuse-in-Err.result refused));
+  does = λ tells. (
+    [],
+    λ account given knows may told.
+        let old = g.H.Host.world c.args.host.now in
+        let asked = g.H.Host.world c.is_free.new.host in
+        let mid = g.H.Host.world c.write_script.new.host in
+        let new = g.H.Host.world c.refuse-in-Err.new.host in
+        let number = c.args.number in
+        let name = c.args.name.now in
+        let refusal = c.in-Err.refusal in
+        let behind = with_script name (generated number) account in
+        let quiet = c.is_free.ensures.quiet in
+        let free = sym (knows name c.requires) ∙ sym (c.in_ok-is_free.ensures.answer tells) ∙ c.if-not-branch.false in
+        let text = c.deref-2.ensures.value ∙ c.in-Ok.ensures.script in
+        let written = subst (λ bytes. Changes asked mid (Only name) (Remade asked name (IsUnfinishedOr bytes))) text (c.write_script.ensures.left tells) in
+        let kept = subst (IsKept mid name) text (c.in_ok-write_script.ensures.kept tells) in
+        let parsed = settled_refusal c.in_ok-script.script refusal (λ r. c.parse.result ≡ Err (Refused r)) c.in-Err.is c.in_ok-script.ensures.refusal in
+        let read = ap script_of (sym (c.deref.ensures.value ∙ c.in-Ok.ensures.script)) ∙ subst (λ answer. IsAnswer answer (script_of c.deref.result.now)) parsed c.parse.ensures.exact in
+        let says = c.refuse-in-Err.ensures.line tells in
+        let refused = job_refused c.refuse-in-Err.result c.refuse-in-Err.result mid new (Err refusal) refusal behind given refl says
+        (script_number name (Some (generated number)) refusal read c.refuse-in-Err.result c.refuse-in-Err.ensures.ok) says.said in
+        runs_quietly c.refuse-in-Err.result old asked new (Ok (ToGenerate number name)) account given quiet
+        (written_runs asked number name account given c.requires (knows_quietly old asked account (Ok (ToGenerate number name)) quiet knows) free may mid written kept c.write_script.ensures.gave
+        new (g.met.H.Host.timely c.refuse-in-Err.new.host) (g.met.H.Host.reads_left c.refuse-in-Err.new.host tells) (Err refusal) read c.refuse-in-Err.result refused),
+  );
   grows = λ account tells knows. let old = g.H.Host.world c.args.host.now in
-    let asked = g.H.Host.world c.is_free.new.host in
-    let mid = g.H.Host.world c.write_script.new.host in
-    let new = g.H.Host.world c.refuse-in-Err.new.host in
-    grows_joined old asked new (grows_none old asked (quiet_gave old asked c.is_free.ensures.quiet))
-    (grows_joined asked mid new (grows_none asked mid c.write_script.ensures.gave) (grows_none mid new c.refuse-in-Err.ensures.gave));
+      let asked = g.H.Host.world c.is_free.new.host in
+      let mid = g.H.Host.world c.write_script.new.host in
+      let new = g.H.Host.world c.refuse-in-Err.new.host in
+      grows_joined old asked new (grows_none old asked (quiet_gave old asked c.is_free.ensures.quiet))
+      (grows_joined asked mid new (grows_none asked mid c.write_script.ensures.gave) (grows_none mid new c.refuse-in-Err.ensures.gave));
   touches = λ tells whole. let old = g.H.Host.world c.args.host.now in
-    let asked = g.H.Host.world c.is_free.new.host in
-    let number = c.args.number in
-    let name = c.args.name.now in
-    let request = Ok (ToGenerate number name) in
-    let quietly = leaves_quiet old asked (MayTouch request) c.is_free.ensures.quiet in
-    let mid = g.H.Host.world c.write_script.new.host in
-    let leaves = leaves_then old asked mid (MayTouch request) quietly (leaves_only asked mid name _ (MayTouch request) (inr (inl refl)) (c.write_script.ensures.left tells)) in
-    let new = g.H.Host.world c.refuse-in-Err.new.host in
-    only_refused old mid new (MayTouch request) leaves (g.met.H.Host.timely c.refuse-in-Err.new.host) (g.met.H.Host.reads_left c.refuse-in-Err.new.host tells) c.refuse-in-Err.result _ _ (c.refuse-in-Err.ensures.line tells);
+      let asked = g.H.Host.world c.is_free.new.host in
+      let number = c.args.number in
+      let name = c.args.name.now in
+      let request = Ok (ToGenerate number name) in
+      let quietly = leaves_quiet old asked (MayTouch request) c.is_free.ensures.quiet in
+      let mid = g.H.Host.world c.write_script.new.host in
+      let leaves = leaves_then old asked mid (MayTouch request) quietly (leaves_only asked mid name _ (MayTouch request) (inr (inl refl)) (c.write_script.ensures.left tells)) in
+      let new = g.H.Host.world c.refuse-in-Err.new.host in
+      only_refused old mid new (MayTouch request) leaves (g.met.H.Host.timely c.refuse-in-Err.new.host) (g.met.H.Host.reads_left c.refuse-in-Err.new.host tells) c.refuse-in-Err.result _ _ (c.refuse-in-Err.ensures.line tells);
 }

@@ -1,5 +1,10 @@
-use Rattle.nb_top.proofs.KnownLaws.{known_asked}
+use Rattle.std.proofs.Common.{refl}
+use Rattle.nb_top.specs.Worlds.{account_of}
+use Rattle.nb_top.proofs.KnownLaws.{known_asked, stands_known}
 use Rattle.nb_top.proofs.laws.what_stands_is_known.Goals as goal
 
-pub returns : goal.returns
-returns c = λ files account words names stands. known_asked files names account stands words
+pub returns-clause-stands : goal.returns-clause-stands
+returns-clause-stands c = λ files account words names stands. stands_known files account names stands words
+
+pub returns-clause-whatever : goal.returns-clause-whatever
+returns-clause-whatever c = λ files kept words names sound. known_asked files names (account_of files kept) (λ name plain. refl) sound words

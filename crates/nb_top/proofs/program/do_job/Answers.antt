@@ -1,14 +1,16 @@
-use Rattle.std.proofs.Common.{◌≡◌, refl, sym, subst}
+use Rattle.std.proofs.Common.{◌≡◌, ◌∙◌, ℕ, List, refl, sym, subst}
 use Rattle.std.specs.Prelude.{Err}
+use Rattle.nb_host.specs.declared.faults.Fault.{Fault}
 use Rattle.nb_host.specs.declared.refusals.Refusal.TheVariants.{Usage}
 use Rattle.nb_session.specs.declared.stop.Stop.TheVariants.{Memory as MemoryStop}
 use Rattle.nb_page.proofs.QuietLemmas.{quiet_begun}
 use Rattle.nb_top.specs.Goes.{Goes}
-use Rattle.nb_top.specs.Requests.{IsAskedBy, IsReadJob, request_asked}
+use Rattle.nb_top.specs.Requests.{IsAskedBy, IsReadJob, Runs, request_asked}
 use Rattle.nb_top.specs.Shown.{IsShownOf}
 use Rattle.nb_top.proofs.GoesLaws.{goes_refused, goes_undone}
 use Rattle.nb_top.proofs.JobRuns.{usage_number}
 use Rattle.nb_top.proofs.RequestLaws.{CanBeMet, can_be_asked}
+use Rattle.nb_top.proofs.ShownLaws.{unshown, unshown_early, usage_unbroken}
 use Rattle.nb_top.proofs.program.do_job.Goals as goal
 
 pub run_job-requires : goal.run_job-requires
@@ -24,17 +26,26 @@ returns-in-Ok-clause-shown g c asked tells by =
     let old = g.H.Host.world c.args.host.now in
     subst (λ a. IsShownOf c.run_job.result c.run_job.new.broken a) (sym (subst (λ r. IsAskedBy r old.files asked) c.in-Ok.is by)) (c.run_job.ensures.shown tells)
 
-pub returns-in-Err-Refused-clause-goes : goal.returns-in-Err-Refused-clause-goes
-returns-in-Err-Refused-clause-goes g c asked by =
+pub returns-in-Refused-clause-goes : goal.returns-in-Refused-clause-goes
+returns-in-Refused-clause-goes g c asked by =
     let old = g.H.Host.world c.args.host.now in
     let new = g.H.Host.world c.refuse_words.new.host in
-    let is = subst (λ r. IsAskedBy r old.files asked) c.in-Err-Refused.is by in
+    let is : asked ≡ Runs (Err Usage) = subst (λ (f : Fault). IsAskedBy (Err f) old.files asked) c.in-Refused.is (subst (λ r. IsAskedBy r old.files asked) c.in-Err.is by) in
     subst (λ a. Goes g.H.Host.tells c.refuse_words.result old new a) (sym is)
     (goes_refused g.H.Host.tells old new (Err Usage) Usage c.refuse_words.result refl (g.met.H.Host.timely c.args.host.now) (g.met.H.Host.timely c.refuse_words.new.host) (g.met.H.Host.reads_left c.refuse_words.new.host)
     c.refuse_words.ensures.gave c.refuse_words.ensures.line (λ told. usage_number c.refuse_words.result c.refuse_words.ensures.usage))
 
-pub returns-in-Err-Memory-clause-goes : goal.returns-in-Err-Memory-clause-goes
-returns-in-Err-Memory-clause-goes g c asked by =
+pub returns-in-Memory-clause-goes : goal.returns-in-Memory-clause-goes
+returns-in-Memory-clause-goes g c asked by =
     let old = g.H.Host.world c.args.host.now in
-    let is = subst (λ r. IsAskedBy r old.files asked) c.in-Err-Memory.is by in
+    let is : (words : List (List ℕ)) × (asked ≡ request_asked old.files words) = subst (λ (f : Fault). IsAskedBy (Err f) old.files asked) c.in-Memory.is (subst (λ r. IsAskedBy r old.files asked) c.in-Err.is by) in
     goes_undone g.H.Host.tells old old asked (Err MemoryStop) (subst CanBeMet (sym is.1) (can_be_asked old.files is.0)) refl (quiet_begun old (g.met.H.Host.timely c.args.host.now))
+
+pub returns-in-Refused-clause-shown : goal.returns-in-Refused-clause-shown
+returns-in-Refused-clause-shown g c asked tells by =
+    let old = g.H.Host.world c.args.host.now in
+    let is : asked ≡ Runs (Err Usage) = subst (λ (f : Fault). IsAskedBy (Err f) old.files asked) c.in-Refused.is (subst (λ r. IsAskedBy r old.files asked) c.in-Err.is by) in
+    unshown c.refuse_words.result c.args.broken.now asked c.requires.none (λ line h. usage_unbroken line (sym is ∙ h))
+
+pub returns-in-Memory-clause-shown : goal.returns-in-Memory-clause-shown
+returns-in-Memory-clause-shown g c asked tells by = unshown_early (Err MemoryStop) c.args.broken.now asked c.requires.none refl

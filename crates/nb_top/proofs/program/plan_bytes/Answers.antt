@@ -1,11 +1,11 @@
-use Rattle.std.proofs.Common.{◌≡◌, [], ap, refl, sym, subst}
+use Rattle.std.proofs.Common.{◌≡◌, [], refl, sym, subst}
 use Rattle.std.specs.Prelude.{Some, Ok, Err}
 use Rattle.nb_host.specs.declared.faults.Fault.TheVariants.{Refused}
 use Rattle.nb_page.proofs.QuietLemmas.{quiet_begun}
 use Rattle.nb_catalog.specs.Answers.{Says}
 use Rattle.nb_catalog.specs.NameLists.{list_of}
 use Rattle.nb_top.specs.Goes.{Goes}
-use Rattle.nb_top.specs.Requests.{Runs, to_plan}
+use Rattle.nb_top.specs.Requests.{to_plan}
 use Rattle.nb_top.specs.Shown.{IsShownOf}
 use Rattle.nb_top.proofs.GoesLaws.{goes_refused, goes_undone}
 use Rattle.nb_top.proofs.Lists.{list_number}
@@ -55,4 +55,4 @@ returns-in_ok-broken-in-Err-clause-shown g c =
     let refusal = c.in-Err.refusal in
     let is = settled_refusal c.in_ok-names.field-0 refusal (λ r. c.read_list.result ≡ Err (Refused r)) c.in-Err.is c.in_ok-names.ensures.refusal in
     let read = subst (λ answer. Says (list_of c.args.bytes.now) answer) is c.read_list.ensures.exact in
-    subst (λ r. IsShownOf c.refuse.result c.in_ok-broken-in-Err.new.broken (to_plan c.args.keep r)) (sym read) (shown_by c.refuse.result _ refusal c.in_ok-broken-in-Err.ensures)
+    subst (λ r. IsShownOf c.refuse.result c.in_ok-broken-in-Err.field-0 (to_plan c.args.keep r)) (sym read) (shown_by c.refuse.result _ refusal c.in_ok-broken-in-Err.ensures)

@@ -1,10 +1,11 @@
-use Rattle.std.proofs.Common.{◌≡◌, ◌∙◌, ap, refl, sym, subst}
-use Rattle.std.specs.Prelude.{Some, Ok, Err}
+use Rattle.std.proofs.Common.{◌≡◌, ◌≢◌, ◌∙◌, ℕ, List, ap, refl, sym, subst}
+use Rattle.std.specs.Prelude.{Ok, Err, IsTrue}
 use Rattle.nb_host.specs.declared.faults.Fault.TheVariants.{Refused}
 use Rattle.nb_host.specs.declared.refusals.Refusal.{Refusal}
 use Rattle.nb_host.specs.declared.refusals.Refusal.TheVariants.{BadScript}
 use Rattle.nb_catalog.specs.NameLists.{list_of}
 use Rattle.nb_catalog.specs.Turns.{names_in}
+use Rattle.nb_top.specs.Goes.{Goes}
 use Rattle.nb_top.specs.Performed.{IsFileRead}
 use Rattle.nb_top.specs.Requests.{Runs, to_plan}
 use Rattle.nb_top.specs.Shown.{IsShownOf}
@@ -34,7 +35,8 @@ returns-in-Ok-clause-goes g c =
     let is = settled_value c.in_ok-bytes.field-0 bytes (λ value. c.read_file.result ≡ Ok value) c.in-Ok.is c.in_ok-bytes.ensures.value in
     plan_quietly g.H.Host.tells old mid new keep (names_in list file) c.plan_bytes.result c.read_file.ensures.quiet
     (goes_same g.H.Host.tells mid new (to_plan keep (names_in list file)) (to_plan keep (list_of bytes.items)) c.plan_bytes.result
-    (λ told. ap (λ f. to_plan keep (names_in list f)) (subst (λ r. IsFileRead r list file) is (c.read_file.ensures.read told))) c.plan_bytes.ensures.goes)
+    (λ told. ap (λ f. to_plan keep (names_in list f)) (subst (λ r. IsFileRead r list file) is (c.read_file.ensures.read told)))
+    (subst (λ (b : List ℕ). Goes g.H.Host.tells c.plan_bytes.result mid new (to_plan keep (list_of b))) c.deref.ensures.value c.plan_bytes.ensures.goes))
 
 pub returns-in-Ok-clause-shown : goal.returns-in-Ok-clause-shown
 returns-in-Ok-clause-shown g c told =
@@ -42,7 +44,8 @@ returns-in-Ok-clause-shown g c told =
     let file = (g.H.Host.world c.args.host.now).files list in
     let bytes = c.in-Ok.bytes in
     let is = settled_value c.in_ok-bytes.field-0 bytes (λ value. c.read_file.result ≡ Ok value) c.in-Ok.is c.in_ok-bytes.ensures.value in
-    subst (λ f. IsShownOf c.plan_bytes.result c.plan_bytes.new.broken (to_plan c.args.keep (names_in list f))) (sym (subst (λ r. IsFileRead r list file) is (c.read_file.ensures.read told))) c.plan_bytes.ensures.shown
+    subst (λ f. IsShownOf c.plan_bytes.result c.plan_bytes.new.broken (to_plan c.args.keep (names_in list f))) (sym (subst (λ r. IsFileRead r list file) is (c.read_file.ensures.read told)))
+    (subst (λ (b : List ℕ). IsShownOf c.plan_bytes.result c.plan_bytes.new.broken (to_plan c.args.keep (list_of b))) c.deref.ensures.value c.plan_bytes.ensures.shown)
 
 pub returns-in-Err-clause-goes : goal.returns-in-Err-clause-goes
 returns-in-Err-clause-goes g c =
@@ -54,8 +57,8 @@ returns-in-Err-clause-goes g c =
     let file = old.files list in
     let refusal = c.in-Err.refusal in
     let is = settled_refusal c.in_ok-bytes.field-0 refusal (λ r. c.read_file.result ≡ Err (Refused r)) c.in-Err.is c.in_ok-bytes.ensures.refusal in
-    let other = λ line same. c.read_file.ensures.unbroken line (subst (λ (r : Refusal). c.read_file.result ≡ Err (Refused r)) same is) in
-    let read = λ told. unread_list list file refusal other (subst (λ r. IsFileRead r list file) is (c.read_file.ensures.read told)) in
+    let other : (line : ℕ) → refusal ≢ BadScript line = λ line same. c.read_file.ensures.unbroken line (subst (λ (r : Refusal). c.read_file.result ≡ Err (Refused r)) same is) in
+    let read : IsTrue g.H.Host.tells → names_in list file ≡ Err refusal = λ told. unread_list list file refusal other (subst (λ r. IsFileRead r list file) is (c.read_file.ensures.read told)) in
     plan_quietly g.H.Host.tells old mid new keep (names_in list file) c.refuse.result c.read_file.ensures.quiet
     (goes_same g.H.Host.tells mid new (to_plan keep (names_in list file)) (Runs (Err refusal)) c.refuse.result (λ told. ap (to_plan keep) (read told))
     (goes_refused g.H.Host.tells mid new (Err refusal) refusal c.refuse.result refl (g.met.H.Host.timely c.read_file.new.host) (g.met.H.Host.timely c.refuse.new.host) (g.met.H.Host.reads_left c.refuse.new.host)
@@ -67,6 +70,6 @@ returns-in-Err-clause-shown g c told =
     let file = (g.H.Host.world c.args.host.now).files list in
     let refusal = c.in-Err.refusal in
     let is = settled_refusal c.in_ok-bytes.field-0 refusal (λ r. c.read_file.result ≡ Err (Refused r)) c.in-Err.is c.in_ok-bytes.ensures.refusal in
-    let other = λ line same. c.read_file.ensures.unbroken line (subst (λ (r : Refusal). c.read_file.result ≡ Err (Refused r)) same is) in
+    let other : (line : ℕ) → refusal ≢ BadScript line = λ line same. c.read_file.ensures.unbroken line (subst (λ (r : Refusal). c.read_file.result ≡ Err (Refused r)) same is) in
     let read = unread_list list file refusal other (subst (λ r. IsFileRead r list file) is (c.read_file.ensures.read told)) in
     unshown c.refuse.result c.args.broken.now (to_plan c.args.keep (names_in list file)) c.requires (λ line h. other line (same_refusal refusal (BadScript line) (sym (ap (to_plan c.args.keep) read) ∙ h)))

@@ -1,5 +1,5 @@
-use Rattle.std.proofs.Common.{◌≡◌, ◌∙◌, ap, refl, sym, subst}
-use Rattle.std.specs.Prelude.{Some, Ok, Err}
+use Rattle.std.proofs.Common.{◌≡◌, ◌∙◌, ℕ, List, ap, refl, sym, subst}
+use Rattle.std.specs.Prelude.{Ok, Err, IsTrue}
 use Rattle.nb_host.specs.declared.faults.Fault.TheVariants.{Refused}
 use Rattle.nb_host.specs.declared.refusals.Refusal.{Refusal}
 use Rattle.nb_host.specs.declared.refusals.Refusal.TheVariants.{BadScript}
@@ -33,7 +33,8 @@ returns-in-Ok-clause-goes g c =
     let is = settled_value c.in_ok-bytes.field-0 bytes (λ value. c.read_file.result ≡ Ok value) c.in-Ok.is c.in_ok-bytes.ensures.value in
     goes_quietly g.H.Host.tells old mid new (to_run (script_in name file)) c.run_bytes.result c.read_file.ensures.quiet
     (goes_same g.H.Host.tells mid new (Runs (to_run (script_in name file))) (Runs (to_run (script_of bytes.items))) c.run_bytes.result
-    (λ told. ap (λ f. Runs (to_run (script_in name f))) (subst (λ r. IsFileRead r name file) is (c.read_file.ensures.read told))) c.run_bytes.ensures.goes)
+    (λ told. ap (λ f. Runs (to_run (script_in name f))) (subst (λ r. IsFileRead r name file) is (c.read_file.ensures.read told)))
+    (subst (λ (b : List ℕ). Goes g.H.Host.tells c.run_bytes.result mid new (Runs (to_run (script_of b)))) c.deref.ensures.value c.run_bytes.ensures.goes))
 
 pub returns-in-Ok-clause-shown : goal.returns-in-Ok-clause-shown
 returns-in-Ok-clause-shown g c told =
@@ -41,7 +42,8 @@ returns-in-Ok-clause-shown g c told =
     let file = (g.H.Host.world c.args.host.now).files name in
     let bytes = c.in-Ok.bytes in
     let is = settled_value c.in_ok-bytes.field-0 bytes (λ value. c.read_file.result ≡ Ok value) c.in-Ok.is c.in_ok-bytes.ensures.value in
-    subst (λ f. IsShownOf c.run_bytes.result c.run_bytes.new.broken (Runs (to_run (script_in name f)))) (sym (subst (λ r. IsFileRead r name file) is (c.read_file.ensures.read told))) c.run_bytes.ensures.shown
+    subst (λ f. IsShownOf c.run_bytes.result c.run_bytes.new.broken (Runs (to_run (script_in name f)))) (sym (subst (λ r. IsFileRead r name file) is (c.read_file.ensures.read told)))
+    (subst (λ (b : List ℕ). IsShownOf c.run_bytes.result c.run_bytes.new.broken (Runs (to_run (script_of b)))) c.deref.ensures.value c.run_bytes.ensures.shown)
 
 pub returns-in-Err-clause-goes : goal.returns-in-Err-clause-goes
 returns-in-Err-clause-goes g c =
@@ -52,7 +54,7 @@ returns-in-Err-clause-goes g c =
     let file = old.files name in
     let refusal = c.in-Err.refusal in
     let is = settled_refusal c.in_ok-bytes.field-0 refusal (λ r. c.read_file.result ≡ Err (Refused r)) c.in-Err.is c.in_ok-bytes.ensures.refusal in
-    let read = λ told. subst (λ r. IsFileRead r name file) is (c.read_file.ensures.read told) in
+    let read : IsTrue g.H.Host.tells → script_in name file ≡ Err refusal = λ told. subst (λ r. IsFileRead r name file) is (c.read_file.ensures.read told) in
     goes_quietly g.H.Host.tells old mid new (to_run (script_in name file)) c.refuse.result c.read_file.ensures.quiet
     (goes_same g.H.Host.tells mid new (Runs (to_run (script_in name file))) (Runs (Err refusal)) c.refuse.result (λ told. ap (λ s. Runs (to_run s)) (read told))
     (goes_refused g.H.Host.tells mid new (Err refusal) refusal c.refuse.result refl (g.met.H.Host.timely c.read_file.new.host) (g.met.H.Host.timely c.refuse.new.host) (g.met.H.Host.reads_left c.refuse.new.host)

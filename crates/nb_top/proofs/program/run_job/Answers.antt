@@ -1,4 +1,4 @@
-use Rattle.std.proofs.Common.{[], ◌∷◌, ◌≡◌, ap, sym, subst}
+use Rattle.std.proofs.Common.{[], ◌∷◌, ap, sym, subst}
 use Rattle.std.specs.Prelude.{Ok}
 use Rattle.nb_model.specs.declared.statement.Statement.TheVariants.{Backup, BackupSince as BackupOf}
 use Rattle.nb_script.specs.Asked.{IsAskable}

@@ -18,153 +18,165 @@ use Rattle.nb_top.proofs.script.run_script.Goals as goal
 
 pub returns-in_err-engine-clause-goes : goal.returns-in_err-engine-clause-goes
 returns-in_err-engine-clause-goes g c = record {
-  does = λ tells. ([], λ account given knows may told.
-    let old = g.H.Host.world c.args.host.now in
-    let mid = g.H.Host.world c.open.new.host in
-    let plan = c.args.script.now in
-    let begins = script_begins old account given plan c.args.telling c.requires.askable knows may mid c.open.result
-    (λ name size raw cache is. c.open.ensures.creates name size raw cache tells (c.first.ensures ∙ is)) (λ name cache is. c.open.ensures.attaches name cache tells (c.first.ensures ∙ is))
-    (λ name cache is. c.open.ensures.quiet name cache (c.first.ensures ∙ is)) c.open.ensures.scn
-    (subst (λ s. IfOk c.open.result (λ h. h.cap ≡ cache_asked s)) c.first.ensures c.open.ensures.cap) in
-    runs_err c.from_residual.result c.from_residual.ensures.0 (λ r. RunsTo r old mid (Ok (ToRun plan c.args.telling)) account given) begins.fails);
+  does = λ tells. (
+    [],
+    λ account given knows may told.
+        let old = g.H.Host.world c.args.host.now in
+        let mid = g.H.Host.world c.open.new.host in
+        let plan = c.args.script.now in
+        let begins = script_begins old account given plan c.args.telling c.requires.askable knows may mid c.open.result
+        (λ name size raw cache is. c.open.ensures.creates name size raw cache tells (c.first.ensures ∙ is)) (λ name cache is. c.open.ensures.attaches name cache tells (c.first.ensures ∙ is))
+        (λ name cache is. c.open.ensures.quiet name cache (c.first.ensures ∙ is)) c.open.ensures.scn
+        (subst (λ s. IfOk c.open.result (λ h. h.cap ≡ cache_asked s)) c.first.ensures c.open.ensures.cap) in
+        runs_err c.from_residual.result c.from_residual.ensures.0 (λ r. RunsTo r old mid (Ok (ToRun plan c.args.telling)) account given) begins.fails,
+  );
   grows = λ account tells knows. let old = g.H.Host.world c.args.host.now in
-    let mid = g.H.Host.world c.open.new.host in
-    let plan = c.args.script.now in
-    grows_none old mid (first_gave old account no_given plan c.args.telling c.requires.askable knows mid c.open.result
-    (λ name size raw cache is. c.open.ensures.creates name size raw cache tells (c.first.ensures ∙ is)) (λ name cache is. c.open.ensures.quiet name cache (c.first.ensures ∙ is)));
+      let mid = g.H.Host.world c.open.new.host in
+      let plan = c.args.script.now in
+      grows_none old mid (first_gave old account no_given plan c.args.telling c.requires.askable knows mid c.open.result
+      (λ name size raw cache is. c.open.ensures.creates name size raw cache tells (c.first.ensures ∙ is)) (λ name cache is. c.open.ensures.quiet name cache (c.first.ensures ∙ is)));
   touches = λ tells whole. let old = g.H.Host.world c.args.host.now in
-    let mid = g.H.Host.world c.open.new.host in
-    let plan = c.args.script.now in
-    let first = first_opens plan.first c.requires.askable.first in
-    only_err old mid (MayTouch (Ok (ToRun plan c.args.telling))) c.from_residual.result c.from_residual.ensures.0 (opening_leaves old mid plan c.args.telling first c.open.result
-    (λ name size raw cache is. c.open.ensures.creates name size raw cache tells (c.first.ensures ∙ is)) (λ name cache is. c.open.ensures.attaches name cache tells (c.first.ensures ∙ is))
-    (λ name cache is. c.open.ensures.quiet name cache (c.first.ensures ∙ is)));
+      let mid = g.H.Host.world c.open.new.host in
+      let plan = c.args.script.now in
+      let first = first_opens plan.first c.requires.askable.first in
+      only_err old mid (MayTouch (Ok (ToRun plan c.args.telling))) c.from_residual.result c.from_residual.ensures.0 (opening_leaves old mid plan c.args.telling first c.open.result
+      (λ name size raw cache is. c.open.ensures.creates name size raw cache tells (c.first.ensures ∙ is)) (λ name cache is. c.open.ensures.attaches name cache tells (c.first.ensures ∙ is))
+      (λ name cache is. c.open.ensures.quiet name cache (c.first.ensures ∙ is)));
 }
 
 pub returns-in_err-refused-in-Ok-clause-goes : goal.returns-in_err-refused-in-Ok-clause-goes
 returns-in_err-refused-in-Ok-clause-goes g c = record {
-  does = λ tells. ((c.in_err-refused-in-Ok.ensures.plays tells).0, λ account given knows may told.
-    let old = g.H.Host.world c.args.host.now in
-    let mid = g.H.Host.world c.open.new.host in
-    let new = g.H.Host.world c.run_opened.new.host in
-    let plan = c.args.script.now in
-    let begins = script_begins old account given plan c.args.telling c.requires.askable knows may mid c.open.result
-    (λ name size raw cache is. c.open.ensures.creates name size raw cache tells (c.first.ensures ∙ is)) (λ name cache is. c.open.ensures.attaches name cache tells (c.first.ensures ∙ is))
-    (λ name cache is. c.open.ensures.quiet name cache (c.first.ensures ∙ is)) c.open.ensures.scn
-    (subst (λ s. IfOk c.open.result (λ h. h.cap ≡ cache_asked s)) c.first.ensures c.open.ensures.cap) in
-    let held = c.in-Ok.engine in
-    let done = begins.done held (settled_value c.in_ok-engine.field-0 held (λ value. c.open.result ≡ Ok value) c.in-Ok.is c.in_ok-engine.ensures.value) in
-    let later = subst (λ x. Foretells x ((c.in_err-refused-in-Ok.ensures.plays tells).0) mid new) (sym (script_given old account given plan c.args.telling c.requires.askable mid held done)) (foretold_from old mid new given _ done.gave told) in
-    runs_err c.from_residual-in_err-refused-in-Ok.result c.from_residual-in_err-refused-in-Ok.ensures.0 (λ r. RunsTo r old new (Ok (ToRun plan c.args.telling)) account given)
-    (λ e. script_ends_early old account given plan c.args.telling c.requires.askable mid held done new c.run_opened.new.engine e
-    ((c.in_err-refused-in-Ok.ensures.plays tells).1 (script_now old account given plan c.args.telling c.requires.askable mid held done) (start old account given plan c.args.telling c.requires.askable done.first) done.first.strokes
-    (script_ready old account given plan c.args.telling c.requires.askable mid held done) (script_todo old account given plan c.args.telling c.requires.askable mid held done)
-    (script_making old account given plan c.args.telling c.requires.askable mid held done) later (script_trail old account given plan c.args.telling c.requires.askable mid held done))));
+  does = λ tells. (
+    (c.in_err-refused-in-Ok.ensures.plays tells).0,
+    λ account given knows may told.
+        let old = g.H.Host.world c.args.host.now in
+        let mid = g.H.Host.world c.open.new.host in
+        let new = g.H.Host.world c.run_opened.new.host in
+        let plan = c.args.script.now in
+        let begins = script_begins old account given plan c.args.telling c.requires.askable knows may mid c.open.result
+        (λ name size raw cache is. c.open.ensures.creates name size raw cache tells (c.first.ensures ∙ is)) (λ name cache is. c.open.ensures.attaches name cache tells (c.first.ensures ∙ is))
+        (λ name cache is. c.open.ensures.quiet name cache (c.first.ensures ∙ is)) c.open.ensures.scn
+        (subst (λ s. IfOk c.open.result (λ h. h.cap ≡ cache_asked s)) c.first.ensures c.open.ensures.cap) in
+        let held = c.in-Ok.engine in
+        let done = begins.done held (settled_value c.in_ok-engine.field-0 held (λ value. c.open.result ≡ Ok value) c.in-Ok.is c.in_ok-engine.ensures.value) in
+        let later = subst (λ x. Foretells x ((c.in_err-refused-in-Ok.ensures.plays tells).0) mid new) (sym (script_given old account given plan c.args.telling c.requires.askable mid held done)) (foretold_from old mid new given _ done.gave told) in
+        runs_err c.from_residual-in_err-refused-in-Ok.result c.from_residual-in_err-refused-in-Ok.ensures.0 (λ r. RunsTo r old new (Ok (ToRun plan c.args.telling)) account given)
+        (λ e. script_ends_early old account given plan c.args.telling c.requires.askable mid held done new c.run_opened.new.engine e
+        ((c.in_err-refused-in-Ok.ensures.plays tells).1 (script_now old account given plan c.args.telling c.requires.askable mid held done) (start old account given plan c.args.telling c.requires.askable done.first) done.first.strokes
+        (script_ready old account given plan c.args.telling c.requires.askable mid held done) (script_todo old account given plan c.args.telling c.requires.askable mid held done)
+        (script_making old account given plan c.args.telling c.requires.askable mid held done) later (script_trail old account given plan c.args.telling c.requires.askable mid held done))),
+  );
   grows = λ account tells knows. let old = g.H.Host.world c.args.host.now in
-    let mid = g.H.Host.world c.open.new.host in
-    let new = g.H.Host.world c.run_opened.new.host in
-    let plan = c.args.script.now in
-    let begins = script_begins old account no_given plan c.args.telling c.requires.askable knows tt mid c.open.result
-    (λ name size raw cache is. c.open.ensures.creates name size raw cache tells (c.first.ensures ∙ is)) (λ name cache is. c.open.ensures.attaches name cache tells (c.first.ensures ∙ is))
-    (λ name cache is. c.open.ensures.quiet name cache (c.first.ensures ∙ is)) c.open.ensures.scn
-    (subst (λ s. IfOk c.open.result (λ h. h.cap ≡ cache_asked s)) c.first.ensures c.open.ensures.cap) in
-    let held = c.in-Ok.engine in
-    let done = begins.done held (settled_value c.in_ok-engine.field-0 held (λ value. c.open.result ≡ Ok value) c.in-Ok.is c.in_ok-engine.ensures.value) in
-    grows_joined old mid new (grows_none old mid done.gave)
-    (c.in_err-refused-in-Ok.ensures.goes.grows (script_now old account no_given plan c.args.telling c.requires.askable mid held done) tells
-    (script_ready old account no_given plan c.args.telling c.requires.askable mid held done) (script_todo old account no_given plan c.args.telling c.requires.askable mid held done)
-    (script_making old account no_given plan c.args.telling c.requires.askable mid held done));
+      let mid = g.H.Host.world c.open.new.host in
+      let new = g.H.Host.world c.run_opened.new.host in
+      let plan = c.args.script.now in
+      let begins = script_begins old account no_given plan c.args.telling c.requires.askable knows tt mid c.open.result
+      (λ name size raw cache is. c.open.ensures.creates name size raw cache tells (c.first.ensures ∙ is)) (λ name cache is. c.open.ensures.attaches name cache tells (c.first.ensures ∙ is))
+      (λ name cache is. c.open.ensures.quiet name cache (c.first.ensures ∙ is)) c.open.ensures.scn
+      (subst (λ s. IfOk c.open.result (λ h. h.cap ≡ cache_asked s)) c.first.ensures c.open.ensures.cap) in
+      let held = c.in-Ok.engine in
+      let done = begins.done held (settled_value c.in_ok-engine.field-0 held (λ value. c.open.result ≡ Ok value) c.in-Ok.is c.in_ok-engine.ensures.value) in
+      grows_joined old mid new (grows_none old mid done.gave)
+      (c.in_err-refused-in-Ok.ensures.grows (script_now old account no_given plan c.args.telling c.requires.askable mid held done) tells
+      (script_ready old account no_given plan c.args.telling c.requires.askable mid held done) (script_todo old account no_given plan c.args.telling c.requires.askable mid held done)
+      (script_making old account no_given plan c.args.telling c.requires.askable mid held done));
   touches = λ tells whole. let old = g.H.Host.world c.args.host.now in
-    let mid = g.H.Host.world c.open.new.host in
-    let plan = c.args.script.now in
-    let first = first_opens plan.first c.requires.askable.first in
-    let new = g.H.Host.world c.run_opened.new.host in
-    let held = c.in-Ok.engine in
-    let is = settled_value c.in_ok-engine.field-0 held (λ value. c.open.result ≡ Ok value) c.in-Ok.is c.in_ok-engine.ensures.value in
-    let still = begun_still old mid plan c.args.telling first c.open.result
-    (λ name size raw cache is. c.open.ensures.creates name size raw cache tells (c.first.ensures ∙ is)) (λ name cache is. c.open.ensures.attaches name cache tells (c.first.ensures ∙ is))
-    (λ name cache is. c.open.ensures.quiet name cache (c.first.ensures ∙ is)) held is whole in
-    only_err old new (MayTouch (Ok (ToRun plan c.args.telling))) c.from_residual-in_err-refused-in-Ok.result c.from_residual-in_err-refused-in-Ok.ensures.0
-    (turns_leave old mid plan c.args.telling first c.open.result
-    (λ name size raw cache is. c.open.ensures.creates name size raw cache tells (c.first.ensures ∙ is)) (λ name cache is. c.open.ensures.attaches name cache tells (c.first.ensures ∙ is))
-    (λ name cache is. c.open.ensures.quiet name cache (c.first.ensures ∙ is)) held is whole new c.run_opened.new.engine _ (c.in_err-refused-in-Ok.ensures.stays_open tells still));
+      let mid = g.H.Host.world c.open.new.host in
+      let plan = c.args.script.now in
+      let first = first_opens plan.first c.requires.askable.first in
+      let new = g.H.Host.world c.run_opened.new.host in
+      let held = c.in-Ok.engine in
+      let is = settled_value c.in_ok-engine.field-0 held (λ value. c.open.result ≡ Ok value) c.in-Ok.is c.in_ok-engine.ensures.value in
+      let still = begun_still old mid plan c.args.telling first c.open.result
+      (λ name size raw cache is. c.open.ensures.creates name size raw cache tells (c.first.ensures ∙ is)) (λ name cache is. c.open.ensures.attaches name cache tells (c.first.ensures ∙ is))
+      (λ name cache is. c.open.ensures.quiet name cache (c.first.ensures ∙ is)) held is whole in
+      only_err old new (MayTouch (Ok (ToRun plan c.args.telling))) c.from_residual-in_err-refused-in-Ok.result c.from_residual-in_err-refused-in-Ok.ensures.0
+      (turns_leave old mid plan c.args.telling first c.open.result
+      (λ name size raw cache is. c.open.ensures.creates name size raw cache tells (c.first.ensures ∙ is)) (λ name cache is. c.open.ensures.attaches name cache tells (c.first.ensures ∙ is))
+      (λ name cache is. c.open.ensures.quiet name cache (c.first.ensures ∙ is)) held is whole new c.run_opened.new.engine _ (c.in_err-refused-in-Ok.ensures.stays_open tells still));
 }
 
 pub returns-in_ok-refused-in-Ok-clause-goes : goal.returns-in_ok-refused-in-Ok-clause-goes
 returns-in_ok-refused-in-Ok-clause-goes g c = record {
-  does = λ tells. ((c.in_ok-refused-in-Ok.ensures.plays tells).0, λ account given knows may told.
-    let old = g.H.Host.world c.args.host.now in
-    let mid = g.H.Host.world c.open.new.host in
-    let new = g.H.Host.world c.run_opened.new.host in
-    let plan = c.args.script.now in
-    let begins = script_begins old account given plan c.args.telling c.requires.askable knows may mid c.open.result
-    (λ name size raw cache is. c.open.ensures.creates name size raw cache tells (c.first.ensures ∙ is)) (λ name cache is. c.open.ensures.attaches name cache tells (c.first.ensures ∙ is))
-    (λ name cache is. c.open.ensures.quiet name cache (c.first.ensures ∙ is)) c.open.ensures.scn
-    (subst (λ s. IfOk c.open.result (λ h. h.cap ≡ cache_asked s)) c.first.ensures c.open.ensures.cap) in
-    let held = c.in-Ok.engine in
-    let done = begins.done held (settled_value c.in_ok-engine.field-0 held (λ value. c.open.result ≡ Ok value) c.in-Ok.is c.in_ok-engine.ensures.value) in
-    let later = subst (λ x. Foretells x ((c.in_ok-refused-in-Ok.ensures.plays tells).0) mid new) (sym (script_given old account given plan c.args.telling c.requires.askable mid held done)) (foretold_from old mid new given _ done.gave told) in
-    script_ends old account given plan c.args.telling c.requires.askable mid held done new c.run_opened.new.engine c.in_ok-refused-in-Ok.refused c.ended.result c.ended.ensures.number c.in_ok-refused-in-Ok.ensures.none_waits
-    ((c.in_ok-refused-in-Ok.ensures.plays tells).1 (script_now old account given plan c.args.telling c.requires.askable mid held done) (start old account given plan c.args.telling c.requires.askable done.first) done.first.strokes
-    (script_ready old account given plan c.args.telling c.requires.askable mid held done) (script_todo old account given plan c.args.telling c.requires.askable mid held done)
-    (script_making old account given plan c.args.telling c.requires.askable mid held done) later (script_trail old account given plan c.args.telling c.requires.askable mid held done)));
+  does = λ tells. (
+    (c.in_ok-refused-in-Ok.ensures.plays tells).0,
+    λ account given knows may told.
+        let old = g.H.Host.world c.args.host.now in
+        let mid = g.H.Host.world c.open.new.host in
+        let new = g.H.Host.world c.run_opened.new.host in
+        let plan = c.args.script.now in
+        let begins = script_begins old account given plan c.args.telling c.requires.askable knows may mid c.open.result
+        (λ name size raw cache is. c.open.ensures.creates name size raw cache tells (c.first.ensures ∙ is)) (λ name cache is. c.open.ensures.attaches name cache tells (c.first.ensures ∙ is))
+        (λ name cache is. c.open.ensures.quiet name cache (c.first.ensures ∙ is)) c.open.ensures.scn
+        (subst (λ s. IfOk c.open.result (λ h. h.cap ≡ cache_asked s)) c.first.ensures c.open.ensures.cap) in
+        let held = c.in-Ok.engine in
+        let done = begins.done held (settled_value c.in_ok-engine.field-0 held (λ value. c.open.result ≡ Ok value) c.in-Ok.is c.in_ok-engine.ensures.value) in
+        let later = subst (λ x. Foretells x ((c.in_ok-refused-in-Ok.ensures.plays tells).0) mid new) (sym (script_given old account given plan c.args.telling c.requires.askable mid held done)) (foretold_from old mid new given _ done.gave told) in
+        script_ends old account given plan c.args.telling c.requires.askable mid held done new c.run_opened.new.engine c.in_ok-refused-in-Ok.refused c.ended.result c.ended.ensures.number c.in_ok-refused-in-Ok.ensures.none_waits
+        ((c.in_ok-refused-in-Ok.ensures.plays tells).1 (script_now old account given plan c.args.telling c.requires.askable mid held done) (start old account given plan c.args.telling c.requires.askable done.first) done.first.strokes
+        (script_ready old account given plan c.args.telling c.requires.askable mid held done) (script_todo old account given plan c.args.telling c.requires.askable mid held done)
+        (script_making old account given plan c.args.telling c.requires.askable mid held done) later (script_trail old account given plan c.args.telling c.requires.askable mid held done)),
+  );
   grows = λ account tells knows. let old = g.H.Host.world c.args.host.now in
-    let mid = g.H.Host.world c.open.new.host in
-    let new = g.H.Host.world c.run_opened.new.host in
-    let plan = c.args.script.now in
-    let begins = script_begins old account no_given plan c.args.telling c.requires.askable knows tt mid c.open.result
-    (λ name size raw cache is. c.open.ensures.creates name size raw cache tells (c.first.ensures ∙ is)) (λ name cache is. c.open.ensures.attaches name cache tells (c.first.ensures ∙ is))
-    (λ name cache is. c.open.ensures.quiet name cache (c.first.ensures ∙ is)) c.open.ensures.scn
-    (subst (λ s. IfOk c.open.result (λ h. h.cap ≡ cache_asked s)) c.first.ensures c.open.ensures.cap) in
-    let held = c.in-Ok.engine in
-    let done = begins.done held (settled_value c.in_ok-engine.field-0 held (λ value. c.open.result ≡ Ok value) c.in-Ok.is c.in_ok-engine.ensures.value) in
-    grows_joined old mid new (grows_none old mid done.gave)
-    (c.in_ok-refused-in-Ok.ensures.goes.grows (script_now old account no_given plan c.args.telling c.requires.askable mid held done) tells
-    (script_ready old account no_given plan c.args.telling c.requires.askable mid held done) (script_todo old account no_given plan c.args.telling c.requires.askable mid held done)
-    (script_making old account no_given plan c.args.telling c.requires.askable mid held done));
+      let mid = g.H.Host.world c.open.new.host in
+      let new = g.H.Host.world c.run_opened.new.host in
+      let plan = c.args.script.now in
+      let begins = script_begins old account no_given plan c.args.telling c.requires.askable knows tt mid c.open.result
+      (λ name size raw cache is. c.open.ensures.creates name size raw cache tells (c.first.ensures ∙ is)) (λ name cache is. c.open.ensures.attaches name cache tells (c.first.ensures ∙ is))
+      (λ name cache is. c.open.ensures.quiet name cache (c.first.ensures ∙ is)) c.open.ensures.scn
+      (subst (λ s. IfOk c.open.result (λ h. h.cap ≡ cache_asked s)) c.first.ensures c.open.ensures.cap) in
+      let held = c.in-Ok.engine in
+      let done = begins.done held (settled_value c.in_ok-engine.field-0 held (λ value. c.open.result ≡ Ok value) c.in-Ok.is c.in_ok-engine.ensures.value) in
+      grows_joined old mid new (grows_none old mid done.gave)
+      (c.in_ok-refused-in-Ok.ensures.grows (script_now old account no_given plan c.args.telling c.requires.askable mid held done) tells
+      (script_ready old account no_given plan c.args.telling c.requires.askable mid held done) (script_todo old account no_given plan c.args.telling c.requires.askable mid held done)
+      (script_making old account no_given plan c.args.telling c.requires.askable mid held done));
   touches = λ tells whole. let old = g.H.Host.world c.args.host.now in
-    let mid = g.H.Host.world c.open.new.host in
-    let plan = c.args.script.now in
-    let first = first_opens plan.first c.requires.askable.first in
-    let new = g.H.Host.world c.run_opened.new.host in
-    let held = c.in-Ok.engine in
-    let is = settled_value c.in_ok-engine.field-0 held (λ value. c.open.result ≡ Ok value) c.in-Ok.is c.in_ok-engine.ensures.value in
-    let still = begun_still old mid plan c.args.telling first c.open.result
-    (λ name size raw cache is. c.open.ensures.creates name size raw cache tells (c.first.ensures ∙ is)) (λ name cache is. c.open.ensures.attaches name cache tells (c.first.ensures ∙ is))
-    (λ name cache is. c.open.ensures.quiet name cache (c.first.ensures ∙ is)) held is whole in
-    turns_end old mid plan c.args.telling first c.open.result
-    (λ name size raw cache is. c.open.ensures.creates name size raw cache tells (c.first.ensures ∙ is)) (λ name cache is. c.open.ensures.attaches name cache tells (c.first.ensures ∙ is))
-    (λ name cache is. c.open.ensures.quiet name cache (c.first.ensures ∙ is)) held is whole new c.run_opened.new.engine c.in_ok-refused-in-Ok.refused c.ended.result c.ended.ensures.ended c.ended.ensures.number (c.in_ok-refused-in-Ok.ensures.stays_open tells still);
+      let mid = g.H.Host.world c.open.new.host in
+      let plan = c.args.script.now in
+      let first = first_opens plan.first c.requires.askable.first in
+      let new = g.H.Host.world c.run_opened.new.host in
+      let held = c.in-Ok.engine in
+      let is = settled_value c.in_ok-engine.field-0 held (λ value. c.open.result ≡ Ok value) c.in-Ok.is c.in_ok-engine.ensures.value in
+      let still = begun_still old mid plan c.args.telling first c.open.result
+      (λ name size raw cache is. c.open.ensures.creates name size raw cache tells (c.first.ensures ∙ is)) (λ name cache is. c.open.ensures.attaches name cache tells (c.first.ensures ∙ is))
+      (λ name cache is. c.open.ensures.quiet name cache (c.first.ensures ∙ is)) held is whole in
+      turns_end old mid plan c.args.telling first c.open.result
+      (λ name size raw cache is. c.open.ensures.creates name size raw cache tells (c.first.ensures ∙ is)) (λ name cache is. c.open.ensures.attaches name cache tells (c.first.ensures ∙ is))
+      (λ name cache is. c.open.ensures.quiet name cache (c.first.ensures ∙ is)) held is whole new c.run_opened.new.engine c.in_ok-refused-in-Ok.refused c.ended.result c.ended.ensures.ended c.ended.ensures.number (c.in_ok-refused-in-Ok.ensures.stays_open tells still);
 }
 
 pub returns-in-Err-clause-goes : goal.returns-in-Err-clause-goes
 returns-in-Err-clause-goes g c = record {
-  does = λ tells. ([], λ account given knows may told.
-    let old = g.H.Host.world c.args.host.now in
-    let mid = g.H.Host.world c.open.new.host in
-    let new = g.H.Host.world c.refuse.new.host in
-    let plan = c.args.script.now in
-    let begins = script_begins old account given plan c.args.telling c.requires.askable knows may mid c.open.result
-    (λ name size raw cache is. c.open.ensures.creates name size raw cache tells (c.first.ensures ∙ is)) (λ name cache is. c.open.ensures.attaches name cache tells (c.first.ensures ∙ is))
-    (λ name cache is. c.open.ensures.quiet name cache (c.first.ensures ∙ is)) c.open.ensures.scn
-    (subst (λ s. IfOk c.open.result (λ h. h.cap ≡ cache_asked s)) c.first.ensures c.open.ensures.cap) in
-    let refusal = c.in-Err.refusal in
-    let is = begins.refused refusal (settled_refusal c.in_ok-engine.field-0 refusal (λ r. c.open.result ≡ Err (Refused r)) c.in-Err.is c.in_ok-engine.ensures.refusal) in
-    let says = says_other _ _ _ _ _ (ap (λ s. line_text s (RefusedReply refusal)) c.first_session.ensures.value) (c.refuse.ensures.line tells) in
-    script_refused old account given plan c.args.telling c.requires.askable mid refusal is new c.refuse.result c.refuse.result says c.refuse.ensures.ok says.said);
+  does = λ tells. (
+    [],
+    λ account given knows may told.
+        let old = g.H.Host.world c.args.host.now in
+        let mid = g.H.Host.world c.open.new.host in
+        let new = g.H.Host.world c.refuse.new.host in
+        let plan = c.args.script.now in
+        let begins = script_begins old account given plan c.args.telling c.requires.askable knows may mid c.open.result
+        (λ name size raw cache is. c.open.ensures.creates name size raw cache tells (c.first.ensures ∙ is)) (λ name cache is. c.open.ensures.attaches name cache tells (c.first.ensures ∙ is))
+        (λ name cache is. c.open.ensures.quiet name cache (c.first.ensures ∙ is)) c.open.ensures.scn
+        (subst (λ s. IfOk c.open.result (λ h. h.cap ≡ cache_asked s)) c.first.ensures c.open.ensures.cap) in
+        let refusal = c.in-Err.refusal in
+        let is = begins.refused refusal (settled_refusal c.in_ok-engine.field-0 refusal (λ r. c.open.result ≡ Err (Refused r)) c.in-Err.is c.in_ok-engine.ensures.refusal) in
+        let says = says_other _ _ _ _ _ (ap (λ s. line_text s (RefusedReply refusal)) c.first_session.ensures.value) (c.refuse.ensures.line tells) in
+        script_refused old account given plan c.args.telling c.requires.askable mid refusal is new c.refuse.result c.refuse.result says c.refuse.ensures.ok says.said,
+  );
   grows = λ account tells knows. let old = g.H.Host.world c.args.host.now in
-    let mid = g.H.Host.world c.open.new.host in
-    let new = g.H.Host.world c.refuse.new.host in
-    let plan = c.args.script.now in
-    grows_joined old mid new (grows_none old mid (first_gave old account no_given plan c.args.telling c.requires.askable knows mid c.open.result
-    (λ name size raw cache is. c.open.ensures.creates name size raw cache tells (c.first.ensures ∙ is)) (λ name cache is. c.open.ensures.quiet name cache (c.first.ensures ∙ is))))
-    (grows_none mid new c.refuse.ensures.gave);
+      let mid = g.H.Host.world c.open.new.host in
+      let new = g.H.Host.world c.refuse.new.host in
+      let plan = c.args.script.now in
+      grows_joined old mid new (grows_none old mid (first_gave old account no_given plan c.args.telling c.requires.askable knows mid c.open.result
+      (λ name size raw cache is. c.open.ensures.creates name size raw cache tells (c.first.ensures ∙ is)) (λ name cache is. c.open.ensures.quiet name cache (c.first.ensures ∙ is))))
+      (grows_none mid new c.refuse.ensures.gave);
   touches = λ tells whole. let old = g.H.Host.world c.args.host.now in
-    let mid = g.H.Host.world c.open.new.host in
-    let plan = c.args.script.now in
-    let first = first_opens plan.first c.requires.askable.first in
-    let new = g.H.Host.world c.refuse.new.host in
-    only_refused old mid new (MayTouch (Ok (ToRun plan c.args.telling))) (opening_leaves old mid plan c.args.telling first c.open.result
-    (λ name size raw cache is. c.open.ensures.creates name size raw cache tells (c.first.ensures ∙ is)) (λ name cache is. c.open.ensures.attaches name cache tells (c.first.ensures ∙ is))
-    (λ name cache is. c.open.ensures.quiet name cache (c.first.ensures ∙ is))) (g.met.H.Host.timely c.refuse.new.host) (g.met.H.Host.reads_left c.refuse.new.host tells) c.refuse.result _ _ (c.refuse.ensures.line tells);
+      let mid = g.H.Host.world c.open.new.host in
+      let plan = c.args.script.now in
+      let first = first_opens plan.first c.requires.askable.first in
+      let new = g.H.Host.world c.refuse.new.host in
+      only_refused old mid new (MayTouch (Ok (ToRun plan c.args.telling))) (opening_leaves old mid plan c.args.telling first c.open.result
+      (λ name size raw cache is. c.open.ensures.creates name size raw cache tells (c.first.ensures ∙ is)) (λ name cache is. c.open.ensures.attaches name cache tells (c.first.ensures ∙ is))
+      (λ name cache is. c.open.ensures.quiet name cache (c.first.ensures ∙ is))) (g.met.H.Host.timely c.refuse.new.host) (g.met.H.Host.reads_left c.refuse.new.host tells) c.refuse.result _ _ (c.refuse.ensures.line tells);
 }

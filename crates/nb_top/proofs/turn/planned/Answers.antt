@@ -1,9 +1,7 @@
-use Rattle.std.proofs.Common.{◌≡◌, ◌∙◌, List, ℕ, refl, sym, ap, ap₂, subst}
-use Rattle.std.specs.Prelude.{Ok, Err, Result}
-use Rattle.nb_host.specs.declared.faults.Fault.TheVariants.{Refused, Device, Memory}
+use Rattle.std.proofs.Common.{◌∙◌, List, ℕ, ap, ap₂}
 use Rattle.nb_chain.proofs.AnswerLemmas.{passed}
 use Rattle.nb_catalog.specs.Chained.{names_at}
-use Rattle.nb_catalog.specs.Turns.{plan_turn, planned}
+use Rattle.nb_catalog.specs.Turns.{plan_turn}
 use Rattle.nb_model.specs.declared.reply.Reply.TheVariants.{Planned}
 use Rattle.nb_top.specs.OneTurn.{planning}
 use Rattle.nb_top.specs.Served.{Serves}

@@ -1,8 +1,8 @@
 use Rattle.std.proofs.Common.{◌∙◌, sym, arith}
-use Rattle.nb_words.proofs.JobLemmas.{folded}
+use Rattle.nb_words.proofs.JobLemmas.{folded, not_other}
 use Rattle.nb_words.proofs.jobs.of_more.Goals as goal
 
 pub returns-in-Some-files-clause-exact : goal.returns-in-Some-files-clause-exact
 returns-in-Some-files-clause-exact c =
-    folded c.args.verb.now c.args.out.now c.args.words.now c.in-Some.out c.in-Some-files.files (search) (omega (arith, c.if-words-lt2.false)) (omega (arith, c.if-words-gt9.false))
+    folded c.args.verb.now c.args.out.now c.args.words.now c.in-Some.out c.in-Some-files.files (not_other _ (sym c.ne.ensures ∙ c.if-ne.false)) (omega (arith, c.if-words-lt2.false)) (omega (arith, c.if-words-gt9.false))
     (sym c.file.ensures ∙ c.in-Some.is) (sym c.in_ok-files.ensures.exact ∙ c.in-Some-files.is)

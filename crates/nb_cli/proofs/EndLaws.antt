@@ -1,0 +1,20 @@
+-- How the program ends.
+use Rattle.std.proofs.Common.{inl, refl, arith}
+use Rattle.std.specs.Prelude.{Bool}
+use Rattle.nb_host.specs.World.{World}
+use Rattle.nb_top.specs.declared.status.Status.{Status}
+use Rattle.nb_top.specs.Goes.{IsRun}
+use Rattle.nb_top.specs.Requests.{Asked}
+use Rattle.nb_cli.specs.Ended.{EndsRun}
+
+-- nothing is written behind the run
+pub ends_at_once : {H : Type 0} (tells : Bool) (world : H → World) (status : Status) (old new : H) (asked : Asked) → IsRun tells status (world old) (world new) asked → EndsRun tells world status old new asked
+ends_at_once tells world status old new asked run = record {
+  ran = status;
+  behind = new;
+  run = run;
+  still = record { files = refl; left = record { back = λ m file is b. b; now = λ m file is n. n } };
+  silent = record { said = refl; reads = refl; guids = refl; times = refl };
+  passes = record { same = refl; later = omega arith; nothing_else = λ t files said le left. inl left; keeps = λ t files said le left. left };
+  ended = inl refl;
+}

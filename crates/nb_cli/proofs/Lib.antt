@@ -1,0 +1,2 @@
+pub mod ReadWords
+pub mod EndLaws
