@@ -50,22 +50,9 @@ entry_tested x made q other has =
     ∙ one_need x (scn_page_of x q) (is_kind x 10 (scn_page_of x q)) refl
 
 -- that of an inventory page: asked for before, or now
-pub map_asked : (x : Image) (from made p : ℕ) → 5 < from → inventory_of x p ≡ inventory_of x (from - 1) → need_cause (first_not x (map_entry_on x from made p)) ≡ None
-map_asked x from made p more same =
-    ap (λ (t : Bool). need_cause (first_not x (elim t as (λ z. List Need) [ true ↦ [] | false ↦ entry_on x made (inventory_of x p) ])))
-    (ap (λ (t : Bool). t && inventory_of x p == inventory_of x (from - 1)) (elim (leb_tells 6 from) [ inl w ↦ w.0 | inr w ↦ absurd (omega (arith, w.1, more)) ]) ∙ yes (inventory_of x p) (inventory_of x (from - 1)) same)
-    ∙ ap need_cause (first_none x)
-
-and_no : (t : Bool) → (t && false) ≡ false
-and_no true = refl
-and_no false = refl
-
-pub map_unasked : (x : Image) (from made p : ℕ) → (5 < from → inventory_of x p ≢ inventory_of x (from - 1)) → first_not x (map_entry_on x from made p) ≡ first_not x (entry_on x made (inventory_of x p))
-map_unasked x from made p other =
-    ap (λ (t : Bool). first_not x (elim t as (λ z. List Need) [ true ↦ [] | false ↦ entry_on x made (inventory_of x p) ])) (elim (leb_tells 6 from) [
-      | inl w ↦ ap (λ (t : Bool). nat_lt 5 from && t) (no (inventory_of x p) (inventory_of x (from - 1)) (other (omega (arith, w.1)))) ∙ and_no (nat_lt 5 from)
-      | inr w ↦ ap (λ (t : Bool). t && inventory_of x p == inventory_of x (from - 1)) w.0
-    ])
+pub map_by : (x : Image) (from made p : ℕ) (t : Bool) → (nat_lt 5 from && inventory_of x p == inventory_of x (from - 1)) ≡ t
+    → first_not x (map_entry_on x from made p) ≡ first_not x (elim t as (λ z. List Need) [ true ↦ [] | false ↦ entry_on x made (inventory_of x p) ])
+map_by x from made p t is = ap (λ (u : Bool). first_not x (elim u as (λ z. List Need) [ true ↦ [] | false ↦ entry_on x made (inventory_of x p) ])) is
 
 -- that of page p itself
 pub own_kept : (x : Image) (made p : ℕ) → is_kept x p ≡ true → need_cause (first_not x (own_entry_on x made p)) ≡ None
@@ -155,6 +142,17 @@ maps_fresh x from fresh p own = ap (λ (t : Bool). need_cause (first_not x (elim
 
 pub maps_free : (x : Image) (from fresh p : ℕ) → inventory_of x from ≢ fresh → maps_on x from fresh p ≡ maps_up_to x from p
 maps_free x from fresh p other = ap (λ (t : Bool). elim t as (λ z. List Need) [ true ↦ [] | false ↦ maps_up_to x from p ]) (no (inventory_of x from) fresh other)
+
+-- where no fresh inventory page is at hand, it is refused as its search of the inventories is
+pub maps_cause : (x : Image) (from fresh p : ℕ) → inventory_of x from ≢ fresh → p ≡ free_from (length x - from) from x
+    → need_cause (first_not x (maps_on x from fresh (next_place x from fresh))) ≡ need_cause (first_not x (maps_up_to x from p))
+maps_cause x from fresh p other at =
+    ap (λ (ns : List Need). need_cause (first_not x ns)) (maps_free x from fresh (next_place x from fresh) other)
+    ∙ ap (λ (n : ℕ). need_cause (first_not x (maps_up_to x from n))) (place_free x from fresh other ∙ sym at)
+
+-- nothing is refused for no cause
+pub none_is : (r : Refusal) (c : Cause) → None ≡ Some r → c ≡ Some r
+none_is r c e = cc
 
 -- the inventory page of page p was read
 pub map_read : (result : Result (Unit {0}) Fault) (x : Image) (p place : ℕ) (map : Page) → place ≡ inventory_of x p → Reads result x (not_kind x 2 place) place map → OnOk result (IsMap x p map)

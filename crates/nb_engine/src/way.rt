@@ -1,6 +1,6 @@
 // The search for new pages, told before the first of them is made. Nothing changes.
-ghost use Rattle.std.specs.Prelude.{◌≡◌, ◌≢◌, ℕ, ◌+◌, ◌<◌, ◌≤◌, List, true, None, IsTrue, IfOk, OnOk, length};
-ghost use Rattle.nb_fields.specs.Places.{is_system_place};
+ghost use Rattle.std.specs.Prelude.{◌≡◌, ◌≢◌, ℕ, ◌+◌, ◌-◌, ◌/◌, ◌<◌, ◌≤◌, ◌==◌, ◌&&◌, nat_lt, List, true, None, IsTrue, IfOk, OnOk, length};
+ghost use Rattle.nb_fields.specs.Places.{is_page_size, bits_in, inventory_place, is_system_place};
 ghost use Rattle.nb_change.specs.Counts.{CountsDevice};
 ghost use Rattle.nb_page.specs.Quiet.{Quiet};
 ghost use Rattle.nb_model.specs.Image.{Image};
@@ -84,15 +84,18 @@ fn find_place<H: Host>(
     ensures cause { CountsDevice result (H.faults host.old) (H.faults host.new) }
 {
     let page_size = store.page_size();
-    let (k, _) = covers(page_size, way.from);
+    let from = way.from;
+    let fresh = way.fresh;
+    let (k, _) = covers(page_size, from);
     let own = place_of(page_size, k);
-    if own == way.fresh {
-        return Ok(way.from);
+    if own == fresh {
+        return Ok(from);
     }
-    let place = next_free(store, host, way.from, map)?;
-    if place < MOST_PAGES {
-        hold_last(store, host, way.from, place, map)?;
+    let place = next_free(store, host, from, map)?;
+    if place >= MOST_PAGES {
+        return Ok(place);
     }
+    hold_last(store, host, from, place, map)?;
     Ok(place)
 }
 
@@ -126,6 +129,20 @@ fn check_unless<H: Host>(
     scn_page.read(store, host, place)
 }
 
+/// Whether a search that goes on at page `from` was at a page before whose bit is in the inventory page `place`.
+fn was_asked(page_size: u32, from: u32, place: u32) -> bool
+    requires size { IsTrue (is_page_size page_size) }
+    requires from { from ≤ 1048576 }
+    ensures { result ≡ (nat_lt 5 from && place == inventory_place page_size ((from - 1) / bits_in page_size)) }
+{
+    if from <= FIRST_TO_GIVE {
+        return false;
+    }
+    let (k, _) = covers(page_size, from - 1);
+    let before = place_of(page_size, k);
+    place == before
+}
+
 /// Tests the SCN page that has the entry of the inventory page of page `number`, unless it is made on the way, or the search was at a page of
 /// that inventory page before. The refusal is `NotDatabase` of it.
 fn check_map_entry<H: Host>(
@@ -136,6 +153,7 @@ fn check_map_entry<H: Host>(
     scn_page: &mut ScnPage,
 ) -> Result<(), Fault>
     requires room { length scn_page.old ≡ store.old.files.page_size }
+    requires low { 5 ≤ number }
     requires number { number < 1048576 }
     requires from { way.now.from < 1048576 }
     ensures test { (t : Trail) → IsTrue H.tells → IsOpen (H.world host.old) store.old t → Tested result (need_cause (first_not t.base.image (map_entry_on t.base.image way.now.from way.now.made number))) }
@@ -148,12 +166,8 @@ fn check_map_entry<H: Host>(
     let page_size = store.page_size();
     let (k, _) = covers(page_size, number);
     let place = place_of(page_size, k);
-    if way.from > FIRST_TO_GIVE {
-        let (j, _) = covers(page_size, way.from - 1);
-        let before = place_of(page_size, j);
-        if place == before {
-            return Ok(());
-        }
+    if was_asked(page_size, way.from, place) {
+        return Ok(());
     }
     check_unless(store, host, place, way.made, scn_page)
 }
@@ -218,15 +232,17 @@ fn pass<H: Host>(
     ensures quiet { Quiet (H.world host.old) (H.world host.new) }
     ensures cause { CountsDevice result (H.faults host.old) (H.faults host.new) }
 {
-    if is_there(store, host, place, map, scn_page)? {
+    let page_size = store.page_size();
+    let there = is_there(store, host, place, map, scn_page)?;
+    if there {
         return Ok(());
     }
     check_unless(store, host, place, way.made, scn_page)?;
-    if nb_pip::is_place(store.page_size(), place) {
+    if nb_pip::is_place(page_size, place) {
         way.fresh = place;
-    } else {
-        way.made = place;
+        return Ok(());
     }
+    way.made = place;
     Ok(())
 }
 
@@ -261,16 +277,18 @@ fn visit<H: Host>(
     ensures quiet { Quiet (H.world host.old) (H.world host.new) }
     ensures cause { CountsDevice result (H.faults host.old) (H.faults host.new) }
 {
+    let page_size = store.page_size();
     let place = find_place(store, host, way, map)?;
     if place >= MOST_PAGES {
         return Err(Fault::Refused(Refusal::Full { count: MOST_PAGES }));
     }
     check_map_entry(store, host, way, place, scn_page)?;
-    if is_system_place(store.page_size(), place) {
+    if is_system_place(page_size, place) {
         pass(store, host, way, place, map, scn_page)?;
-    } else {
-        check_unless(store, host, place, way.made, scn_page)?;
+        way.from = place + 1;
+        return Ok(place);
     }
+    check_unless(store, host, place, way.made, scn_page)?;
     way.from = place + 1;
     Ok(place)
 }
