@@ -17,6 +17,7 @@ pub mod FullLaws
 pub mod WhereLaws
 pub mod NewLaws
 pub mod NewTurn
+pub mod BehindLaws
 pub mod WayLaws
 pub mod NeedReads
 pub mod PassLaws

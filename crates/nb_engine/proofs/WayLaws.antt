@@ -1,6 +1,10 @@
 -- The search for new pages on a database that nothing was written to yet: it is refused as the draft of the new page is.
 use Rattle.std.proofs.Common.{◌≡◌, ◌≢◌, inl, inr, ℕ, zero, suc, ◌+◌, ◌-◌, ◌/◌, ◌<◌, ◌≤◌, List, [], ◌∷◌, length, refl, sym, ap, subst, ◌∙◌, arith}
-use Rattle.std.specs.Prelude.{Bool, true, false, ◌==◌, IsTrue, Option, Some, None}
+use Rattle.std.specs.Prelude.{Bool, true, false, ◌==◌, IsTrue, Option, Some, None, Result, Ok, Err, IsErr, IsErrAnd}
+use Rattle.nb_host.specs.declared.faults.Fault.{Fault}
+use Rattle.nb_host.specs.declared.faults.Fault.TheVariants.{Refused as RefusedFault, Device, Memory}
+use Rattle.nb_change.proofs.ResultLaws.{passed_on}
+use Rattle.nb_state.specs.Does.{Tested}
 use Rattle.std.proofs.lemmas.Bool.{true≢false, eqb-true}
 use Rattle.std.proofs.lemmas.Bool.Decides.{eqb_tells, leb_tells}
 use Rattle.nb_fields.specs.Places.{is_page_size, bits_in, inventory_place, is_inventory_place, is_scn_place, is_system_place}
@@ -22,6 +26,10 @@ use Rattle.nb_model.proofs.NeedLaws.{first_behind, first_append, behind_none, fi
 use Rattle.nb_model.proofs.SearchLaws.{draft_cause, last_map, Met, met, round_at, try_stops, try_full, try_more, try_last, clear_cause, joined_cause}
 use Rattle.nb_engine.specs.Find.{need_cause}
 use Rattle.nb_engine.specs.Way.{way_cause}
+use Rattle.nb_engine.specs.declared.behind.Behind.{Behind}
+use Rattle.nb_engine.specs.Behind.{IsKnown, gone}
+use Rattle.nb_engine.specs.Search.{Rests, Searches, AtPlace, AtKnown, GoesTo, IsShort, Finds, Refuses, EndsBy}
+use Rattle.nb_engine.proofs.BehindLaws.{known_plain, known_gone}
 use Rattle.nb_engine.proofs.CauseLaws.{first_none as first_none_cause, first_next, first_here}
 use Rattle.nb_engine.proofs.FullLaws.{three_apart}
 
@@ -33,22 +41,6 @@ stopped_cause x q = refl
 pub full_cause : (x : Image) → draft_cause (no_page (drafted x)) ≡ Some (Full 1048576)
 unfolding first_cause lowest_broken
 full_cause x = refl
-
--- what is left of a new page goes as the whole
-pub record Rests (start now : Image) (tries kind : ℕ) (payload : ℕ → List ℕ) : Type 0 where
-  pub cause : draft_cause (new_page kind payload (drafted start)).0 ≡ draft_cause (new_within tries kind payload (drafted now)).0
-  pub image : (new_page kind payload (drafted start)).0.image ≡ (new_within tries kind payload (drafted now)).0.image
-  pub number : (new_page kind payload (drafted start)).1 ≡ (new_within tries kind payload (drafted now)).1
-
--- A search that began at `start` has come to `now`.
-pub record Searches (old start now : Image) (first from made fresh tries : ℕ) : Type 0 where
-  pub way : IsOnTheWay old now from made fresh
-  pub longer : length old ≤ length start
-  pub five : 5 ≤ first
-  pub near : from ≤ length start + 2
-  pub places : (q : ℕ) → length start ≤ q → q < from → is_system_place (image_size old) q ≡ true
-  pub enough : length start + 4 + first ≤ tries + from
-  pub rests : (kind : ℕ) (payload : ℕ → List ℕ) → Rests start now tries kind payload
 
 pub search_begins : (old start : Image) (from made fresh : ℕ) → IsOnTheWay old start from made fresh → Searches old start start from from made fresh (length start + 4)
 search_begins old start from made fresh way =
@@ -104,6 +96,19 @@ module _ (old start now : Image) (first from made fresh left : ℕ) (s : Searche
     where
       yes : p ≡ 1048576 → (p == 1048576) ≡ true
       yes e = elim (eqb_tells p 1048576) [ inl w ↦ w.0 | inr w ↦ absurd (w.1 e) ]
+
+  -- Then the image is as it was.
+  pub stops_image : (q kind : ℕ) (payload : ℕ → List ℕ) → first_not old (needed_on old from made fresh p) ≡ Some q → (new_page kind payload (drafted start)).0.image ≡ now
+  stops_image q kind payload e = (s.rests kind payload).image ∙ ap (λ (x : Draft × ℕ). x.0.image) (try_stops now kind payload left q (none_now (Some q) e))
+
+  pub full_image : (kind : ℕ) (payload : ℕ → List ℕ) → first_not old (needed_on old from made fresh p) ≡ None → p ≡ 1048576 → (new_page kind payload (drafted start)).0.image ≡ now
+  full_image kind payload e end = (s.rests kind payload).image ∙ ap (λ (x : Draft × ℕ). x.0.image) (try_full now kind payload left (none_now None e) (ap (λ (n : ℕ). n == 1048576) (lowest ∙ end)))
+
+  size_is : IsTrue (is_page_size size)
+  size_is = subst (λ (n : ℕ). IsTrue (is_page_size n)) way.size way.shaped.size
+
+  five_p : 5 ≤ p
+  five_p = let five = way.five in omega (arith, five, from_p)
 
   module _ (none : first_not old (needed_on old from made fresh p) ≡ None) (other : p ≢ 1048576) where
     no : (lowest_free now == 1048576) ≡ false
@@ -222,6 +227,13 @@ module _ (old start now : Image) (first from made fresh left : ℕ) (s : Searche
                 };
           }
 
+      -- with what is known of the page behind it,
+      pub known_on : (b : Behind) → IsKnown old now b → IsKnown old (round_at p now).image (gone p m f b)
+      known_on b known =
+          let low = way.made_before in
+          let below = way.fresh_before in
+          known_gone old now (round_at p now).image p (system_kind now p) b known way.size size_is five_p visits.on there system of_map of_entries made fresh m f (omega (arith, low, from_p)) (omega (arith, below, from_p)) (made_now m made_is) (fresh_now f fresh_is)
+
     -- and ends with a page.
     module _ (plain : is_system_place size p ≡ false) (kind : ℕ) (payload : ℕ → List ℕ) (short : length (payload p) ≤ 1008) where
       plain_now : is_system_place (image_size now) p ≡ false
@@ -254,6 +266,9 @@ module _ (old start now : Image) (first from made fresh left : ℕ) (s : Searche
           (way_further old now last.image from made fresh p kind made fresh way last_visits.on before from_p there (λ at. absurd (no_map at)) (λ at. absurd (no_entries at)) tested ready.map_entry
           (same_made refl (λ at. absurd (no_entries (sym scn_place_now ∙ at)))) (same_fresh refl (λ at. absurd (no_map (sym map_place_now ∙ at)))))
 
+      pub known_found : kind ≡ 5 → (b : Behind) → IsKnown old now b → IsKnown old (new_page kind payload (drafted start)).0.image b
+      known_found is b known = subst (λ (x : Image). IsKnown old x b) (sym ((s.rests kind payload).image ∙ ap (λ (x : Draft × ℕ). x.0.image) last_is)) (known_plain old now last.image p kind b known way.size size_is five_p last_visits.on there plain is)
+
 -- a search always has a try left
 pub search_left : (old start now : Image) (first from made fresh tries : ℕ) → Searches old start now first from made fresh tries → (left : ℕ) × (tries ≡ suc left)
 search_left old start now first from made fresh zero s = absurd (let enough = s.enough in let near = s.near in let five = s.five in omega (arith, enough, near, five))
@@ -268,68 +283,54 @@ needs_last x {size} none same =
     ∙ behind_none (first_not x []) ∙ first_none x
 
 -- Where the search ends at the last page that a database may have, no page is left.
-pub search_end : (old start now : Image) (first from made fresh tries kind : ℕ) (payload : ℕ → List ℕ) → Searches old start now first from made fresh tries → length old ≤ 1048576 → from ≡ 1048576
-    → draft_cause (new_page kind payload (drafted start)).0 ≡ Some (Full 1048576)
-search_end old start now first from made fresh tries kind payload s most end =
-    let more = search_left old start now first from made fresh tries s in
-    let again : Searches old start now first from made fresh (suc more.0) = subst (Searches old start now first from made fresh) more.1 s in
-    search_full old start now first from made fresh more.0 again most (next_place old from fresh) refl kind payload none at
-  where
-    way : IsOnTheWay old now from made fresh
-    way = s.way
+module _ (old start now : Image) (first from made fresh tries : ℕ) (s : Searches old start now first from made fresh tries) (most : length old ≤ 1048576) (end : from ≡ 1048576) where
+  end_way : IsOnTheWay old now from made fresh
+  end_way = s.way
 
-    size : ℕ
-    size = image_size old
+  abbrev end_size : ℕ
+  end_size = image_size old
 
-    w : ℕ
-    w = bits_in size
+  abbrev w : ℕ
+  w = bits_in end_size
 
-    is_size : IsTrue (is_page_size size)
-    is_size = subst (λ (n : ℕ). IsTrue (is_page_size n)) way.size way.shaped.size
+  end_is_size : IsTrue (is_page_size end_size)
+  end_is_size = subst (λ (n : ℕ). IsTrue (is_page_size n)) end_way.size end_way.shaped.size
 
-    at : next_place old from fresh ≡ 1048576
-    at = by (inventory_of old from == fresh)
-      where
-        by : (t : Bool) → (elim t as (λ z. ℕ) [ true ↦ from | false ↦ free_from (length old - from) from old ]) ≡ 1048576
-        by true = end
-        by false =
-            let none : length old - from ≡ 0 = omega (arith, most, end) in
-            let found = free_from_is (length old - from) from old in
-            let low = found.low in
-            let high = found.high in
-            omega (arith, low, high, none, end)
+  end_at : next_place old from fresh ≡ 1048576
+  end_at = by (inventory_of old from == fresh)
+    where
+      by : (t : Bool) → (elim t as (λ z. ℕ) [ true ↦ from | false ↦ free_from (length old - from) from old ]) ≡ 1048576
+      by true = end
+      by false =
+          let none : length old - from ≡ 0 = omega (arith, most, end) in
+          let found = free_from_is (length old - from) from old in
+          let low = found.low in
+          let high = found.high in
+          omega (arith, low, high, none, end)
 
-    each : (k : ℕ) → 0 ≤ k → k < 0 + (from / w + 1) → is_kind now 2 (inventory_place size k) ≡ true
-    each k low high = elim (leb_tells (suc k) (from / w)) [
-      | inl v ↦ way.maps k v.1
-      | inr v ↦
-          let last : from / w ≡ (from - 1) / w = ap (λ (n : ℕ). n / w) end ∙ last_map size is_size ∙ ap (λ (n : ℕ). n / w) (let e : 1048575 ≡ from - 1 = omega (arith, end) in e) in
-          let same : k ≡ (from - 1) / w = omega (arith, v.1, high, last) in
-          ap (λ (n : ℕ). is_kind now 2 (inventory_place size n)) same ∙ ap (λ (n : ℕ). is_kind now 2 (inventory_place n ((from - 1) / bits_in n))) (sym way.size) ∙ way.read (omega (arith, end))
-    ]
+  each : (k : ℕ) → 0 ≤ k → k < 0 + (from / w + 1) → is_kind now 2 (inventory_place end_size k) ≡ true
+  each k low high = elim (leb_tells (suc k) (from / w)) [
+    | inl v ↦ end_way.maps k v.1
+    | inr v ↦
+        let last : from / w ≡ (from - 1) / w = ap (λ (n : ℕ). n / w) end ∙ last_map end_size end_is_size ∙ ap (λ (n : ℕ). n / w) (let e : 1048575 ≡ from - 1 = omega (arith, end) in e) in
+        let same : k ≡ (from - 1) / w = omega (arith, v.1, high, last) in
+        ap (λ (n : ℕ). is_kind now 2 (inventory_place end_size n)) same ∙ ap (λ (n : ℕ). is_kind now 2 (inventory_place n ((from - 1) / bits_in n))) (sym end_way.size) ∙ end_way.read (omega (arith, end))
+  ]
 
-    maps_none : first_not now (maps_from size (from / w + 1) 0) ≡ None
-    maps_none = maps_found now size (from / w + 1) 0 each
+  maps_none : first_not now (maps_from end_size (from / w + 1) 0) ≡ None
+  maps_none = maps_found now end_size (from / w + 1) 0 each
 
-    none : first_not old (needed_on old from made fresh (next_place old from fresh)) ≡ None
-    none =
-        let same : next_place old from fresh ≡ from = at ∙ sym end in
-        sym (needs_same old now from made fresh way (next_place old from fresh) (omega (arith, same)) refl)
-        ∙ ap (λ (n : ℕ). first_not now (needed_at now n)) (at) ∙ needs_last now (ap (λ (n : ℕ). first_not now (maps_from size (n / w + 1) 0)) (sym end) ∙ maps_none) (sym way.size)
+  end_none : first_not old (needed_on old from made fresh (next_place old from fresh)) ≡ None
+  end_none =
+      let same : next_place old from fresh ≡ from = end_at ∙ sym end in
+      sym (needs_same old now from made fresh end_way (next_place old from fresh) (omega (arith, same)) refl)
+      ∙ ap (λ (n : ℕ). first_not now (needed_at now n)) (end_at) ∙ needs_last now (ap (λ (n : ℕ). first_not now (maps_from end_size (n / w + 1) 0)) (sym end) ∙ maps_none) (sym end_way.size)
 
--- The search is at a page, which was tested: it began at `start`, and was at `now` before.
-pub record AtPlace (old start : Image) (first place made fresh : ℕ) : Type 0 where
-  pub now : Image
-  pub from : ℕ
-  pub made_before : ℕ
-  pub fresh_before : ℕ
-  pub left : ℕ
-  pub search : Searches old start now first from made_before fresh_before (suc left)
-  pub at : place ≡ next_place old from fresh_before
-  pub none : first_not old (needed_on old from made_before fresh_before place) ≡ None
-  pub other : place ≢ 1048576
-  pub made_is : IsMadeBehind old place made_before made
-  pub fresh_is : IsFreshBehind old place fresh_before fresh
+  pub end_cause : way_cause old from made fresh ≡ Some (Full 1048576)
+  end_cause =
+      ap (λ (o : Option ℕ). first_cause (need_cause o ∷ when (next_place old from fresh == 1048576) (Full 1048576) ∷ [])) end_none
+      ∙ ap (λ (n : ℕ). first_cause (None ∷ when (n == 1048576) (Full 1048576) ∷ [])) end_at
+      ∙ first_next None (Some (Full 1048576) ∷ []) refl ∙ first_here (Some (Full 1048576)) [] (Full 1048576) refl
 
 pub cause_some : (r : Refusal) → Some r ≡ None → ⊥
 cause_some r e = cc
@@ -374,6 +375,18 @@ module _ (old start now : Image) (first from made fresh tries : ℕ) (s : Search
           none_is : None ≡ Some r → ⊥
           none_is h = cc
 
+  pub refused_image : (r : Refusal) (kind : ℕ) (payload : ℕ → List ℕ) → way_cause old from made fresh ≡ Some r → (new_page kind payload (drafted start)).0.image ≡ now
+  refused_image r kind payload e = by (first_not old (needed_on old from made fresh (next_place old from fresh))) (next_place old from fresh == 1048576) refl refl e
+    where
+      by : (o : Option ℕ) (t : Bool) → first_not old (needed_on old from made fresh (next_place old from fresh)) ≡ o → (next_place old from fresh == 1048576) ≡ t
+          → first_cause (need_cause o ∷ when t (Full 1048576) ∷ []) ≡ Some r → (new_page kind payload (drafted start)).0.image ≡ now
+      by (Some q) t is end c = stops_image old start now first from made fresh more.0 again most (next_place old from fresh) refl q kind payload is
+      by None true is end c = full_image old start now first from made fresh more.0 again most (next_place old from fresh) refl kind payload is (eqb-true (next_place old from fresh) 1048576 end)
+      by None false is end c = absurd (none_is (sym (first_next None (None ∷ []) refl ∙ first_next None [] refl ∙ first_none_cause) ∙ c))
+        where
+          none_is : None ≡ Some r → ⊥
+          none_is h = cc
+
 -- From a place of a system page the search goes on, and at another page it ends.
 module _ (old start : Image) (first place made fresh : ℕ) (h : AtPlace old start first place made fresh) (most : length old ≤ 1048576) where
   pub onward_at : is_system_place (image_size old) place ≡ true → (next : Image) × (left : ℕ) × Searches old start next first (place + 1) made fresh left
@@ -403,3 +416,68 @@ module _ (old start : Image) (first place made fresh : ℕ) (h : AtPlace old sta
         subst (λ (m : ℕ). IsOnTheWay old (new_page kind payload (drafted start)).0.image (place + 1) m fresh) (sym (same_made_at h.made_is))
         (subst (λ (f : ℕ). IsOnTheWay old (new_page kind payload (drafted start)).0.image (place + 1) h.made_before f) (sym (same_fresh_at h.fresh_is))
         (search_behind old start h.now first h.from h.made_before h.fresh_before h.left h.search most place h.at h.none h.other plain kind payload short))
+
+-- The same with what is known of the page behind the search: it begins,
+pub goes_begin : (old start : Image) (from made fresh : ℕ) (b : Behind) → IsOnTheWay old start from made fresh → GoesTo old start from from made fresh b b
+goes_begin old start from made fresh b way = record { now = start; tries = length start + 4; search = search_begins old start from made fresh way; known = λ k. k }
+
+-- it comes to the next page,
+pub goes_at : (old start : Image) (first from made fresh : ℕ) (before after : Behind) → GoesTo old start first from made fresh before after → length old ≤ 1048576 → (place m f : ℕ) → place ≡ next_place old from fresh → way_cause old from made fresh ≡ None
+    → IsMadeBehind old place made m → IsFreshBehind old place fresh f → AtKnown old start first place m f before after
+goes_at old start first from made fresh before after s most place m f at none made_is fresh_is = record { at = at_place old start s.now first from made fresh s.tries s.search most place m f at none made_is fresh_is; known = s.known }
+
+-- it goes on behind the place of a system page,
+pub goes_on : (old start : Image) (first place made fresh : ℕ) (before after : Behind) → AtKnown old start first place made fresh before after → length old ≤ 1048576 → is_system_place (image_size old) place ≡ true
+    → GoesTo old start first (place + 1) made fresh before (gone place made fresh after)
+goes_on old start first place made fresh before after k most system =
+    let h : AtPlace old start first place made fresh = k.at in
+    record {
+      now = (round_at place h.now).image;
+      tries = h.left;
+      search = search_on old start h.now first h.from h.made_before h.fresh_before h.left h.search most place h.at h.none h.other system made fresh h.made_is h.fresh_is;
+      known = λ begun. known_on old start h.now first h.from h.made_before h.fresh_before h.left h.search most place h.at h.none h.other system made fresh h.made_is h.fresh_is after (k.known begun);
+    }
+
+-- it ends with a page,
+pub goes_found : (old start : Image) (first place made fresh : ℕ) (before after : Behind) → AtKnown old start first place made fresh before after → length old ≤ 1048576 → is_system_place (image_size old) place ≡ false
+    → Finds old start (place + 1) made fresh before after
+goes_found old start first place made fresh before after k most plain =
+    let h : AtPlace old start first place made fresh = k.at in
+    record {
+      cause = λ kind payload short. found_at old start first place made fresh h most plain kind payload (short place);
+      way = λ kind payload short. behind_at old start first place made fresh h most plain kind payload (short place);
+      known = λ payload short begun.
+          known_found old start h.now first h.from h.made_before h.fresh_before h.left h.search most place h.at h.none h.other plain 5 payload (short place) refl after (k.known begun);
+    }
+
+-- or is refused.
+pub goes_refused : (old start : Image) (first from made fresh : ℕ) (before after : Behind) → GoesTo old start first from made fresh before after → length old ≤ 1048576 → (r : Refusal) → way_cause old from made fresh ≡ Some r → Refuses old start before after r
+goes_refused old start first from made fresh before after s most r e =
+    let now : Image = s.now in
+    let from_now : Searches old now now from from made fresh (length now + 4) = search_begins old now from made fresh s.search.way in
+    record {
+      now = now;
+      cause = λ kind payload. refused_at old start now first from made fresh s.tries s.search most r kind payload e;
+      image = λ kind payload. refused_image old start now first from made fresh s.tries s.search most r kind payload e;
+      again = λ kind payload. refused_at old now now from from made fresh (length now + 4) from_now most r kind payload e;
+      again_image = λ kind payload. refused_image old now now from from made fresh (length now + 4) from_now most r kind payload e;
+      known = s.known;
+    }
+
+pub goes_failed : (S T : Type 0) (result : Result T Fault) (fault : Fault) (old start : Image) (first from made fresh a b d : ℕ) (before after : Behind) → IsErr result × IsErrAnd result (λ f. f ≡ fault)
+    → GoesTo old start first from made fresh before after → length old ≤ 1048576 → Tested {T = S} (Err fault) (way_cause old from made fresh) → EndsBy result old start a b d before after
+goes_failed S T result fault old start first from made fresh a b d before after passed s most tested =
+    subst (λ (x : Result T Fault). EndsBy x old start a b d before after) (sym (passed_on result fault passed)) (by fault tested)
+  where
+    by : (f : Fault) → Tested {T = S} (Err f) (way_cause old from made fresh) → EndsBy {T = T} (Err f) old start a b d before after
+    by (RefusedFault r) e = goes_refused old start first from made fresh before after s most r e
+    by Device e = tt
+    by Memory e = tt
+
+-- what the end of the search says of its draft
+pub ends_tested : {T : Type 0} (result : Result T Fault) (old start : Image) (from made fresh : ℕ) (before after : Behind) (kind : ℕ) (payload : ℕ → List ℕ) → IsShort payload → EndsBy result old start from made fresh before after
+    → Tested result (draft_cause (new_page kind payload (drafted start)).0)
+ends_tested (Ok value) old start from made fresh before after kind payload short ends = ends.cause kind payload short
+ends_tested (Err (RefusedFault r)) old start from made fresh before after kind payload short ends = ends.cause kind payload
+ends_tested (Err Device) old start from made fresh before after kind payload short ends = tt
+ends_tested (Err Memory) old start from made fresh before after kind payload short ends = tt

@@ -12,6 +12,7 @@
 #![tactic(auto)]
 
 mod backup;
+mod behind;
 mod data;
 mod data_new;
 mod engine;

@@ -4,9 +4,8 @@ ghost use Rattle.nb_fields.specs.Places.{is_page_size, bits_in, inventory_place,
 ghost use Rattle.nb_change.specs.Counts.{CountsDevice};
 ghost use Rattle.nb_page.specs.Quiet.{Quiet};
 ghost use Rattle.nb_model.specs.Image.{Image};
-ghost use Rattle.nb_model.specs.Forms.{drafted, new_page, inventory_of, is_kind, system_kind, first_not};
+ghost use Rattle.nb_model.specs.Forms.{inventory_of, is_kind, system_kind, first_not};
 ghost use Rattle.nb_model.proofs.OnwardLaws.{IsOnTheWay};
-ghost use Rattle.nb_model.proofs.SearchLaws.{draft_cause};
 ghost use Rattle.nb_model.specs.Causes.{not_kind};
 ghost use Rattle.nb_model.specs.Trail.{Trail};
 ghost use Rattle.nb_model.specs.Way.{next_place, maps_on, entry_on, map_entry_on, own_entry_on, IsMadeBehind, IsFreshBehind};
@@ -14,7 +13,9 @@ ghost use Rattle.nb_state.specs.Open.{IsOpen, but_pages};
 ghost use Rattle.nb_state.specs.Does.{Tested};
 ghost use Rattle.nb_engine.specs.Find.{IsMap, HoldsMap, EndsAt, need_cause};
 ghost use Rattle.nb_engine.specs.Way.{way_cause};
+ghost use Rattle.nb_engine.specs.Search.{AtKnown, EndsBy};
 
+use crate::behind::Behind;
 use crate::find::{FIRST_TO_GIVE, MOST_PAGES, is_system_place, next_free, was_read};
 use crate::pages::{InventoryPage, ScnPage};
 use nb_host::{Fault, Host, Refusal};
@@ -30,6 +31,21 @@ pub(crate) struct Way {
     pub(crate) made: u32,
     /// The last place of an inventory page that it went past without the page, or 0.
     pub(crate) fresh: u32,
+}
+
+impl Way {
+    /// The search begins at the first page that may be given.
+    pub(crate) fn begin() -> Way
+        ensures from { result.from ≡ 5 }
+        ensures made { result.made ≡ 0 }
+        ensures fresh { result.fresh ≡ 0 }
+    {
+        Way {
+            from: FIRST_TO_GIVE,
+            made: 0,
+            fresh: 0,
+        }
+    }
 }
 
 /// Has the inventory page of page `number` in `map`. A search from page `from` on ended at `number`, so it is read and tested only where
@@ -173,7 +189,7 @@ fn check_map_entry<H: Host>(
 }
 
 /// Whether the system page of that place stands there.
-fn is_there<H: Host>(
+pub(crate) fn is_there<H: Host>(
     store: &mut Store,
     host: &mut H,
     place: u32,
@@ -293,31 +309,30 @@ fn visit<H: Host>(
     Ok(place)
 }
 
-/// Tests that one new page more may be made, and all that is written for it, behind those that were tested before. It answers the page that
-/// the search for it comes to first, and goes past the page that it will be.
+/// Goes on behind `first`, a page that the search has come to, where a system page stands there: up to the page that the new one will be. What
+/// it goes past it tells the page that is written behind the search.
 ///
-/// The refusals are those of the new page: `NotDatabase` of the lowest page that it needs and that isn't of its kind, and `Full`, where no
-/// page is left.
-pub(crate) fn find_room<H: Host>(
+/// The refusals are `NotDatabase` of the first page that isn't of its kind, and `Full`, where no page is left.
+fn go_on<H: Host>(
     store: &mut Store,
     host: &mut H,
     way: &mut Way,
+    behind: &mut Behind,
+    first: u32,
     map: &mut InventoryPage,
     scn_page: &mut ScnPage,
-) -> Result<u32, Fault>
+) -> Result<(), Fault>
     requires map_room { length map.old ≡ store.old.files.page_size }
     requires scn_room { length scn_page.old ≡ store.old.files.page_size }
-    requires low { 5 ≤ way.old.from }
-    requires most { way.old.from ≤ 1048576 }
-    ensures test { (t : Trail) (start : Image) (kind : ℕ) (payload : ℕ → List ℕ) → IsTrue H.tells → IsOpen (H.world host.old) store.old t → IsOnTheWay t.base.image start way.old.from way.old.made way.old.fresh → ((p : ℕ) → length (payload p) ≤ 1008)
-        → Tested result (draft_cause (new_page kind payload (drafted start)).0) }
-    ensures behind { (t : Trail) (start : Image) (kind : ℕ) (payload : ℕ → List ℕ) → IsTrue H.tells → IsOpen (H.world host.old) store.old t → IsOnTheWay t.base.image start way.old.from way.old.made way.old.fresh → ((p : ℕ) → length (payload p) ≤ 1008)
-        → OnOk result (IsOnTheWay t.base.image (new_page kind payload (drafted start)).0.image way.new.from way.new.made way.new.fresh) }
-    ensures value { (t : Trail) → IsTrue H.tells → IsOpen (H.world host.old) store.old t → IfOk result (λ first. first ≡ next_place t.base.image way.old.from way.old.fresh) }
-    ensures map { (t : Trail) → IsTrue H.tells → IsOpen (H.world host.old) store.old t → inventory_of t.base.image way.old.from ≢ way.old.fresh → IfOk result (λ first. HoldsMap t.base.image first map.new) }
-    ensures below { IfOk result (λ first. first < 1048576) }
+    requires least { 5 ≤ first }
+    requires below { first < 1048576 }
+    requires from { way.old.from ≡ first + 1 }
+    ensures ends { (t : Trail) (start : Image) (begun : ℕ) (before : Behind) → IsTrue H.tells → IsOpen (H.world host.old) store.old t → AtKnown t.base.image start begun first way.old.made way.old.fresh before behind.old
+        → EndsBy result t.base.image start way.new.from way.new.made way.new.fresh before behind.new }
+    ensures map { (t : Trail) → IsTrue H.tells → IsOpen (H.world host.old) store.old t → HoldsMap t.base.image first map.old → OnOk result (HoldsMap t.base.image first map.new) }
     ensures further { OnOk result (5 ≤ way.new.from) }
     ensures most { OnOk result (way.new.from ≤ 1048576) }
+    ensures page { behind.new.page ≡ behind.old.page }
     ensures map_room { length map.new ≡ length map.old }
     ensures scn_room { length scn_page.new ≡ length scn_page.old }
     ensures open { (t : Trail) → IsTrue H.tells → IsOpen (H.world host.old) store.old t → IsOpen (H.world host.new) store.new t }
@@ -328,16 +343,59 @@ pub(crate) fn find_room<H: Host>(
     let page_size = store.page_size();
     // Contracts ask for its range.
     let _count = store.count();
-    if way.from >= MOST_PAGES {
-        return Err(Fault::Refused(Refusal::Full { count: MOST_PAGES }));
-    }
-    let first = visit(store, host, way, map, scn_page)?;
     let mut place = first;
     while is_system_place(page_size, place) {
-        if way.from >= MOST_PAGES {
+        behind.pass(way, place);
+        let next = place + 1;
+        if next >= MOST_PAGES {
             return Err(Fault::Refused(Refusal::Full { count: MOST_PAGES }));
         }
         place = visit(store, host, way, map, scn_page)?;
     }
+    Ok(())
+}
+
+/// Tests that one new page more may be made, and all that is written for it, behind those that were tested before. It answers the page that
+/// the search for it comes to first, and goes past the page that it will be. What it goes past it tells the page that is written behind the
+/// search.
+///
+/// The refusals are those of the new page: `NotDatabase` of the lowest page that it needs and that isn't of its kind, and `Full`, where no
+/// page is left.
+pub(crate) fn find_room<H: Host>(
+    store: &mut Store,
+    host: &mut H,
+    way: &mut Way,
+    behind: &mut Behind,
+    map: &mut InventoryPage,
+    scn_page: &mut ScnPage,
+) -> Result<u32, Fault>
+    requires map_room { length map.old ≡ store.old.files.page_size }
+    requires scn_room { length scn_page.old ≡ store.old.files.page_size }
+    requires low { 5 ≤ way.old.from }
+    requires most { way.old.from ≤ 1048576 }
+    ensures ends { (t : Trail) (start : Image) → IsTrue H.tells → IsOpen (H.world host.old) store.old t → IsOnTheWay t.base.image start way.old.from way.old.made way.old.fresh
+        → EndsBy result t.base.image start way.new.from way.new.made way.new.fresh behind.old behind.new }
+    ensures value { (t : Trail) → IsTrue H.tells → IsOpen (H.world host.old) store.old t → IfOk result (λ first. first ≡ next_place t.base.image way.old.from way.old.fresh) }
+    ensures map { (t : Trail) → IsTrue H.tells → IsOpen (H.world host.old) store.old t → inventory_of t.base.image way.old.from ≢ way.old.fresh → IfOk result (λ first. HoldsMap t.base.image first map.new) }
+    ensures least { IfOk result (λ first. 5 ≤ first) }
+    ensures below { IfOk result (λ first. first < 1048576) }
+    ensures further { OnOk result (5 ≤ way.new.from) }
+    ensures most { OnOk result (way.new.from ≤ 1048576) }
+    ensures page { behind.new.page ≡ behind.old.page }
+    ensures map_room { length map.new ≡ length map.old }
+    ensures scn_room { length scn_page.new ≡ length scn_page.old }
+    ensures open { (t : Trail) → IsTrue H.tells → IsOpen (H.world host.old) store.old t → IsOpen (H.world host.new) store.new t }
+    ensures same { but_pages store.new ≡ but_pages store.old }
+    ensures quiet { Quiet (H.world host.old) (H.world host.new) }
+    ensures cause { CountsDevice result (H.faults host.old) (H.faults host.new) }
+{
+    // Contracts ask for its range.
+    let _count = store.count();
+    let from = way.from;
+    if from >= MOST_PAGES {
+        return Err(Fault::Refused(Refusal::Full { count: MOST_PAGES }));
+    }
+    let first = visit(store, host, way, map, scn_page)?;
+    go_on(store, host, way, behind, first, map, scn_page)?;
     Ok(first)
 }

@@ -1,0 +1,45 @@
+-- A page that is written behind a search for new pages: the page of a slot, or the last of a chain.
+use Rattle.std.specs.Prelude.{◌≡◌, ◌≢◌, ℕ, List, [], ◌∷◌, ◌++◌, Bool, true, false, not, ◌==◌, ◌||◌, nat_lt}
+use Rattle.nb_fields.specs.Places.{is_system_place}
+use Rattle.nb_host.specs.declared.refusals.Refusal.TheVariants.{Full}
+use Rattle.nb_model.specs.Image.{Image, image_size}
+use Rattle.nb_model.specs.Forms.{Draft, is_kind, other_kind, has_entry, scn_page_of}
+use Rattle.nb_model.specs.Causes.{Cause, first_cause, when, lowest_broken}
+use Rattle.nb_engine.specs.declared.behind.Behind.{Behind}
+
+-- why new pages aren't made: these pages aren't of their kind, or no page is left
+abbrev pub judged : List ℕ → (full : Bool) → Cause
+judged pages full = first_cause (lowest_broken pages ∷ when full (Full 1048576) ∷ [])
+
+-- the SCN page of page p, where page p has an entry and that isn't of its kind
+abbrev pub entry_broken : Image → ℕ → List ℕ
+entry_broken image p = elim (has_entry image p) [ true ↦ other_kind image 10 (scn_page_of image p) | false ↦ [] ]
+
+-- why a draft isn't made behind which page p, a data page, is written
+abbrev pub behind_cause : Draft → ℕ → Cause
+behind_cause d p = judged (other_kind d.image 5 p ++ (entry_broken d.image p ++ d.broken)) d.full
+
+-- a page, where it counts
+abbrev pub page_if : (counts : Bool) (p : ℕ) → List ℕ
+page_if counts p = elim counts [ true ↦ p ∷ [] | false ↦ [] ]
+
+-- What is known of the page: a search that began at one image has come to another.
+pub record IsKnown (old now : Image) (b : Behind) : Type 0 where
+  pub kind : is_kind now 5 b.page ≡ not b.lost
+  pub place : b.lost ≡ true → is_system_place (image_size old) b.page ≡ true
+  pub entry : entry_broken now b.page ≡ page_if (nat_lt 0 b.entry) b.entry
+  pub page : b.entry ≢ 0 → b.entry ≡ scn_page_of old b.page
+
+-- behind a place at which a system page will be made
+abbrev pub passed : (place : ℕ) → Behind → Behind
+passed place b = record { page = b.page; entry = elim (place == b.entry) [ true ↦ 0 | false ↦ b.entry ]; lost = b.lost || place == b.page }
+
+-- and behind a place of a system page, where the last places without their pages are these
+abbrev pub gone : (place made fresh : ℕ) → Behind → Behind
+gone place made fresh b = elim (made == place || fresh == place) [ true ↦ passed place b | false ↦ b ]
+
+-- no page is written
+pub record IsNone (b : Behind) : Type 0 where
+  pub page : b.page ≡ 0
+  pub entry : b.entry ≡ 0
+  pub lost : b.lost ≡ false
