@@ -1,10 +1,13 @@
 -- A page that is written behind a search for new pages: what the search leaves of it.
 use Rattle.std.proofs.Common.{◌≡◌, ◌≢◌, ◌⊎◌, inl, inr, ℕ, ◌+◌, ◌/◌, ◌<◌, ◌≤◌, List, [], ◌∷◌, ◌++◌, length, refl, sym, ap, subst, ◌∙◌, arith}
-use Rattle.std.specs.Prelude.{Bool, true, false, not, ◌==◌, ◌||◌, nat_lt, IsTrue}
+use Rattle.std.specs.Prelude.{Bool, true, false, not, ◌==◌, ◌||◌, nat_lt, min, IsTrue, Some, None}
 use Rattle.std.proofs.lemmas.Bool.{true≢false}
 use Rattle.std.proofs.lemmas.Bool.Decides.{eqb_tells, leb_tells}
 use Rattle.nb_fields.specs.Places.{is_page_size, entries_in, scn_place, is_inventory_place, is_scn_place, is_system_place}
 use Rattle.nb_fields.specs.Page.{kind_of}
+use Rattle.nb_host.specs.declared.refusals.Refusal.{Refusal}
+use Rattle.nb_host.specs.declared.refusals.Refusal.TheVariants.{NotDatabase, Full}
+use Rattle.nb_model.specs.Causes.{Cause, first_cause, lowest_of, lowest_broken}
 use Rattle.nb_model.specs.Image.{Image, page_at, image_size}
 use Rattle.nb_model.specs.Forms.{Draft, is_kind, other_kind, has_entry, scn_page_of}
 use Rattle.nb_model.specs.Way.{IsMadeBehind, same_made, made_here, IsFreshBehind, same_fresh, fresh_here}
@@ -13,7 +16,7 @@ use Rattle.nb_model.proofs.NewSound.{plain_place, places_apart}
 use Rattle.nb_model.proofs.OnwardLaws.{kind_same}
 use Rattle.nb_model.proofs.StepLaws.{IsVisited, kind_parts, kind_from}
 use Rattle.nb_engine.specs.declared.behind.Behind.{Behind}
-use Rattle.nb_engine.specs.Behind.{entry_broken, page_if, IsKnown, passed, gone}
+use Rattle.nb_engine.specs.Behind.{judged, entry_broken, page_if, IsKnown, passed, gone}
 use Rattle.nb_engine.proofs.PlaceTests.{system_second}
 
 eq_yes : (a b : ℕ) → a ≡ b → (a == b) ≡ true
@@ -207,3 +210,55 @@ module _ (old now next : Image) (p kind : ℕ) (b : Behind) (known : IsKnown old
             of_place false at =
                 let scn : is_scn_place (image_size old) p ≡ true = system_second (image_size old) p at ∙ system in
                 subst (λ (n : ℕ). is_kind now n p ≡ true) (sym (of_entries scn)) (kept_scn (old_scn ∙ scn))
+
+-- Before the search begins.
+pub entry_absent : (x : Image) (p : ℕ) → has_entry x p ≡ false → entry_broken x p ≡ []
+entry_absent x p none = ap (λ (t : Bool). elim t as (λ z. List ℕ) [ true ↦ other_kind x 10 (scn_page_of x p) | false ↦ [] ]) none
+
+pub entry_there : (x : Image) (p : ℕ) → is_kind x 10 (scn_page_of x p) ≡ true → entry_broken x p ≡ []
+entry_there x p is = either_none (has_entry x p) (other_kind x 10 (scn_page_of x p)) (other_none x 10 (scn_page_of x p) is)
+
+pub entry_lacks : (x : Image) (p : ℕ) → has_entry x p ≡ true → is_kind x 10 (scn_page_of x p) ≡ false → entry_broken x p ≡ scn_page_of x p ∷ []
+entry_lacks x p has other =
+    ap (λ (t : Bool). elim t as (λ z. List ℕ) [ true ↦ other_kind x 10 (scn_page_of x p) | false ↦ [] ]) has ∙ other_page x 10 (scn_page_of x p) true other
+
+pub known_begin : (x : Image) (p entry : ℕ) → is_kind x 5 p ≡ true → entry_broken x p ≡ page_if (nat_lt 0 entry) entry → (entry ≢ 0 → entry ≡ scn_page_of x p) → IsKnown x x (record { page = p; entry = entry; lost = false })
+known_begin x p entry is broken at = record { kind = is; place = λ lost. absurd (true≢false (sym lost)); entry = broken; page = at }
+
+-- Why the draft of new pages isn't made, with the page behind them.
+pub judged_none : (page : ℕ) (pages : List ℕ) (full : Bool) → judged pages full ≡ None → judged (page ∷ pages) full ≡ Some (NotDatabase page)
+unfolding first_cause lowest_broken
+judged_none page [] full none = refl
+judged_none page (q ∷ qs) full none = absurd (some_none none)
+  where
+    some_none : Some (NotDatabase (lowest_of q qs)) ≡ None → ⊥
+    some_none e = cc
+
+lowest_min : (p q : ℕ) (qs : List ℕ) → lowest_of (min p q) qs ≡ min p (lowest_of q qs)
+lowest_min p q [] = refl
+lowest_min p q (r ∷ rs) = ap (λ (n : ℕ). lowest_of n rs) (let e : min (min p q) r ≡ min p (min q r) = omega arith in e) ∙ lowest_min p (min q r) rs
+
+-- the search ended at a page,
+pub judged_page : (page other : ℕ) (pages : List ℕ) (full : Bool) → judged pages full ≡ Some (NotDatabase other) → judged (page ∷ pages) full ≡ Some (NotDatabase (min page other))
+unfolding first_cause lowest_broken
+judged_page page other [] true some = absurd (other_cause some)
+  where
+    other_cause : Some (Full 1048576) ≡ Some (NotDatabase other) → ⊥
+    other_cause e = cc
+judged_page page other [] false some = absurd (none_some some)
+  where
+    none_some : None ≡ Some (NotDatabase other) → ⊥
+    none_some e = cc
+judged_page page other (q ∷ qs) full some = ap (λ (n : ℕ). Some (NotDatabase n)) (lowest_min page q qs ∙ ap (min page) (page_is some))
+  where
+    page_is : Some (NotDatabase (lowest_of q qs)) ≡ Some (NotDatabase other) → lowest_of q qs ≡ other
+    page_is e = cc
+
+-- or was refused otherwise
+pub judged_other : (page : ℕ) (r : Refusal) (pages : List ℕ) (full : Bool) → ((other : ℕ) → r ≢ NotDatabase other) → judged pages full ≡ Some r → judged (page ∷ pages) full ≡ Some (NotDatabase page)
+unfolding first_cause lowest_broken
+judged_other page r [] full no some = refl
+judged_other page r (q ∷ qs) full no some = absurd (no (lowest_of q qs) (sym (same some)))
+  where
+    same : Some (NotDatabase (lowest_of q qs)) ≡ Some r → NotDatabase (lowest_of q qs) ≡ r
+    same e = cc

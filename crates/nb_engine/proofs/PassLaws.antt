@@ -164,10 +164,10 @@ module _ (x : Image) (p : ℕ) (size : IsTrue (is_page_size (image_size x))) whe
   kind_map : is_inventory_place (image_size x) p ≡ true → system_kind x p ≡ 2
   kind_map e = ap (λ (t : Bool). elim t as (λ z. ℕ) [ true ↦ 2 | false ↦ 10 ]) e
 
-  kind_entries : is_inventory_place (image_size x) p ≡ false → system_kind x p ≡ 10
+  pub kind_entries : is_inventory_place (image_size x) p ≡ false → system_kind x p ≡ 10
   kind_entries e = ap (λ (t : Bool). elim t as (λ z. ℕ) [ true ↦ 2 | false ↦ 10 ]) e
 
-  no_map : is_scn_place (image_size x) p ≡ true → is_inventory_place (image_size x) p ≡ false
+  pub no_map : is_scn_place (image_size x) p ≡ true → is_inventory_place (image_size x) p ≡ false
   no_map at = by (is_inventory_place (image_size x) p) refl
     where
       by : (t : Bool) → is_inventory_place (image_size x) p ≡ t → is_inventory_place (image_size x) p ≡ false

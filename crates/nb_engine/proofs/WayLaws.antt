@@ -474,6 +474,16 @@ goes_failed S T result fault old start first from made fresh a b d before after 
     by Device e = tt
     by Memory e = tt
 
+-- what ended it ends the call that passes it on
+pub ends_passed : (S T : Type 0) (result : Result T Fault) (fault : Fault) (old start : Image) (from made fresh : ℕ) (before after : Behind) → IsErr result × IsErrAnd result (λ f. f ≡ fault)
+    → EndsBy {T = S} (Err fault) old start from made fresh before after → EndsBy result old start from made fresh before after
+ends_passed S T result fault old start from made fresh before after passed ends = subst (λ (x : Result T Fault). EndsBy x old start from made fresh before after) (sym (passed_on result fault passed)) (by fault ends)
+  where
+    by : (f : Fault) → EndsBy {T = S} (Err f) old start from made fresh before after → EndsBy {T = T} (Err f) old start from made fresh before after
+    by (RefusedFault r) e = e
+    by Device e = tt
+    by Memory e = tt
+
 -- what the end of the search says of its draft
 pub ends_tested : {T : Type 0} (result : Result T Fault) (old start : Image) (from made fresh : ℕ) (before after : Behind) (kind : ℕ) (payload : ℕ → List ℕ) → IsShort payload → EndsBy result old start from made fresh before after
     → Tested result (draft_cause (new_page kind payload (drafted start)).0)

@@ -30,9 +30,13 @@ pub record IsKnown (old now : Image) (b : Behind) : Type 0 where
   pub entry : entry_broken now b.page ≡ page_if (nat_lt 0 b.entry) b.entry
   pub page : b.entry ≢ 0 → b.entry ≡ scn_page_of old b.page
 
+-- the SCN page that isn't of its kind, or 0 where it is made at that place
+abbrev pub entry_left : (entry place : ℕ) → ℕ
+entry_left entry place = elim (place == entry) [ true ↦ 0 | false ↦ entry ]
+
 -- behind a place at which a system page will be made
 abbrev pub passed : (place : ℕ) → Behind → Behind
-passed place b = record { page = b.page; entry = elim (place == b.entry) [ true ↦ 0 | false ↦ b.entry ]; lost = b.lost || place == b.page }
+passed place b = record { page = b.page; entry = entry_left b.entry place; lost = b.lost || place == b.page }
 
 -- and behind a place of a system page, where the last places without their pages are these
 abbrev pub gone : (place made fresh : ℕ) → Behind → Behind

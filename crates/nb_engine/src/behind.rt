@@ -1,13 +1,13 @@
 // A page that is written behind a search for new pages: the page of a slot, or the last of a chain. The search may make a system page where it
 // stands, or the SCN page with its entry, so whether it may be written is known once the search has ended.
-ghost use Rattle.std.specs.Prelude.{◌≡◌, ◌<◌, ◌++◌, ◌∷◌, ℕ, List, Bool, true, Some, None, IsTrue, IfOk, Ok, length, nat_lt};
+ghost use Rattle.std.specs.Prelude.{◌≡◌, ◌<◌, ◌++◌, ◌∷◌, ◌==◌, ◌||◌, ℕ, List, Bool, true, Some, None, IsTrue, IfOk, Ok, length, nat_lt};
 ghost use Rattle.nb_change.specs.Counts.{CountsDevice};
 ghost use Rattle.nb_page.specs.Quiet.{Quiet};
 ghost use Rattle.nb_model.specs.Forms.{is_kind};
 ghost use Rattle.nb_model.specs.Trail.{Trail};
 ghost use Rattle.nb_state.specs.Open.{IsOpen, but_pages};
 ghost use Rattle.nb_state.specs.Does.{Tested};
-ghost use Rattle.nb_engine.specs.Behind.{judged, page_if, IsKnown, IsNone, gone};
+ghost use Rattle.nb_engine.specs.Behind.{judged, page_if, IsKnown, IsNone, entry_left, gone};
 
 use crate::pages::{InventoryPage, ScnPage};
 use crate::way::{Way, is_there};
@@ -87,15 +87,14 @@ impl Behind {
     pub(crate) fn pass(&mut self, way: &Way, place: u32)
         ensures { self.new ≡ gone place way.now.made way.now.fresh self.old }
     {
-        if way.made != place && way.fresh != place {
+        if !is_made(way.made, way.fresh, place) {
             return;
         }
-        if place == self.page {
-            self.lost = true;
-        }
-        if place == self.entry {
-            self.entry = 0;
-        }
+        *self = Behind {
+            page: self.page,
+            entry: entry_left(self.entry, place),
+            lost: is_lost(self.lost, self.page, place),
+        };
     }
 
     /// What the search found, where the page may be written behind it. Else the refusal is `NotDatabase` of the lowest page that isn't of its
@@ -108,6 +107,36 @@ impl Behind {
         let of_entry = with_page(found, self.entry > 0, self.entry);
         with_page(of_entry, self.lost, self.page)
     }
+}
+
+/// Whether a system page will be made at that place, which a search came to last: it is one of the last that it went past without their pages.
+fn is_made(made: u32, fresh: u32, place: u32) -> bool
+    ensures { result ≡ (made == place || fresh == place) }
+{
+    if made == place {
+        return true;
+    }
+    fresh == place
+}
+
+/// The SCN page that isn't of its kind, or 0 where it is made at that place.
+fn entry_left(entry: u32, place: u32) -> u32
+    ensures { result ≡ entry_left entry place }
+{
+    if place == entry {
+        return 0;
+    }
+    entry
+}
+
+/// Whether a system page will stand where the page does, or is made there now.
+fn is_lost(lost: bool, page: u32, place: u32) -> bool
+    ensures { result ≡ (lost || place == page) }
+{
+    if lost {
+        return true;
+    }
+    place == page
 }
 
 /// What a search found, or where that page counts `NotDatabase` of it, or of a lower page that the search ended at.

@@ -1,4 +1,6 @@
-use Rattle.std.proofs.Common.{◌≡◌, ◌+◌, ◌-◌, ◌<◌, ◌≤◌, ℕ, length, IsTrue}
+use Rattle.std.proofs.Common.{◌≡◌, ◌≢◌, ◌+◌, ◌-◌, ◌<◌, ◌≤◌, ℕ, length, IsTrue}
+use Rattle.std.specs.Prelude.{true}
+use Rattle.nb_fields.specs.Places.{is_system_place}
 use Rattle.nb_page.specs.Quiet.{Quiet}
 use Rattle.nb_model.specs.Image.{Image}
 use Rattle.nb_model.specs.Trail.{Trail}
@@ -13,6 +15,7 @@ invariant-loop-store g l = record {
   at : (t : Trail) (start : Image) (begun : ℕ) (before : Behind) → IsTrue g.H.Host.tells → IsOpen (g.H.Host.world l.fn.host) l.fn.store t → AtKnown t.base.image start begun l.fn.first l.fn.way.made l.fn.way.fresh before l.fn.behind
       → AtKnown t.base.image start begun l.place l.way.made l.way.fresh before l.behind;
   held : (t : Trail) → IsTrue g.H.Host.tells → IsOpen (g.H.Host.world l.fn.host) l.fn.store t → HoldsMap t.base.image l.fn.first l.fn.map → HoldsMap t.base.image l.fn.first l.map;
+  passed : l.fn.first ≢ l.place → is_system_place l.fn.store.files.page_size l.fn.first ≡ true;
   from : l.way.from ≡ l.place + 1;
   least : 5 ≤ l.place;
   below : l.place < 1048576;
