@@ -234,7 +234,7 @@ judged_none page (q ∷ qs) full none = absurd (some_none none)
     some_none : Some (NotDatabase (lowest_of q qs)) ≡ None → ⊥
     some_none e = cc
 
-lowest_min : (p q : ℕ) (qs : List ℕ) → lowest_of (min p q) qs ≡ min p (lowest_of q qs)
+pub lowest_min : (p q : ℕ) (qs : List ℕ) → lowest_of (min p q) qs ≡ min p (lowest_of q qs)
 lowest_min p q [] = refl
 lowest_min p q (r ∷ rs) = ap (λ (n : ℕ). lowest_of n rs) (let e : min (min p q) r ≡ min p (min q r) = omega arith in e) ∙ lowest_min p (min q r) rs
 

@@ -18,9 +18,10 @@ pub mod WhereLaws
 pub mod NewLaws
 pub mod NewTurn
 pub mod BehindLaws
-pub mod WayLaws
 pub mod NeedReads
 pub mod PassLaws
+pub mod WayLaws
+pub mod RoomsLaws
 pub mod RestLaws
 pub mod ReadyLaws
 pub mod NameLaws

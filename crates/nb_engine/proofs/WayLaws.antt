@@ -20,7 +20,8 @@ use Rattle.nb_model.proofs.FirstFree.{IsLowestFree, free_from_is, lowest_is}
 use Rattle.nb_model.proofs.PlaceOrder.{div_rises, map_place_is}
 use Rattle.nb_model.proofs.StepLaws.{IsShaped, IsReady, IsVisited, Visits, system_visits, plain_visits}
 use Rattle.nb_model.specs.Way.{next_place, needed_on, IsMadeBehind, same_made, made_here, IsFreshBehind, same_fresh, fresh_here}
-use Rattle.nb_model.proofs.OnwardLaws.{IsOnTheWay, way_further}
+use Rattle.nb_model.proofs.OnwardLaws.{IsOnTheWay, way_begins, way_further}
+use Rattle.nb_model.proofs.SoundLaws.{inventory_place_some}
 use Rattle.nb_model.proofs.OnwardTests.{next_is, needs_same}
 use Rattle.nb_model.proofs.NeedLaws.{first_behind, first_append, behind_none, first_none, maps_found}
 use Rattle.nb_model.proofs.SearchLaws.{draft_cause, last_map, Met, met, round_at, try_stops, try_full, try_more, try_last, clear_cause, joined_cause}
@@ -30,6 +31,7 @@ use Rattle.nb_engine.specs.declared.behind.Behind.{Behind}
 use Rattle.nb_engine.specs.Behind.{IsKnown, gone}
 use Rattle.nb_engine.specs.Search.{Rests, Searches, AtPlace, AtKnown, GoesTo, IsShort, Finds, Refuses, EndsBy}
 use Rattle.nb_engine.proofs.BehindLaws.{known_plain, known_gone}
+use Rattle.nb_engine.proofs.PassLaws.{place_free}
 use Rattle.nb_engine.proofs.CauseLaws.{first_none as first_none_cause, first_next, first_here}
 use Rattle.nb_engine.proofs.FullLaws.{three_apart}
 
@@ -445,6 +447,7 @@ goes_found old start first place made fresh before after k most plain =
     let h : AtPlace old start first place made fresh = k.at in
     record {
       cause = λ kind payload short. found_at old start first place made fresh h most plain kind payload (short place);
+      number = λ kind payload short. ap (λ (n : ℕ). n + 1) (number_at old start first place made fresh h most plain kind payload (short place));
       way = λ kind payload short. behind_at old start first place made fresh h most plain kind payload (short place);
       known = λ payload short begun.
           known_found old start h.now first h.from h.made_before h.fresh_before h.left h.search most place h.at h.none h.other plain 5 payload (short place) refl after (k.known begun);
@@ -473,6 +476,18 @@ goes_failed S T result fault old start first from made fresh a b d before after 
     by (RefusedFault r) e = goes_refused old start first from made fresh before after s most r e
     by Device e = tt
     by Memory e = tt
+
+-- a search that begins
+pub begins_at : (x : Image) (from made fresh : ℕ) → from ≡ 5 → made ≡ 0 → fresh ≡ 0 → IsShaped x → IsOnTheWay x x from made fresh
+begins_at x from made fresh a b c shaped =
+    subst (λ (n : ℕ). IsOnTheWay x x n made fresh) (sym a) (subst (λ (m : ℕ). IsOnTheWay x x 5 m fresh) (sym b) (subst (λ (f : ℕ). IsOnTheWay x x 5 0 f) (sym c) (way_begins x shaped)))
+
+pub place_begins : (x : Image) (from fresh : ℕ) → from ≡ 5 → fresh ≡ 0 → IsTrue (is_page_size (image_size x)) → (inventory_of x from ≢ fresh) × (next_place x from fresh ≡ lowest_free x)
+unfolding lowest_free
+place_begins x from fresh a b size =
+    let some = inventory_place_some (image_size x) (from / bits_in (image_size x)) size in
+    let other : inventory_of x from ≢ fresh = λ e. absurd (omega (arith, some, e, b)) in
+    (other, place_free x from fresh other ∙ ap (λ (n : ℕ). free_from (length x - n) n x) a)
 
 -- what ended it ends the call that passes it on
 pub ends_passed : (S T : Type 0) (result : Result T Fault) (fault : Fault) (old start : Image) (from made fresh : ℕ) (before after : Behind) → IsErr result × IsErrAnd result (λ f. f ≡ fault)

@@ -1,10 +1,12 @@
 -- A page that is written behind a search for new pages: the page of a slot, or the last of a chain.
-use Rattle.std.specs.Prelude.{◌≡◌, ◌≢◌, ℕ, List, [], ◌∷◌, ◌++◌, Bool, true, false, not, ◌==◌, ◌||◌, nat_lt}
+use Rattle.std.specs.Prelude.{◌≡◌, ◌≢◌, ℕ, List, [], ◌∷◌, ◌++◌, Bool, true, false, not, ◌==◌, ◌||◌, nat_lt, Result}
 use Rattle.nb_fields.specs.Places.{is_system_place}
+use Rattle.nb_host.specs.declared.faults.Fault.{Fault}
 use Rattle.nb_host.specs.declared.refusals.Refusal.TheVariants.{Full}
 use Rattle.nb_model.specs.Image.{Image, image_size}
 use Rattle.nb_model.specs.Forms.{Draft, is_kind, other_kind, has_entry, scn_page_of}
 use Rattle.nb_model.specs.Causes.{Cause, first_cause, when, lowest_broken}
+use Rattle.nb_state.specs.Does.{Tested, WhereEnded}
 use Rattle.nb_engine.specs.declared.behind.Behind.{Behind}
 
 -- why new pages aren't made: these pages aren't of their kind, or no page is left
@@ -41,6 +43,11 @@ passed place b = record { page = b.page; entry = entry_left b.entry place; lost 
 -- and behind a place of a system page, where the last places without their pages are these
 abbrev pub gone : (place made fresh : ℕ) → Behind → Behind
 gone place made fresh b = elim (made == place || fresh == place) [ true ↦ passed place b | false ↦ b ]
+
+-- A search tests why that draft isn't made, and where it has ended with a page or a refusal, this is known of the page behind it.
+pub record Judges {T : Type 0} (result : Result T Fault) (d : Draft) (old : Image) (b : Behind) : Type 0 where
+  pub test : Tested result (judged d.broken d.full)
+  pub known : WhereEnded result (IsKnown old d.image b)
 
 -- no page is written
 pub record IsNone (b : Behind) : Type 0 where

@@ -61,6 +61,7 @@ IsShort payload = (p : ℕ) → length (payload p) ≤ 1008
 -- it has found the new page
 pub record Finds (old start : Image) (from made fresh : ℕ) (before after : Behind) : Type 0 where
   pub cause : (kind : ℕ) (payload : ℕ → List ℕ) → IsShort payload → draft_cause (new_page kind payload (drafted start)).0 ≡ None
+  pub number : (kind : ℕ) (payload : ℕ → List ℕ) → IsShort payload → (new_page kind payload (drafted start)).1 + 1 ≡ from
   pub way : (kind : ℕ) (payload : ℕ → List ℕ) → IsShort payload → IsOnTheWay old (new_page kind payload (drafted start)).0.image from made fresh
   pub known : (payload : ℕ → List ℕ) → IsShort payload → IsKnown old start before → IsKnown old (new_page 5 payload (drafted start)).0.image after
 

@@ -28,6 +28,7 @@ mod pages;
 mod put;
 mod reads;
 mod room;
+mod rooms;
 mod rows;
 mod walk;
 mod way;

@@ -1,4 +1,7 @@
-use Rattle.std.proofs.Common.{◌≡◌, ℕ, ◌+◌, ◌≤◌, length, arith}
+use Rattle.std.proofs.Common.{◌≡◌, ℕ, ◌+◌, ◌-◌, ◌*◌, ◌/◌, ◌≤◌, length, refl, ap, ◌∙◌, arith}
+use Rattle.std.specs.Prelude.{Bool, true, false}
+use Rattle.nb_fields.specs.Places.{bits_in, is_system_place}
+use Rattle.nb_state.specs.Open.{Held}
 use Rattle.nb_host.specs.declared.refusals.Refusal.TheVariants.{Full}
 use Rattle.nb_engine.specs.declared.behind.Behind.{Behind}
 use Rattle.nb_engine.proofs.WayLaws.{search_begins, end_cause, goes_begin, goes_at, goes_refused, goes_failed, ends_passed}
@@ -55,3 +58,16 @@ returns-clause-value g c t tells is = c.in_ok-first.ensures.value t tells is
 
 pub returns-clause-map : goal.returns-clause-map
 returns-clause-map g c t tells is unmade = c.in_ok-go_on.ensures.map t tells (c.in_ok-first.ensures.open t tells is) (c.in_ok-first.ensures.map t tells is unmade)
+
+pub returns-clause-once : goal.returns-clause-once
+returns-clause-once g c tells =
+    by (is_system_place c.args.store.now.files.page_size c.in_ok-first.first) refl
+  where
+    by : (u : Bool) → is_system_place c.args.store.now.files.page_size c.in_ok-first.first ≡ u → (g.H.Host.world c.go_on.new.host).reads ≤ (g.H.Host.world c.args.host.now).reads + (c.in_ok-first.first / bits_in c.args.store.now.files.page_size + 1 - c.args.way.now.from / bits_in c.args.store.now.files.page_size) + 3 + 5 * (c.go_on.new.way.from - (c.in_ok-first.first + 1))
+    by true e =
+        let same = ap (λ (h : Held). h.files.page_size) c.in_ok-first.ensures.same in
+        omega (arith, c.in_ok-first.ensures.once tells, c.in_ok-go_on.ensures.once tells (ap (λ (s : ℕ). is_system_place s c.in_ok-first.first) same ∙ e), c.in_ok-first.ensures.from)
+    by false e =
+        let same = ap (λ (h : Held). h.files.page_size) c.in_ok-first.ensures.same in
+        let rests = c.in_ok-go_on.ensures.none tells (ap (λ (s : ℕ). is_system_place s c.in_ok-first.first) same ∙ e) in
+        omega (arith, c.in_ok-first.ensures.fewer tells e, rests.0, rests.1, c.in_ok-first.ensures.from)

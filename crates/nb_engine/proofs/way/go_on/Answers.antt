@@ -2,17 +2,19 @@ use Rattle.std.proofs.Common.{◌≡◌, ◌≢◌, inl, inr, ℕ, ◌+◌, ◌<
 use Rattle.std.specs.Prelude.{true, false, None, Ok, Err}
 use Rattle.std.proofs.lemmas.Bool.{true≢false}
 use Rattle.std.proofs.lemmas.Bool.Decides.{eqb_tells}
-use Rattle.nb_fields.specs.Places.{is_system_place}
+use Rattle.nb_fields.specs.Places.{bits_in, is_system_place}
 use Rattle.nb_host.specs.declared.refusals.Refusal.TheVariants.{Full}
 use Rattle.nb_page.proofs.QuietLemmas.{quiet_begun, quiet_joined}
 use Rattle.nb_model.specs.Image.{image_size}
 use Rattle.nb_model.specs.Way.{next_place}
+use Rattle.nb_state.specs.Open.{Held}
 use Rattle.nb_state.specs.Does.{Tested}
 use Rattle.nb_engine.specs.declared.behind.Behind.{Behind}
 use Rattle.nb_engine.specs.Way.{way_cause}
 use Rattle.nb_engine.specs.Behind.{gone}
 use Rattle.nb_engine.specs.Search.{AtKnown, Finds, Refuses, EndsBy}
 use Rattle.nb_engine.proofs.WayLaws.{end_cause, goes_on, goes_at, goes_found, goes_refused, goes_failed}
+use Rattle.nb_engine.proofs.SearchReads.{maps_few}
 use Rattle.nb_engine.proofs.way.go_on.Goals as goal
 
 pub loop-store-init : goal.loop-store-init
@@ -29,6 +31,10 @@ loop-store-init g c = record {
   opened = λ t tells is. is;
   same = refl;
   quiet = quiet_begun (g.H.Host.world c.args.host.now) (g.met.H.Host.timely c.args.host.now);
+  once = λ tells. omega arith;
+  fewer = λ tells other plain. absurd (other refl);
+  none = λ same. refl;
+  behind = omega arith;
   cause = refl;
 }
 
@@ -100,6 +106,14 @@ loop-store-preserved g c =
       opened = λ t tells is. next.open t tells (c.loop-store.invariant.opened t tells is);
       same = next.same ∙ c.loop-store.invariant.same;
       quiet = quiet_joined _ _ _ c.loop-store.invariant.quiet next.quiet;
+      once = λ tells.
+          let few = maps_few (bits_in c.loop-store.store.files.page_size) c.loop-store.way.from c.in_ok-place.place next.later in
+          omega (arith, few, next.once tells, c.loop-store.invariant.once tells, next.later, c.loop-store.invariant.from, c.loop-store.invariant.behind);
+      fewer = λ tells other plain.
+          let few = maps_few (bits_in c.loop-store.store.files.page_size) c.loop-store.way.from c.in_ok-place.place next.later in
+          omega (arith, few, next.fewer tells (subst (λ (s : ℕ). is_system_place s c.in_ok-place.place ≡ false) (sym (ap (λ (h : Held). h.files.page_size) c.loop-store.invariant.same)) plain), c.loop-store.invariant.once tells, next.later, c.loop-store.invariant.from, c.loop-store.invariant.behind);
+      none = λ same. absurd (omega (arith, same, next.later, c.loop-store.invariant.from, c.loop-store.invariant.behind));
+      behind = omega (arith, next.later, c.loop-store.invariant.from, c.loop-store.invariant.behind);
       cause = next.cause ∙ c.loop-store.invariant.cause;
     }
 
@@ -116,3 +130,16 @@ returns-clause-ends g c t start begun before tells is begins =
 
 pub returns-clause-map : goal.returns-clause-map
 returns-clause-map g c t tells is holds = c.loop-store.invariant.held t tells is holds
+
+pub returns-clause-once : goal.returns-clause-once
+returns-clause-once g c tells system =
+    let page_size = c.page_size-page_size.ensures.value in
+    let plain : is_system_place c.args.store.now.files.page_size c.loop-store.place ≡ false = ap (λ (s : ℕ). is_system_place s c.loop-store.place) (sym page_size) ∙ sym c.is_system_place.ensures ∙ c.loop-store-test.false in
+    let other : c.args.first ≢ c.loop-store.place = λ e. true≢false (sym system ∙ ap (is_system_place c.args.store.now.files.page_size) e ∙ plain) in
+    omega (arith, c.loop-store.invariant.fewer tells other plain, c.loop-store.invariant.from, c.requires.from, c.loop-store.invariant.behind)
+
+pub returns-clause-none : goal.returns-clause-none
+returns-clause-none g c tells plain = elim (eqb_tells c.args.first c.loop-store.place) [
+  | inl w ↦ (c.loop-store.invariant.none w.1, omega (arith, w.1, c.loop-store.invariant.from, c.requires.from))
+  | inr w ↦ absurd (true≢false (sym (c.loop-store.invariant.passed w.1) ∙ plain))
+]

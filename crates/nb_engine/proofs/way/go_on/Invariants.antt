@@ -1,5 +1,5 @@
-use Rattle.std.proofs.Common.{◌≡◌, ◌≢◌, ◌+◌, ◌-◌, ◌<◌, ◌≤◌, ℕ, length, IsTrue}
-use Rattle.std.specs.Prelude.{true}
+use Rattle.std.proofs.Common.{◌≡◌, ◌≢◌, ◌+◌, ◌-◌, ◌*◌, ◌<◌, ◌≤◌, ℕ, length, IsTrue}
+use Rattle.std.specs.Prelude.{true, false}
 use Rattle.nb_fields.specs.Places.{is_system_place}
 use Rattle.nb_page.specs.Quiet.{Quiet}
 use Rattle.nb_model.specs.Image.{Image}
@@ -25,6 +25,10 @@ invariant-loop-store g l = record {
   opened : (t : Trail) → IsTrue g.H.Host.tells → IsOpen (g.H.Host.world l.fn.host) l.fn.store t → IsOpen (g.H.Host.world l.host) l.store t;
   same : but_pages l.store ≡ but_pages l.fn.store;
   quiet : Quiet (g.H.Host.world l.fn.host) (g.H.Host.world l.host);
+  once : IsTrue g.H.Host.tells → (g.H.Host.world l.host).reads ≤ (g.H.Host.world l.fn.host).reads + 5 * (l.place - l.fn.first);
+  fewer : IsTrue g.H.Host.tells → l.fn.first ≢ l.place → is_system_place l.fn.store.files.page_size l.place ≡ false → (g.H.Host.world l.host).reads + 1 ≤ (g.H.Host.world l.fn.host).reads + 5 * (l.place - l.fn.first);
+  none : l.fn.first ≡ l.place → (g.H.Host.world l.host).reads ≡ (g.H.Host.world l.fn.host).reads;
+  behind : l.fn.first ≤ l.place;
   cause : g.H.Host.faults l.host ≡ g.H.Host.faults l.fn.host;
 }
 

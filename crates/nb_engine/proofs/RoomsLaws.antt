@@ -1,0 +1,162 @@
+-- The tests before new pages, and what is written behind them.
+use Rattle.std.proofs.Common.{◌≡◌, ◌≢◌, inl, inr, ℕ, ◌+◌, ◌*◌, ◌<◌, ◌≤◌, List, [], ◌∷◌, ◌++◌, length, refl, sym, ap, subst, ◌∙◌, arith}
+use Rattle.std.specs.Prelude.{drop, Bool, true, false, not, ◌||◌, nat_lt, min, Some, None, Result, Ok, Err, IsErr, IsErrAnd}
+use Rattle.std.proofs.lemmas.List.{append-nil}
+use Rattle.nb_fields.specs.Bytes.{bytes_of, with_part}
+use Rattle.nb_fields.specs.Payloads.{data_payload}
+use Rattle.nb_host.specs.declared.faults.Fault.{Fault}
+use Rattle.nb_host.specs.declared.faults.Fault.TheVariants.{Refused, Device, Memory}
+use Rattle.nb_host.specs.declared.refusals.Refusal.{Refusal}
+use Rattle.nb_host.specs.declared.refusals.Refusal.TheVariants.{NotDatabase, Full}
+use Rattle.nb_change.proofs.ResultLaws.{passed_on}
+use Rattle.nb_model.specs.Image.{Image, page_at, image_scn}
+use Rattle.nb_model.specs.Forms.{Draft, drafted, is_kind, other_kind, needs, wants, has_entry, scn_page_of, scn_entry, raised, entry_raised, entry_written, put, written, wrote, new_within, new_page}
+use Rattle.nb_model.specs.Causes.{Cause, first_cause, when, lowest_of, lowest_broken, too_short, not_of_form, no_room}
+use Rattle.nb_model.specs.Chains.{Chain, Slot, Spot, owner_of, last_of, put_slot, grown, place_at}
+use Rattle.nb_model.proofs.DraftJoin.{joined, joined_new, join_new}
+use Rattle.nb_model.proofs.SearchLaws.{draft_cause, joined_cause}
+use Rattle.nb_model.proofs.StepLaws.{IsShaped, IsClear}
+use Rattle.nb_state.specs.Does.{Tested, WhereEnded}
+use Rattle.nb_engine.specs.declared.behind.Behind.{Behind}
+use Rattle.nb_engine.specs.Behind.{judged, entry_broken, behind_cause, page_if, IsKnown, Judges}
+use Rattle.nb_engine.specs.Data.{new_behind, second_data}
+use Rattle.nb_engine.specs.Make.{new_of}
+use Rattle.nb_engine.specs.Search.{IsShort, Finds, Refuses, EndsBy}
+use Rattle.nb_engine.proofs.BehindLaws.{other_page, lowest_min}
+use Rattle.nb_engine.proofs.FullLaws.{put_full}
+
+-- P holds where a call ended, and tells what it tested.
+pub tested_where : {T : Type 0} (result : Result T Fault) (P : Type 0) (cause : Cause) → WhereEnded result P → (P → Tested result cause) → Tested result cause
+tested_where (Ok value) P cause ended told = told ended
+tested_where (Err (Refused r)) P cause ended told = told ended
+tested_where (Err Device) P cause ended told = tt
+tested_where (Err Memory) P cause ended told = tt
+
+-- a draft that nothing keeps from being made
+pub judged_clear : (d : Draft) → judged d.broken d.full ≡ None → IsClear d
+unfolding first_cause lowest_broken
+judged_clear d none = by d.broken d.full refl refl none
+  where
+    by : (pages : List ℕ) (full : Bool) → d.broken ≡ pages → d.full ≡ full → judged pages full ≡ None → IsClear d
+    by [] false a b e = (a, b)
+    by [] true a b e = absurd (full_none e)
+      where
+        full_none : Some (Full 1048576) ≡ None → ⊥
+        full_none h = cc
+    by (p ∷ ps) full a b e = absurd (page_none e)
+      where
+        page_none : Some (NotDatabase (lowest_of p ps)) ≡ None → ⊥
+        page_none h = cc
+
+-- one that two searches in a row are refused for
+lowest_append : (p : ℕ) (ps : List ℕ) (q : ℕ) (qs : List ℕ) → lowest_of p (ps ++ q ∷ qs) ≡ min (lowest_of p ps) (lowest_of q qs)
+lowest_append p [] q qs = lowest_min p q qs
+lowest_append p (r ∷ ps) q qs = lowest_append (min p r) ps q qs
+
+pub judged_twice : (ps qs : List ℕ) (a b : Bool) (r : Refusal) → judged ps a ≡ Some r → judged qs b ≡ Some r → judged (ps ++ qs) (a || b) ≡ Some r
+unfolding first_cause lowest_broken
+judged_twice [] [] true b r e f = e
+judged_twice [] [] false b r e f = absurd (none_some e)
+  where
+    none_some : None ≡ Some r → ⊥
+    none_some h = cc
+judged_twice [] (q ∷ qs) a b r e f = f
+judged_twice (p ∷ ps) [] a b r e f = ap (λ (xs : List ℕ). Some (NotDatabase (lowest_of p xs))) (append-nil ps) ∙ e
+judged_twice (p ∷ ps) (q ∷ qs) a b r e f =
+    ap (λ (n : ℕ). Some (NotDatabase n)) (lowest_append p ps q qs ∙ ap (min (lowest_of p ps)) (sym (same (e ∙ sym f))) ∙ (let h : min (lowest_of p ps) (lowest_of p ps) ≡ lowest_of p ps = omega arith in h)) ∙ e
+  where
+    same : Some (NotDatabase (lowest_of p ps)) ≡ Some (NotDatabase (lowest_of q qs)) → lowest_of p ps ≡ lowest_of q qs
+    same h = cc
+
+-- what the end of a search says of its draft
+pub ends_judged : {T : Type 0} (result : Result T Fault) (old start : Image) (from made fresh : ℕ) (before after : Behind) (payload : ℕ → List ℕ) → IsShort payload → IsKnown old start before → EndsBy result old start from made fresh before after
+    → Judges result (new_page 5 payload (drafted start)).0 old after
+ends_judged (Ok value) old start from made fresh before after payload short known ends = record { test = ends.cause 5 payload short; known = ends.known payload short known }
+ends_judged (Err (Refused r)) old start from made fresh before after payload short known ends =
+    record { test = ends.cause 5 payload; known = subst (λ (x : Image). IsKnown old x after) (sym (ends.image 5 payload)) (ends.known known) }
+ends_judged (Err Device) old start from made fresh before after payload short known ends = record { test = tt; known = tt }
+ends_judged (Err Memory) old start from made fresh before after payload short known ends = record { test = tt; known = tt }
+
+-- A second page behind the first: the draft goes on from the first,
+second_is : (first second : ℕ → List ℕ) (image : Image) → second_data first second image ≡ joined_new (new_of 5 first image).0 (new_page 5 second (drafted (new_of 5 first image).0.image))
+second_is first second image = join_new (length (new_of 5 first image).0.image + 4) 5 second (new_of 5 first image).0
+
+pub second_judged : {T : Type 0} (result : Result T Fault) (image : Image) (from made fresh a b c : ℕ) (before mid after : Behind) (first second : ℕ → List ℕ) → IsShort first → IsShort second → IsKnown image image before
+    → Finds image image from made fresh before mid → EndsBy result image (new_of 5 first image).0.image a b c mid after → Judges result (second_data first second image).0 image after
+second_judged {T = T} result image from made fresh a b c before mid after first second short small known found ends =
+    let d : Draft = (new_of 5 first image).0 in
+    let e : Draft = (new_page 5 second (drafted d.image)).0 in
+    let clear : IsClear d = judged_clear d (found.cause 5 first short) in
+    let then : Judges result e image after = ends_judged result image d.image a b c mid after second small (found.known first short known) ends in
+    subst (λ (x : Draft × ℕ). Judges result x.0 image after) (sym (second_is first second image)) (record { test = subst (Tested result) (sym (joined_cause d e clear)) then.test; known = then.known })
+
+-- or is refused with it
+pub twice_judged : (S T : Type 0) (result : Result T Fault) (fault : Fault) (image : Image) (from made fresh : ℕ) (before after : Behind) (first second : ℕ → List ℕ) → IsErr result × IsErrAnd result (λ f. f ≡ fault) → IsKnown image image before
+    → EndsBy {T = S} (Err fault) image image from made fresh before after → Judges result (second_data first second image).0 image after
+twice_judged S T result fault image from made fresh before after first second passed known ends =
+    subst (λ (x : Result T Fault). Judges x (second_data first second image).0 image after) (sym (passed_on result fault passed)) (by fault ends)
+  where
+    d : Draft
+    d = (new_of 5 first image).0
+
+    e : Draft
+    e = (new_page 5 second (drafted d.image)).0
+
+    by : (f : Fault) → EndsBy {T = S} (Err f) image image from made fresh before after → Judges {T = T} (Err f) (second_data first second image).0 image after
+    by Device ends = record { test = tt; known = tt }
+    by Memory ends = record { test = tt; known = tt }
+    by (Refused r) ends = subst (λ (x : Draft × ℕ). Judges {T = T} (Err (Refused r)) x.0 image after) (sym (second_is first second image)) (record {
+      test = judged_twice e.broken d.broken e.full d.full r (subst (λ (x : Image). draft_cause (new_page 5 second (drafted x)).0 ≡ Some r) (sym (ends.image 5 first)) (ends.again 5 second)) (ends.cause 5 first);
+      known = subst (λ (x : Image). IsKnown image x after) (sym (ap (λ (x : Image). (new_page 5 second (drafted x)).0.image) (ends.image 5 first) ∙ ends.again_image 5 second)) (ends.known known);
+    })
+
+-- with the page that is written behind them
+pub behind_judged : (d : Draft) (old : Image) (b : Behind) (number : ℕ) → b.page ≡ number → IsKnown old d.image b → judged (page_if b.lost b.page ++ (page_if (nat_lt 0 b.entry) b.entry ++ d.broken)) d.full ≡ behind_cause d number
+behind_judged d old b number is known =
+    ap (λ (ps : List ℕ). judged (ps ++ (page_if (nat_lt 0 b.entry) b.entry ++ d.broken)) d.full) (sym (other_page d.image 5 b.page b.lost known.kind))
+    ∙ ap (λ (ps : List ℕ). judged (other_kind d.image 5 b.page ++ (ps ++ d.broken)) d.full) (sym known.entry) ∙ ap (behind_cause d) is
+
+-- The pages that a page's write finds not to be of their kind.
+entry_raised_broken : (p : ℕ) (d : Draft) → (entry_raised p d).broken ≡ d.broken
+unfolding entry_raised entry_written written wrote
+entry_raised_broken p d = by (nat_lt (scn_entry d.image p) (image_scn d.image))
+  where
+    by : (t : Bool) → (elim t as (λ z. Draft) [ true ↦ entry_written p d | false ↦ d ]).broken ≡ d.broken
+    by true = refl
+    by false = refl
+
+needs_broken : (kind p : ℕ) (d : Draft) → (needs kind p d).broken ≡ other_kind d.image kind p ++ d.broken
+unfolding needs other_kind
+needs_broken kind p d = by (is_kind d.image kind p)
+  where
+    by : (t : Bool) → (elim t as (λ z. Draft) [ true ↦ d | false ↦ record d { broken = p ∷ d.broken } ]).broken ≡ elim t as (λ z. List ℕ) [ true ↦ [] | false ↦ p ∷ [] ] ++ d.broken
+    by true = refl
+    by false = refl
+
+raised_broken : (p : ℕ) (d : Draft) → (raised p d).broken ≡ entry_broken d.image p ++ d.broken
+unfolding raised
+raised_broken p d = by (has_entry d.image p)
+  where
+    by : (t : Bool) → (elim t as (λ z. Draft) [ true ↦ entry_raised p (needs 10 (scn_page_of d.image p) d) | false ↦ d ]).broken ≡ elim t as (λ z. List ℕ) [ true ↦ other_kind d.image 10 (scn_page_of d.image p) | false ↦ [] ] ++ d.broken
+    by true = entry_raised_broken p (needs 10 (scn_page_of d.image p) d) ∙ needs_broken 10 (scn_page_of d.image p) d
+    by false = refl
+
+pub put_broken : (p kind : ℕ) (payload : List ℕ) (d : Draft) → (put p kind payload d).broken ≡ entry_broken d.image p ++ d.broken
+unfolding put written wrote
+put_broken p kind payload d = raised_broken p d
+
+-- so a draft with a page written behind it isn't made
+wants_judged : (p : ℕ) (payload : List ℕ) (d : Draft) → draft_cause (wants d.image 5 p (put p 5 payload d)) ≡ behind_cause d p
+wants_judged p payload d =
+    ap (λ (ps : List ℕ). judged (other_kind d.image 5 p ++ ps) (put p 5 payload d).full) (put_broken p 5 payload d)
+    ∙ ap (judged (other_kind d.image 5 p ++ (entry_broken d.image p ++ d.broken))) (put_full p 5 payload d)
+
+pub grown_judged : (chain : Chain) (pages slots : List ℕ) (d : Draft) → draft_cause (grown chain pages slots d).0 ≡ behind_cause (new_page 5 (λ p. data_payload 0 (owner_of chain) slots) d).0 (last_of pages)
+unfolding grown
+grown_judged chain pages slots d =
+    let made : Draft × ℕ = new_page 5 (λ p. data_payload 0 (owner_of chain) slots) d in
+    wants_judged (last_of pages) (drop 16 (with_part 16 (bytes_of 4 made.1) (page_at made.0.image (last_of pages)))) made.0
+
+pub slot_judged : (p slot : ℕ) (bytes : Slot) (d : Draft) → draft_cause (wants d.image 5 p (put_slot p slot bytes d)) ≡ behind_cause d p
+unfolding put_slot
+slot_judged p slot bytes d = wants_judged p (drop 16 (with_part (32 + 256 * slot) bytes (page_at d.image p))) d
