@@ -15,6 +15,7 @@ use nb_host::{Fault, Host, Refusal};
 use nb_state::Store;
 
 /// A page that is written behind a search for new pages, and what the search leaves of it.
+#[derive(Drop)]
 pub(crate) struct Behind {
     /// The page, or 0 for none.
     pub(crate) page: u32,

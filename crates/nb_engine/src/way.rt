@@ -24,6 +24,7 @@ use nb_state::Store;
 
 /// How far a search for new pages has come, on a database to which nothing was written since it began. Places that it went past without their
 /// system pages will have them: of those only the last of each kind are asked for again.
+#[derive(Drop)]
 pub(crate) struct Way {
     /// The page at which it goes on.
     pub(crate) from: u32,
