@@ -90,6 +90,6 @@ pub record MakesWhere {T : Type 0} (P : Type 0) (Q : T → Image → Type 0) (re
   pub these : P → MakesThese result old new before after t some.made strokes
 
 -- How many reads a new page makes at most where the search for it ends at that page: the inventory pages up to that of the lowest free
--- page, six pages for the new one, and ten for each page between that the search went past.
+-- page, six pages for the new one, and eleven for each page between that the search went past.
 abbrev pub new_reads : (image : Image) (number : ℕ) → ℕ
-new_reads image number = lowest_free image / bits_in (image_size image) + 1 + 6 + 10 * (number - lowest_free image)
+new_reads image number = lowest_free image / bits_in (image_size image) + 1 + 6 + 11 * (number - lowest_free image)
