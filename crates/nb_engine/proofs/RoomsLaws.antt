@@ -19,11 +19,16 @@ use Rattle.nb_model.proofs.StepLaws.{IsShaped, IsClear}
 use Rattle.nb_state.specs.Does.{Tested, WhereEnded}
 use Rattle.nb_engine.specs.declared.behind.Behind.{Behind}
 use Rattle.nb_engine.specs.Behind.{judged, entry_broken, behind_cause, page_if, IsKnown, Judges}
-use Rattle.nb_engine.specs.Data.{new_behind, second_data}
+use Rattle.nb_engine.specs.Data.{new_behind, second_data, unmade, unmade_behind}
+use Rattle.nb_engine.specs.Put.{entry_cause}
 use Rattle.nb_engine.specs.Make.{new_of}
 use Rattle.nb_engine.specs.Search.{IsShort, Finds, Refuses, EndsBy}
 use Rattle.nb_engine.proofs.BehindLaws.{other_page, lowest_min}
+use Rattle.nb_model.proofs.ReadLaws.{lt_no, lt_yes}
+use Rattle.nb_engine.proofs.CauseLaws.{first_next, first_here, one_cause}
 use Rattle.nb_engine.proofs.FullLaws.{put_full}
+use Rattle.nb_engine.proofs.PutLaws.{no_entry_cause, entry_cause-is}
+use Rattle.nb_engine.proofs.TestLaws.{applies, rests}
 
 -- P holds where a call ended, and tells what it tested.
 pub tested_where : {T : Type 0} (result : Result T Fault) (P : Type 0) (cause : Cause) → WhereEnded result P → (P → Tested result cause) → Tested result cause
@@ -160,3 +165,77 @@ grown_judged chain pages slots d =
 pub slot_judged : (p slot : ℕ) (bytes : Slot) (d : Draft) → draft_cause (wants d.image 5 p (put_slot p slot bytes d)) ≡ behind_cause d p
 unfolding put_slot
 slot_judged p slot bytes d = wants_judged p (drop 16 (with_part (32 + 256 * slot) bytes (page_at d.image p))) d
+
+-- Nothing keeps a draft from being made, nor page p from being written behind it.
+pub record IsFreeBehind (d : Draft) (p : ℕ) : Type 0 where
+  pub clear : draft_cause d ≡ None
+  pub kind : is_kind d.image 5 p ≡ true
+  pub entry : entry_cause d.image p ≡ None
+
+judged_empty : (pages : List ℕ) (full : Bool) → judged pages full ≡ None → (pages ≡ []) × (full ≡ false)
+unfolding first_cause lowest_broken
+judged_empty [] false none = (refl, refl)
+judged_empty [] true none = absurd (full_none none)
+  where
+    full_none : Some (Full 1048576) ≡ None → ⊥
+    full_none h = cc
+judged_empty (p ∷ ps) full none = absurd (page_none none)
+  where
+    page_none : Some (NotDatabase (lowest_of p ps)) ≡ None → ⊥
+    page_none h = cc
+
+both_empty : (xs ys : List ℕ) → xs ++ ys ≡ [] → (xs ≡ []) × (ys ≡ [])
+both_empty [] ys e = (refl, e)
+both_empty (x ∷ xs) ys e = absurd (some_none e)
+  where
+    some_none : x ∷ (xs ++ ys) ≡ [] → ⊥
+    some_none h = cc
+
+none_broken : (x : Image) (kind p : ℕ) → other_kind x kind p ≡ [] → is_kind x kind p ≡ true
+unfolding other_kind
+none_broken x kind p none = by (is_kind x kind p) refl none
+  where
+    by : (t : Bool) → is_kind x kind p ≡ t → elim t as (λ z. List ℕ) [ true ↦ [] | false ↦ p ∷ [] ] ≡ [] → is_kind x kind p ≡ true
+    by true e h = e
+    by false e h = absurd (some_none h)
+      where
+        some_none : p ∷ [] ≡ [] → ⊥
+        some_none i = cc
+
+no_entry_broken : (x : Image) (p : ℕ) → entry_broken x p ≡ [] → entry_cause x p ≡ None
+no_entry_broken x p none = by (has_entry x p) refl none
+  where
+    by : (t : Bool) → has_entry x p ≡ t → elim t as (λ z. List ℕ) [ true ↦ other_kind x 10 (scn_page_of x p) | false ↦ [] ] ≡ [] → entry_cause x p ≡ None
+    by false e h = no_entry_cause x p e
+    by true e h = entry_cause-is x p e ∙ ap (λ (t : Bool). when (not t) (NotDatabase (scn_page_of x p))) (none_broken x 10 (scn_page_of x p) h)
+
+pub free_behind : (d : Draft) (p : ℕ) → behind_cause d p ≡ None → IsFreeBehind d p
+free_behind d p none =
+    let all = judged_empty (other_kind d.image 5 p ++ (entry_broken d.image p ++ d.broken)) d.full none in
+    let page = both_empty (other_kind d.image 5 p) (entry_broken d.image p ++ d.broken) all.0 in
+    let entry = both_empty (entry_broken d.image p) d.broken page.1 in
+    record {
+      clear = ap (λ (ps : List ℕ). judged ps d.full) entry.1 ∙ ap (λ (t : Bool). judged [] t) all.1 ∙ none_judged;
+      kind = none_broken d.image 5 p page.0;
+      entry = no_entry_broken d.image p entry.0;
+    }
+  where
+    none_judged : judged [] false ≡ None
+    unfolding first_cause lowest_broken
+    none_judged = refl
+
+-- why new pages aren't made
+pub unmade_short : (image : Image) (d : Draft) → length image < 5 → unmade image d ≡ Some (NotDatabase (length image))
+unmade_short image d low = first_here (too_short image) (not_of_form d ∷ no_room d ∷ []) (NotDatabase (length image)) (applies _ _ (lt_yes (length image) 5 low))
+
+pub unmade_long : (image : Image) (d : Draft) → 5 ≤ length image → unmade image d ≡ draft_cause d
+unmade_long image d long = first_next (too_short image) (not_of_form d ∷ no_room d ∷ []) (rests _ _ (lt_no (length image) 5 long))
+
+pub behind_short : (image : Image) (d : Draft) (p : ℕ) → length image < 5 → unmade_behind image d p ≡ Some (NotDatabase (length image))
+behind_short image d p low = first_here (too_short image) (behind_cause d p ∷ []) (NotDatabase (length image)) (applies _ _ (lt_yes (length image) 5 low))
+
+pub behind_long : (image : Image) (d : Draft) (p : ℕ) → 5 ≤ length image → unmade_behind image d p ≡ behind_cause d p
+behind_long image d p long = first_next (too_short image) (behind_cause d p ∷ []) (rests _ _ (lt_no (length image) 5 long)) ∙ one_cause (behind_cause d p)
+
+pub grown_unmade : (image : Image) (chain : Chain) (pages slots : List ℕ) → 5 ≤ length image → unmade image (grown chain pages slots (drafted image)).0 ≡ behind_cause (new_behind chain slots image).0 (last_of pages)
+grown_unmade image chain pages slots long = unmade_long image (grown chain pages slots (drafted image)).0 long ∙ grown_judged chain pages slots (drafted image)
