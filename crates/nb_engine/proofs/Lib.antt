@@ -34,7 +34,6 @@ pub mod RoomLaws
 pub mod KeepLaws
 pub mod DataLaws
 pub mod ContentLaws
-pub mod SecondLaws
 pub mod SearchReads
 pub mod NewReads
 pub mod StaysLaws
