@@ -1,6 +1,6 @@
 -- The tests before new pages, and what is written behind them.
 use Rattle.std.proofs.Common.{◌≡◌, ◌≢◌, inl, inr, ℕ, ◌+◌, ◌*◌, ◌<◌, ◌≤◌, List, [], ◌∷◌, ◌++◌, length, refl, sym, ap, subst, ◌∙◌, arith}
-use Rattle.std.specs.Prelude.{drop, Bool, true, false, not, ◌||◌, nat_lt, min, Some, None, Result, Ok, Err, IsErr, IsErrAnd}
+use Rattle.std.specs.Prelude.{drop, Bool, true, false, not, ◌||◌, nat_lt, min, Some, None, Result, Ok, Err, IfOk, IsErr, IsErrAnd}
 use Rattle.std.proofs.lemmas.List.{append-nil}
 use Rattle.nb_fields.specs.Bytes.{bytes_of, with_part}
 use Rattle.nb_fields.specs.Payloads.{data_payload}
@@ -18,7 +18,7 @@ use Rattle.nb_model.proofs.SearchLaws.{draft_cause, joined_cause}
 use Rattle.nb_model.proofs.StepLaws.{IsShaped, IsClear}
 use Rattle.nb_state.specs.Does.{Tested, WhereEnded}
 use Rattle.nb_engine.specs.declared.behind.Behind.{Behind}
-use Rattle.nb_engine.specs.Behind.{judged, entry_broken, behind_cause, page_if, IsKnown, Judges}
+use Rattle.nb_engine.specs.Behind.{judged, entry_broken, behind_cause, page_if, IsKnown, Judges, EndsAlike}
 use Rattle.nb_engine.specs.Data.{new_behind, second_data, unmade, unmade_behind}
 use Rattle.nb_engine.specs.Put.{entry_cause}
 use Rattle.nb_engine.specs.Make.{new_of}
@@ -30,12 +30,29 @@ use Rattle.nb_engine.proofs.FullLaws.{put_full}
 use Rattle.nb_engine.proofs.PutLaws.{no_entry_cause, entry_cause-is}
 use Rattle.nb_engine.proofs.TestLaws.{applies, rests}
 
+held : {T : Type 0} (result : Result T Fault) (P : Type 0) → P → WhereEnded result P
+held (Ok value) P p = p
+held (Err (Refused r)) P p = p
+held (Err Device) P p = tt
+held (Err Memory) P p = tt
+
 -- P holds where a call ended, and tells what it tested.
 pub tested_where : {T : Type 0} (result : Result T Fault) (P : Type 0) (cause : Cause) → WhereEnded result P → (P → Tested result cause) → Tested result cause
 tested_where (Ok value) P cause ended told = told ended
 tested_where (Err (Refused r)) P cause ended told = told ended
 tested_where (Err Device) P cause ended told = tt
 tested_where (Err Memory) P cause ended told = tt
+
+pub ended_alike : {S T : Type 0} (found : Result S Fault) (result : Result T Fault) (P : Type 0) → EndsAlike found result → WhereEnded found P → WhereEnded result P
+ended_alike (Ok value) result P alike p = held result P p
+ended_alike (Err (Refused r)) result P alike p = held result P p
+ended_alike {T = T} (Err Device) result P alike p = subst (λ (x : Result T Fault). WhereEnded x P) (sym alike) tt
+ended_alike {T = T} (Err Memory) result P alike p = subst (λ (x : Result T Fault). WhereEnded x P) (sym alike) tt
+
+-- what is answered is what was found
+pub value_found : {T : Type 0} (found result : Result T Fault) (Q : T → Type 0) → IfOk result (λ value. found ≡ Ok value) → IfOk found Q → IfOk result Q
+value_found {T = T} found (Ok value) Q same q = subst (λ (x : Result T Fault). IfOk x Q) same q
+value_found found (Err fault) Q same q = tt
 
 -- a draft that nothing keeps from being made
 pub judged_clear : (d : Draft) → judged d.broken d.full ≡ None → IsClear d

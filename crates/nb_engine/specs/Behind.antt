@@ -1,7 +1,8 @@
 -- A page that is written behind a search for new pages: the page of a slot, or the last of a chain.
-use Rattle.std.specs.Prelude.{◌≡◌, ◌≢◌, ℕ, List, [], ◌∷◌, ◌++◌, Bool, true, false, not, ◌==◌, ◌||◌, nat_lt, Result}
+use Rattle.std.specs.Prelude.{◌≡◌, ◌≢◌, ℕ, List, [], ◌∷◌, ◌++◌, Bool, true, false, not, ◌==◌, ◌||◌, nat_lt, Result, Ok, Err}
 use Rattle.nb_fields.specs.Places.{is_system_place}
 use Rattle.nb_host.specs.declared.faults.Fault.{Fault}
+use Rattle.nb_host.specs.declared.faults.Fault.TheVariants.{Refused, Device, Memory}
 use Rattle.nb_host.specs.declared.refusals.Refusal.TheVariants.{Full}
 use Rattle.nb_model.specs.Image.{Image, image_size}
 use Rattle.nb_model.specs.Forms.{Draft, is_kind, other_kind, has_entry, scn_page_of}
@@ -48,6 +49,13 @@ gone place made fresh b = elim (made == place || fresh == place) [ true ↦ pass
 pub record Judges {T : Type 0} (result : Result T Fault) (d : Draft) (old : Image) (b : Behind) : Type 0 where
   pub test : Tested result (judged d.broken d.full)
   pub known : WhereEnded result (IsKnown old d.image b)
+
+-- What stopped the first call stopped the second.
+abbrev pub EndsAlike : {S T : Type 0} → Result S Fault → Result T Fault → Type 0
+EndsAlike (Ok value) result = Unit
+EndsAlike (Err (Refused refusal)) result = Unit
+EndsAlike (Err Device) result = result ≡ Err Device
+EndsAlike (Err Memory) result = result ≡ Err Memory
 
 -- no page is written
 pub record IsNone (b : Behind) : Type 0 where

@@ -7,7 +7,7 @@ ghost use Rattle.nb_model.specs.Forms.{is_kind};
 ghost use Rattle.nb_model.specs.Trail.{Trail};
 ghost use Rattle.nb_state.specs.Open.{IsOpen, but_pages};
 ghost use Rattle.nb_state.specs.Does.{Tested};
-ghost use Rattle.nb_engine.specs.Behind.{judged, page_if, IsKnown, IsNone, entry_left, gone};
+ghost use Rattle.nb_engine.specs.Behind.{judged, page_if, IsKnown, IsNone, EndsAlike, entry_left, gone};
 
 use crate::pages::{InventoryPage, ScnPage};
 use crate::way::{Way, is_there};
@@ -103,6 +103,7 @@ impl Behind {
     pub(crate) fn judge(&self, found: Result<u32, Fault>) -> Result<u32, Fault>
         ensures test { (pages : List ℕ) (full : Bool) → Tested found (judged pages full) → Tested result (judged (page_if self.now.lost self.now.page ++ (page_if (nat_lt 0 self.now.entry) self.now.entry ++ pages)) full) }
         ensures value { IfOk result (λ first. found ≡ Ok first) }
+        ensures ended { EndsAlike found result }
         ensures cause { (old new : ℕ) → CountsDevice found old new → CountsDevice result old new }
     {
         let of_entry = with_page(found, self.entry > 0, self.entry);
@@ -144,6 +145,7 @@ fn is_lost(lost: bool, page: u32, place: u32) -> bool
 fn with_page(found: Result<u32, Fault>, counts: bool, page: u32) -> Result<u32, Fault>
     ensures test { (pages : List ℕ) (full : Bool) → Tested found (judged pages full) → Tested result (judged (page_if counts page ++ pages) full) }
     ensures value { IfOk result (λ first. found ≡ Ok first) }
+    ensures ended { EndsAlike found result }
     ensures cause { (old new : ℕ) → CountsDevice found old new → CountsDevice result old new }
 {
     if !counts {

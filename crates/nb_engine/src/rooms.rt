@@ -1,11 +1,10 @@
 // The tests before new pages, on a database to which nothing was written yet. Nothing changes.
-ghost use Rattle.std.specs.Prelude.{◌≡◌, ◌+◌, ◌-◌, ◌*◌, ◌/◌, ◌<◌, ◌≤◌, ℕ, List, true, None, IsTrue, IfOk, length};
+ghost use Rattle.std.specs.Prelude.{◌≡◌, ◌+◌, ◌-◌, ◌*◌, ◌/◌, ◌<◌, ◌≤◌, ℕ, List, true, IsTrue, IfOk, length};
 ghost use Rattle.nb_fields.specs.Places.{bits_in};
 ghost use Rattle.nb_change.specs.Counts.{CountsDevice};
 ghost use Rattle.nb_page.specs.Quiet.{Quiet};
-ghost use Rattle.nb_model.specs.Image.{Image, image_size};
-ghost use Rattle.nb_model.specs.Causes.{too_short};
-ghost use Rattle.nb_model.specs.Forms.{drafted, new_page, is_kind, lowest_free};
+ghost use Rattle.nb_model.specs.Image.{image_size};
+ghost use Rattle.nb_model.specs.Forms.{is_kind, lowest_free};
 ghost use Rattle.nb_model.specs.Trail.{Trail};
 ghost use Rattle.nb_model.proofs.StepLaws.{IsShaped};
 ghost use Rattle.nb_model.proofs.SearchLaws.{draft_cause};
@@ -18,23 +17,10 @@ ghost use Rattle.nb_engine.specs.Make.{new_of};
 ghost use Rattle.nb_engine.specs.Search.{IsShort};
 
 use crate::behind::Behind;
-use crate::find::FIRST_TO_GIVE;
 use crate::pages::{InventoryPage, ScnPage};
 use crate::way::{Way, find_room};
-use nb_host::{Fault, Host, Refusal};
+use nb_host::{Fault, Host};
 use nb_state::Store;
-
-/// Tests that a database is long enough for a new page: one that ends before the first page that may be given is none. The refusal is
-/// `NotDatabase` of its length.
-pub(crate) fn check_long(count: u32) -> Result<(), Fault>
-    ensures test { (image : Image) → count ≡ length image → Tested result (too_short image) }
-    ensures cause { (faults : ℕ) → CountsDevice result faults faults }
-{
-    if count < FIRST_TO_GIVE {
-        return Err(Fault::Refused(Refusal::NotDatabase { page: count }));
-    }
-    Ok(())
-}
 
 /// Tests all that a new page changes, and answers the page at which it is made at first: the lowest free page, or the page at the length where
 /// none is free. Where no system page stands there, the inventory page of that page is then in `map`.
@@ -102,7 +88,8 @@ fn find_rooms<H: Host>(
     let _page_size = store.page_size();
     let mut way = Way::begin();
     let first = find_room(store, host, &mut way, behind, map, scn_page)?;
-    if pages < 2 {
+    let second = pages > 1;
+    if !second {
         return Ok(first);
     }
     find_room(store, host, &mut way, behind, map, scn_page)?;
