@@ -1,6 +1,6 @@
 -- A page that is written behind a search for new pages: what the search leaves of it.
 use Rattle.std.proofs.Common.{◌≡◌, ◌≢◌, ◌⊎◌, inl, inr, ℕ, ◌+◌, ◌/◌, ◌<◌, ◌≤◌, List, [], ◌∷◌, ◌++◌, length, refl, sym, ap, subst, ◌∙◌, arith}
-use Rattle.std.specs.Prelude.{Bool, true, false, not, ◌==◌, ◌||◌, nat_lt, min, IsTrue, Some, None}
+use Rattle.std.specs.Prelude.{Bool, true, false, not, ◌==◌, ◌||◌, nat_lt, min, IsTrue, Option, Some, None, IfSome, unwrap_or}
 use Rattle.std.proofs.lemmas.Bool.{true≢false}
 use Rattle.std.proofs.lemmas.Bool.Decides.{eqb_tells, leb_tells}
 use Rattle.nb_fields.specs.Places.{is_page_size, entries_in, scn_place, is_inventory_place, is_scn_place, is_system_place}
@@ -16,7 +16,7 @@ use Rattle.nb_model.proofs.NewSound.{plain_place, places_apart}
 use Rattle.nb_model.proofs.OnwardLaws.{kind_same}
 use Rattle.nb_model.proofs.StepLaws.{IsVisited, kind_parts, kind_from}
 use Rattle.nb_engine.specs.declared.behind.Behind.{Behind}
-use Rattle.nb_engine.specs.Behind.{judged, entry_broken, page_if, IsKnown, passed, gone}
+use Rattle.nb_engine.specs.Behind.{judged, entry_broken, page_in, page_if, IsKnown, passed, gone}
 use Rattle.nb_engine.proofs.PlaceTests.{system_second}
 
 eq_yes : (a b : ℕ) → a ≡ b → (a == b) ≡ true
@@ -224,6 +224,14 @@ entry_lacks x p has other =
 
 pub known_begin : (x : Image) (p entry : ℕ) → is_kind x 5 p ≡ true → entry_broken x p ≡ page_if (nat_lt 0 entry) entry → (entry ≢ 0 → entry ≡ scn_page_of x p) → IsKnown x x (record { page = p; entry = entry; lost = false })
 known_begin x p entry is broken at = record { kind = is; place = λ lost. absurd (true≢false (sym lost)); entry = broken; page = at }
+
+pub known_lacking : (x : Image) (p : ℕ) (lacking : Option ℕ) → IsTrue (is_page_size (image_size x)) → is_kind x 5 p ≡ true → page_in lacking ≡ entry_broken x p → IfSome lacking (λ q. q ≡ scn_page_of x p)
+    → IsKnown x x (record { page = p; entry = unwrap_or lacking 0; lost = false })
+known_lacking x p None size is broken at = known_begin x p 0 is (sym broken) (λ some. absurd (some refl))
+known_lacking x p (Some q) size is broken at =
+    let low = scn_place_some (image_size x) (p / entries_in (image_size x)) size in
+    let positive : (nat_lt 0 q) ≡ true = elim (leb_tells 1 q) [ inl w ↦ w.0 | inr w ↦ absurd (omega (arith, w.1, low, at)) ] in
+    known_begin x p q is (sym broken ∙ sym (ap (λ (t : Bool). page_if t q) positive)) (λ some. at)
 
 -- Why the draft of new pages isn't made, with the page behind them.
 pub judged_none : (page : ℕ) (pages : List ℕ) (full : Bool) → judged pages full ≡ None → judged (page ∷ pages) full ≡ Some (NotDatabase page)

@@ -1,11 +1,11 @@
 -- A page that is written behind a search for new pages: the page of a slot, or the last of a chain.
-use Rattle.std.specs.Prelude.{◌≡◌, ◌≢◌, ℕ, List, [], ◌∷◌, ◌++◌, Bool, true, false, not, ◌==◌, ◌||◌, nat_lt, Result, Ok, Err}
+use Rattle.std.specs.Prelude.{◌≡◌, ◌≢◌, ℕ, List, [], ◌∷◌, ◌++◌, Bool, true, false, not, ◌==◌, ◌||◌, nat_lt, Option, Some, None, Result, Ok, Err}
 use Rattle.nb_fields.specs.Places.{is_system_place}
 use Rattle.nb_host.specs.declared.faults.Fault.{Fault}
 use Rattle.nb_host.specs.declared.faults.Fault.TheVariants.{Refused, Device, Memory}
 use Rattle.nb_host.specs.declared.refusals.Refusal.TheVariants.{Full}
 use Rattle.nb_model.specs.Image.{Image, image_size}
-use Rattle.nb_model.specs.Forms.{Draft, is_kind, other_kind, has_entry, scn_page_of}
+use Rattle.nb_model.specs.Forms.{Draft, is_kind, other_kind, has_entry, inventory_of, scn_page_of}
 use Rattle.nb_model.specs.Causes.{Cause, first_cause, when, lowest_broken}
 use Rattle.nb_state.specs.Does.{Tested, WhereEnded}
 use Rattle.nb_engine.specs.declared.behind.Behind.{Behind}
@@ -18,9 +18,18 @@ judged pages full = first_cause (lowest_broken pages ∷ when full (Full 1048576
 abbrev pub entry_broken : Image → ℕ → List ℕ
 entry_broken image p = elim (has_entry image p) [ true ↦ other_kind image 10 (scn_page_of image p) | false ↦ [] ]
 
+-- the pages that aren't of their kind of those that change where page p is given back: its inventory page, and the SCN page of that
+abbrev pub give_broken : Image → ℕ → List ℕ
+give_broken image p = entry_broken image (inventory_of image p) ++ other_kind image 2 (inventory_of image p)
+
 -- why a draft isn't made behind which page p, a data page, is written
 abbrev pub behind_cause : Draft → ℕ → Cause
 behind_cause d p = judged (other_kind d.image 5 p ++ (entry_broken d.image p ++ d.broken)) d.full
+
+-- the page, if there is one
+abbrev pub page_in : Option ℕ → List ℕ
+page_in None = []
+page_in (Some p) = p ∷ []
 
 -- a page, where it counts
 abbrev pub page_if : (counts : Bool) (p : ℕ) → List ℕ

@@ -1,13 +1,15 @@
 // A page that is written behind a search for new pages: the page of a slot, or the last of a chain. The search may make a system page where it
 // stands, or the SCN page with its entry, so whether it may be written is known once the search has ended.
-ghost use Rattle.std.specs.Prelude.{◌≡◌, ◌<◌, ◌++◌, ◌∷◌, ◌==◌, ◌||◌, ℕ, List, Bool, true, Some, None, IsTrue, IfOk, Ok, length, nat_lt};
+ghost use Rattle.std.specs.Prelude.{◌≡◌, ◌<◌, ◌++◌, ◌∷◌, ◌==◌, ◌||◌, ℕ, List, Bool, true, Some, None, IsTrue, IfOk, IfSome, Ok, length, nat_lt};
 ghost use Rattle.nb_change.specs.Counts.{CountsDevice};
 ghost use Rattle.nb_page.specs.Quiet.{Quiet};
-ghost use Rattle.nb_model.specs.Forms.{is_kind};
+ghost use Rattle.nb_host.specs.declared.refusals.Refusal.TheVariants.{NotDatabase};
+ghost use Rattle.nb_model.specs.Causes.{lowest_broken};
+ghost use Rattle.nb_model.specs.Forms.{is_kind, scn_page_of};
 ghost use Rattle.nb_model.specs.Trail.{Trail};
 ghost use Rattle.nb_state.specs.Open.{IsOpen, but_pages};
 ghost use Rattle.nb_state.specs.Does.{Tested};
-ghost use Rattle.nb_engine.specs.Behind.{judged, page_if, IsKnown, IsNone, EndsAlike, entry_left, gone};
+ghost use Rattle.nb_engine.specs.Behind.{judged, entry_broken, page_in, page_if, IsKnown, IsNone, EndsAlike, entry_left, gone};
 
 use crate::pages::{InventoryPage, ScnPage};
 use crate::way::{Way, is_there};
@@ -59,27 +61,12 @@ impl Behind {
         ensures quiet { Quiet (H.world host.old) (H.world host.new) }
         ensures cause { CountsDevice result (H.faults host.old) (H.faults host.new) }
     {
-        let page_size = store.page_size();
-        if nb_scn::is_place(page_size, number) {
-            return Ok(Behind {
-                page: number,
-                entry: 0,
-                lost: false,
-            });
-        }
-        let (k, _) = nb_scn::covers(page_size, number);
-        let entry = nb_scn::place_of(page_size, k);
-        let there = is_there(store, host, entry, map, scn_page)?;
-        if there {
-            return Ok(Behind {
-                page: number,
-                entry: 0,
-                lost: false,
-            });
-        }
+        // Contracts ask for it.
+        let _page_size = store.page_size();
+        let lacking = find_lacking(store, host, number, map, scn_page)?;
         Ok(Behind {
             page: number,
-            entry,
+            entry: lacking.unwrap_or(0),
             lost: false,
         })
     }
@@ -108,6 +95,51 @@ impl Behind {
     {
         let of_entry = with_page(found, self.entry > 0, self.entry);
         with_page(of_entry, self.lost, self.page)
+    }
+}
+
+/// The SCN page with the entry of page `number`, if it has one and that isn't of its kind. It refuses nothing.
+pub(crate) fn find_lacking<H: Host>(
+    store: &mut Store,
+    host: &mut H,
+    number: u32,
+    map: &mut InventoryPage,
+    scn_page: &mut ScnPage,
+) -> Result<Option<u32>, Fault>
+    requires map_room { length map.old ≡ store.old.files.page_size }
+    requires scn_room { length scn_page.old ≡ store.old.files.page_size }
+    requires low { 0 < number }
+    requires number { number < 1048576 }
+    ensures test { Tested result None }
+    ensures value { (t : Trail) → IsTrue H.tells → IsOpen (H.world host.old) store.old t → IfOk result (λ lacking. page_in lacking ≡ entry_broken t.base.image number) }
+    ensures place { (t : Trail) → IsTrue H.tells → IsOpen (H.world host.old) store.old t → IfOk result (λ lacking. IfSome lacking (λ p. p ≡ scn_page_of t.base.image number)) }
+    ensures map_room { length map.new ≡ length map.old }
+    ensures scn_room { length scn_page.new ≡ length scn_page.old }
+    ensures open { (t : Trail) → IsTrue H.tells → IsOpen (H.world host.old) store.old t → IsOpen (H.world host.new) store.new t }
+    ensures same { but_pages store.new ≡ but_pages store.old }
+    ensures quiet { Quiet (H.world host.old) (H.world host.new) }
+    ensures cause { CountsDevice result (H.faults host.old) (H.faults host.new) }
+{
+    let page_size = store.page_size();
+    if nb_scn::is_place(page_size, number) {
+        return Ok(None);
+    }
+    let (k, _) = nb_scn::covers(page_size, number);
+    let place = nb_scn::place_of(page_size, k);
+    let there = is_there(store, host, place, map, scn_page)?;
+    if there {
+        return Ok(None);
+    }
+    Ok(Some(place))
+}
+
+/// Of two pages, if there are any, the lower.
+pub(crate) fn lower_page(first: Option<u32>, page: u32) -> u32
+    ensures { lowest_broken (page_in first ++ page ∷ []) ≡ Some (NotDatabase result) }
+{
+    match first {
+        Some(other) => other.min(page),
+        None => page,
     }
 }
 

@@ -8,11 +8,11 @@ use Rattle.nb_engine.proofs.RoomsLaws.{ends_judged, second_judged, twice_judged}
 use Rattle.nb_engine.proofs.WayLaws.{begins_at, place_begins, ends_passed}
 use Rattle.nb_engine.proofs.rooms.find_rooms.Goals as goal
 
-pub find_room-first-requires-clause-low : goal.find_room-first-requires-clause-low
-find_room-first-requires-clause-low g c = omega (arith, c.begin-way.ensures.from)
+pub find_room-requires-clause-low : goal.find_room-requires-clause-low
+find_room-requires-clause-low g c = omega (arith, c.begin-way.ensures.from)
 
-pub find_room-first-requires-clause-most : goal.find_room-first-requires-clause-most
-find_room-first-requires-clause-most g c = omega (arith, c.begin-way.ensures.from)
+pub find_room-requires-clause-most : goal.find_room-requires-clause-most
+find_room-requires-clause-most g c = omega (arith, c.begin-way.ensures.from)
 
 pub returns-in_err-first-clause-one : goal.returns-in_err-first-clause-one
 returns-in_err-first-clause-one g c t first tells is shaped short known count_is =
