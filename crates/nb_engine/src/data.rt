@@ -193,7 +193,6 @@ impl Engine {
         host: &mut H,
         number: u32,
     ) -> Result<Option<u32>, Fault>
-        requires low { 2 ≤ number }
         requires high { number < 1048576 }
         ensures test { Tested result None }
         ensures value { (t : Trail) → IsTrue H.tells → IsOpen (H.world host.old) self.old t → IfOk result (λ lacking. need_cause lacking ≡ lowest_broken (give_broken t.base.image number)) }

@@ -13,3 +13,11 @@ chain_cause image behind (Some spot) = first_cause (behind ∷ broken_at (pages_
 -- why the rows of a table aren't come by: a test before the catalogue fails, or the catalogue isn't of the form, or its slot leads to none
 abbrev pub rows_cause : Image → (before : Cause) (table : List ℕ) (behind : Cause) → Cause
 rows_cause image before table behind = first_cause (before ∷ broken_at (pages_of Catalogue image) ∷ chain_cause image behind (table_spot table image) ∷ [])
+
+-- why a slot isn't put into a chain: the database is too short for a new page, or what is written isn't of its kind, or no page is left
+abbrev pub place_cause : Chain → Image → (bytes : Slot) → Cause
+place_cause chain image bytes = first_cause (
+    short_for (free_spot (spots chain image)) image
+    ∷ not_of_form (place_slot chain (found_pages chain image) bytes (drafted image))
+    ∷ no_room (place_slot chain (found_pages chain image) bytes (drafted image))
+    ∷ [])
