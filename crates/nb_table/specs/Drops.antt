@@ -1,5 +1,6 @@
 -- A table that is dropped.
 use Rattle.std.specs.Prelude.{◌≡◌, ℕ, List, [], ◌∷◌, ◌++◌, Some, None}
+use Rattle.std.specs.List.{AllByRecursion}
 use Rattle.nb_model.specs.Causes.{broken_at}
 use Rattle.nb_model.specs.Chains.{Catalogue, RowsFrom, Spot, first_in, found_pages, free_slot, pages_of, put_slot, table_spot}
 use Rattle.nb_model.specs.Forms.{Draft, drafted}
@@ -21,3 +22,7 @@ dropped image spot = all_given (found_pages (RowsFrom (first_in spot.bytes)) ima
 abbrev pub drop_broken : Image → (pages : List ℕ) (p : ℕ) → List ℕ
 drop_broken image [] p = entry_broken image p
 drop_broken image (q ∷ qs) p = give_broken image q ++ drop_broken image qs p
+
+-- all that giving back these pages changes is of its kind
+abbrev pub AreGiven : Image → List ℕ → Type 0
+AreGiven image = AllByRecursion (λ q. give_broken image q ≡ [])

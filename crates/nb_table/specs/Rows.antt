@@ -2,8 +2,9 @@
 use Rattle.std.specs.Prelude.{List, [], ◌∷◌, ℕ, Option, Some, None}
 use Rattle.nb_host.specs.declared.refusals.Refusal.TheVariants.{NoTable}
 use Rattle.nb_model.specs.Image.{Image}
-use Rattle.nb_model.specs.Causes.{Cause, first_cause, broken_at}
-use Rattle.nb_model.specs.Chains.{Catalogue, RowsFrom, Spot, pages_of, first_in, table_spot}
+use Rattle.nb_model.specs.Causes.{Cause, first_cause, broken_at, short_for, not_of_form, no_room}
+use Rattle.nb_model.specs.Chains.{Chain, Catalogue, RowsFrom, Slot, Spot, pages_of, found_pages, first_in, spots, free_spot, place_slot, table_spot}
+use Rattle.nb_model.specs.Forms.{drafted}
 
 -- why no chain is come by in that slot of the catalogue: there is none, a test before the chain fails, or the chain isn't of the form
 abbrev pub chain_cause : Image → (behind : Cause) → Option Spot → Cause
