@@ -1,6 +1,7 @@
 -- The tests before new pages, and what is written behind them.
 use Rattle.std.proofs.Common.{◌≡◌, ◌≢◌, inl, inr, ℕ, ◌+◌, ◌*◌, ◌<◌, ◌≤◌, List, [], ◌∷◌, ◌++◌, length, refl, sym, ap, subst, ◌∙◌, arith}
 use Rattle.std.specs.Prelude.{drop, Bool, true, false, not, ◌||◌, nat_lt, min, Some, None, Result, Ok, Err, IfOk, IsErr, IsErrAnd}
+use Rattle.std.proofs.lemmas.Bool.{true≢false}
 use Rattle.std.proofs.lemmas.List.{append-nil}
 use Rattle.nb_fields.specs.Bytes.{bytes_of, with_part}
 use Rattle.nb_fields.specs.Payloads.{data_payload}
@@ -256,3 +257,61 @@ behind_long image d p long = first_next (too_short image) (behind_cause d p ∷ 
 
 pub grown_unmade : (image : Image) (chain : Chain) (pages slots : List ℕ) → 5 ≤ length image → unmade image (grown chain pages slots (drafted image)).0 ≡ behind_cause (new_behind chain slots image).0 (last_of pages)
 grown_unmade image chain pages slots long = unmade_long image (grown chain pages slots (drafted image)).0 long ∙ grown_judged chain pages slots (drafted image)
+
+-- the same by two causes
+pub unmade_is : (image : Image) (d : Draft) → unmade image d ≡ first_cause (too_short image ∷ draft_cause d ∷ [])
+unmade_is image d = grouped (too_short image) (not_of_form d) (no_room d)
+  where
+    grouped : (a b c : Cause) → first_cause (a ∷ b ∷ c ∷ []) ≡ first_cause (a ∷ first_cause (b ∷ c ∷ []) ∷ [])
+    unfolding first_cause
+    grouped (Some r) b c = refl
+    grouped None (Some r) c = refl
+    grouped None None None = refl
+    grouped None None (Some r) = refl
+
+pub grown_named : (image : Image) (chain : Chain) (pages slots : List ℕ) (d : Draft) → unmade image (grown chain pages slots d).0 ≡ unmade_behind image (new_page 5 (λ p. data_payload 0 (owner_of chain) slots) d).0 (last_of pages)
+grown_named image chain pages slots d = unmade_is image (grown chain pages slots d).0 ∙ ap (λ (c : Cause). first_cause (too_short image ∷ c ∷ [])) (grown_judged chain pages slots d)
+
+pub slot_named : (image : Image) (p slot : ℕ) (bytes : Slot) (d : Draft) → unmade image (wants d.image 5 p (put_slot p slot bytes d)) ≡ unmade_behind image d p
+slot_named image p slot bytes d = unmade_is image (wants d.image 5 p (put_slot p slot bytes d)) ∙ ap (λ (c : Cause). first_cause (too_short image ∷ c ∷ [])) (slot_judged p slot bytes d)
+
+-- Where nothing keeps a draft from being made that goes on from another, nothing keeps either.
+pub joined_clear : (d e : Draft) → draft_cause (joined d e) ≡ None → (draft_cause d ≡ None) × (draft_cause e ≡ None)
+joined_clear d e none =
+    let all = judged_empty (e.broken ++ d.broken) (e.full || d.full) none in
+    let pages = both_empty e.broken d.broken all.0 in
+    let full = neither e.full d.full all.1 in
+    (ap (λ (ps : List ℕ). judged ps d.full) pages.1 ∙ ap (judged []) full.1 ∙ no_cause, ap (λ (ps : List ℕ). judged ps e.full) pages.0 ∙ ap (judged []) full.0 ∙ no_cause)
+  where
+    no_cause : judged [] false ≡ None
+    unfolding first_cause lowest_broken
+    no_cause = refl
+
+    neither : (a b : Bool) → (a || b) ≡ false → (a ≡ false) × (b ≡ false)
+    neither false b e = (refl, e)
+    neither true b e = absurd (true≢false e)
+
+-- A page alone is written.
+pub entry_lowest : (x : Image) (p : ℕ) → lowest_broken (entry_broken x p) ≡ entry_cause x p
+unfolding lowest_broken other_kind
+entry_lowest x p = by (has_entry x p) refl
+  where
+    at : (t : Bool) → lowest_broken (elim t as (λ z. List ℕ) [ true ↦ [] | false ↦ scn_page_of x p ∷ [] ]) ≡ when (not t) (NotDatabase (scn_page_of x p))
+    at true = refl
+    at false = refl
+
+    by : (t : Bool) → has_entry x p ≡ t → lowest_broken (entry_broken x p) ≡ entry_cause x p
+    by false e = ap (λ (t : Bool). lowest_broken (elim t as (λ z. List ℕ) [ true ↦ other_kind x 10 (scn_page_of x p) | false ↦ [] ])) e ∙ sym (no_entry_cause x p e)
+    by true e = ap (λ (t : Bool). lowest_broken (elim t as (λ z. List ℕ) [ true ↦ other_kind x 10 (scn_page_of x p) | false ↦ [] ])) e ∙ at (is_kind x 10 (scn_page_of x p)) ∙ sym (entry_cause-is x p e)
+
+pub slot_alone : (image : Image) (p slot : ℕ) (bytes : Slot) → draft_cause (put_slot p slot bytes (drafted image)) ≡ entry_cause image p
+unfolding put_slot
+slot_alone image p slot bytes =
+    let payload : List ℕ = drop 16 (with_part (32 + 256 * slot) bytes (page_at image p)) in
+    ap (λ (ps : List ℕ). judged ps (put p 5 payload (drafted image)).full) (put_broken p 5 payload (drafted image) ∙ append-nil (entry_broken image p))
+    ∙ ap (judged (entry_broken image p)) (put_full p 5 payload (drafted image)) ∙ ap (λ (c : Cause). first_cause (c ∷ None ∷ [])) (entry_lowest image p) ∙ alone (entry_cause image p)
+  where
+    alone : (c : Cause) → first_cause (c ∷ None ∷ []) ≡ c
+    unfolding first_cause
+    alone None = refl
+    alone (Some r) = refl

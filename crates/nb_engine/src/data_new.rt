@@ -1,5 +1,5 @@
 // New data pages: the first of a chain, and one behind its last.
-ghost use Rattle.std.specs.Prelude.{◌≡◌, ◌+◌, ◌<◌, ◌≤◌, ℕ, List, true, IsTrue, IfOk, length};
+ghost use Rattle.std.specs.Prelude.{◌≡◌, ◌+◌, ◌<◌, ◌≤◌, ℕ, List, true, IsTrue, IfOk, OnOk, length};
 ghost use Rattle.nb_fields.specs.Payloads.{data_payload};
 ghost use Rattle.nb_change.specs.Counts.{CountsDevice};
 ghost use Rattle.nb_page.specs.Quiet.{Quiet};
@@ -59,6 +59,8 @@ impl Engine {
         ensures makes { (t : Trail) → IsTrue H.tells → IsOpen (H.world host.old) self.old t → IsOfSize (image_size t.base.image) t.base.image
             → Tries result (H.world host.old) (H.world host.new) self.old self.new t (unmade t.base.image (new_data owner slots.now t.base.image).0) (new_data owner slots.now t.base.image).0.strokes }
         ensures value { (t : Trail) → IsTrue H.tells → IsOpen (H.world host.old) self.old t → IsOfSize (image_size t.base.image) t.base.image → IfOk result (λ number. number ≡ (new_data owner slots.now t.base.image).1) }
+
+        ensures sizes { (t : Trail) → IsTrue H.tells → IsOpen (H.world host.old) self.old t → IsOfSize (image_size t.base.image) t.base.image → OnOk result (IsOfSize (image_size (new_data owner slots.now t.base.image).0.image) (new_data owner slots.now t.base.image).0.image) }
 
         // Whatever is in the database: it makes some strokes and is open behind them, so only its two files are touched.
         ensures some { (t : Trail) → IsTrue H.tells → IsOpen (H.world host.old) self.old t → MakesSome result (H.world host.old) (H.world host.new) self.old self.new t }

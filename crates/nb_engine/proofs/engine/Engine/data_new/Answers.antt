@@ -109,6 +109,16 @@ returns-clause-value g c t tells is sizes =
     let room = subst (λ (m : Draft × ℕ). draft_cause m.0 ≡ None) (sym same) none in
     subst (λ (m : Draft × ℕ). c.in_ok-number.number ≡ m.1) same (c.in_ok-number.ensures.value t tells still at low (tests.map t tells here) shaped room)
 
+pub returns-clause-sizes : goal.returns-clause-sizes
+returns-clause-sizes g c t tells is sizes =
+    let w = g.H.Host.world c.args.host.now in
+    let here = subst (λ (h : Held). IsOpen w h t) (sym c.self.view_is) is in
+    let image = t.base.image in
+    let long : 5 ≤ length image = omega (arith, here.files.agrees.count, c.count-count.ensures.value, c.if-count-lt-FIRST_TO_GIVE.false) in
+    let shaped = shaped_of w _ t here c.self.invariant.0 long sizes in
+    let short : IsShort (λ p. data_payload 0 (owner_by c.args.owner p) c.args.slots.now) = λ p. data_short (owner_by c.args.owner p) c.args.slots.now c.requires.short in
+    (c.in_ok-first.ensures.shaped t 5 (λ p. data_payload 0 (owner_by c.args.owner p) c.args.slots.now) tells here shaped short).sizes
+
 pub returns-then-count-lt-FIRST_TO_GIVE-clause-some : goal.returns-then-count-lt-FIRST_TO_GIVE-clause-some
 returns-then-count-lt-FIRST_TO_GIVE-clause-some g c t tells is =
     let w = g.H.Host.world c.args.host.now in
