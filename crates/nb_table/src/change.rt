@@ -103,7 +103,7 @@ pub fn update<H: Host>(
     key: u64,
     text: &[u8],
 ) -> Result<(), Fault>
-    ensures turn { (s : Seen) (t : Trail) → IsTrue H.tells → t.base ≡ s.base → IsOpen (H.world host.old) engine.old t → IsOfSize (image_size s.base.image) s.base.image
+    ensures turn { (s : Seen) (t : Trail) → IsTrue H.tells → t.base ≡ s.base → IsOpen (H.world host.old) engine.old t
         → Does done result (H.world host.old) (H.world host.new) engine.old engine.new t (update_turn s table.now key text.now) }
 
     // Whatever is in the database: only its two files are touched, and it is open behind that.
@@ -129,7 +129,7 @@ pub fn delete<H: Host>(
     table: &TableName,
     key: u64,
 ) -> Result<(), Fault>
-    ensures turn { (s : Seen) (t : Trail) → IsTrue H.tells → t.base ≡ s.base → IsOpen (H.world host.old) engine.old t → IsOfSize (image_size s.base.image) s.base.image
+    ensures turn { (s : Seen) (t : Trail) → IsTrue H.tells → t.base ≡ s.base → IsOpen (H.world host.old) engine.old t
         → Does done result (H.world host.old) (H.world host.new) engine.old engine.new t (delete_turn s table.now key) }
 
     // Whatever is in the database: only its two files are touched, and it is open behind that.

@@ -69,7 +69,7 @@ returns-in_err-update-in-Update-clause-turn g c now t session tells ready sound 
     let s = seen_now now in
     may_passed (some_by done) some_said _ _ _ _ t now session _ [] _ c.from_residual-in_err-update-in-Update.result c.from_residual-in_err-update-in-Update.ensures
     (does_acts done _ _ _ _ _ t now session c.args.statement.now _ c.in-Update.is refl refl refl _ (ap (λ text. update_turn s c.in-Update.table c.in-Update.key text) c.as_slice-in-Update.ensures) ready (λ value tells. absurd (true≢false (sym tells)))
-    (c.in_err-update-in-Update.ensures.turn s t tells ready.base ready.opened (subst (λ (b : Base). IsSoundImage b.image) ready.base (sound (subst GoesByInventories (sym c.in-Update.is) tt))).sizes))
+    (c.in_err-update-in-Update.ensures.turn s t tells ready.base ready.opened))
 
 pub returns-in_ok-update-in-Update-clause-turn : goal.returns-in_ok-update-in-Update-clause-turn
 unfolding first_turn
@@ -77,7 +77,7 @@ returns-in_ok-update-in-Update-clause-turn g c now t session tells ready sound =
     let s = seen_now now in
     may_value (some_by done) some_said _ _ _ _ t now session _ [] c.in_ok-update-in-Update.field-0 Done refl
     (does_acts done _ _ _ _ _ t now session c.args.statement.now _ c.in-Update.is refl refl refl _ (ap (λ text. update_turn s c.in-Update.table c.in-Update.key text) c.as_slice-in-Update.ensures) ready (λ value tells. absurd (true≢false (sym tells)))
-    (c.in_ok-update-in-Update.ensures.turn s t tells ready.base ready.opened (subst (λ (b : Base). IsSoundImage b.image) ready.base (sound (subst GoesByInventories (sym c.in-Update.is) tt))).sizes))
+    (c.in_ok-update-in-Update.ensures.turn s t tells ready.base ready.opened))
 
 pub returns-in_err-delete-in-Delete-clause-turn : goal.returns-in_err-delete-in-Delete-clause-turn
 unfolding first_turn
@@ -85,7 +85,7 @@ returns-in_err-delete-in-Delete-clause-turn g c now t session tells ready sound 
     let s = seen_now now in
     may_passed (some_by done) some_said _ _ _ _ t now session _ [] _ c.from_residual-in_err-delete-in-Delete.result c.from_residual-in_err-delete-in-Delete.ensures
     (does_acts done _ _ _ _ _ t now session c.args.statement.now _ c.in-Delete.is refl refl refl _ refl ready (λ value tells. absurd (true≢false (sym tells)))
-    (c.in_err-delete-in-Delete.ensures.turn s t tells ready.base ready.opened (subst (λ (b : Base). IsSoundImage b.image) ready.base (sound (subst GoesByInventories (sym c.in-Delete.is) tt))).sizes))
+    (c.in_err-delete-in-Delete.ensures.turn s t tells ready.base ready.opened))
 
 pub returns-in_ok-delete-in-Delete-clause-turn : goal.returns-in_ok-delete-in-Delete-clause-turn
 unfolding first_turn
@@ -93,7 +93,7 @@ returns-in_ok-delete-in-Delete-clause-turn g c now t session tells ready sound =
     let s = seen_now now in
     may_value (some_by done) some_said _ _ _ _ t now session _ [] c.in_ok-delete-in-Delete.field-0 Done refl
     (does_acts done _ _ _ _ _ t now session c.args.statement.now _ c.in-Delete.is refl refl refl _ refl ready (λ value tells. absurd (true≢false (sym tells)))
-    (c.in_ok-delete-in-Delete.ensures.turn s t tells ready.base ready.opened (subst (λ (b : Base). IsSoundImage b.image) ready.base (sound (subst GoesByInventories (sym c.in-Delete.is) tt))).sizes))
+    (c.in_ok-delete-in-Delete.ensures.turn s t tells ready.base ready.opened))
 
 pub returns-in_err-text-in-Get-clause-turn : goal.returns-in_err-text-in-Get-clause-turn
 unfolding first_turn
