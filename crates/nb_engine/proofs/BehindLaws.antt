@@ -211,6 +211,21 @@ module _ (old now next : Image) (p kind : ℕ) (b : Behind) (known : IsKnown old
                 let scn : is_scn_place (image_size old) p ≡ true = system_second (image_size old) p at ∙ system in
                 subst (λ (n : ℕ). is_kind now n p ≡ true) (sym (of_entries scn)) (kept_scn (old_scn ∙ scn))
 
+-- what the search leaves of the page itself
+pub gone_page : (place made fresh : ℕ) (b c : Behind) → c ≡ gone place made fresh b → c.page ≡ b.page
+gone_page place made fresh b c is = ap (λ (x : Behind). x.page) is ∙ by (made == place || fresh == place)
+  where
+    by : (t : Bool) → (elim t as (λ z. Behind) [ true ↦ passed place b | false ↦ b ]).page ≡ b.page
+    by true = refl
+    by false = refl
+
+pub gone_lost : (place made fresh : ℕ) (b c : Behind) → c ≡ gone place made fresh b → b.lost ≡ true → c.lost ≡ true
+gone_lost place made fresh b c is lost = ap (λ (x : Behind). x.lost) is ∙ by (made == place || fresh == place)
+  where
+    by : (t : Bool) → (elim t as (λ z. Behind) [ true ↦ passed place b | false ↦ b ]).lost ≡ true
+    by true = ap (λ (u : Bool). u || place == b.page) lost
+    by false = lost
+
 -- Before the search begins.
 pub entry_absent : (x : Image) (p : ℕ) → has_entry x p ≡ false → entry_broken x p ≡ []
 entry_absent x p none = ap (λ (t : Bool). elim t as (λ z. List ℕ) [ true ↦ other_kind x 10 (scn_page_of x p) | false ↦ [] ]) none

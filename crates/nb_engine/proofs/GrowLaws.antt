@@ -63,6 +63,9 @@ long_written n p kind payload d long = omega (arith, long, long_page d.image p (
 long_kept : (n : ℕ) → IsKept (λ d. n ≤ length d.image)
 long_kept n = record { writes = long_written n; reads = λ broken d long. long; fills = λ d long. long }
 
+pub new_longer : (kind : ℕ) (payload : ℕ → List ℕ) (image : Image) → length image ≤ length (new_of kind payload image).0.image
+new_longer kind payload image = new_keeps (λ d. length image ≤ length d.image) (long_kept (length image)) (length image + 4) kind payload (drafted image) (omega arith)
+
 -- A chain grows by a page with these slots.
 module _ (chain : Chain) (slots : List ℕ) where
   abbrev payload : ℕ → List ℕ

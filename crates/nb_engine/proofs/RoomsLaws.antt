@@ -1,6 +1,6 @@
 -- The tests before new pages, and what is written behind them.
 use Rattle.std.proofs.Common.{◌≡◌, ◌≢◌, inl, inr, ℕ, ◌+◌, ◌*◌, ◌<◌, ◌≤◌, List, [], ◌∷◌, ◌++◌, length, refl, sym, ap, subst, ◌∙◌, arith}
-use Rattle.std.specs.Prelude.{drop, Bool, true, false, not, ◌||◌, nat_lt, min, Some, None, Result, Ok, Err, IfOk, IsErr, IsErrAnd}
+use Rattle.std.specs.Prelude.{drop, Bool, true, false, not, ◌||◌, nat_lt, min, Some, None, Result, Ok, Err, IfOk, OnOk, IsErr, IsErrAnd}
 use Rattle.std.proofs.lemmas.Bool.{true≢false}
 use Rattle.std.proofs.lemmas.List.{append-nil}
 use Rattle.nb_fields.specs.Bytes.{bytes_of, with_part}
@@ -37,6 +37,10 @@ held (Err (Refused r)) P p = p
 held (Err Device) P p = tt
 held (Err Memory) P p = tt
 
+pub not_lost : (t : Bool) → (t ≡ true → ⊥) → not t ≡ true
+not_lost false no = refl
+not_lost true no = absurd (no refl)
+
 -- P holds where a call ended, and tells what it tested.
 pub tested_where : {T : Type 0} (result : Result T Fault) (P : Type 0) (cause : Cause) → WhereEnded result P → (P → Tested result cause) → Tested result cause
 tested_where (Ok value) P cause ended told = told ended
@@ -49,6 +53,11 @@ ended_alike (Ok value) result P alike p = held result P p
 ended_alike (Err (Refused r)) result P alike p = held result P p
 ended_alike {T = T} (Err Device) result P alike p = subst (λ (x : Result T Fault). WhereEnded x P) (sym alike) tt
 ended_alike {T = T} (Err Memory) result P alike p = subst (λ (x : Result T Fault). WhereEnded x P) (sym alike) tt
+
+-- where it is answered, it was found
+pub found_ok : {T : Type 0} (found result : Result T Fault) (P Q : Type 0) → IfOk result (λ value. found ≡ Ok value) → OnOk result P → OnOk found (P → Q) → OnOk result Q
+found_ok {T = T} found (Ok value) P Q same p q = (subst (λ (x : Result T Fault). OnOk x (P → Q)) same q) p
+found_ok found (Err fault) P Q same p q = tt
 
 -- what is answered is what was found
 pub value_found : {T : Type 0} (found result : Result T Fault) (Q : T → Type 0) → IfOk result (λ value. found ≡ Ok value) → IfOk found Q → IfOk result Q

@@ -1,6 +1,6 @@
 // A page that is written behind a search for new pages: the page of a slot, or the last of a chain. The search may make a system page where it
 // stands, or the SCN page with its entry, so whether it may be written is known once the search has ended.
-ghost use Rattle.std.specs.Prelude.{◌≡◌, ◌<◌, ◌++◌, ◌∷◌, ◌==◌, ◌||◌, ℕ, List, Bool, true, Some, None, IsTrue, IfOk, IfSome, Ok, length, nat_lt};
+ghost use Rattle.std.specs.Prelude.{◌≡◌, ◌<◌, ◌++◌, ◌∷◌, ◌==◌, ◌||◌, ℕ, List, Bool, true, false, Some, None, IsTrue, IfOk, OnOk, IfSome, Ok, length, nat_lt};
 ghost use Rattle.nb_change.specs.Counts.{CountsDevice};
 ghost use Rattle.nb_page.specs.Quiet.{Quiet};
 ghost use Rattle.nb_host.specs.declared.refusals.Refusal.TheVariants.{NotDatabase};
@@ -90,6 +90,7 @@ impl Behind {
     pub(crate) fn judge(&self, found: Result<u32, Fault>) -> Result<u32, Fault>
         ensures test { (pages : List ℕ) (full : Bool) → Tested found (judged pages full) → Tested result (judged (page_if self.now.lost self.now.page ++ (page_if (nat_lt 0 self.now.entry) self.now.entry ++ pages)) full) }
         ensures value { IfOk result (λ first. found ≡ Ok first) }
+        ensures kept { OnOk result (self.now.lost ≡ false) }
         ensures ended { EndsAlike found result }
         ensures cause { (old new : ℕ) → CountsDevice found old new → CountsDevice result old new }
     {
@@ -177,6 +178,7 @@ fn is_lost(lost: bool, page: u32, place: u32) -> bool
 fn with_page(found: Result<u32, Fault>, counts: bool, page: u32) -> Result<u32, Fault>
     ensures test { (pages : List ℕ) (full : Bool) → Tested found (judged pages full) → Tested result (judged (page_if counts page ++ pages) full) }
     ensures value { IfOk result (λ first. found ≡ Ok first) }
+    ensures none { OnOk result (counts ≡ false) }
     ensures ended { EndsAlike found result }
     ensures cause { (old new : ℕ) → CountsDevice found old new → CountsDevice result old new }
 {

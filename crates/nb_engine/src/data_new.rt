@@ -165,6 +165,8 @@ impl Engine {
             → Tested result (unmade_behind t.base.image (new_of 5 first t.base.image).0 behind) }
         ensures two { (t : Trail) (first second : ℕ → List ℕ) → IsTrue H.tells → IsOpen (H.world host.old) self.old t → IsOfSize (image_size t.base.image) t.base.image → IsShort first → IsShort second → is_kind t.base.image 5 behind ≡ true → pages ≡ 2
             → Tested result (unmade_behind t.base.image (second_data first second t.base.image).0 behind) }
+        ensures still { (t : Trail) (first : ℕ → List ℕ) → IsTrue H.tells → IsOpen (H.world host.old) self.old t → IsOfSize (image_size t.base.image) t.base.image → IsShort first → is_kind t.base.image 5 behind ≡ true → pages ≡ 2
+            → OnOk result (is_kind (new_of 5 first t.base.image).0.image 5 behind ≡ true) }
         ensures open { (t : Trail) → IsTrue H.tells → IsOpen (H.world host.old) self.old t → IsOpen (H.world host.new) self.new t }
         ensures same { but_pages self.new ≡ but_pages self.old }
         ensures quiet { Quiet (H.world host.old) (H.world host.new) }

@@ -1,5 +1,5 @@
 // The tests before new pages, on a database to which nothing was written yet. Nothing changes.
-ghost use Rattle.std.specs.Prelude.{◌≡◌, ◌+◌, ◌-◌, ◌*◌, ◌/◌, ◌<◌, ◌≤◌, ℕ, List, true, IsTrue, IfOk, OnOk, length};
+ghost use Rattle.std.specs.Prelude.{◌≡◌, ◌+◌, ◌-◌, ◌*◌, ◌/◌, ◌<◌, ◌≤◌, ℕ, List, true, false, IsTrue, IfOk, OnOk, length};
 ghost use Rattle.nb_fields.specs.Places.{bits_in};
 ghost use Rattle.nb_change.specs.Counts.{CountsDevice};
 ghost use Rattle.nb_page.specs.Quiet.{Quiet};
@@ -73,6 +73,8 @@ fn find_rooms<H: Host>(
         → Judges result (new_of 5 first t.base.image).0 t.base.image behind.new }
     ensures two { (t : Trail) (first second : ℕ → List ℕ) → IsTrue H.tells → IsOpen (H.world host.old) store.old t → IsShaped t.base.image → IsShort first → IsShort second → IsKnown t.base.image t.base.image behind.old → pages ≡ 2
         → Judges result (second_data first second t.base.image).0 t.base.image behind.new }
+    ensures still { (t : Trail) (first : ℕ → List ℕ) → IsTrue H.tells → IsOpen (H.world host.old) store.old t → IsShaped t.base.image → IsShort first → IsKnown t.base.image t.base.image behind.old → pages ≡ 2
+        → OnOk result (behind.new.lost ≡ false → is_kind (new_of 5 first t.base.image).0.image 5 behind.old.page ≡ true) }
     ensures value { (t : Trail) → IsTrue H.tells → IsOpen (H.world host.old) store.old t → IfOk result (λ page. page ≡ lowest_free t.base.image) }
     ensures map { (t : Trail) → IsTrue H.tells → IsOpen (H.world host.old) store.old t → pages ≡ 1 → IfOk result (λ page. HoldsMap t.base.image page map.new) }
     ensures least { IfOk result (λ page. 5 ≤ page) }
@@ -121,6 +123,8 @@ pub(crate) fn check_rooms<H: Host>(
         → Tested result (behind_cause (new_of 5 first t.base.image).0 number) }
     ensures two { (t : Trail) (first second : ℕ → List ℕ) → IsTrue H.tells → IsOpen (H.world host.old) store.old t → IsShaped t.base.image → IsShort first → IsShort second → is_kind t.base.image 5 number ≡ true → pages ≡ 2
         → Tested result (behind_cause (second_data first second t.base.image).0 number) }
+    ensures still { (t : Trail) (first : ℕ → List ℕ) → IsTrue H.tells → IsOpen (H.world host.old) store.old t → IsShaped t.base.image → IsShort first → is_kind t.base.image 5 number ≡ true → pages ≡ 2
+        → OnOk result (is_kind (new_of 5 first t.base.image).0.image 5 number ≡ true) }
     ensures value { (t : Trail) → IsTrue H.tells → IsOpen (H.world host.old) store.old t → IfOk result (λ page. page ≡ lowest_free t.base.image) }
     ensures map { (t : Trail) → IsTrue H.tells → IsOpen (H.world host.old) store.old t → pages ≡ 1 → IfOk result (λ page. HoldsMap t.base.image page map.new) }
     ensures least { IfOk result (λ page. 5 ≤ page) }

@@ -342,6 +342,7 @@ fn go_on<H: Host>(
     ensures further { OnOk result (5 ≤ way.new.from) }
     ensures most { OnOk result (way.new.from ≤ 1048576) }
     ensures page { behind.new.page ≡ behind.old.page }
+    ensures lost { behind.old.lost ≡ true → behind.new.lost ≡ true }
     ensures map_room { length map.new ≡ length map.old }
     ensures scn_room { length scn_page.new ≡ length scn_page.old }
     ensures open { (t : Trail) → IsTrue H.tells → IsOpen (H.world host.old) store.old t → IsOpen (H.world host.new) store.new t }
@@ -393,6 +394,7 @@ pub(crate) fn find_room<H: Host>(
     ensures further { OnOk result (5 ≤ way.new.from) }
     ensures most { OnOk result (way.new.from ≤ 1048576) }
     ensures page { behind.new.page ≡ behind.old.page }
+    ensures lost { behind.old.lost ≡ true → behind.new.lost ≡ true }
     ensures map_room { length map.new ≡ length map.old }
     ensures scn_room { length scn_page.new ≡ length scn_page.old }
     ensures open { (t : Trail) → IsTrue H.tells → IsOpen (H.world host.old) store.old t → IsOpen (H.world host.new) store.new t }

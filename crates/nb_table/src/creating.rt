@@ -1,5 +1,5 @@
 // A table is made.
-ghost use Rattle.std.specs.Prelude.{◌≡◌, ◌<◌, true, IsTrue, IfOk, IfSome, length};
+ghost use Rattle.std.specs.Prelude.{◌≡◌, ◌<◌, ◌≤◌, true, IsTrue, IfOk, IfSome, length};
 ghost use Rattle.nb_change.specs.Changes.{NoNames};
 ghost use Rattle.nb_change.specs.Counts.{CountsDevice};
 ghost use Rattle.nb_page.specs.Quiet.{Quiet};
@@ -99,6 +99,7 @@ fn create_behind<H: Host>(
     table: &TableName,
     last: u32,
 ) -> Result<(), Fault>
+    requires name { length table.now ≤ 240 }
     requires low { 0 < last }
     requires high { last < 1048576 }
     ensures tries { (t : Trail) → IsTrue H.tells → IsOpen (H.world host.old) engine.old t → IsOfSize (image_size t.base.image) t.base.image → IsLastOf t.base.image last

@@ -4,7 +4,10 @@ use Rattle.std.proofs.lemmas.Bool.{true≢false}
 use Rattle.nb_fields.specs.Places.{is_page_size}
 use Rattle.nb_model.specs.Image.{image_size}
 use Rattle.nb_engine.specs.Make.{new_of}
-use Rattle.nb_engine.proofs.RoomsLaws.{ends_judged, second_judged, twice_judged}
+use Rattle.nb_engine.specs.declared.behind.Behind.{Behind}
+use Rattle.nb_engine.specs.Behind.{IsKnown}
+use Rattle.nb_model.specs.Forms.{is_kind}
+use Rattle.nb_engine.proofs.RoomsLaws.{not_lost, ends_judged, second_judged, twice_judged}
 use Rattle.nb_engine.proofs.WayLaws.{begins_at, place_begins, ends_passed}
 use Rattle.nb_engine.proofs.rooms.find_rooms.Goals as goal
 
@@ -65,6 +68,17 @@ returns-clause-two g c t first second tells is shaped short small known count_is
     let still = c.in_ok-first.ensures.open t tells is in
     second_judged (Ok c.in_ok-first.first) t.base.image _ _ _ _ _ _ _ _ _ first second short small known found
     (c.in_ok-find_room.ensures.ends t (new_of 5 first t.base.image).0.image tells still (found.way 5 first short))
+
+pub returns-then-not-second-clause-still : goal.returns-then-not-second-clause-still
+returns-then-not-second-clause-still g c t first tells is shaped short known count_is = absurd (true≢false (ap (nat_lt 1) (sym count_is) ∙ c.if-not-second.true))
+
+pub returns-clause-still : goal.returns-clause-still
+returns-clause-still g c t first tells is shaped short known count_is kept =
+    let way = begins_at t.base.image _ _ _ c.begin-way.ensures.from c.begin-way.ensures.made c.begin-way.ensures.fresh shaped in
+    let found = c.in_ok-first.ensures.ends t t.base.image tells is way in
+    let mid : Behind = c.find_room.new.behind in
+    let knows : IsKnown t.base.image (new_of 5 first t.base.image).0.image mid = found.known first short known in
+    ap (is_kind (new_of 5 first t.base.image).0.image 5) (sym c.in_ok-first.ensures.page) ∙ knows.kind ∙ not_lost mid.lost (λ lost. true≢false (sym (c.in_ok-find_room.ensures.lost lost) ∙ kept))
 
 pub returns-clause-value : goal.returns-clause-value
 returns-clause-value g c t tells is =

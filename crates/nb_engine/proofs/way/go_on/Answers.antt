@@ -14,6 +14,7 @@ use Rattle.nb_engine.specs.Way.{way_cause}
 use Rattle.nb_engine.specs.Behind.{gone}
 use Rattle.nb_engine.specs.Search.{AtKnown, Finds, Refuses, EndsBy}
 use Rattle.nb_engine.proofs.WayLaws.{end_cause, goes_on, goes_at, goes_found, goes_refused, goes_failed}
+use Rattle.nb_engine.proofs.BehindLaws.{gone_page, gone_lost}
 use Rattle.nb_engine.proofs.SearchReads.{maps_few}
 use Rattle.nb_engine.proofs.way.go_on.Goals as goal
 
@@ -26,6 +27,7 @@ loop-store-init g c = record {
   least = c.requires.least;
   below = c.requires.below;
   page = refl;
+  lost = λ lost. lost;
   map_room = refl;
   scn_room = refl;
   opened = λ t tells is. is;
@@ -100,7 +102,8 @@ loop-store-preserved g c =
       from = next.from;
       least = omega (arith, next.later, c.loop-store.invariant.from, c.loop-store.invariant.least);
       below = next.below;
-      page = search rules;
+      page = gone_page c.loop-store.place c.loop-store.way.made c.loop-store.way.fresh c.loop-store.behind c.pass.new.self c.pass.ensures ∙ c.loop-store.invariant.page;
+      lost = λ lost. gone_lost c.loop-store.place c.loop-store.way.made c.loop-store.way.fresh c.loop-store.behind c.pass.new.self c.pass.ensures (c.loop-store.invariant.lost lost);
       map_room = next.map_room ∙ c.loop-store.invariant.map_room;
       scn_room = next.scn_room ∙ c.loop-store.invariant.scn_room;
       opened = λ t tells is. next.open t tells (c.loop-store.invariant.opened t tells is);
@@ -143,3 +146,15 @@ returns-clause-none g c tells plain = elim (eqb_tells c.args.first c.loop-store.
   | inl w ↦ (c.loop-store.invariant.none w.1, omega (arith, w.1, c.loop-store.invariant.from, c.requires.from))
   | inr w ↦ absurd (true≢false (sym (c.loop-store.invariant.passed w.1) ∙ plain))
 ]
+
+pub returns-then-next-ge-MOST_PAGES-clause-page : goal.returns-then-next-ge-MOST_PAGES-clause-page
+returns-then-next-ge-MOST_PAGES-clause-page g c = gone_page c.loop-store.place c.loop-store.way.made c.loop-store.way.fresh c.loop-store.behind c.pass.new.self c.pass.ensures ∙ c.loop-store.invariant.page
+
+pub returns-then-next-ge-MOST_PAGES-clause-lost : goal.returns-then-next-ge-MOST_PAGES-clause-lost
+returns-then-next-ge-MOST_PAGES-clause-lost g c lost = gone_lost c.loop-store.place c.loop-store.way.made c.loop-store.way.fresh c.loop-store.behind c.pass.new.self c.pass.ensures (c.loop-store.invariant.lost lost)
+
+pub returns-in_err-place-clause-page : goal.returns-in_err-place-clause-page
+returns-in_err-place-clause-page g c = gone_page c.loop-store.place c.loop-store.way.made c.loop-store.way.fresh c.loop-store.behind c.pass.new.self c.pass.ensures ∙ c.loop-store.invariant.page
+
+pub returns-in_err-place-clause-lost : goal.returns-in_err-place-clause-lost
+returns-in_err-place-clause-lost g c lost = gone_lost c.loop-store.place c.loop-store.way.made c.loop-store.way.fresh c.loop-store.behind c.pass.new.self c.pass.ensures (c.loop-store.invariant.lost lost)

@@ -20,6 +20,7 @@ invariant-loop-store g l = record {
   least : 5 ≤ l.place;
   below : l.place < 1048576;
   page : l.behind.page ≡ l.fn.behind.page;
+  lost : l.fn.behind.lost ≡ true → l.behind.lost ≡ true;
   map_room : length l.map ≡ length l.fn.map;
   scn_room : length l.scn_page ≡ length l.fn.scn_page;
   opened : (t : Trail) → IsTrue g.H.Host.tells → IsOpen (g.H.Host.world l.fn.host) l.fn.store t → IsOpen (g.H.Host.world l.host) l.store t;

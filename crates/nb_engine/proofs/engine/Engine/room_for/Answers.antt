@@ -60,3 +60,12 @@ returns-clause-two g c t first second tells is sizes short small data count_is =
     let long : 5 ≤ length image = omega (arith, here.files.agrees.count, c.count-count.ensures.value, c.if-count-lt-FIRST_TO_GIVE.false) in
     let shaped = shaped_of w _ t here c.self.invariant.0 long sizes in
     behind_long image (second_data first second image).0 c.args.behind long ∙ c.in_ok-check_rooms.ensures.two t first second tells here shaped short small data count_is
+
+pub returns-clause-still : goal.returns-clause-still
+returns-clause-still g c t first tells is sizes short data count_is =
+    let w = g.H.Host.world c.args.host.now in
+    let here = subst (λ (h : Held). IsOpen w h t) (sym c.self.view_is) is in
+    let image = t.base.image in
+    let long : 5 ≤ length image = omega (arith, here.files.agrees.count, c.count-count.ensures.value, c.if-count-lt-FIRST_TO_GIVE.false) in
+    let shaped = shaped_of w _ t here c.self.invariant.0 long sizes in
+    c.in_ok-check_rooms.ensures.still t first tells here shaped short data count_is
