@@ -65,9 +65,3 @@ EndsAlike (Ok value) result = Unit
 EndsAlike (Err (Refused refusal)) result = Unit
 EndsAlike (Err Device) result = result ≡ Err Device
 EndsAlike (Err Memory) result = result ≡ Err Memory
-
--- no page is written
-pub record IsNone (b : Behind) : Type 0 where
-  pub page : b.page ≡ 0
-  pub entry : b.entry ≡ 0
-  pub lost : b.lost ≡ false

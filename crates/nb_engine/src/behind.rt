@@ -9,7 +9,7 @@ ghost use Rattle.nb_model.specs.Forms.{is_kind, scn_page_of};
 ghost use Rattle.nb_model.specs.Trail.{Trail};
 ghost use Rattle.nb_state.specs.Open.{IsOpen, but_pages};
 ghost use Rattle.nb_state.specs.Does.{Tested};
-ghost use Rattle.nb_engine.specs.Behind.{judged, entry_broken, page_in, page_if, IsKnown, IsNone, EndsAlike, entry_left, gone};
+ghost use Rattle.nb_engine.specs.Behind.{judged, entry_broken, page_in, page_if, IsKnown, EndsAlike, entry_left, gone};
 
 use crate::pages::{InventoryPage, ScnPage};
 use crate::way::{Way, is_there};
@@ -30,7 +30,7 @@ pub(crate) struct Behind {
 impl Behind {
     /// No page is written behind the search.
     pub(crate) fn none() -> Behind
-        ensures { IsNone result }
+        ensures { result.page ≡ 0 }
     {
         Behind {
             page: 0,

@@ -18,27 +18,27 @@ use Rattle.nb_engine.proofs.RoomsLaws.{grown_judged}
 use Rattle.nb_engine.proofs.room.grow.Goals as goal
 
 pub returns-in_err-first-clause-makes : goal.returns-in_err-first-clause-makes
-returns-in_err-first-clause-makes g c t pages tells is shaped last data =
+returns-in_err-first-clause-makes g c t pages tells is shaped last is_data =
     let image = t.base.image in
     let tests = c.in_err-first.ensures in
     tries_early ℕ ℕ _ _ _ _ _ _ t (behind_cause (new_behind History [] image).0 c.args.last) (grow_cause image pages) _ c.from_residual.ensures
-    (λ r e. grow_refused image pages r (grown_judged History pages [] (drafted image) ∙ ap (behind_cause (new_behind History [] image).0) (sym last) ∙ e)) (tests.one t (told no_rows) tells is shaped (λ p. no_rows_short) data refl) tests.same tests.quiet is (tests.open t tells is)
+    (λ r e. grow_refused image pages r (grown_judged History pages [] (drafted image) ∙ ap (behind_cause (new_behind History [] image).0) (sym last) ∙ e)) (tests.one t (told no_rows) tells is shaped (λ p. no_rows_short) is_data refl) tests.same tests.quiet is (tests.open t tells is)
 
 pub returns-in_err-check_scn-clause-makes : goal.returns-in_err-check_scn-clause-makes
-returns-in_err-check_scn-clause-makes g c t pages tells is shaped last data =
+returns-in_err-check_scn-clause-makes g c t pages tells is shaped last is_data =
     let image = t.base.image in
     let tests = c.in_ok-first.ensures in
-    let none = tests.one t (told no_rows) tells is shaped (λ p. no_rows_short) data refl in
+    let none = tests.one t (told no_rows) tells is shaped (λ p. no_rows_short) is_data refl in
     let room = grown_judged History pages [] (drafted image) ∙ ap (behind_cause (new_behind History [] image).0) (sym last) ∙ none in
     tries_early (Unit {0}) ℕ _ _ _ _ _ _ t (no_scn image) (grow_cause image pages) _ c.from_residual-in_err-check_scn.ensures (grow_spent image pages room)
     (c.in_err-check_scn.ensures.test image (c.scn-scn.ensures ∙ is.agrees.scn)) tests.same tests.quiet is (tests.open t tells is)
 
 pub returns-in_err-number-clause-makes : goal.returns-in_err-number-clause-makes
-returns-in_err-number-clause-makes g c t pages tells is shaped last data =
+returns-in_err-number-clause-makes g c t pages tells is shaped last is_data =
     let image = t.base.image in
     let w = g.H.Host.world c.args.host.now in
     let tests = c.in_ok-first.ensures in
-    let none = tests.one t (told no_rows) tells is shaped (λ p. no_rows_short) data refl in
+    let none = tests.one t (told no_rows) tells is shaped (λ p. no_rows_short) is_data refl in
     let room = grown_judged History pages [] (drafted image) ∙ ap (behind_cause (new_behind History [] image).0) (sym last) ∙ none in
     let spent = c.in_ok-check_scn.ensures.test image (c.scn-scn.ensures ∙ is.agrees.scn) in
     let still = tests.open t tells is in
@@ -51,11 +51,11 @@ returns-in_err-number-clause-makes g c t pages tells is shaped last data =
     (c.in_err-number.ensures.tries t History pages [] tells still (tests.value t tells is) (tests.map t tells is refl) shaped none rows_are last)))
 
 pub returns-clause-makes : goal.returns-clause-makes
-returns-clause-makes g c t pages tells is shaped last data =
+returns-clause-makes g c t pages tells is shaped last is_data =
     let image = t.base.image in
     let w = g.H.Host.world c.args.host.now in
     let tests = c.in_ok-first.ensures in
-    let none = tests.one t (told no_rows) tells is shaped (λ p. no_rows_short) data refl in
+    let none = tests.one t (told no_rows) tells is shaped (λ p. no_rows_short) is_data refl in
     let room = grown_judged History pages [] (drafted image) ∙ ap (behind_cause (new_behind History [] image).0) (sym last) ∙ none in
     let spent = c.in_ok-check_scn.ensures.test image (c.scn-scn.ensures ∙ is.agrees.scn) in
     let still = tests.open t tells is in
@@ -97,13 +97,13 @@ returns-clause-some g c t tells is least =
     record { made = some.made; makes = makes_after (Ok c.in_ok-number.number) w _ new _ _ _ t some.made tests.same tests.quiet is some.makes }
 
 pub returns-clause-value : goal.returns-clause-value
-returns-clause-value g c t pages tells is shaped data =
+returns-clause-value g c t pages tells is shaped is_data =
     let tests = c.in_ok-first.ensures in
-    let none = tests.one t (told no_rows) tells is shaped (λ p. no_rows_short) data refl in
+    let none = tests.one t (told no_rows) tells is shaped (λ p. no_rows_short) is_data refl in
     c.in_ok-number.ensures.value t History pages [] tells (tests.open t tells is) (tests.value t tells is) (tests.map t tells is refl) shaped none rows_are
 
 pub returns-clause-below : goal.returns-clause-below
-returns-clause-below g c t pages tells is shaped data =
+returns-clause-below g c t pages tells is shaped is_data =
     let tests = c.in_ok-first.ensures in
-    let none = tests.one t (told no_rows) tells is shaped (λ p. no_rows_short) data refl in
+    let none = tests.one t (told no_rows) tells is shaped (λ p. no_rows_short) is_data refl in
     c.in_ok-number.ensures.below t History pages [] tells (tests.open t tells is) (tests.value t tells is) (tests.map t tells is refl) shaped none rows_are

@@ -63,9 +63,9 @@ returns-in_err-data_grow-clause-tries g c t tells is sizes last =
     let u = after_strokes t (first_made image).0.strokes in
     let opened = tries_opened n mid then c.room_for.new.self c.data_new.new.self t (unmade image (first_made image).0) (first_made image).0.strokes one in
     let larger = sizes_then t table (c.in_ok-first.ensures.sizes t tells still sizes) in
-    let data = data_then t table c.args.last (room.still t first tells is sizes first_short last.kind refl) in
+    let is_data = data_then t table c.args.last (room.still t first tells is sizes first_short last.kind refl) in
     let fault = c.in_err-data_grow.field-0.0 in
-    let grows = c.in_err-data_grow.ensures.makes u Catalogue (found_pages Catalogue image) tells opened larger refl last.is data in
+    let grows = c.in_err-data_grow.ensures.makes u Catalogue (found_pages Catalogue image) tells opened larger refl last.is is_data in
     let two = subst (λ (bs : List ℕ). Tries {T = ℕ} (Err fault) then new c.data_new.new.self c.data_grow.new.self u (unmade u.base.image (grown Catalogue (found_pages Catalogue image) bs (drafted u.base.image)).0) (grown Catalogue (found_pages Catalogue image) bs (drafted u.base.image)).0.strokes) c.table_bytes.ensures grows in
     tries_passed c.from_residual-in_err-data_grow.result fault (λ r. Tries r w new c.args.engine.now c.data_grow.new.self t (unmade image made) made.strokes) c.from_residual-in_err-data_grow.ensures
     (tries_after {T = Unit {0}} (Err fault) w mid new c.args.engine.now c.room_for.new.self c.data_grow.new.self t (unmade image made) made.strokes room.same room.quiet is
@@ -91,9 +91,9 @@ returns-clause-tries g c t tells is sizes last =
     let u = after_strokes t (first_made image).0.strokes in
     let opened = tries_opened n mid then c.room_for.new.self c.data_new.new.self t (unmade image (first_made image).0) (first_made image).0.strokes one in
     let larger = sizes_then t table (c.in_ok-first.ensures.sizes t tells still sizes) in
-    let data = data_then t table c.args.last (room.still t first tells is sizes first_short last.kind refl) in
+    let is_data = data_then t table c.args.last (room.still t first tells is sizes first_short last.kind refl) in
     let m : ℕ = c.in_ok-data_grow.field-0 in
-    let grows = c.in_ok-data_grow.ensures.makes u Catalogue (found_pages Catalogue image) tells opened larger refl last.is data in
+    let grows = c.in_ok-data_grow.ensures.makes u Catalogue (found_pages Catalogue image) tells opened larger refl last.is is_data in
     let two = subst (λ (bs : List ℕ). Tries (Ok m) then new c.data_new.new.self c.data_grow.new.self u (unmade u.base.image (grown Catalogue (found_pages Catalogue image) bs (drafted u.base.image)).0) (grown Catalogue (found_pages Catalogue image) bs (drafted u.base.image)).0.strokes) c.table_bytes.ensures grows in
     tries_after {T = Unit {0}} (Ok tt) w mid new c.args.engine.now c.room_for.new.self c.data_grow.new.self t (unmade image made) made.strokes room.same room.quiet is
     (behind_done t table none n m mid then new c.room_for.new.self c.data_new.new.self c.data_grow.new.self one value two)

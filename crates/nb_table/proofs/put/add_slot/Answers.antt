@@ -47,11 +47,11 @@ returns-in_err-data_grow-in-None-clause-tries g c t chain tells is sizes owner f
     let after = c.data_grow.new.self in
     let into = place_slot chain pages bytes (drafted image) in
     let grows = (grown chain pages bytes (drafted image)).0 in
-    let data : is_kind image 5 c.args.last ≡ true = ap (is_kind image 5) last ∙ none_of (is_kind image 5 (last_of pages)) (NotDatabase (last_of pages)) (last_kind chain image formed) in
+    let is_data : is_kind image 5 c.args.last ≡ true = ap (is_kind image 5) last ∙ none_of (is_kind image 5 (last_of pages)) (NotDatabase (last_of pages)) (last_kind chain image formed) in
     let fault = c.in_err-data_grow-in-None.field-0.0 in
     tries_passed c.from_residual-in_err-data_grow-in-None.result fault (λ r. Tries r w new c.args.engine.now after t (place_cause chain t.base.image bytes) into.strokes) c.from_residual-in_err-data_grow-in-None.ensures
     (behind_tries image chain formed bytes none {T = Unit {0}} (Err fault) w new c.args.engine.now after t
-    (tries_other ℕ (Unit {0}) fault w new c.args.engine.now after t (unmade image grows) grows.strokes (c.in_err-data_grow-in-None.ensures.makes t chain pages tells is sizes owner last data)))
+    (tries_other ℕ (Unit {0}) fault w new c.args.engine.now after t (unmade image grows) grows.strokes (c.in_err-data_grow-in-None.ensures.makes t chain pages tells is sizes owner last is_data)))
 
 pub returns-in_ok-data_grow-in-None-clause-tries : goal.returns-in_ok-data_grow-in-None-clause-tries
 returns-in_ok-data_grow-in-None-clause-tries g c t chain tells is sizes owner formed room last =
@@ -63,9 +63,9 @@ returns-in_ok-data_grow-in-None-clause-tries g c t chain tells is sizes owner fo
     let new = g.H.Host.world c.data_grow.new.host in
     let after = c.data_grow.new.self in
     let grows = (grown chain pages bytes (drafted image)).0 in
-    let data : is_kind image 5 c.args.last ≡ true = ap (is_kind image 5) last ∙ none_of (is_kind image 5 (last_of pages)) (NotDatabase (last_of pages)) (last_kind chain image formed) in
+    let is_data : is_kind image 5 c.args.last ≡ true = ap (is_kind image 5) last ∙ none_of (is_kind image 5 (last_of pages)) (NotDatabase (last_of pages)) (last_kind chain image formed) in
     behind_tries image chain formed bytes none {T = Unit {0}} (Ok tt) w new c.args.engine.now after t
-    (tries_valued {S = ℕ} {T = Unit {0}} _ tt w new c.args.engine.now after t (unmade image grows) grows.strokes (c.in_ok-data_grow-in-None.ensures.makes t chain pages tells is sizes owner last data))
+    (tries_valued {S = ℕ} {T = Unit {0}} _ tt w new c.args.engine.now after t (unmade image grows) grows.strokes (c.in_ok-data_grow-in-None.ensures.makes t chain pages tells is sizes owner last is_data))
 
 pub returns-in_err-put_slot-in-Some-clause-stays_open : goal.returns-in_err-put_slot-in-Some-clause-stays_open
 returns-in_err-put_slot-in-Some-clause-stays_open g c t tells is = stays_passed _ _ _ _ _ (Unit {0}) (Unit {0}) _ c.in_err-put_slot-in-Some.field-0.0 c.from_residual.ensures (c.in_err-put_slot-in-Some.ensures.stays_open t tells is)

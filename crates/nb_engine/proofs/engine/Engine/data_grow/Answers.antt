@@ -21,7 +21,7 @@ use Rattle.nb_engine.proofs.RoomsLaws.{unmade_short, grown_unmade}
 use Rattle.nb_engine.proofs.engine.Engine.data_grow.Goals as goal
 
 pub returns-then-count-lt-FIRST_TO_GIVE-clause-makes : goal.returns-then-count-lt-FIRST_TO_GIVE-clause-makes
-returns-then-count-lt-FIRST_TO_GIVE-clause-makes g c t chain pages tells is sizes owner last data =
+returns-then-count-lt-FIRST_TO_GIVE-clause-makes g c t chain pages tells is sizes owner last is_data =
     let w = g.H.Host.world c.args.host.now in
     let here = subst (λ (h : Held). IsOpen w h t) (sym c.self.view_is) is in
     let grows = (grown chain pages c.args.slots.now (drafted t.base.image)).0 in
@@ -30,7 +30,7 @@ returns-then-count-lt-FIRST_TO_GIVE-clause-makes g c t chain pages tells is size
     (unmade_short t.base.image grows (omega (arith, count, c.if-count-lt-FIRST_TO_GIVE.true)) ∙ ap (λ (n : ℕ). Some (NotDatabase n)) (sym count)) refl (quiet_begun w (g.met.H.Host.timely c.args.host.now)) is is
 
 pub returns-in_err-first-clause-makes : goal.returns-in_err-first-clause-makes
-returns-in_err-first-clause-makes g c t chain pages tells is sizes owner last data =
+returns-in_err-first-clause-makes g c t chain pages tells is sizes owner last is_data =
     let w = g.H.Host.world c.args.host.now in
     let here = subst (λ (h : Held). IsOpen w h t) (sym c.self.view_is) is in
     let image = t.base.image in
@@ -42,10 +42,10 @@ returns-in_err-first-clause-makes g c t chain pages tells is sizes owner last da
     let cause : unmade image grows ≡ behind_cause (new_behind chain slots image).0 c.args.last = grown_unmade image chain pages slots long ∙ ap (behind_cause (new_behind chain slots image).0) (sym last) in
     let tests = c.in_err-first.ensures in
     tries_early ℕ ℕ _ _ _ _ _ _ t (behind_cause (new_behind chain slots image).0 c.args.last) (unmade image grows) _ c.from_residual.ensures (λ r e. cause ∙ e)
-    (tests.one t (λ p. data_payload 0 (owner_of chain) slots) tells here shaped short data refl) (tests.same ∙ ap but_pages c.self.view_is) tests.quiet is (tests.open t tells here)
+    (tests.one t (λ p. data_payload 0 (owner_of chain) slots) tells here shaped short is_data refl) (tests.same ∙ ap but_pages c.self.view_is) tests.quiet is (tests.open t tells here)
 
 pub returns-in_err-number-clause-makes : goal.returns-in_err-number-clause-makes
-returns-in_err-number-clause-makes g c t chain pages tells is sizes owner last data =
+returns-in_err-number-clause-makes g c t chain pages tells is sizes owner last is_data =
     let w = g.H.Host.world c.args.host.now in
     let here = subst (λ (h : Held). IsOpen w h t) (sym c.self.view_is) is in
     let image = t.base.image in
@@ -56,7 +56,7 @@ returns-in_err-number-clause-makes g c t chain pages tells is sizes owner last d
     let short : IsShort (λ p. data_payload 0 (owner_of chain) slots) = λ p. data_short (owner_of chain) slots c.requires.short in
     let cause : unmade image grows ≡ behind_cause (new_behind chain slots image).0 c.args.last = grown_unmade image chain pages slots long ∙ ap (behind_cause (new_behind chain slots image).0) (sym last) in
     let tests = c.in_ok-first.ensures in
-    let none = tests.one t (λ p. data_payload 0 (owner_of chain) slots) tells here shaped short data refl in
+    let none = tests.one t (λ p. data_payload 0 (owner_of chain) slots) tells here shaped short is_data refl in
     let still = tests.open t tells here in
     let bytes = c.fill_payload.ensures ∙ ap (λ (n : ℕ). data_payload 0 n slots) owner in
     let fault = c.in_err-number.field-0.0 in
@@ -67,7 +67,7 @@ returns-in_err-number-clause-makes g c t chain pages tells is sizes owner last d
     (c.in_err-number.ensures.tries t chain pages slots tells still (tests.value t tells here) (tests.map t tells here refl) shaped none bytes last)))
 
 pub returns-clause-makes : goal.returns-clause-makes
-returns-clause-makes g c t chain pages tells is sizes owner last data =
+returns-clause-makes g c t chain pages tells is sizes owner last is_data =
     let w = g.H.Host.world c.args.host.now in
     let here = subst (λ (h : Held). IsOpen w h t) (sym c.self.view_is) is in
     let image = t.base.image in
@@ -78,7 +78,7 @@ returns-clause-makes g c t chain pages tells is sizes owner last data =
     let short : IsShort (λ p. data_payload 0 (owner_of chain) slots) = λ p. data_short (owner_of chain) slots c.requires.short in
     let cause : unmade image grows ≡ behind_cause (new_behind chain slots image).0 c.args.last = grown_unmade image chain pages slots long ∙ ap (behind_cause (new_behind chain slots image).0) (sym last) in
     let tests = c.in_ok-first.ensures in
-    let none = tests.one t (λ p. data_payload 0 (owner_of chain) slots) tells here shaped short data refl in
+    let none = tests.one t (λ p. data_payload 0 (owner_of chain) slots) tells here shaped short is_data refl in
     let still = tests.open t tells here in
     let bytes = c.fill_payload.ensures ∙ ap (λ (n : ℕ). data_payload 0 n slots) owner in
     let n : ℕ = c.in_ok-number.number in
@@ -88,7 +88,7 @@ returns-clause-makes g c t chain pages tells is sizes owner last data =
     (c.in_ok-number.ensures.tries t chain pages slots tells still (tests.value t tells here) (tests.map t tells here refl) shaped none bytes last))
 
 pub returns-clause-value : goal.returns-clause-value
-returns-clause-value g c t chain pages tells is sizes owner data =
+returns-clause-value g c t chain pages tells is sizes owner is_data =
     let w = g.H.Host.world c.args.host.now in
     let here = subst (λ (h : Held). IsOpen w h t) (sym c.self.view_is) is in
     let image = t.base.image in
@@ -98,7 +98,7 @@ returns-clause-value g c t chain pages tells is sizes owner data =
     let grows = (grown chain pages slots (drafted image)).0 in
     let short : IsShort (λ p. data_payload 0 (owner_of chain) slots) = λ p. data_short (owner_of chain) slots c.requires.short in
     let tests = c.in_ok-first.ensures in
-    let none = tests.one t (λ p. data_payload 0 (owner_of chain) slots) tells here shaped short data refl in
+    let none = tests.one t (λ p. data_payload 0 (owner_of chain) slots) tells here shaped short is_data refl in
     let still = tests.open t tells here in
     let bytes = c.fill_payload.ensures ∙ ap (λ (n : ℕ). data_payload 0 n slots) owner in
     c.in_ok-number.ensures.value t chain pages slots tells still (tests.value t tells here) (tests.map t tells here refl) shaped none bytes

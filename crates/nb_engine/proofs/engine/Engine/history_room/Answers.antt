@@ -83,7 +83,7 @@ returns-in_err-number-in-None-clause-makes g c t tells is sizes =
     let pages : List ℕ = found_pages History image in
     let last_is = walked.last t tells here in
     let data_page = last_data image linked in
-    let data : is_kind image 5 c.in_ok-walked.last ≡ true = ap (is_kind image 5) last_is ∙ kind_from image 5 (last_of pages) data_page.low data_page.kind in
+    let is_data : is_kind image 5 c.in_ok-walked.last ≡ true = ap (is_kind image 5) last_is ∙ kind_from image 5 (last_of pages) data_page.low data_page.kind in
     let shaped = shaped_of w _ t here c.self.invariant.0 (history_least image linked) sizes in
     let strokes : List Stroke = (grown History pages [] (drafted image)).0.strokes in
     let fault = c.in_err-number-in-None.field-0.0 in
@@ -91,7 +91,7 @@ returns-in_err-number-in-None-clause-makes g c t tells is sizes =
     tries_passed c.from_residual-in_err-number-in-None.result fault (λ r. Tries r w new c.args.self.now c.grow.new.store t (room_cause image) (room_in image).draft.strokes) c.from_residual-in_err-number-in-None.ensures
     (tries_named {T = Room} (Err fault) w new c.args.self.now c.grow.new.store t (grow_cause image pages) (room_cause image) strokes (room_in image).draft.strokes (grown_cause image none linked) (sym (grown_draft image none))
     (tries_other ℕ Room fault w new c.args.self.now c.grow.new.store t (grow_cause image pages) strokes
-    (tries_after {T = ℕ} (Err fault) w _ new _ _ _ t _ _ same walked.quiet is (c.in_err-number-in-None.ensures.makes t pages tells still shaped last_is data))))
+    (tries_after {T = ℕ} (Err fault) w _ new _ _ _ t _ _ same walked.quiet is (c.in_err-number-in-None.ensures.makes t pages tells still shaped last_is is_data))))
 
 pub returns-in_ok-number-in-None-clause-makes : goal.returns-in_ok-number-in-None-clause-makes
 returns-in_ok-number-in-None-clause-makes g c t tells is sizes =
@@ -106,14 +106,14 @@ returns-in_ok-number-in-None-clause-makes g c t tells is sizes =
     let pages : List ℕ = found_pages History image in
     let last_is = walked.last t tells here in
     let data_page = last_data image linked in
-    let data : is_kind image 5 c.in_ok-walked.last ≡ true = ap (is_kind image 5) last_is ∙ kind_from image 5 (last_of pages) data_page.low data_page.kind in
+    let is_data : is_kind image 5 c.in_ok-walked.last ≡ true = ap (is_kind image 5) last_is ∙ kind_from image 5 (last_of pages) data_page.low data_page.kind in
     let shaped = shaped_of w _ t here c.self.invariant.0 (history_least image linked) sizes in
     let strokes : List Stroke = (grown History pages [] (drafted image)).0.strokes in
     let room : Room = record { page = c.in_ok-number-in-None.number; slot = 0 } in
     let new = g.H.Host.world c.grow.new.host in
     tries_named (Ok room) w new c.args.self.now c.grow.new.store t (grow_cause image pages) (room_cause image) strokes (room_in image).draft.strokes (grown_cause image none linked) (sym (grown_draft image none))
     (tries_valued c.in_ok-number-in-None.number room w new c.args.self.now c.grow.new.store t (grow_cause image pages) strokes
-    (tries_after (Ok c.in_ok-number-in-None.number) w _ new _ _ _ t _ _ same walked.quiet is (c.in_ok-number-in-None.ensures.makes t pages tells still shaped last_is data)))
+    (tries_after (Ok c.in_ok-number-in-None.number) w _ new _ _ _ t _ _ same walked.quiet is (c.in_ok-number-in-None.ensures.makes t pages tells still shaped last_is is_data)))
 
 pub returns-in_ok-check_room-in-Some-clause-room : goal.returns-in_ok-check_room-in-Some-clause-room
 returns-in_ok-check_room-in-Some-clause-room g c t tells is sizes =
@@ -143,10 +143,10 @@ returns-in_ok-number-in-None-clause-room g c t tells is sizes =
     let pages : List ℕ = found_pages History image in
     let last_is = walked.last t tells here in
     let data_page = last_data image linked in
-    let data : is_kind image 5 c.in_ok-walked.last ≡ true = ap (is_kind image 5) last_is ∙ kind_from image 5 (last_of pages) data_page.low data_page.kind in
+    let is_data : is_kind image 5 c.in_ok-walked.last ≡ true = ap (is_kind image 5) last_is ∙ kind_from image 5 (last_of pages) data_page.low data_page.kind in
     let shaped = shaped_of w _ t here c.self.invariant.0 (history_least image linked) sizes in
     let strokes : List Stroke = (grown History pages [] (drafted image)).0.strokes in
-    grown_room image none c.in_ok-number-in-None.number (c.in_ok-number-in-None.ensures.value t pages tells still shaped data)
+    grown_room image none c.in_ok-number-in-None.number (c.in_ok-number-in-None.ensures.value t pages tells still shaped is_data)
 
 pub returns-in_ok-check_room-in-Some-clause-below : goal.returns-in_ok-check_room-in-Some-clause-below
 returns-in_ok-check_room-in-Some-clause-below g c t tells is sizes =
@@ -176,10 +176,10 @@ returns-in_ok-number-in-None-clause-below g c t tells is sizes =
     let pages : List ℕ = found_pages History image in
     let last_is = walked.last t tells here in
     let data_page = last_data image linked in
-    let data : is_kind image 5 c.in_ok-walked.last ≡ true = ap (is_kind image 5) last_is ∙ kind_from image 5 (last_of pages) data_page.low data_page.kind in
+    let is_data : is_kind image 5 c.in_ok-walked.last ≡ true = ap (is_kind image 5) last_is ∙ kind_from image 5 (last_of pages) data_page.low data_page.kind in
     let shaped = shaped_of w _ t here c.self.invariant.0 (history_least image linked) sizes in
     let strokes : List Stroke = (grown History pages [] (drafted image)).0.strokes in
-    grown_low image none c.in_ok-number-in-None.number (c.in_ok-number-in-None.ensures.below t pages tells still shaped data)
+    grown_low image none c.in_ok-number-in-None.number (c.in_ok-number-in-None.ensures.below t pages tells still shaped is_data)
 
 pub returns-in_err-walked-clause-some : goal.returns-in_err-walked-clause-some
 returns-in_err-walked-clause-some g c t tells is =
