@@ -16,6 +16,7 @@ use Rattle.nb_model.specs.Causes.{Cause, when, first_cause, lowest_broken}
 use Rattle.nb_fields.proofs.PlaceLemmas.{bits-least}
 use Rattle.nb_model.proofs.DraftJoin.{joined_new}
 use Rattle.nb_model.proofs.NewSound.{plain_place, places_apart}
+use Rattle.nb_model.proofs.ReadLaws.{eq_yes}
 use Rattle.nb_model.proofs.FirstFree.{IsLowestFree, free_from_is, lowest_is}
 use Rattle.nb_model.proofs.PlaceOrder.{div_rises, map_place_is}
 use Rattle.nb_model.proofs.StepLaws.{IsShaped, IsReady, IsVisited, Visits, system_visits, plain_visits}
@@ -104,7 +105,7 @@ module _ (old start now : Image) (first from made fresh left : ℕ) (s : Searche
   stops_image q kind payload e = (s.rests kind payload).image ∙ ap (λ (x : Draft × ℕ). x.0.image) (try_stops now kind payload left q (none_now (Some q) e))
 
   pub full_image : (kind : ℕ) (payload : ℕ → List ℕ) → first_not old (needed_on old from made fresh p) ≡ None → p ≡ 1048576 → (new_page kind payload (drafted start)).0.image ≡ now
-  full_image kind payload e end = (s.rests kind payload).image ∙ ap (λ (x : Draft × ℕ). x.0.image) (try_full now kind payload left (none_now None e) (ap (λ (n : ℕ). n == 1048576) (lowest ∙ end)))
+  full_image kind payload e end = (s.rests kind payload).image ∙ ap (λ (x : Draft × ℕ). x.0.image) (try_full now kind payload left (none_now None e) (eq_yes (lowest_free now) 1048576 (lowest ∙ end)))
 
   size_is : IsTrue (is_page_size size)
   size_is = subst (λ (n : ℕ). IsTrue (is_page_size n)) way.size way.shaped.size
