@@ -22,6 +22,7 @@ pub mod NeedReads
 pub mod PassLaws
 pub mod WayLaws
 pub mod RoomsLaws
+pub mod NotedLaws
 pub mod RestLaws
 pub mod ReadyLaws
 pub mod NameLaws

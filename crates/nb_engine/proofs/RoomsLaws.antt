@@ -157,7 +157,7 @@ entry_raised_broken p d = by (nat_lt (scn_entry d.image p) (image_scn d.image))
     by true = refl
     by false = refl
 
-needs_broken : (kind p : ℕ) (d : Draft) → (needs kind p d).broken ≡ other_kind d.image kind p ++ d.broken
+pub needs_broken : (kind p : ℕ) (d : Draft) → (needs kind p d).broken ≡ other_kind d.image kind p ++ d.broken
 unfolding needs other_kind
 needs_broken kind p d = by (is_kind d.image kind p)
   where
