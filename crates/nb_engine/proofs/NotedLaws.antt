@@ -24,7 +24,7 @@ use Rattle.nb_engine.specs.Behind.{entry_broken, give_broken}
 use Rattle.nb_engine.proofs.RoomsLaws.{needs_broken}
 
 -- the page is one of these
-pub In : ℕ → List ℕ → Type 0
+abbrev pub In : ℕ → List ℕ → Type 0
 In r [] = ⊥
 In r (p ∷ ps) = (r ≡ p) ⊎ In r ps
 
@@ -263,7 +263,7 @@ module _ (x : Image) (p : ℕ) (inside : scn_page_of x p < length x) where
       notes_written x (raised p d) (entry_broken x p ++ ps) p kind payload r some (omega (arith, low, long)) (omega (arith, room, same)) met
 
 -- what was noted stays noted, and what is of its kind is so where the SCN page of another is written
-kept_raised : (p kind q : ℕ) (d : Draft) (x : Image) (ps : List ℕ) → Notes x d ps → Notes x (raised p d) (entry_broken x p ++ ps) → (is_kind d.image kind q ≡ true) ⊎ In q d.broken → (is_kind (raised p d).image kind q ≡ true) ⊎ In q (raised p d).broken
+pub kept_raised : (p kind q : ℕ) (d : Draft) (x : Image) (ps : List ℕ) → Notes x d ps → Notes x (raised p d) (entry_broken x p ++ ps) → (is_kind d.image kind q ≡ true) ⊎ In q d.broken → (is_kind (raised p d).image kind q ≡ true) ⊎ In q (raised p d).broken
 kept_raised p kind q d x ps h r met = elim met [
   | inl is ↦ elim (h.kinds kind q) [
     | inl same ↦ elim (r.kinds kind q) [ inl again ↦ inl (again ∙ sym same ∙ is) | inr i ↦ inr i ]

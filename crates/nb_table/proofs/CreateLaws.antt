@@ -48,7 +48,7 @@ pub first_short : IsShort first
 first_short p = data_short p [] (omega arith)
 
 -- nothing keeps pages from being made with a page behind them
-record IsClearBehind (image : Image) (d : Draft) (p : ℕ) : Type 0 where
+pub record IsClearBehind (image : Image) (d : Draft) (p : ℕ) : Type 0 where
   pub long : too_short image ≡ None
   pub free : IsFreeBehind d p
 

@@ -5,6 +5,7 @@ pub mod ChangeLaws
 pub mod DropLaws
 pub mod GiveLaws
 pub mod CleanLaws
+pub mod DropCauseLaws
 pub mod DropTurnLaws
 pub mod CreateLaws
 pub mod CreateTurnLaws

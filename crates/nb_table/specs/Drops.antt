@@ -6,7 +6,7 @@ use Rattle.nb_model.specs.Chains.{Catalogue, RowsFrom, Spot, first_in, found_pag
 use Rattle.nb_model.specs.Forms.{Draft, drafted}
 use Rattle.nb_model.specs.Image.{Image}
 use Rattle.nb_model.specs.Tables.{all_given}
-use Rattle.nb_engine.specs.Behind.{entry_broken, give_broken}
+use Rattle.nb_engine.specs.Behind.{give_broken}
 
 -- The slot is that of the table. The chains of the catalogue and of the table are of the form.
 pub record IsWholeTable (image : Image) (table : List ℕ) (spot : Spot) : Type 0 where
@@ -18,10 +18,10 @@ pub record IsWholeTable (image : Image) (table : List ℕ) (spot : Spot) : Type 
 abbrev pub dropped : Image → Spot → Draft
 dropped image spot = all_given (found_pages (RowsFrom (first_in spot.bytes)) image) (put_slot spot.page spot.slot free_slot (drafted image))
 
--- the pages that aren't of their kind of those that change where page p is written and these pages are given back
-abbrev pub drop_broken : Image → (pages : List ℕ) (p : ℕ) → List ℕ
-drop_broken image [] p = entry_broken image p
-drop_broken image (q ∷ qs) p = give_broken image q ++ drop_broken image qs p
+-- the pages that aren't of their kind of those that change where these pages are given back, behind others
+abbrev pub drop_broken : Image → (pages noted : List ℕ) → List ℕ
+drop_broken image [] noted = noted
+drop_broken image (q ∷ qs) noted = drop_broken image qs (give_broken image q ++ noted)
 
 -- all that giving back these pages changes is of its kind
 abbrev pub AreGiven : Image → List ℕ → Type 0

@@ -92,8 +92,8 @@ fn check_chain<H: Host>(
     page: &mut [u8],
 ) -> Result<(), Fault>
     requires room { length page.old ≡ engine.old.files.page_size }
-    ensures test { (t : Trail) (pages : List ℕ) (p : ℕ) → IsTrue H.tells → IsOpen (H.world host.old) engine.old t → pages_of (RowsFrom first) t.base.image ≡ Ok pages → need_cause before ≡ lowest_broken (entry_broken t.base.image p)
-        → Tested result (lowest_broken (drop_broken t.base.image pages p)) }
+    ensures test { (t : Trail) (pages noted : List ℕ) → IsTrue H.tells → IsOpen (H.world host.old) engine.old t → pages_of (RowsFrom first) t.base.image ≡ Ok pages → need_cause before ≡ lowest_broken noted
+        → Tested result (lowest_broken (drop_broken t.base.image pages noted)) }
     ensures open { (t : Trail) → IsTrue H.tells → IsOpen (H.world host.old) engine.old t → IsOpen (H.world host.new) engine.new t }
     ensures same { but_pages engine.new ≡ but_pages engine.old }
     ensures quiet { Quiet (H.world host.old) (H.world host.new) }
@@ -125,7 +125,7 @@ fn check_drop<H: Host>(
     requires room { length page.old ≡ engine.old.files.page_size }
     requires placed { IsPlaced engine.old.files.page_size rows.now.table.place }
     ensures test { (t : Trail) (pages : List ℕ) → IsTrue H.tells → IsOpen (H.world host.old) engine.old t → pages_of (RowsFrom rows.now.first) t.base.image ≡ Ok pages
-        → Tested result (lowest_broken (drop_broken t.base.image pages rows.now.table.place.page)) }
+        → Tested result (lowest_broken (drop_broken t.base.image pages (entry_broken t.base.image rows.now.table.place.page))) }
     ensures open { (t : Trail) → IsTrue H.tells → IsOpen (H.world host.old) engine.old t → IsOpen (H.world host.new) engine.new t }
     ensures same { but_pages engine.new ≡ but_pages engine.old }
     ensures quiet { Quiet (H.world host.old) (H.world host.new) }
