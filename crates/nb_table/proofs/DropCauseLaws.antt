@@ -1,21 +1,23 @@
 -- Why a table isn't dropped: the lowest of the pages that change and that aren't of their kind in the database as it stood.
 use Rattle.std.proofs.Common.{◌≡◌, inl, inr, ℕ, ◌+◌, ◌*◌, ◌/◌, ◌<◌, ◌≤◌, List, [], ◌∷◌, ◌++◌, length, drop, refl, sym, ap, subst, ◌∙◌, arith, length-drop}
-use Rattle.std.specs.Prelude.{true, false, Some, None}
+use Rattle.std.specs.Prelude.{Bool, true, false, Some, None}
 use Rattle.std.specs.List.{AllByRecursion}
 use Rattle.std.proofs.lemmas.List.{append-nil}
 use Rattle.nb_fields.specs.Bytes.{with_part}
 use Rattle.nb_fields.proofs.PartLemmas.{length-with_part}
 use Rattle.nb_fields.proofs.SizeLemmas.{SizeFacts, size_facts}
-use Rattle.nb_model.specs.Causes.{lowest_broken, not_of_form}
-use Rattle.nb_model.specs.Chains.{Slot, put_slot}
-use Rattle.nb_model.specs.Forms.{Draft, drafted, is_kind, scn_page_of, raised, give_page}
+use Rattle.nb_host.specs.declared.refusals.Refusal.TheVariants.{Full}
+use Rattle.nb_model.specs.Causes.{lowest_broken, not_of_form, no_room, when}
+use Rattle.nb_model.specs.Chains.{RowsFrom, Slot, Spot, first_in, found_pages, free_slot, put_slot}
+use Rattle.nb_model.specs.Forms.{Draft, drafted, is_kind, inventory_of, scn_page_of, raised, set_bit, give_page}
 use Rattle.nb_model.specs.Image.{Image, image_size, page_at}
 use Rattle.nb_model.specs.Tables.{all_given}
 use Rattle.nb_model.proofs.SoundLaws.{all_at, scn_place_before}
 use Rattle.nb_model.proofs.StepLaws.{IsShaped, kind_parts}
 use Rattle.nb_engine.specs.Behind.{entry_broken, give_broken}
+use Rattle.nb_engine.proofs.FullLaws.{needs_full, put_full}
 use Rattle.nb_engine.proofs.NotedLaws.{Notes, notes_none, notes_raised, notes_put, notes_given, kept_raised, lowest_same}
-use Rattle.nb_table.specs.Drops.{drop_broken}
+use Rattle.nb_table.specs.Drops.{dropped, drop_broken}
 
 -- pages that may be given back: below the length, and neither the header nor the first inventory page
 abbrev pub AreBelow : Image → List ℕ → Type 0
@@ -53,3 +55,19 @@ module _ (x : Image) (shaped : IsShaped x) where
 -- so it is refused for the lowest of them
 pub noted_lowest : (x : Image) (d : Draft) (noted : List ℕ) → Notes x d noted → not_of_form d ≡ lowest_broken noted
 noted_lowest x d noted h = lowest_same d.broken noted h.to h.back
+
+-- it asks for no page
+give_full : (p : ℕ) (d : Draft) → (give_page p d).full ≡ d.full
+unfolding set_bit
+give_full p d = put_full _ 2 _ _ ∙ needs_full 2 (inventory_of d.image p) d
+
+pub given_full : (pages : List ℕ) (d : Draft) → (all_given pages d).full ≡ d.full
+given_full [] d = refl
+given_full (p ∷ ps) d = given_full ps (give_page p d) ∙ give_full p d
+
+pub dropped_full : (image : Image) (spot : Spot) → no_room (dropped image spot) ≡ None
+unfolding put_slot
+dropped_full image spot =
+    ap (λ (t : Bool). when t (Full 1048576))
+    (given_full (found_pages (RowsFrom (first_in spot.bytes)) image) (put_slot spot.page spot.slot free_slot (drafted image))
+    ∙ put_full spot.page 5 (drop 16 (with_part (32 + 256 * spot.slot) free_slot (page_at image spot.page))) (drafted image))

@@ -45,28 +45,13 @@ module _ (s : Seen) (table : List ℕ) where
     formed = chain_formed image (read_only image) table None none spot found;
   }
 
-  pub drop_says : tests ≡ None → (spot : Spot) → HasHeader image → IsSoundImage image → IsWholeTable image table spot → drop_turn s table ≡ says s Done (dropped image spot).strokes
+  pub drop_says : tests ≡ None → (spot : Spot) → IsWholeTable image table spot → drop_turn s table ≡ unless s (not_of_form (dropped image spot)) (says s Done (dropped image spot).strokes)
   unfolding drop_turn
-  drop_says none spot h is has =
-      table_goes s (read_only image) table None drops none spot has.found
-      ∙ allowed s [] (dropped image spot) Done first_none clean.formed clean.room
+  drop_says none spot has =
+      table_goes s (read_only image) table None drops none spot has.found ∙ judged_by s [] (dropped image spot) Done first_none
+      ∙ ap (λ (c : Cause). unless s c (says s Done (dropped image spot).strokes)) (alone (not_of_form (dropped image spot)) (no_room (dropped image spot)) (dropped_full image spot))
     where
-      pages : List ℕ
-      pages = found_pages (RowsFrom (first_in spot.bytes)) image
-
-      freed : Draft
-      freed = put_slot spot.page spot.slot free_slot (drafted image)
-
-      kind : not_kind image 5 spot.page ≡ None
-      kind = table_kind image has.catalogue table spot has.found
-
-      well : IsWell image
-      well = from_well image (header_whole image h is)
-
-      slot : IsClean freed
-      slot = record { formed = slot_form s.base well spot.page spot.slot free_slot (slot_low s.base h is table spot has) kind; room = slot_room s.base well spot.page spot.slot free_slot (slot_low s.base h is table spot has) kind }
-
-      clean : IsClean (dropped image spot)
-      clean = subst IsClean (sym (join_given pages freed))
-          (clean_joined freed (all_given pages (drafted freed.image)) slot
-          (clean_given freed.image pages (written s.base h is table spot has).keeps.fits.whole (tables_then s.base h is table spot has)))
+      alone : (a b : Cause) → b ≡ None → first_cause (a ∷ b ∷ []) ≡ a
+      unfolding first_cause
+      alone None b e = ap (λ (c : Cause). first_cause (c ∷ [])) e
+      alone (Some r) b e = refl
