@@ -1,27 +1,20 @@
 -- The turn of a table that is dropped, by its causes.
-use Rattle.std.proofs.Common.{◌≡◌, ℕ, List, [], ◌∷◌, sym, subst, ◌∙◌}
+use Rattle.std.proofs.Common.{◌≡◌, ℕ, List, [], ◌∷◌, refl, ap, ◌∙◌}
 use Rattle.std.specs.Prelude.{Some, None}
 use Rattle.nb_host.specs.declared.refusals.Refusal.{Refusal}
 use Rattle.nb_model.specs.declared.reply.Reply.TheVariants.{Done, Refused}
-use Rattle.nb_model.specs.Causes.{Cause, broken_at, read_only, not_kind}
+use Rattle.nb_model.specs.Causes.{Cause, first_cause, broken_at, read_only, not_of_form, no_room}
 use Rattle.nb_model.specs.Chains.{Chain, Catalogue, RowsFrom, Spot, first_in, found_pages, free_slot, pages_of, put_slot, table_spot}
-use Rattle.nb_model.specs.Forms.{Draft, drafted}
+use Rattle.nb_model.specs.Forms.{drafted}
 use Rattle.nb_model.specs.Image.{Image}
-use Rattle.nb_model.specs.Outcomes.{Seen, Outcome, says, changes}
-use Rattle.nb_model.specs.Sound.{HasHeader, IsSoundImage}
+use Rattle.nb_model.specs.Outcomes.{Seen, Outcome, says, unless, changes}
 use Rattle.nb_model.specs.Tables.{all_given, drop_turn}
-use Rattle.nb_model.proofs.DropTurns.{join_given}
-use Rattle.nb_model.proofs.PutSound.{header_whole, no_first}
-use Rattle.nb_engine.specs.Make.{IsWell}
-use Rattle.nb_engine.proofs.CauseLaws.{first_none, allowed}
-use Rattle.nb_engine.proofs.MakeLaws.{from_well}
+use Rattle.nb_model.proofs.PutSound.{no_first}
+use Rattle.nb_engine.proofs.CauseLaws.{first_none, judged_by}
 use Rattle.nb_table.specs.Drops.{IsWholeTable, dropped}
 use Rattle.nb_table.specs.Rows.{chain_cause, rows_cause}
-use Rattle.nb_table.proofs.CleanLaws.{IsClean, clean_joined, clean_given}
-use Rattle.nb_table.proofs.DropLaws.{slot_low, written, tables_then}
+use Rattle.nb_table.proofs.DropCauseLaws.{dropped_full}
 use Rattle.nb_table.proofs.InTableLaws.{chain_formed, table_refused, table_goes}
-use Rattle.nb_table.proofs.PlaceLaws.{slot_form, slot_room}
-use Rattle.nb_table.proofs.SpotPages.{table_kind}
 
 module _ (s : Seen) (table : List ℕ) where
   abbrev image : Image
