@@ -42,11 +42,11 @@ one_kind x a b p other is = by (is_kind x b p) refl
     by true e = absurd (other (sym (kind_parts x a p is).1 ∙ (kind_parts x b p e).1))
 
 -- the SCN page of an entry, in an image of the same page size
-entry_by : (old x : Image) (p : ℕ) → image_size x ≡ image_size old → entry_broken x p ≡ elim (has_entry old p) as (λ z. List ℕ) [ true ↦ other_kind x 10 (scn_page_of old p) | false ↦ [] ]
+pub entry_by : (old x : Image) (p : ℕ) → image_size x ≡ image_size old → entry_broken x p ≡ elim (has_entry old p) as (λ z. List ℕ) [ true ↦ other_kind x 10 (scn_page_of old p) | false ↦ [] ]
 unfolding has_entry
 entry_by old x p same = ap (λ (s : ℕ). elim (elim (p == 0 || is_scn_place s p) as (λ z. Bool) [ true ↦ false | false ↦ true ]) as (λ z. List ℕ) [ true ↦ other_kind x 10 (scn_place s (p / entries_in s)) | false ↦ [] ]) same
 
-other_by : (x y : Image) (kind p : ℕ) → is_kind y kind p ≡ is_kind x kind p → other_kind y kind p ≡ other_kind x kind p
+pub other_by : (x y : Image) (kind p : ℕ) → is_kind y kind p ≡ is_kind x kind p → other_kind y kind p ≡ other_kind x kind p
 unfolding other_kind
 other_by x y kind p same = ap (λ (t : Bool). elim t as (λ z. List ℕ) [ true ↦ [] | false ↦ p ∷ [] ]) same
 

@@ -1,7 +1,7 @@
 -- Pages of an image that aren't of their kind, where pages are written one after the other: each draft notes the same ones, whatever was written
 -- before, since a page changes its kind only where it was noted.
 use Rattle.std.proofs.Common.{◌≡◌, ◌≢◌, ◌⊎◌, inl, inr, ℕ, zero, suc, ◌+◌, ◌*◌, ◌/◌, ◌%◌, ◌<◌, ◌≤◌, List, [], ◌∷◌, ◌++◌, length, drop, refl, sym, ap, subst, ◌∙◌, arith, append_assoc, length-drop}
-use Rattle.std.specs.Prelude.{Bool, true, false, ◌==◌, ◌&&◌, ◌||◌, nat_lt, min, max, IsTrue, Some, None}
+use Rattle.std.specs.Prelude.{Bool, true, false, not, ◌==◌, ◌&&◌, ◌||◌, nat_lt, min, max, IsTrue, Some, None}
 use Rattle.std.proofs.lemmas.Bool.{true≢false}
 use Rattle.std.proofs.lemmas.Bool.Decides.{eqb_tells, leb_tells}
 use Rattle.nb_fields.specs.Bytes.{bytes_of, with_part}
@@ -12,16 +12,21 @@ use Rattle.nb_fields.proofs.PartLemmas.{length-with_part}
 use Rattle.nb_fields.proofs.PlaceLemmas.{entries-least}
 use Rattle.nb_fields.proofs.SizeLemmas.{SizeFacts, size_facts}
 use Rattle.nb_host.specs.declared.refusals.Refusal.TheVariants.{NotDatabase}
-use Rattle.nb_model.specs.Causes.{lowest_of, lowest_broken}
+use Rattle.nb_model.specs.Causes.{not_kind, when, lowest_of, lowest_broken}
 use Rattle.nb_model.specs.Image.{Page, Image, page_at, image_size, image_scn}
 use Rattle.nb_model.specs.Forms.{Draft, drafted, is_kind, other_kind, needs, has_entry, inventory_of, scn_page_of, bit_number, entry_number, scn_entry, entry_written, entry_raised, raised, written, wrote, put, with_bit, set_bit, give_page}
 use Rattle.nb_model.proofs.BitLaws.{with_bit_length}
 use Rattle.nb_model.proofs.PutSound.{needs_image}
 use Rattle.nb_model.proofs.SoundLaws.{all_at, inventory_place_some, scn_place_some, scn_place_before}
-use Rattle.nb_model.proofs.StepLaws.{IsShaped, IsWritten, form_written, kind_parts, kind_from, written_size, written_shaped}
-use Rattle.nb_model.proofs.NewSound.{inventory_before}
+use Rattle.nb_model.proofs.NeedLaws.{HasScnPage}
+use Rattle.nb_model.proofs.StepLaws.{IsShaped, IsWritten, Puts, form_written, kind_parts, kind_from, written_size, written_shaped, inventory_has, needs_found, put_on}
 use Rattle.nb_engine.specs.Behind.{entry_broken, give_broken}
-use Rattle.nb_engine.proofs.RoomsLaws.{needs_broken}
+use Rattle.nb_engine.specs.Put.{entry_cause}
+use Rattle.nb_engine.specs.Mark.{mark_cause}
+use Rattle.nb_engine.proofs.BehindLaws.{entry_by, other_by}
+use Rattle.nb_engine.proofs.CauseLaws.{first_none, first_next}
+use Rattle.nb_engine.proofs.RoomLaws.{inventory_most}
+use Rattle.nb_engine.proofs.RoomsLaws.{needs_broken, both_empty, none_broken, no_entry_broken}
 
 -- the page is one of these
 abbrev pub In : ℕ → List ℕ → Type 0
@@ -273,12 +278,12 @@ kept_raised p kind q d x ps h r met = elim met [
 ]
 
 -- Page q is given back.
-module _ (x : Image) (shaped : IsShaped x) (q : ℕ) (some : 2 ≤ q) (below : q < length x) where
+module _ (x : Image) (shaped : IsShaped x) (q : ℕ) (some : 1 ≤ q) (below : q < length x) where
   abbrev i : ℕ
   i = inventory_of x q
 
   map_low : i < length x
-  map_low = let before = inventory_before (image_size x) q shaped.size some in omega (arith, before, below)
+  map_low = let most = inventory_most (image_size x) q some in omega (arith, most, below)
 
   map_some : 1 ≤ i
   map_some = inventory_place_some (image_size x) (q / bits_in (image_size x)) shaped.size
@@ -311,3 +316,67 @@ module _ (x : Image) (shaped : IsShaped x) (q : ℕ) (some : 2 ≤ q) (below : q
           let page : length (page_at d.image i) ≡ image_size d.image = all_at (λ page. length page ≡ image_size d.image) d.image h.shaped.sizes i (omega (arith, map_low, long)) in
           let bits = with_bit_length (bit_number d.image q) 1 (page_at d.image i) in
           omega (arith, facts.at_least, size, page, bits, length-drop 16 (with_bit (bit_number d.image q) 1 (page_at d.image i)))
+
+  -- Where all that it changes is of its kind, it isn't refused, and each page keeps its kind, a data page its bytes.
+  module _ (none : give_broken x q ≡ []) where
+    parts : (entry_broken x i ≡ []) × (other_kind x 2 i ≡ [])
+    parts = both_empty (entry_broken x i) (other_kind x 2 i) none
+
+    map : is_kind x 2 i ≡ true
+    map = none_broken x 2 i parts.1
+
+    pub given_cause : mark_cause x q ≡ None
+    given_cause =
+        first_next (not_kind x 2 i) (entry_cause x i ∷ []) (ap (λ (t : Bool). when (not t) (NotDatabase i)) map)
+        ∙ first_next (entry_cause x i) [] (no_entry_broken x i parts.0) ∙ first_none
+
+    after : Image
+    after = (give_page q (drafted x)).image
+
+    notes : Notes x (give_page q (drafted x)) (give_broken x q ++ [])
+    notes = notes_given (drafted x) [] (notes_none x shaped)
+
+    kind_kept : (kind r : ℕ) → is_kind (give_page q (drafted x)).image kind r ≡ is_kind x kind r
+    kind_kept kind r = elim (notes.kinds kind r) [ inl same ↦ same | inr found ↦ absurd (subst (λ (ps : List ℕ). In r (ps ++ [])) none (notes.to r found)) ]
+
+    entry_there : HasScnPage x i
+    entry_there has = none_broken x 10 (scn_page_of x i) (sym (ap (λ (t : Bool). elim t as (λ z. List ℕ) [ true ↦ other_kind x 10 (scn_page_of x i) | false ↦ [] ]) has) ∙ parts.0)
+
+    data_kept : (r : ℕ) → is_kind x 5 r ≡ true → page_at (give_page q (drafted x)).image r ≡ page_at x r
+    unfolding set_bit
+    data_kept r data_page =
+        let payload : List ℕ = drop 16 (with_bit (bit_number x q) 1 (page_at x i)) in
+        let facts : SizeFacts (image_size x) = size_facts (image_size x) shaped.size in
+        let page : length (page_at x i) ≡ image_size x = all_at (λ page. length page ≡ image_size x) x shaped.sizes i map_low in
+        let bits = with_bit_length (bit_number x q) 1 (page_at x i) in
+        let room : 16 + length payload ≤ image_size x = omega (arith, facts.at_least, page, bits, length-drop 16 (with_bit (bit_number x q) 1 (page_at x i))) in
+        let puts : Puts x i 2 payload (put i 2 payload (drafted x)) = put_on x i 2 payload shaped entry_there map_some (omega (arith, map_low)) room in
+        let other_map : r ≢ i = λ e. absurd (omega (arith, sym (kind_parts x 5 r data_page).1 ∙ ap (λ (n : ℕ). kind_of (page_at x n)) e ∙ (kind_parts x 2 i map).1)) in
+        ap (λ (d : Draft). page_at (put i 2 payload d).image r) (needs_found x 2 i map) ∙ puts.on.others r other_map (λ e. no_entry r data_page e)
+      where
+        no_entry : (r : ℕ) → is_kind x 5 r ≡ true → r ≡ scn_page_of x i → ⊥
+        no_entry r data_page e =
+            let ten : is_kind x 10 (scn_page_of x i) ≡ true = entry_there (inventory_has x (q / bits_in (image_size x)) shaped.size) in
+            absurd (omega (arith, sym (kind_parts x 5 r data_page).1 ∙ ap (λ (n : ℕ). kind_of (page_at x n)) e ∙ (kind_parts x 10 (scn_page_of x i) ten).1))
+
+-- one image in place of another: the same kinds, and the same data pages
+pub record IsGivenOn (x y : Image) : Type 0 where
+  pub shaped : IsShaped y
+  pub size : image_size y ≡ image_size x
+  pub long : length y ≡ length x
+  pub kinds : (kind r : ℕ) → is_kind y kind r ≡ is_kind x kind r
+  pub kept : (r : ℕ) → is_kind x 5 r ≡ true → page_at y r ≡ page_at x r
+
+pub given_on : (x : Image) (shaped : IsShaped x) (q : ℕ) (some : 1 ≤ q) (below : q < length x) → give_broken x q ≡ [] → IsGivenOn x (give_page q (drafted x)).image
+given_on x shaped q some below none =
+    let h : Notes x (give_page q (drafted x)) (give_broken x q ++ []) = notes x shaped q some below none in
+    record { shaped = h.shaped; size = h.size; long = h.long; kinds = kind_kept x shaped q some below none; kept = data_kept x shaped q some below none }
+
+-- what is of its kind there is of its kind here
+pub give_same : (x y : Image) (q : ℕ) → IsGivenOn x y → give_broken y q ≡ give_broken x q
+give_same x y q on =
+    let at : inventory_of y q ≡ inventory_of x q = ap (λ (n : ℕ). inventory_place n (q / bits_in n)) on.size in
+    let i : ℕ = inventory_of x q in
+    ap (λ (n : ℕ). entry_broken y n ++ other_kind y 2 n) at
+    ∙ ap (λ (ps : List ℕ). ps ++ other_kind y 2 i) (entry_by x y i on.size ∙ ap (λ (ps : List ℕ). elim (has_entry x i) as (λ z. List ℕ) [ true ↦ ps | false ↦ [] ]) (other_by x y 10 (scn_page_of x i) (on.kinds 10 (scn_page_of x i))))
+    ∙ ap (λ (ps : List ℕ). entry_broken x i ++ ps) (other_by x y 2 i (on.kinds 2 i))

@@ -211,14 +211,14 @@ judged_empty (p ∷ ps) full none = absurd (page_none none)
     page_none : Some (NotDatabase (lowest_of p ps)) ≡ None → ⊥
     page_none h = cc
 
-both_empty : (xs ys : List ℕ) → xs ++ ys ≡ [] → (xs ≡ []) × (ys ≡ [])
+pub both_empty : (xs ys : List ℕ) → xs ++ ys ≡ [] → (xs ≡ []) × (ys ≡ [])
 both_empty [] ys e = (refl, e)
 both_empty (x ∷ xs) ys e = absurd (some_none e)
   where
     some_none : x ∷ (xs ++ ys) ≡ [] → ⊥
     some_none h = cc
 
-none_broken : (x : Image) (kind p : ℕ) → other_kind x kind p ≡ [] → is_kind x kind p ≡ true
+pub none_broken : (x : Image) (kind p : ℕ) → other_kind x kind p ≡ [] → is_kind x kind p ≡ true
 unfolding other_kind
 none_broken x kind p none = by (is_kind x kind p) refl none
   where
@@ -229,7 +229,7 @@ none_broken x kind p none = by (is_kind x kind p) refl none
         some_none : p ∷ [] ≡ [] → ⊥
         some_none i = cc
 
-no_entry_broken : (x : Image) (p : ℕ) → entry_broken x p ≡ [] → entry_cause x p ≡ None
+pub no_entry_broken : (x : Image) (p : ℕ) → entry_broken x p ≡ [] → entry_cause x p ≡ None
 no_entry_broken x p none = by (has_entry x p) refl none
   where
     by : (t : Bool) → has_entry x p ≡ t → elim t as (λ z. List ℕ) [ true ↦ other_kind x 10 (scn_page_of x p) | false ↦ [] ] ≡ [] → entry_cause x p ≡ None

@@ -19,9 +19,9 @@ use Rattle.nb_engine.proofs.FullLaws.{needs_full, put_full}
 use Rattle.nb_engine.proofs.NotedLaws.{Notes, notes_none, notes_raised, notes_put, notes_given, kept_raised, lowest_same}
 use Rattle.nb_table.specs.Drops.{dropped, drop_broken}
 
--- pages that may be given back: below the length, and neither the header nor the first inventory page
+-- pages that may be given back: below the length, and not the header
 abbrev pub AreBelow : Image → List ℕ → Type 0
-AreBelow x = AllByRecursion (λ q. (2 ≤ q) × (q < length x))
+AreBelow x = AllByRecursion (λ q. (1 ≤ q) × (q < length x))
 
 module _ (x : Image) (shaped : IsShaped x) where
   -- a slot of a data page becomes another
