@@ -1,9 +1,8 @@
 -- A table that is dropped.
-use Rattle.std.specs.Prelude.{◌≡◌, ℕ, List, [], ◌∷◌, ◌++◌, Some, None}
-use Rattle.std.specs.List.{AllByRecursion}
+use Rattle.std.specs.Prelude.{◌≡◌, ℕ, ◌≤◌, List, [], ◌∷◌, ◌++◌, true, Some, None}
 use Rattle.nb_model.specs.Causes.{broken_at}
 use Rattle.nb_model.specs.Chains.{Catalogue, RowsFrom, Spot, first_in, found_pages, free_slot, pages_of, put_slot, table_spot}
-use Rattle.nb_model.specs.Forms.{Draft, drafted}
+use Rattle.nb_model.specs.Forms.{Draft, drafted, is_kind}
 use Rattle.nb_model.specs.Image.{Image}
 use Rattle.nb_model.specs.Tables.{all_given}
 use Rattle.nb_engine.specs.Behind.{give_broken}
@@ -23,6 +22,8 @@ abbrev pub drop_broken : Image → (pages noted : List ℕ) → List ℕ
 drop_broken image [] noted = noted
 drop_broken image (q ∷ qs) noted = drop_broken image qs (give_broken image q ++ noted)
 
--- all that giving back these pages changes is of its kind
-abbrev pub AreGiven : Image → List ℕ → Type 0
-AreGiven image = AllByRecursion (λ q. give_broken image q ≡ [])
+-- The page is a data page, and all that giving it back changes is of its kind.
+pub record IsGivable (x : Image) (q : ℕ) : Type 0 where
+  pub some : 1 ≤ q
+  pub kind : is_kind x 5 q ≡ true
+  pub given : give_broken x q ≡ []

@@ -1,5 +1,6 @@
 // A table is dropped.
 ghost use Rattle.std.specs.Prelude.{◌≡◌, ◌++◌, ℕ, List, IsTrue, IfOk, Ok, None, length};
+ghost use Rattle.std.specs.List.{AllByRecursion};
 ghost use Rattle.nb_fields.specs.Places.{is_page_size};
 ghost use Rattle.nb_change.specs.Changes.{NoNames};
 ghost use Rattle.nb_change.specs.Counts.{CountsDevice};
@@ -11,6 +12,7 @@ ghost use Rattle.nb_model.specs.Outcomes.{Seen};
 ghost use Rattle.nb_model.specs.Sound.{IsOfSize};
 ghost use Rattle.nb_model.specs.Tables.{all_given, drop_turn};
 ghost use Rattle.nb_model.specs.Trail.{Trail};
+ghost use Rattle.nb_model.proofs.StepLaws.{IsShaped};
 ghost use Rattle.nb_engine.specs.Behind.{entry_broken, give_broken};
 ghost use Rattle.nb_engine.specs.Data.{not_data};
 ghost use Rattle.nb_engine.specs.Find.{need_cause};
@@ -21,7 +23,7 @@ ghost use Rattle.nb_engine.specs.Tries.{Tries};
 ghost use Rattle.nb_page.specs.Quiet.{Quiet};
 ghost use Rattle.nb_state.specs.Open.{IsOpen, but_pages};
 ghost use Rattle.nb_state.specs.Does.{Tested, Does, Goes};
-ghost use Rattle.nb_table.specs.Drops.{IsWholeTable, AreGiven, dropped, drop_broken};
+ghost use Rattle.nb_table.specs.Drops.{IsWholeTable, IsGivable, dropped, drop_broken};
 ghost use Rattle.nb_table.specs.Walks.{spot_of, IsPlaced};
 
 use crate::LARGEST_PAGE;
@@ -167,7 +169,7 @@ fn give_all_back<H: Host>(
 ) -> Result<(), Fault>
     requires size { IsTrue (is_page_size (length page.old)) }
     requires room { length page.old ≡ engine.old.files.page_size }
-    ensures tries { (t : Trail) (pages : List ℕ) → IsTrue H.tells → IsOpen (H.world host.old) engine.old t → IsOfSize (image_size t.base.image) t.base.image → pages_of (RowsFrom first) t.base.image ≡ Ok pages → AreGiven t.base.image pages
+    ensures tries { (t : Trail) (pages : List ℕ) → IsTrue H.tells → IsOpen (H.world host.old) engine.old t → IsShaped t.base.image → pages_of (RowsFrom first) t.base.image ≡ Ok pages → AllByRecursion (IsGivable t.base.image) pages
         → Tries result (H.world host.old) (H.world host.new) engine.old engine.new t None (all_given pages (drafted t.base.image)).strokes }
     ensures stays_open { (t : Trail) → IsTrue H.tells → IsOpen (H.world host.old) engine.old t → StaysOpen result (H.world host.old) (H.world host.new) engine.old engine.new t NoNames }
     ensures goes { Goes engine.old engine.new }
