@@ -1,10 +1,11 @@
 -- A page that is written behind a search for new pages: what the search leaves of it.
 use Rattle.std.proofs.Common.{◌≡◌, ◌≢◌, ◌⊎◌, inl, inr, ℕ, ◌+◌, ◌/◌, ◌<◌, ◌≤◌, List, [], ◌∷◌, ◌++◌, length, refl, sym, ap, subst, ◌∙◌, arith}
-use Rattle.std.specs.Prelude.{Bool, true, false, not, ◌==◌, ◌||◌, nat_lt, min, IsTrue, Option, Some, None, IfSome, unwrap_or}
+use Rattle.std.specs.Prelude.{Bool, true, false, not, ◌==◌, ◌||◌, nat_lt, min, IsTrue, Option, Some, None, Result, Ok, Err, IfOk, IfSome, unwrap_or}
 use Rattle.std.proofs.lemmas.Bool.{true≢false}
 use Rattle.std.proofs.lemmas.Bool.Decides.{eqb_tells, leb_tells}
 use Rattle.nb_fields.specs.Places.{is_page_size, entries_in, scn_place, is_inventory_place, is_scn_place, is_system_place}
 use Rattle.nb_fields.specs.Page.{kind_of}
+use Rattle.nb_host.specs.declared.faults.Fault.{Fault}
 use Rattle.nb_host.specs.declared.refusals.Refusal.{Refusal}
 use Rattle.nb_host.specs.declared.refusals.Refusal.TheVariants.{NotDatabase, Full}
 use Rattle.nb_model.specs.Causes.{Cause, first_cause, lowest_of, lowest_broken}
@@ -17,6 +18,7 @@ use Rattle.nb_model.proofs.OnwardLaws.{kind_same}
 use Rattle.nb_model.proofs.StepLaws.{IsVisited, kind_parts, kind_from}
 use Rattle.nb_engine.specs.declared.behind.Behind.{Behind}
 use Rattle.nb_engine.specs.Behind.{judged, entry_broken, page_in, page_if, IsKnown, passed, gone}
+use Rattle.nb_engine.specs.Find.{need_cause}
 use Rattle.nb_engine.proofs.PlaceTests.{system_second}
 
 eq_yes : (a b : ℕ) → a ≡ b → (a == b) ≡ true
@@ -50,7 +52,7 @@ pub other_by : (x y : Image) (kind p : ℕ) → is_kind y kind p ≡ is_kind x k
 unfolding other_kind
 other_by x y kind p same = ap (λ (t : Bool). elim t as (λ z. List ℕ) [ true ↦ [] | false ↦ p ∷ [] ]) same
 
-other_none : (x : Image) (kind p : ℕ) → is_kind x kind p ≡ true → other_kind x kind p ≡ []
+pub other_none : (x : Image) (kind p : ℕ) → is_kind x kind p ≡ true → other_kind x kind p ≡ []
 unfolding other_kind
 other_none x kind p is = ap (λ (t : Bool). elim t as (λ z. List ℕ) [ true ↦ [] | false ↦ p ∷ [] ]) is
 
@@ -285,3 +287,21 @@ judged_other page r (q ∷ qs) full no some = absurd (no (lowest_of q qs) (sym (
   where
     same : Some (NotDatabase (lowest_of q qs)) ≡ Some r → NotDatabase (lowest_of q qs) ≡ r
     same e = cc
+
+-- a page that was found to lack is the lowest of its list
+page_cause : (o : Option ℕ) → lowest_broken (page_in o) ≡ need_cause o
+unfolding lowest_broken
+page_cause None = refl
+page_cause (Some p) = refl
+
+pub lacking_cause : (o : Option ℕ) (pages : List ℕ) → page_in o ≡ pages → need_cause o ≡ lowest_broken pages
+lacking_cause o pages is = sym (page_cause o) ∙ ap lowest_broken is
+
+pub lacking_causes : (result : Result (Option ℕ) Fault) (pages : List ℕ) → IfOk result (λ o. page_in o ≡ pages) → IfOk result (λ o. need_cause o ≡ lowest_broken pages)
+lacking_causes (Ok o) pages is = lacking_cause o pages is
+lacking_causes (Err fault) pages is = tt
+
+-- of two pages the lower
+pub lower_cause : (page other : ℕ) → lowest_broken (other ∷ page ∷ []) ≡ Some (NotDatabase (min other page))
+unfolding lowest_broken
+lower_cause page other = refl

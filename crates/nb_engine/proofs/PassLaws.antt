@@ -161,7 +161,7 @@ map_read (Err fault) x p place map there read = tt
 
 -- The places of system pages that were passed without their pages, behind page p.
 module _ (x : Image) (p : ℕ) (size : IsTrue (is_page_size (image_size x))) where
-  kind_map : is_inventory_place (image_size x) p ≡ true → system_kind x p ≡ 2
+  pub kind_map : is_inventory_place (image_size x) p ≡ true → system_kind x p ≡ 2
   kind_map e = ap (λ (t : Bool). elim t as (λ z. ℕ) [ true ↦ 2 | false ↦ 10 ]) e
 
   pub kind_entries : is_inventory_place (image_size x) p ≡ false → system_kind x p ≡ 10
