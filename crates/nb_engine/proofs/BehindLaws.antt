@@ -6,6 +6,7 @@ use Rattle.std.proofs.lemmas.Bool.Decides.{eqb_tells, leb_tells}
 use Rattle.nb_fields.specs.Places.{is_page_size, entries_in, scn_place, is_inventory_place, is_scn_place, is_system_place}
 use Rattle.nb_fields.specs.Page.{kind_of}
 use Rattle.nb_host.specs.declared.faults.Fault.{Fault}
+use Rattle.nb_host.specs.declared.faults.Fault.TheVariants.{Refused, Device, Memory}
 use Rattle.nb_host.specs.declared.refusals.Refusal.{Refusal}
 use Rattle.nb_host.specs.declared.refusals.Refusal.TheVariants.{NotDatabase, Full}
 use Rattle.nb_model.specs.Causes.{Cause, first_cause, lowest_of, lowest_broken}
@@ -17,7 +18,7 @@ use Rattle.nb_model.proofs.NewSound.{plain_place, places_apart}
 use Rattle.nb_model.proofs.OnwardLaws.{kind_same}
 use Rattle.nb_model.proofs.StepLaws.{IsVisited, kind_parts, kind_from}
 use Rattle.nb_engine.specs.declared.behind.Behind.{Behind}
-use Rattle.nb_engine.specs.Behind.{judged, entry_broken, page_in, page_if, IsKnown, passed, gone}
+use Rattle.nb_engine.specs.Behind.{judged, entry_broken, page_in, page_if, IsKnown, EndsAlike, passed, gone}
 use Rattle.nb_engine.specs.Find.{need_cause}
 use Rattle.nb_engine.proofs.PlaceTests.{system_second}
 
@@ -305,3 +306,18 @@ lacking_causes (Err fault) pages is = tt
 pub lower_cause : (page other : ℕ) → lowest_broken (other ∷ page ∷ []) ≡ Some (NotDatabase (min other page))
 unfolding lowest_broken
 lower_cause page other = refl
+
+pub page_alone : (page : ℕ) → lowest_broken (page ∷ []) ≡ Some (NotDatabase page)
+unfolding lowest_broken
+page_alone page = refl
+
+-- one judgement behind another
+pub value_chain : {T : Type 0} (found mid result : Result T Fault) → IfOk mid (λ value. found ≡ Ok value) → IfOk result (λ value. mid ≡ Ok value) → IfOk result (λ value. found ≡ Ok value)
+value_chain {T = T} found mid (Ok value) first second = subst (λ (x : Result T Fault). IfOk x (λ v. found ≡ Ok v)) second first
+value_chain found mid (Err fault) first second = tt
+
+pub alike_chain : {T : Type 0} (found mid result : Result T Fault) → EndsAlike found mid → EndsAlike mid result → EndsAlike found result
+alike_chain (Ok value) mid result first second = tt
+alike_chain (Err (Refused r)) mid result first second = tt
+alike_chain {T = T} (Err Device) mid result first second = subst (λ (x : Result T Fault). EndsAlike x result) first second
+alike_chain {T = T} (Err Memory) mid result first second = subst (λ (x : Result T Fault). EndsAlike x result) first second
