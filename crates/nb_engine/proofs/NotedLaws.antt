@@ -373,10 +373,13 @@ given_on x shaped q some below none =
     record { shaped = h.shaped; size = h.size; long = h.long; kinds = kind_kept x shaped q some below none; kept = data_kept x shaped q some below none }
 
 -- what is of its kind there is of its kind here
-pub give_same : (x y : Image) (q : ℕ) → IsGivenOn x y → give_broken y q ≡ give_broken x q
-give_same x y q on =
-    let at : inventory_of y q ≡ inventory_of x q = ap (λ (n : ℕ). inventory_place n (q / bits_in n)) on.size in
+pub give_by : (x y : Image) (q : ℕ) → image_size y ≡ image_size x → ((kind r : ℕ) → is_kind y kind r ≡ is_kind x kind r) → give_broken y q ≡ give_broken x q
+give_by x y q size kinds =
+    let at : inventory_of y q ≡ inventory_of x q = ap (λ (n : ℕ). inventory_place n (q / bits_in n)) size in
     let i : ℕ = inventory_of x q in
     ap (λ (n : ℕ). entry_broken y n ++ other_kind y 2 n) at
-    ∙ ap (λ (ps : List ℕ). ps ++ other_kind y 2 i) (entry_by x y i on.size ∙ ap (λ (ps : List ℕ). elim (has_entry x i) as (λ z. List ℕ) [ true ↦ ps | false ↦ [] ]) (other_by x y 10 (scn_page_of x i) (on.kinds 10 (scn_page_of x i))))
-    ∙ ap (λ (ps : List ℕ). entry_broken x i ++ ps) (other_by x y 2 i (on.kinds 2 i))
+    ∙ ap (λ (ps : List ℕ). ps ++ other_kind y 2 i) (entry_by x y i size ∙ ap (λ (ps : List ℕ). elim (has_entry x i) as (λ z. List ℕ) [ true ↦ ps | false ↦ [] ]) (other_by x y 10 (scn_page_of x i) (kinds 10 (scn_page_of x i))))
+    ∙ ap (λ (ps : List ℕ). entry_broken x i ++ ps) (other_by x y 2 i (kinds 2 i))
+
+pub give_same : (x y : Image) (q : ℕ) → IsGivenOn x y → give_broken y q ≡ give_broken x q
+give_same x y q on = give_by x y q on.size on.kinds

@@ -32,8 +32,8 @@ module _ (x : Image) (shaped : IsShaped x) where
     entry_low : scn_page_of x p < length x
     entry_low = let least = shaped.least in elim (scn_place_before (image_size x) p shaped.size) [ inl two ↦ omega (arith, two, least) | inr le ↦ omega (arith, le, low) ]
 
-    room : 16 + length (drop 16 (with_part (32 + 256 * slot) bytes (page_at x p))) ≤ image_size x
-    room =
+    pub slot_room : 16 + length (drop 16 (with_part (32 + 256 * slot) bytes (page_at x p))) ≤ image_size x
+    slot_room =
         let facts : SizeFacts (image_size x) = size_facts (image_size x) shaped.size in
         let page : length (page_at x p) ≡ image_size x = all_at (λ page. length page ≡ image_size x) x shaped.sizes p low in
         let long : length (with_part (32 + 256 * slot) bytes (page_at x p)) ≡ image_size x = length-with_part (32 + 256 * slot) bytes (page_at x p) (omega (arith, page, inside)) ∙ page in
@@ -44,7 +44,7 @@ module _ (x : Image) (shaped : IsShaped x) where
     slot_noted =
         let none : Notes x (drafted x) [] = notes_none x shaped in
         subst (Notes x (put_slot p slot bytes (drafted x))) (append-nil (entry_broken x p))
-        (notes_put x p entry_low (drafted x) [] 5 (drop 16 (with_part (32 + 256 * slot) bytes (page_at x p))) none some low room
+        (notes_put x p entry_low (drafted x) [] 5 (drop 16 (with_part (32 + 256 * slot) bytes (page_at x p))) none some low slot_room
         (kept_raised p 5 p (drafted x) x [] none (notes_raised x p entry_low (drafted x) [] none) (inl kind)))
 
   -- pages are given back one after the other

@@ -4,7 +4,6 @@ pub mod PlaceLaws
 pub mod ChangeLaws
 pub mod DropLaws
 pub mod GiveLaws
-pub mod CleanLaws
 pub mod DropCauseLaws
 pub mod DropTurnLaws
 pub mod CreateLaws
