@@ -81,7 +81,7 @@ judged_clear d none = by d.broken d.full refl refl none
         page_none h = cc
 
 -- one that two searches in a row are refused for
-lowest_append : (p : ℕ) (ps : List ℕ) (q : ℕ) (qs : List ℕ) → lowest_of p (ps ++ q ∷ qs) ≡ min (lowest_of p ps) (lowest_of q qs)
+pub lowest_append : (p : ℕ) (ps : List ℕ) (q : ℕ) (qs : List ℕ) → lowest_of p (ps ++ q ∷ qs) ≡ min (lowest_of p ps) (lowest_of q qs)
 lowest_append p [] q qs = lowest_min p q qs
 lowest_append p (r ∷ ps) q qs = lowest_append (min p r) ps q qs
 

@@ -92,7 +92,7 @@ pub record IsFirst (chain : Chain) (image : Image) (left number : ℕ) (rest : L
   pub ends : next_in (page_at image number) ≡ 0 → then ≡ []
   pub leads : next_in (page_at image number) ≢ 0 → walk left chain image (next_in (page_at image number)) ≡ Ok then
 
-walk_first : (chain : Chain) (image : Image) (left number : ℕ) (rest : List ℕ) → walk (suc left) chain image number ≡ Ok rest → IsFirst chain image left number rest
+pub walk_first : (chain : Chain) (image : Image) (left number : ℕ) (rest : List ℕ) → walk (suc left) chain image number ≡ Ok rest → IsFirst chain image left number rest
 walk_first chain image left number rest e = let w : Walks chain image left number rest = walk_cases left chain image number rest e in by rest w.in_it w.goes
   where
     by : (ps : List ℕ) → is_in_chain chain image number ≡ true → IsWalk chain image left number ps → IsFirst chain image left number ps

@@ -4,6 +4,7 @@ pub mod PlaceLaws
 pub mod ChangeLaws
 pub mod DropLaws
 pub mod GiveLaws
+pub mod CheckLaws
 pub mod DropCauseLaws
 pub mod DropTurnLaws
 pub mod CreateLaws

@@ -1,9 +1,10 @@
 // A table is dropped.
-ghost use Rattle.std.specs.Prelude.{◌≡◌, ◌≤◌, ◌++◌, ℕ, List, IsTrue, IfOk, Ok, None, length};
+ghost use Rattle.std.specs.Prelude.{◌≡◌, ◌≤◌, ◌++◌, ℕ, List, IsTrue, IfOk, Ok, Some, None, length};
 ghost use Rattle.std.specs.List.{AllByRecursion};
 ghost use Rattle.nb_fields.specs.Places.{is_page_size};
 ghost use Rattle.nb_change.specs.Changes.{NoNames};
 ghost use Rattle.nb_change.specs.Counts.{CountsDevice};
+ghost use Rattle.nb_host.specs.declared.refusals.Refusal.TheVariants.{NotDatabase};
 ghost use Rattle.nb_model.specs.Chains.{RowsFrom, first_in, next_in, pages_of};
 ghost use Rattle.nb_model.specs.Forms.{drafted, give_page};
 ghost use Rattle.nb_model.specs.Image.{image_size, page_at};
@@ -35,15 +36,22 @@ use nb_fields::layouts::data;
 use nb_host::{Fault, Host, Refusal};
 use nb_model::TableName;
 
+/// Of a page and another, if there is one, the lower.
+fn lower_of(page: u32, second: Option<u32>) -> u32
+    ensures { (pages more : List ℕ) → Some (NotDatabase page) ≡ lowest_broken pages → need_cause second ≡ lowest_broken more → Some (NotDatabase result) ≡ lowest_broken (more ++ pages) }
+{
+    match second {
+        Some(other) => page.min(other),
+        None => page,
+    }
+}
+
 /// Of two pages the lower, if there are any.
 fn lower(first: Option<u32>, second: Option<u32>) -> Option<u32>
     ensures { (pages more : List ℕ) → need_cause first ≡ lowest_broken pages → need_cause second ≡ lowest_broken more → need_cause result ≡ lowest_broken (more ++ pages) }
 {
     match first {
-        Some(page) => match second {
-            Some(other) => Some(page.min(other)),
-            None => Some(page),
-        },
+        Some(page) => Some(lower_of(page, second)),
         None => second,
     }
 }
@@ -53,10 +61,10 @@ fn check_none(lacking: Option<u32>) -> Result<(), Fault>
     ensures test { (pages : List ℕ) → need_cause lacking ≡ lowest_broken pages → Tested result (lowest_broken pages) }
     ensures cause { (faults : ℕ) → CountsDevice result faults faults }
 {
-    if let Some(page) = lacking {
-        return Err(Fault::Refused(Refusal::NotDatabase { page }));
+    match lacking {
+        Some(page) => Err(Fault::Refused(Refusal::NotDatabase { page })),
+        None => Ok(()),
     }
-    Ok(())
 }
 
 /// The lowest page that isn't of its kind, of `lacking`, if there is one, and of those that giving back page `number` changes, one of the chain
@@ -106,14 +114,14 @@ fn check_chain<H: Host>(
     let mut left = engine.count();
     while left > 0 {
         let (found, next) = look_further(host, engine, number, first, lacking, page)?;
-        lacking = found;
         if next == 0 {
-            return check_none(lacking);
+            return check_none(found);
         }
+        lacking = found;
         number = next;
         left -= 1;
     }
-    check_none(lacking)
+    Ok(())
 }
 
 /// Tests all that is written where a table is dropped: the SCN page of its slot's page, and of each page of its chain the inventory page and
