@@ -1,20 +1,19 @@
 -- A page that is written behind a search for new pages: what the search leaves of it.
-use Rattle.std.proofs.Common.{◌≡◌, ◌≢◌, ◌⊎◌, inl, inr, ℕ, ◌+◌, ◌/◌, ◌<◌, ◌≤◌, List, [], ◌∷◌, ◌++◌, length, refl, sym, ap, subst, ◌∙◌, arith}
+use Rattle.std.proofs.Common.{◌≡◌, ◌≢◌, ◌⊎◌, inl, inr, ℕ, ◌/◌, ◌<◌, ◌≤◌, List, [], ◌∷◌, length, refl, sym, ap, subst, ◌∙◌, arith}
 use Rattle.std.specs.Prelude.{Bool, true, false, not, ◌==◌, ◌||◌, nat_lt, min, IsTrue, Option, Some, None, Result, Ok, Err, IfOk, IfSome, unwrap_or}
 use Rattle.std.proofs.lemmas.Bool.{true≢false}
 use Rattle.std.proofs.lemmas.Bool.Decides.{eqb_tells, leb_tells}
 use Rattle.nb_fields.specs.Places.{is_page_size, entries_in, scn_place, is_inventory_place, is_scn_place, is_system_place}
-use Rattle.nb_fields.specs.Page.{kind_of}
 use Rattle.nb_host.specs.declared.faults.Fault.{Fault}
 use Rattle.nb_host.specs.declared.faults.Fault.TheVariants.{Refused, Device, Memory}
 use Rattle.nb_host.specs.declared.refusals.Refusal.{Refusal}
 use Rattle.nb_host.specs.declared.refusals.Refusal.TheVariants.{NotDatabase, Full}
-use Rattle.nb_model.specs.Causes.{Cause, first_cause, lowest_of, lowest_broken}
-use Rattle.nb_model.specs.Image.{Image, page_at, image_size}
-use Rattle.nb_model.specs.Forms.{Draft, is_kind, other_kind, has_entry, scn_page_of}
+use Rattle.nb_model.specs.Causes.{first_cause, lowest_of, lowest_broken}
+use Rattle.nb_model.specs.Image.{Image, image_size}
+use Rattle.nb_model.specs.Forms.{is_kind, other_kind, has_entry, scn_page_of}
 use Rattle.nb_model.specs.Way.{IsMadeBehind, same_made, made_here, IsFreshBehind, same_fresh, fresh_here}
 use Rattle.nb_model.proofs.SoundLaws.{scn_page_there, scn_place_some}
-use Rattle.nb_model.proofs.NewSound.{plain_place, places_apart}
+use Rattle.nb_model.proofs.NewSound.{plain_place}
 use Rattle.nb_model.proofs.OnwardLaws.{kind_same}
 use Rattle.nb_model.proofs.StepLaws.{IsVisited, kind_parts, kind_from}
 use Rattle.nb_engine.specs.declared.behind.Behind.{Behind}

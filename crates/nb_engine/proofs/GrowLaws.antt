@@ -1,17 +1,14 @@
 -- A chain grows by a page: the new page, and then the link to it.
-use Rattle.std.proofs.Common.{◌≡◌, ◌≢◌, ◌⊎◌, inl, inr, ℕ, zero, suc, ◌+◌, ◌<◌, ◌≤◌, List, [], ◌∷◌, ◌++◌, length, refl, sym, ap, subst, ◌∙◌, arith, length-append}
+use Rattle.std.proofs.Common.{◌≡◌, ℕ, ◌+◌, ◌<◌, ◌≤◌, List, [], ◌∷◌, ◌++◌, length, refl, sym, ap, subst, ◌∙◌, arith, length-append}
 use Rattle.std.specs.Prelude.{Bool, true, false, IsTrue, nat_lt, slice_set, Some, None, Result, Ok, Err, IfErr}
-use Rattle.std.proofs.lemmas.Bool.Decides.{eqb_tells}
 use Rattle.std.proofs.lemmas.List.{length-set}
 use Rattle.nb_fields.specs.Bytes.{bytes_of}
-use Rattle.nb_fields.specs.Places.{is_system_place}
 use Rattle.nb_fields.specs.Payloads.{data_payload}
 use Rattle.nb_host.specs.World.{World}
 use Rattle.nb_host.specs.declared.faults.Fault.{Fault}
 use Rattle.nb_host.specs.declared.refusals.Refusal.{Refusal}
-use Rattle.nb_host.specs.declared.refusals.Refusal.TheVariants.{Full}
-use Rattle.nb_fields.specs.Page.{stamped, kind_of}
-use Rattle.nb_model.specs.Image.{Page, Image, image_size, image_scn, with_page, page_at}
+use Rattle.nb_fields.specs.Page.{stamped}
+use Rattle.nb_model.specs.Image.{Page, Image, image_size, image_scn, with_page}
 use Rattle.nb_model.specs.Strokes.{Stroke, merged_page}
 use Rattle.nb_model.specs.Trail.{Trail}
 use Rattle.nb_fields.specs.Places.{is_page_size}
@@ -20,11 +17,11 @@ use Rattle.nb_model.proofs.StepLaws.{kind_parts}
 use Rattle.nb_engine.specs.Put.{entry_cause}
 use Rattle.nb_engine.proofs.ReadyLaws.{page_strokes_are}
 use Rattle.nb_engine.proofs.RoomsLaws.{IsFreeBehind}
-use Rattle.nb_model.specs.Forms.{Draft, is_kind, drafted, old_page, put, take_page, wrote, written, no_page, lowest_free, system_page, new_within, has_entry, scn_page_of}
-use Rattle.nb_model.specs.Causes.{Cause, first_cause, when, not_of_form, no_room, no_scn}
+use Rattle.nb_model.specs.Forms.{Draft, is_kind, drafted, old_page, put, wrote, written}
+use Rattle.nb_model.specs.Causes.{Cause, first_cause, not_of_form, no_room, no_scn}
 use Rattle.nb_model.specs.Chains.{Chain, History, owner_of, last_of, grown}
 use Rattle.nb_model.proofs.DraftLaws.{IsKept, IsOf, drafts_are, drafted_is, put_keeps, new_keeps}
-use Rattle.nb_model.proofs.DraftJoin.{join_put, join_set_bit}
+use Rattle.nb_model.proofs.DraftJoin.{join_put}
 use Rattle.nb_base.specs.Takes.{after_strokes, IsNoRefusal}
 use Rattle.nb_state.specs.Open.{Held}
 use Rattle.nb_state.specs.Does.{Makes, unless_by}

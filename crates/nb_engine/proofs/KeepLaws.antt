@@ -1,5 +1,5 @@
 -- Where a slot is kept for a row of the history, and why none is.
-use Rattle.std.proofs.Common.{◌≡◌, ℕ, ◌+◌, ◌<◌, List, [], ◌∷◌, ◌++◌, length, refl, sym, ap, subst, ◌∙◌, arith}
+use Rattle.std.proofs.Common.{◌≡◌, ℕ, ◌<◌, List, [], ◌∷◌, length, refl, sym, ap, subst, ◌∙◌, arith}
 use Rattle.std.specs.Prelude.{Bool, true, false, Option, Some, None, Ok, Err}
 use Rattle.std.proofs.lemmas.List.{append-nil}
 use Rattle.nb_host.specs.World.{World}
@@ -7,12 +7,12 @@ use Rattle.nb_host.specs.declared.faults.Fault.{Fault}
 use Rattle.nb_host.specs.declared.refusals.Refusal.TheVariants.{Full}
 use Rattle.nb_engine.proofs.TestLaws.{rests}
 use Rattle.nb_model.proofs.ReadLaws.{lt_no}
-use Rattle.nb_model.specs.Image.{Image, page_at, image_size}
+use Rattle.nb_model.specs.Image.{Image}
 use Rattle.nb_model.specs.Strokes.{Stroke}
 use Rattle.nb_model.specs.Trail.{Trail}
-use Rattle.nb_model.specs.Forms.{Draft, drafted, needs, put, is_kind, is_free_page, inventory_of, scn_page_of, other_kind}
-use Rattle.nb_model.specs.Causes.{Cause, first_cause, when, lowest_broken, broken_at, not_of_form, no_room, no_scn, too_short, short_for}
-use Rattle.nb_model.specs.Chains.{History, Spot, pages_of, found_pages, spots, free_spot, last_of, grown}
+use Rattle.nb_model.specs.Forms.{Draft, drafted, needs, is_kind, is_free_page, inventory_of, scn_page_of}
+use Rattle.nb_model.specs.Causes.{Cause, first_cause, when, broken_at, not_of_form, no_room, no_scn, too_short, short_for}
+use Rattle.nb_model.specs.Chains.{History, Spot, pages_of, found_pages, spots, free_spot, grown}
 use Rattle.nb_model.specs.Backups.{Room as Kept, room_in, needs_taken}
 use Rattle.nb_model.proofs.PutSound.{needs_image}
 use Rattle.nb_state.specs.Open.{Held}

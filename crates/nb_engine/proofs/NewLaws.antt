@@ -1,26 +1,23 @@
 -- A new page: its rounds, each on the database that the round before left.
 use Rattle.std.proofs.Common.{◌≡◌, ℕ, ◌+◌, ◌-◌, ◌<◌, ◌≤◌, List, [], ◌∷◌, ◌++◌, length, refl, sym, ap, subst, ◌∙◌, arith, append_assoc}
-use Rattle.std.specs.Prelude.{Bool, true, false, Some, None, Result, Ok, Err, IsErr, IsErrAnd, IsTrue}
-use Rattle.std.proofs.lemmas.Bool.{or_parts}
+use Rattle.std.specs.Prelude.{true, false, Some, None, Result, Ok, Err, IsErr, IsErrAnd, IsTrue}
 use Rattle.nb_fields.specs.Places.{is_page_size, is_system_place}
 use Rattle.nb_host.specs.World.{World}
 use Rattle.nb_host.specs.declared.faults.Fault.{Fault}
 use Rattle.nb_host.specs.declared.refusals.Refusal.{Refusal}
-use Rattle.nb_host.specs.declared.refusals.Refusal.TheVariants.{Full}
 use Rattle.nb_page.specs.Quiet.{Quiet}
 use Rattle.nb_change.proofs.ReachedLaws.{after_all-joined}
 use Rattle.nb_model.specs.Image.{Page, Image, image_size}
 use Rattle.nb_model.specs.Account.{Base}
 use Rattle.nb_model.specs.Strokes.{Stroke, base_after}
 use Rattle.nb_model.specs.Trail.{Trail, after_stroke}
-use Rattle.nb_model.specs.Forms.{Draft, drafted, put, take_page, system_page, free_from, lowest_free, new_within, inventory_of}
-use Rattle.nb_model.specs.Causes.{Cause, when, not_kind, no_room}
+use Rattle.nb_model.specs.Forms.{Draft, drafted, put, take_page, system_page, free_from, lowest_free, inventory_of}
+use Rattle.nb_model.specs.Causes.{Cause, not_kind}
 use Rattle.nb_model.proofs.DraftLaws.{IsOf, drafts_are, drafted_is, put_keeps, set_bit_keeps, system_keeps}
-use Rattle.nb_model.proofs.DraftJoin.{joined_new, join_set_bit}
+use Rattle.nb_model.proofs.DraftJoin.{join_set_bit}
 use Rattle.nb_model.proofs.NewSound.{inventory_before}
-use Rattle.nb_model.proofs.FitLaws.{IsWhole}
 use Rattle.nb_model.proofs.RoundLaws as rounds
-use Rattle.nb_model.proofs.RoundLaws.{IsFound, found, new_more, new_last, new_next, lowest_behind}
+use Rattle.nb_model.proofs.RoundLaws.{found}
 use Rattle.nb_base.specs.Takes.{after_strokes}
 use Rattle.nb_state.specs.Open.{Held, IsOpen}
 use Rattle.nb_state.specs.Does.{Makes}
@@ -37,7 +34,7 @@ use Rattle.nb_engine.proofs.CauseLaws.{first_here}
 use Rattle.nb_engine.proofs.DoesLaws.{tries_passed}
 use Rattle.nb_engine.proofs.FindLaws.{finds}
 use Rattle.nb_engine.proofs.PageLaws.{seen_after}
-use Rattle.nb_engine.proofs.MakeLaws.{well, from_well, mark_none, mark_long, page_long, map_kept}
+use Rattle.nb_engine.proofs.MakeLaws.{mark_long, page_long, map_kept}
 use Rattle.nb_engine.proofs.WhereLaws.{makes_as, makes_valued, where_tries, where_front, where_then}
 
 -- The search goes on to a page up to the length.

@@ -1,5 +1,5 @@
 -- What making a new page does of its turn.
-use Rattle.std.proofs.Common.{◌≡◌, ◌<◌, ◌≤◌, ◌+◌, ℕ, List, [], ◌∷◌, length, refl, sym, ap, subst, ◌∙◌, arith}
+use Rattle.std.proofs.Common.{◌≡◌, ◌<◌, ◌≤◌, ℕ, List, [], ◌∷◌, length, refl, sym, ap, subst, ◌∙◌}
 use Rattle.std.specs.Prelude.{true, false, IsTrue, Some, None, Result, Ok, Err, IfOk, IfErr}
 use Rattle.nb_fields.specs.Bytes.{bytes_of}
 use Rattle.nb_fields.specs.Places.{is_page_size}
@@ -27,7 +27,7 @@ use Rattle.nb_state.specs.Does.{Makes, Does}
 use Rattle.nb_engine.specs.Make.{IsWell, new_raw}
 use Rattle.nb_engine.specs.Replies.{page_made}
 use Rattle.nb_engine.proofs.TestLaws.{applies, rests}
-use Rattle.nb_engine.proofs.CauseLaws.{unless_refused, unless_allowed, first_none, first_next, first_here, refused_by, judged_by, allowed}
+use Rattle.nb_engine.proofs.CauseLaws.{unless_refused, unless_allowed, first_none, first_next, first_here, refused_by, judged_by}
 use Rattle.nb_engine.proofs.DoesLaws.{seeing, tries_made, tries_does}
 
 -- the bytes of the empty text

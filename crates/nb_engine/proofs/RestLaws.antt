@@ -1,5 +1,5 @@
 -- A new page that nothing stops, on any image of the form: what is left of it behind each round.
-use Rattle.std.proofs.Common.{◌≡◌, ◌≢◌, inl, inr, ℕ, zero, suc, ◌+◌, ◌-◌, ◌/◌, ◌<◌, ◌≤◌, List, ◌++◌, length, refl, sym, ap, subst, ◌∙◌, arith}
+use Rattle.std.proofs.Common.{◌≡◌, ◌≢◌, inl, inr, ℕ, zero, suc, ◌+◌, ◌/◌, ◌<◌, ◌≤◌, List, ◌++◌, length, refl, sym, ap, subst, ◌∙◌, arith}
 use Rattle.std.specs.Prelude.{Bool, true, false, ◌==◌, Option, Some, None}
 use Rattle.std.proofs.lemmas.Bool.{true≢false}
 use Rattle.std.proofs.lemmas.Bool.Decides.{eqb_tells}
@@ -7,7 +7,7 @@ use Rattle.nb_fields.specs.Places.{bits_in, inventory_place, is_system_place}
 use Rattle.nb_host.specs.declared.refusals.Refusal.TheVariants.{NotDatabase, Full}
 use Rattle.nb_model.specs.Image.{Image, image_size}
 use Rattle.nb_model.specs.Strokes.{Stroke}
-use Rattle.nb_model.specs.Forms.{Draft, drafted, is_kind, is_free_page, inventory_of, put, take_page, lowest_free, first_not, needed_at, system_kind, new_within}
+use Rattle.nb_model.specs.Forms.{Draft, drafted, is_kind, is_free_page, put, take_page, lowest_free, first_not, needed_at, system_kind, new_within}
 use Rattle.nb_model.proofs.DraftJoin.{joined_new}
 use Rattle.nb_model.proofs.NewSound.{inventory_before}
 use Rattle.nb_model.proofs.FirstFree.{IsLowestFree, lowest_is}

@@ -1,5 +1,5 @@
 -- The tests before new pages, and what is written behind them.
-use Rattle.std.proofs.Common.{◌≡◌, ◌≢◌, inl, inr, ℕ, ◌+◌, ◌*◌, ◌<◌, ◌≤◌, List, [], ◌∷◌, ◌++◌, length, refl, sym, ap, subst, ◌∙◌, arith}
+use Rattle.std.proofs.Common.{◌≡◌, ◌≢◌, ℕ, ◌+◌, ◌*◌, ◌<◌, ◌≤◌, List, [], ◌∷◌, ◌++◌, length, refl, sym, ap, subst, ◌∙◌, arith}
 use Rattle.std.specs.Prelude.{drop, Bool, true, false, not, ◌||◌, nat_lt, min, Some, None, Result, Ok, Err, IfOk, OnOk, IsErr, IsErrAnd}
 use Rattle.std.proofs.lemmas.Bool.{true≢false}
 use Rattle.std.proofs.lemmas.List.{append-nil}
@@ -11,19 +11,19 @@ use Rattle.nb_host.specs.declared.refusals.Refusal.{Refusal}
 use Rattle.nb_host.specs.declared.refusals.Refusal.TheVariants.{NotDatabase, Full}
 use Rattle.nb_change.proofs.ResultLaws.{passed_on}
 use Rattle.nb_model.specs.Image.{Image, page_at, image_scn}
-use Rattle.nb_model.specs.Forms.{Draft, drafted, is_kind, other_kind, needs, wants, has_entry, scn_page_of, scn_entry, raised, entry_raised, entry_written, put, written, wrote, new_within, new_page}
+use Rattle.nb_model.specs.Forms.{Draft, drafted, is_kind, other_kind, needs, wants, has_entry, scn_page_of, scn_entry, raised, entry_raised, entry_written, put, written, wrote, new_page}
 use Rattle.nb_model.specs.Causes.{Cause, first_cause, when, lowest_of, lowest_broken, too_short, not_of_form, no_room}
-use Rattle.nb_model.specs.Chains.{Chain, Slot, Spot, owner_of, last_of, put_slot, grown, place_at}
+use Rattle.nb_model.specs.Chains.{Chain, Slot, owner_of, last_of, put_slot, grown}
 use Rattle.nb_model.proofs.DraftJoin.{joined, joined_new, join_new}
 use Rattle.nb_model.proofs.SearchLaws.{draft_cause, joined_cause}
-use Rattle.nb_model.proofs.StepLaws.{IsShaped, IsClear}
+use Rattle.nb_model.proofs.StepLaws.{IsClear}
 use Rattle.nb_state.specs.Does.{Tested, WhereEnded}
 use Rattle.nb_engine.specs.declared.behind.Behind.{Behind}
 use Rattle.nb_engine.specs.Behind.{judged, entry_broken, behind_cause, page_if, IsKnown, Judges, EndsAlike}
 use Rattle.nb_engine.specs.Data.{new_behind, second_data, unmade, unmade_behind}
 use Rattle.nb_engine.specs.Put.{entry_cause}
 use Rattle.nb_engine.specs.Make.{new_of}
-use Rattle.nb_engine.specs.Search.{IsShort, Finds, Refuses, EndsBy}
+use Rattle.nb_engine.specs.Search.{IsShort, Finds, EndsBy}
 use Rattle.nb_engine.proofs.BehindLaws.{other_page, lowest_min}
 use Rattle.nb_model.proofs.ReadLaws.{lt_no, lt_yes}
 use Rattle.nb_engine.proofs.CauseLaws.{first_next, first_here, one_cause}

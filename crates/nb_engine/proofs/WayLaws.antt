@@ -12,14 +12,14 @@ use Rattle.nb_host.specs.declared.refusals.Refusal.{Refusal}
 use Rattle.nb_host.specs.declared.refusals.Refusal.TheVariants.{NotDatabase, Full}
 use Rattle.nb_model.specs.Image.{Image, image_size}
 use Rattle.nb_model.specs.Forms.{Draft, drafted, no_page, is_kind, is_free_page, inventory_of, put, take_page, lowest_free, free_from, system_kind, first_not, maps_from, needed_at, new_within, new_page}
-use Rattle.nb_model.specs.Causes.{Cause, when, first_cause, lowest_broken}
+use Rattle.nb_model.specs.Causes.{when, first_cause, lowest_broken}
 use Rattle.nb_fields.proofs.PlaceLemmas.{bits-least}
 use Rattle.nb_model.proofs.DraftJoin.{joined_new}
 use Rattle.nb_model.proofs.NewSound.{plain_place, places_apart}
 use Rattle.nb_model.proofs.ReadLaws.{eq_yes}
 use Rattle.nb_model.proofs.FirstFree.{IsLowestFree, free_from_is, lowest_is}
 use Rattle.nb_model.proofs.PlaceOrder.{div_rises, map_place_is}
-use Rattle.nb_model.proofs.StepLaws.{IsShaped, IsReady, IsVisited, Visits, system_visits, plain_visits}
+use Rattle.nb_model.proofs.StepLaws.{IsShaped, IsReady, Visits, system_visits, plain_visits}
 use Rattle.nb_model.specs.Way.{next_place, needed_on, IsMadeBehind, same_made, made_here, IsFreshBehind, same_fresh, fresh_here}
 use Rattle.nb_model.proofs.OnwardLaws.{IsOnTheWay, way_begins, way_further}
 use Rattle.nb_model.proofs.SoundLaws.{inventory_place_some}
@@ -30,7 +30,7 @@ use Rattle.nb_engine.specs.Find.{need_cause}
 use Rattle.nb_engine.specs.Way.{way_cause}
 use Rattle.nb_engine.specs.declared.behind.Behind.{Behind}
 use Rattle.nb_engine.specs.Behind.{IsKnown, gone}
-use Rattle.nb_engine.specs.Search.{Rests, Searches, AtPlace, AtKnown, GoesTo, IsShort, Finds, Refuses, EndsBy}
+use Rattle.nb_engine.specs.Search.{Searches, AtPlace, AtKnown, GoesTo, IsShort, Finds, Refuses, EndsBy}
 use Rattle.nb_engine.proofs.BehindLaws.{known_plain, known_gone}
 use Rattle.nb_engine.proofs.PassLaws.{place_free}
 use Rattle.nb_engine.proofs.CauseLaws.{first_none as first_none_cause, first_next, first_here}

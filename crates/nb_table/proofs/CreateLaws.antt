@@ -1,5 +1,5 @@
 -- A table that is made: its first page, and then its slot in the catalogue.
-use Rattle.std.proofs.Common.{◌≡◌, inl, inr, ℕ, suc, ◌+◌, ◌*◌, ◌<◌, ◌≤◌, List, [], ◌∷◌, ◌++◌, length, drop, refl, sym, ap, subst, ◌∙◌, arith}
+use Rattle.std.proofs.Common.{◌≡◌, inl, inr, ℕ, suc, ◌+◌, ◌*◌, ◌≤◌, List, [], ◌∷◌, ◌++◌, length, drop, refl, sym, ap, subst, ◌∙◌, arith}
 use Rattle.std.specs.Prelude.{Bool, true, not, Some, None, Result, Ok, Err, IfErr}
 use Rattle.std.proofs.lemmas.Bool.Decides.{leb_tells}
 use Rattle.nb_fields.specs.Bytes.{with_part}
@@ -7,7 +7,7 @@ use Rattle.nb_fields.specs.Payloads.{data_payload}
 use Rattle.nb_host.specs.World.{World}
 use Rattle.nb_host.specs.declared.faults.Fault.{Fault}
 use Rattle.nb_host.specs.declared.refusals.Refusal.TheVariants.{NotDatabase}
-use Rattle.nb_model.specs.Causes.{Cause, first_cause, not_kind, not_of_form, no_room, too_short, when}
+use Rattle.nb_model.specs.Causes.{not_kind, not_of_form, no_room, too_short, when}
 use Rattle.nb_model.specs.Chains.{Catalogue, Slot, found_pages, last_of, put_slot, grown, table_slot}
 use Rattle.nb_model.specs.Forms.{Draft, drafted, is_kind}
 use Rattle.nb_model.specs.Image.{Image, image_size, page_at}

@@ -1,5 +1,5 @@
 -- The turn of a table that is made, by its causes.
-use Rattle.std.proofs.Common.{◌≡◌, ℕ, ◌<◌, ◌≤◌, List, [], ◌∷◌, ◌++◌, length, refl, sym, ap, subst, ◌∙◌, arith}
+use Rattle.std.proofs.Common.{◌≡◌, ℕ, ◌<◌, ◌≤◌, List, [], ◌∷◌, ◌++◌, length, refl, sym, ap, ◌∙◌, arith}
 use Rattle.std.specs.Prelude.{Bool, true, false, Option, Some, None, is_some, nat_le, min}
 use Rattle.nb_host.specs.declared.refusals.Refusal.{Refusal}
 use Rattle.nb_host.specs.declared.refusals.Refusal.TheVariants.{TableExists, TooManyTables}
@@ -16,7 +16,7 @@ use Rattle.nb_model.proofs.PutSound.{no_first}
 use Rattle.nb_model.proofs.ReadLaws.{le_no}
 use Rattle.nb_engine.proofs.DataLaws.{data_there}
 use Rattle.nb_engine.proofs.TestLaws.{le_yes}
-use Rattle.nb_engine.proofs.CauseLaws.{first_none, first_next, first_here, first_front, first_rest, one_cause, refused_by, judged_by}
+use Rattle.nb_engine.proofs.CauseLaws.{first_next, first_here, first_front, first_rest, one_cause, refused_by}
 use Rattle.nb_table.specs.declared.look.Place.{Place}
 use Rattle.nb_table.specs.Creates.{first_made, created_in, created_behind, new_cause}
 use Rattle.nb_table.specs.declared.look.Sought.TheVariants.{Table}

@@ -1,6 +1,6 @@
 -- Why a table isn't dropped: the lowest of the pages that change and that aren't of their kind in the database as it stood.
-use Rattle.std.proofs.Common.{◌≡◌, inl, inr, ℕ, ◌+◌, ◌*◌, ◌/◌, ◌<◌, ◌≤◌, List, [], ◌∷◌, ◌++◌, length, drop, refl, sym, ap, subst, ◌∙◌, arith, length-drop}
-use Rattle.std.specs.Prelude.{Bool, true, false, Some, None}
+use Rattle.std.proofs.Common.{◌≡◌, inl, inr, ℕ, ◌+◌, ◌*◌, ◌<◌, ◌≤◌, List, [], ◌∷◌, ◌++◌, length, drop, refl, ap, subst, ◌∙◌, arith, length-drop}
+use Rattle.std.specs.Prelude.{Bool, true, None}
 use Rattle.std.specs.List.{AllByRecursion}
 use Rattle.std.proofs.lemmas.List.{append-nil}
 use Rattle.nb_fields.specs.Bytes.{with_part}
@@ -9,7 +9,7 @@ use Rattle.nb_fields.proofs.SizeLemmas.{SizeFacts, size_facts}
 use Rattle.nb_host.specs.declared.refusals.Refusal.TheVariants.{Full}
 use Rattle.nb_model.specs.Causes.{lowest_broken, not_of_form, no_room, when}
 use Rattle.nb_model.specs.Chains.{RowsFrom, Slot, Spot, first_in, found_pages, free_slot, put_slot}
-use Rattle.nb_model.specs.Forms.{Draft, drafted, is_kind, inventory_of, scn_page_of, raised, set_bit, give_page}
+use Rattle.nb_model.specs.Forms.{Draft, drafted, is_kind, inventory_of, scn_page_of, set_bit, give_page}
 use Rattle.nb_model.specs.Image.{Image, image_size, page_at}
 use Rattle.nb_model.specs.Tables.{all_given}
 use Rattle.nb_model.proofs.SoundLaws.{all_at, scn_place_before}

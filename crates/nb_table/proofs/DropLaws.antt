@@ -1,16 +1,16 @@
 -- A table that is dropped: its slot in the catalogue becomes free, which leaves each page of its chain as it was.
-use Rattle.std.proofs.Common.{◌≡◌, ◌≢◌, inl, inr, ℕ, ◌+◌, ◌*◌, ◌/◌, ◌<◌, ◌≤◌, List, [], ◌∷◌, ◌++◌, length, drop, refl, sym, ap, subst, ◌∙◌, arith}
+use Rattle.std.proofs.Common.{◌≡◌, ◌≢◌, inl, inr, ℕ, ◌+◌, ◌*◌, ◌<◌, ◌≤◌, List, [], ◌∷◌, ◌++◌, length, drop, refl, sym, ap, subst, ◌∙◌, arith}
 use Rattle.std.specs.Prelude.{Bool, true, false, None, Result, Ok, Err}
 use Rattle.std.specs.List.{AllByRecursion}
 use Rattle.std.proofs.lemmas.Bool.Decides.{eqb_tells}
 use Rattle.nb_fields.specs.Bytes.{with_part}
 use Rattle.nb_fields.specs.Page.{kind_of}
-use Rattle.nb_fields.specs.Places.{is_scn_place, entries_in}
+use Rattle.nb_fields.specs.Places.{is_scn_place}
 use Rattle.nb_host.specs.World.{World}
 use Rattle.nb_host.specs.declared.faults.Fault.{Fault}
 use Rattle.nb_model.specs.Causes.{lowest_broken, not_of_form, not_kind}
-use Rattle.nb_model.specs.Chains.{Chain, Catalogue, RowsFrom, Spot, first_in, owner_of, owner_in, is_in_chain, found_pages, pages_of, table_spot, put_slot, free_slot}
-use Rattle.nb_model.specs.Forms.{Draft, drafted, put, is_kind, other_kind, has_entry, scn_page_of}
+use Rattle.nb_model.specs.Chains.{Chain, Catalogue, RowsFrom, Spot, first_in, owner_in, is_in_chain, found_pages, pages_of, table_spot, put_slot, free_slot}
+use Rattle.nb_model.specs.Forms.{Draft, drafted, put, is_kind, other_kind, scn_page_of}
 use Rattle.nb_model.specs.Image.{Image, page_at, image_size}
 use Rattle.nb_model.specs.Sound.{HasHeader}
 use Rattle.nb_model.specs.Strokes.{Stroke}

@@ -4,7 +4,7 @@ use Rattle.std.specs.Prelude.{Some, None}
 use Rattle.nb_host.specs.declared.refusals.Refusal.{Refusal}
 use Rattle.nb_model.specs.declared.reply.Reply.TheVariants.{Done, Refused}
 use Rattle.nb_model.specs.Causes.{Cause, first_cause, broken_at, read_only, not_of_form, no_room}
-use Rattle.nb_model.specs.Chains.{Chain, Catalogue, RowsFrom, Spot, first_in, found_pages, free_slot, pages_of, put_slot, table_spot}
+use Rattle.nb_model.specs.Chains.{Chain, Catalogue, Spot, found_pages, free_slot, pages_of, put_slot, table_spot}
 use Rattle.nb_model.specs.Forms.{drafted}
 use Rattle.nb_model.specs.Image.{Image}
 use Rattle.nb_model.specs.Outcomes.{Seen, Outcome, says, unless, changes}

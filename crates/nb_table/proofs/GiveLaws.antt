@@ -1,24 +1,20 @@
 -- The pages of a chain are given back one after the other, along their links, which stay.
-use Rattle.std.proofs.Common.{◌≡◌, ◌≢◌, ℕ, zero, suc, ◌-◌, ◌<◌, ◌≤◌, List, [], ◌∷◌, ◌++◌, length, refl, sym, ap, subst, append_assoc, ◌∙◌, arith}
-use Rattle.std.specs.Prelude.{Bool, true, false, not, ◌&&◌, ◌==◌, Some, None, Ok, Err}
+use Rattle.std.proofs.Common.{◌≡◌, ◌≢◌, ℕ, zero, suc, ◌-◌, ◌<◌, List, [], ◌∷◌, ◌++◌, length, refl, sym, ap, subst, append_assoc, ◌∙◌, arith}
+use Rattle.std.specs.Prelude.{true, false, None, Ok, Err}
 use Rattle.std.specs.List.{AllByRecursion}
 use Rattle.std.proofs.lemmas.Bool.{true≢false}
 use Rattle.std.proofs.lemmas.List.{append-nil}
-use Rattle.nb_fields.specs.Page.{kind_of}
 use Rattle.nb_host.specs.World.{World}
 use Rattle.nb_host.specs.declared.faults.Fault.{Fault}
 use Rattle.nb_page.specs.Quiet.{Quiet}
 use Rattle.nb_change.proofs.ReachedLaws.{after_all-joined}
-use Rattle.nb_host.specs.declared.refusals.Refusal.{Refusal}
-use Rattle.nb_host.specs.declared.refusals.Refusal.TheVariants.{NotDatabase}
-use Rattle.nb_model.specs.Causes.{Cause, broken_at, when}
-use Rattle.nb_model.specs.Chains.{Chain, RowsFrom, first_of, owner_of, owner_in, next_in, is_in_chain, walk, pages_of}
-use Rattle.nb_model.specs.Forms.{Draft, drafted, give_page, is_kind}
+use Rattle.nb_model.specs.Chains.{Chain, first_of, owner_of, owner_in, next_in, is_in_chain, walk, pages_of}
+use Rattle.nb_model.specs.Forms.{Draft, drafted, give_page}
 use Rattle.nb_model.specs.Image.{Image, page_at}
 use Rattle.nb_model.specs.Strokes.{Stroke}
 use Rattle.nb_model.specs.Tables.{all_given}
 use Rattle.nb_model.specs.Trail.{Trail, after_stroke}
-use Rattle.nb_model.proofs.ChainWalks.{IsWalk, ends as walk_ends, leads as walk_leads, Walks, walk_cases, walk_zero, err_ok, found_is}
+use Rattle.nb_model.proofs.ChainWalks.{IsWalk, ends as walk_ends, leads as walk_leads, Walks, walk_cases, walk_zero, err_ok}
 use Rattle.nb_model.proofs.DraftLaws.{IsOf, drafted_is, drafts_are, set_bit_keeps}
 use Rattle.nb_model.proofs.DropTurns.{join_given}
 use Rattle.nb_model.proofs.NeatLaws.{all_go, all_both}
@@ -27,9 +23,8 @@ use Rattle.nb_model.proofs.RoomLaws.{chain_owner}
 use Rattle.nb_model.proofs.StepLaws.{IsShaped, kind_parts}
 use Rattle.nb_base.specs.Takes.{after_strokes, IsNoRefusal}
 use Rattle.nb_state.specs.Open.{Held, IsOpen}
-use Rattle.nb_state.specs.Does.{Makes, unless_by}
+use Rattle.nb_state.specs.Does.{Makes}
 use Rattle.nb_state.proofs.MakesLaws.{makes_none, makes_then, makes_front}
-use Rattle.nb_engine.specs.Behind.{give_broken}
 use Rattle.nb_engine.specs.Data.{not_data}
 use Rattle.nb_engine.specs.Mark.{mark_cause}
 use Rattle.nb_engine.specs.Tries.{Tries}
@@ -38,8 +33,7 @@ use Rattle.nb_engine.proofs.DoesLaws.{unless_none, tries_made}
 use Rattle.nb_engine.proofs.NewLaws.{image_is}
 use Rattle.nb_engine.proofs.NotedLaws.{IsGivenOn, given_cause, given_on, give_same}
 use Rattle.nb_engine.proofs.TestLaws.{kind_is}
-use Rattle.nb_engine.proofs.PutLaws.{is_kind-parts}
-use Rattle.nb_engine.proofs.WhereLaws.{sure_of, makes_as, makes_valued}
+use Rattle.nb_engine.proofs.WhereLaws.{sure_of, makes_valued}
 use Rattle.nb_table.specs.Drops.{IsGivable}
 
 given_first : (p : ℕ) (ps : List ℕ) (z : Image) → (all_given (p ∷ ps) (drafted z)).strokes ≡ (give_page p (drafted z)).strokes ++ (all_given ps (drafted (give_page p (drafted z)).image)).strokes

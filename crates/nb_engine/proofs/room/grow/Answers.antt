@@ -1,9 +1,8 @@
-use Rattle.std.proofs.Common.{◌≡◌, ◌<◌, ℕ, [], refl, sym, ap, subst, ◌∙◌}
+use Rattle.std.proofs.Common.{ℕ, [], refl, sym, ap, ◌∙◌}
 use Rattle.std.specs.Prelude.{None, Ok, Err}
 use Rattle.nb_model.specs.Forms.{drafted}
 use Rattle.nb_model.specs.Causes.{no_scn}
 use Rattle.nb_model.specs.Chains.{History, grown}
-use Rattle.nb_model.proofs.SearchLaws.{draft_cause}
 use Rattle.nb_state.proofs.MakesLaws.{makes_none, makes_after}
 use Rattle.nb_engine.specs.Behind.{behind_cause}
 use Rattle.nb_engine.specs.Data.{new_behind}

@@ -1,5 +1,4 @@
-use Rattle.std.proofs.Common.{◌≡◌, ◌≢◌, ◌<◌, ℕ, sym, ap, subst, ◌∙◌, arith}
-use Rattle.nb_model.specs.Forms.{scn_page_of}
+use Rattle.std.proofs.Common.{◌≢◌, sym, ap, subst, ◌∙◌, arith}
 use Rattle.nb_model.specs.Causes.{Cause, not_kind}
 use Rattle.nb_state.specs.Does.{Tested}
 use Rattle.nb_engine.proofs.PutLaws.{scn_page-without, other-with}

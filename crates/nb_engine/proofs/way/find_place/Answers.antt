@@ -2,8 +2,8 @@ use Rattle.std.proofs.Common.{◌≡◌, ◌≢◌, ℕ, refl, sym, ap, subst, �
 use Rattle.std.specs.Prelude.{IsTrue}
 use Rattle.nb_fields.specs.Places.{is_page_size}
 use Rattle.nb_model.specs.Image.{image_size}
-use Rattle.nb_model.specs.Forms.{inventory_of, first_not}
-use Rattle.nb_model.specs.Way.{maps_up_to, next_place}
+use Rattle.nb_model.specs.Forms.{inventory_of}
+use Rattle.nb_model.specs.Way.{next_place}
 use Rattle.nb_engine.specs.Find.{need_cause}
 use Rattle.nb_engine.proofs.DoesLaws.{tested_on}
 use Rattle.nb_engine.proofs.TestLaws.{inventory_place_is}

@@ -1,4 +1,4 @@
-use Rattle.std.proofs.Common.{sym, ap, subst, ◌∙◌}
+use Rattle.std.proofs.Common.{ap, subst, ◌∙◌}
 use Rattle.nb_model.specs.Causes.{Cause, not_kind}
 use Rattle.nb_state.specs.Does.{Tested}
 use Rattle.nb_engine.proofs.TestLaws.{inventory_place_is}

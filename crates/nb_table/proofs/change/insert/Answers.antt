@@ -1,4 +1,4 @@
-use Rattle.std.proofs.Common.{◌≡◌, ℕ, ◌≤◌, List, length, refl, sym, ap, subst, ◌∙◌, arith}
+use Rattle.std.proofs.Common.{◌≡◌, ℕ, List, refl, sym, subst, ◌∙◌}
 use Rattle.std.specs.Prelude.{true, false, Ok, Err, is_some}
 use Rattle.nb_host.specs.declared.refusals.Refusal.TheVariants.{KeyExists}
 use Rattle.nb_model.specs.declared.reply.Reply.TheVariants.{Done}

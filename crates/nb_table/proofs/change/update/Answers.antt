@@ -1,4 +1,4 @@
-use Rattle.std.proofs.Common.{ℕ, List, refl, sym, subst}
+use Rattle.std.proofs.Common.{ℕ, List, refl}
 use Rattle.std.specs.Prelude.{Ok, Err}
 use Rattle.nb_model.specs.Causes.{read_only, too_long}
 use Rattle.nb_model.specs.Chains.{RowsFrom, Slot, spots}

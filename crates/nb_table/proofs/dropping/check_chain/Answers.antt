@@ -1,4 +1,4 @@
-use Rattle.std.proofs.Common.{◌≡◌, rules, ◌<◌, refl, ◌∙◌, arith, ℕ}
+use Rattle.std.proofs.Common.{rules, ◌<◌, refl, ◌∙◌, arith, ℕ}
 use Rattle.std.specs.Prelude.{Option}
 use Rattle.nb_page.proofs.QuietLemmas.{quiet_begun, quiet_joined}
 use Rattle.nb_model.specs.Causes.{lowest_broken}

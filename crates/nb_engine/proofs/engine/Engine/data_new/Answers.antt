@@ -1,17 +1,16 @@
-use Rattle.std.proofs.Common.{◌≡◌, ◌<◌, ◌≤◌, ℕ, List, length, refl, sym, ap, subst, ◌∙◌, arith}
+use Rattle.std.proofs.Common.{◌≡◌, ◌≤◌, ℕ, length, refl, sym, ap, subst, ◌∙◌, arith}
 use Rattle.std.specs.Prelude.{Some, None, Ok, Err}
 use Rattle.nb_fields.specs.Payloads.{data_payload}
 use Rattle.nb_host.specs.declared.faults.Fault.TheVariants.{Refused}
 use Rattle.nb_host.specs.declared.refusals.Refusal.TheVariants.{NotDatabase}
 use Rattle.nb_page.proofs.QuietLemmas.{quiet_begun}
 use Rattle.nb_model.specs.Forms.{Draft}
-use Rattle.nb_model.specs.Causes.{Cause}
 use Rattle.nb_model.proofs.SearchLaws.{draft_cause}
 use Rattle.nb_state.specs.Open.{Held, IsOpen, but_pages}
 use Rattle.nb_state.specs.Does.{Makes}
 use Rattle.nb_state.proofs.MakesLaws.{makes_none, makes_after}
 use Rattle.nb_engine.specs.Data.{owner_by, new_data, unmade}
-use Rattle.nb_engine.specs.Make.{MakesSome, content}
+use Rattle.nb_engine.specs.Make.{MakesSome}
 use Rattle.nb_engine.specs.Search.{IsShort}
 use Rattle.nb_engine.specs.Tries.{Tries}
 use Rattle.nb_engine.proofs.ContentLaws.{new_named, data_short}

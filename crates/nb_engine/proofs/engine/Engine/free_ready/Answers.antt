@@ -1,9 +1,9 @@
-use Rattle.std.proofs.Common.{◌≡◌, ℕ, ◌/◌, ◌<◌, List, [], ◌∷◌, ◌++◌, sym, ap, subst, ◌∙◌, arith}
+use Rattle.std.proofs.Common.{◌≡◌, ℕ, ◌/◌, List, [], ◌∷◌, ◌++◌, sym, ap, subst, ◌∙◌, arith}
 use Rattle.std.specs.Prelude.{Bool, true, false, Option, None, IsTrue}
 use Rattle.std.proofs.lemmas.List.{append-nil}
 use Rattle.nb_fields.specs.Places.{is_page_size, bits_in}
 use Rattle.nb_model.specs.Causes.{lowest_broken}
-use Rattle.nb_model.specs.Forms.{is_kind, other_kind, inventory_of, system_kind}
+use Rattle.nb_model.specs.Forms.{is_kind, inventory_of, system_kind}
 use Rattle.nb_model.specs.Image.{image_size}
 use Rattle.nb_model.proofs.SoundLaws.{inventory_place_some, inventory_there}
 use Rattle.nb_state.specs.Open.{Held, IsOpen}

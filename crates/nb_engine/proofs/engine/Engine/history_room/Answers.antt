@@ -1,4 +1,4 @@
-use Rattle.std.proofs.Common.{◌≡◌, ◌<◌, ℕ, List, [], ◌∷◌, length, sym, ap, subst, ◌∙◌, arith}
+use Rattle.std.proofs.Common.{◌≡◌, ℕ, List, [], ◌∷◌, sym, ap, subst, ◌∙◌}
 use Rattle.std.specs.Prelude.{true, None, Ok, Err}
 use Rattle.nb_fields.specs.Page.{kind_of}
 use Rattle.nb_page.proofs.QuietLemmas.{quiet_joined}
