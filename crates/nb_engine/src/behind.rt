@@ -1,6 +1,6 @@
 // A page that is written behind a search for new pages: the page of a slot, or the last of a chain. The search may make a system page where it
 // stands, or the SCN page with its entry, so whether it may be written is known once the search has ended.
-ghost use Rattle.std.specs.Prelude.{◌≡◌, ◌<◌, ◌++◌, ◌∷◌, ◌==◌, ◌||◌, ℕ, List, Bool, true, false, Some, None, IsTrue, IfOk, OnOk, IfSome, Ok, length, nat_lt};
+ghost use Rattle.std.specs.Prelude.{◌≡◌, ◌<◌, ◌++◌, ◌∷◌, ◌==◌, ◌||◌, ℕ, List, [], Bool, true, false, Some, None, IsTrue, IfOk, OnOk, IfSome, Ok, length, nat_lt};
 ghost use Rattle.nb_change.specs.Counts.{CountsDevice};
 ghost use Rattle.nb_page.specs.Quiet.{Quiet};
 ghost use Rattle.nb_host.specs.declared.refusals.Refusal.TheVariants.{NotDatabase};
