@@ -157,7 +157,7 @@ module _ (x : Image) (h : HasHeader x) (shaped : IsShaped x) (table : List ℕ) 
         by true at = other_page q in_it (e ∙ scn_place_of (image_size x) spot.page shaped.size at)
         by false at =
             let some = slot_some in
-            let ten : is_kind x 10 (scn_page_of x spot.page) ≡ true = entry_there (other-with x spot.page (image_size x) refl (λ zero. absurd (omega (arith, some, zero))) at) in
+            let ten : is_kind x 10 (scn_page_of x spot.page) ≡ true = entry_there (other-with x spot.page (image_size x) refl (λ none_at. absurd (omega (arith, some, none_at))) at) in
             absurd (omega (arith, sym (in_chain chain x q in_it).1 ∙ ap (λ (n : ℕ). kind_of (page_at x n)) e ∙ (kind_parts x 10 (scn_page_of x spot.page) ten).1))
 
     one_same : (q : ℕ) → is_in_chain chain x q ≡ true → page_at freed.image q ≡ page_at x q
