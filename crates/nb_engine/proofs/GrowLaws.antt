@@ -14,7 +14,7 @@ use Rattle.nb_fields.specs.Page.{stamped, kind_of}
 use Rattle.nb_model.specs.Image.{Page, Image, image_size, image_scn, with_page, page_at}
 use Rattle.nb_model.specs.Strokes.{Stroke, merged_page}
 use Rattle.nb_model.specs.Trail.{Trail}
-use Rattle.nb_model.specs.Forms.{Draft, drafted, old_page, put, take_page, wrote, written, no_page, lowest_free, system_page, new_within, has_entry, scn_page_of}
+use Rattle.nb_model.specs.Forms.{Draft, drafted, old_page, put, take_page, wrote, written, lowest_free, new_within, has_entry, scn_page_of}
 use Rattle.nb_model.specs.Causes.{Cause, when, not_kind, no_room, no_scn}
 use Rattle.nb_model.specs.Chains.{Chain, owner_of, last_of, grown}
 use Rattle.nb_model.proofs.DraftLaws.{IsKept, IsOf, drafts_are, drafted_is, put_keeps, new_keeps}

@@ -1,19 +1,16 @@
 -- A table that is made: its first page, and then its slot in the catalogue.
-use Rattle.std.proofs.Common.{◌≡◌, inl, inr, ℕ, ◌+◌, ◌*◌, ◌<◌, ◌≤◌, List, [], ◌++◌, length, drop, refl, sym, ap, subst, ◌∙◌, arith}
-use Rattle.std.specs.Prelude.{Bool, true, false, None, Result, Ok, Err, IfErr}
+use Rattle.std.proofs.Common.{◌≡◌, ℕ, ◌+◌, ◌*◌, ◌<◌, ◌≤◌, List, [], ◌++◌, length, drop, refl, sym, ap, subst, ◌∙◌, arith}
+use Rattle.std.specs.Prelude.{Bool, false, None, Result, Ok, Err, IfErr}
 use Rattle.std.proofs.lemmas.Bool.{or_parts}
-use Rattle.std.proofs.lemmas.Bool.Decides.{eqb_tells}
 use Rattle.nb_fields.specs.Bytes.{bytes_of, with_part}
-use Rattle.nb_fields.specs.Page.{kind_of}
 use Rattle.nb_fields.specs.Payloads.{data_payload}
-use Rattle.nb_fields.specs.Places.{is_inventory_place, is_scn_place, is_system_place}
 use Rattle.nb_host.specs.World.{World}
 use Rattle.nb_host.specs.declared.faults.Fault.{Fault}
-use Rattle.nb_host.specs.declared.refusals.Refusal.TheVariants.{NotDatabase, Full}
+use Rattle.nb_host.specs.declared.refusals.Refusal.TheVariants.{Full}
 use Rattle.nb_model.specs.Causes.{not_kind, not_of_form, no_room, lowest_broken, when}
 use Rattle.nb_model.specs.Chains.{Catalogue, Slot, found_pages, last_of, put_slot, grown, table_slot}
-use Rattle.nb_model.specs.Forms.{Draft, drafted, new_page, is_kind}
-use Rattle.nb_model.specs.Image.{Image, page_at, image_size}
+use Rattle.nb_model.specs.Forms.{Draft, drafted, new_page}
+use Rattle.nb_model.specs.Image.{Image, page_at}
 use Rattle.nb_model.specs.Sound.{IsSoundImage}
 use Rattle.nb_model.specs.Strokes.{Stroke}
 use Rattle.nb_model.specs.Trail.{Trail}
@@ -22,8 +19,7 @@ use Rattle.nb_model.proofs.DraftLaws.{IsOf, drafted_is, drafts_are, new_keeps}
 use Rattle.nb_model.proofs.FitLaws.{IsWhole}
 use Rattle.nb_model.proofs.PlaceTurns.{join_at}
 use Rattle.nb_model.proofs.PutSound.{IsPlace, not_when}
-use Rattle.nb_model.proofs.RoomLaws.{no_system}
-use Rattle.nb_model.proofs.RoundLaws.{IsNew, new_is_new, new_unbroken, put_unbroken}
+use Rattle.nb_model.proofs.RoundLaws.{new_unbroken, put_unbroken}
 use Rattle.nb_model.proofs.TableTurns.{none_room, table_length}
 use Rattle.nb_base.specs.Takes.{after_strokes, IsNoRefusal}
 use Rattle.nb_state.specs.Open.{Held}
@@ -35,8 +31,6 @@ use Rattle.nb_engine.proofs.FullLaws.{put_full}
 use Rattle.nb_engine.proofs.GrowLaws.{whole as new_whole, new_long}
 use Rattle.nb_engine.proofs.MakeLaws.{from_well, tries_named}
 use Rattle.nb_engine.proofs.NewLaws.{image_is}
-use Rattle.nb_engine.proofs.PutLaws.{is_kind-parts, none_of}
-use Rattle.nb_engine.proofs.TestLaws.{kind_is}
 use Rattle.nb_engine.proofs.WhereLaws.{sure_of, makes_as, makes_valued}
 use Rattle.nb_table.specs.declared.look.Place.{Place}
 use Rattle.nb_table.proofs.CleanLaws.{formed_joined}
