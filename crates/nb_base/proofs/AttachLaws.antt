@@ -142,7 +142,7 @@ module _ (first bytes : List ℕ) (read : first ≡ take 64 bytes) (block : Head
   block_state = ap (λ (h : Header). h.state) is ∙ first_number first bytes read 22 2 (omega arith)
 
 -- the last page of an image from which nothing is cut off isn't zeros
-last_other : (n : ℕ) (image : Image) → IsTrimmed image → length image ≡ suc n → is_zeros (page_at image n) ≡ false
+pub last_other : (n : ℕ) (image : Image) → IsTrimmed image → length image ≡ suc n → is_zeros (page_at image n) ≡ false
 last_other zero [] whole long = absurd (omega arith)
 last_other zero (p ∷ q ∷ qs) whole long = absurd (omega arith)
 last_other zero (p ∷ []) whole long = elim (cases_Bool (is_zeros p)) [ inl w ↦ absurd (none_some (sym (trimmed-zeros (p ∷ []) (w, tt)) ∙ whole)) | inr w ↦ w ]

@@ -9,9 +9,8 @@ use Rattle.nb_change.specs.Changes.{Changes, Only, Remade}
 use Rattle.nb_change.proofs.MomentLaws.{left_before}
 use Rattle.nb_change.proofs.ChangesLaws.{composed_within}
 use Rattle.nb_change.proofs.SettledLaws.{durable_is}
-use Rattle.nb_model.specs.Image.{Image, image_size, image_state, image_scn}
+use Rattle.nb_model.specs.Image.{Image, image_size, image_state, image_scn, trimmed}
 use Rattle.nb_model.specs.Account.{Base}
-use Rattle.nb_model.specs.Sound.{HasNoZeros}
 use Rattle.nb_model.specs.Strokes.{ends, finish, on_base}
 use Rattle.nb_model.specs.Owner.{delta_name, owner}
 use Rattle.nb_model.specs.Trail.{Trail, after_stroke, bases_of}
@@ -19,6 +18,7 @@ use Rattle.nb_base.specs.Firm.{StandsFirmOn, StandsFirm}
 use Rattle.nb_model.proofs.HeaderLaws.{header-room}
 use Rattle.nb_model.proofs.MixtureLaws.{mixed_state}
 use Rattle.nb_model.proofs.TrailLaws.{trail_base}
+use Rattle.nb_model.proofs.TrimLaws.{finish_base}
 use Rattle.nb_base.proofs.FirmLaws.{last_firm}
 use Rattle.nb_base.specs.Control.{in_state, HasRoom, HasImage, IsImageOf, ControlLeft}
 use Rattle.nb_base.specs.Open.{Held, OfFiles, Agrees, IsOpen, AreMerged}
@@ -41,9 +41,8 @@ ended_entries : (b : Base) → (on_base ends b).diverted ≡ b.diverted
 unfolding on_base
 ended_entries b = refl
 
-finished_length : (b : Base) → length (on_base finish b).image ≡ length b.image
-unfolding on_base
-finished_length b = with_control-length _ _ _ b.image
+pub finished_length : (b : Base) → length (on_base finish b).image ≡ length (trimmed b.image)
+finished_length b = ap (λ (c : Base). length c.image) (finish_base b) ∙ with_control-length _ _ _ (trimmed b.image)
 
 finished_entries : (b : Base) → (on_base finish b).diverted ≡ []
 unfolding on_base
@@ -115,12 +114,12 @@ module _ (old : World) (held : Held) (t : Trail) (is : IsOpen old held t) (reads
           (count ∙ is.agrees.count ∙ sym (ended_length t.base)) (λ stalled. absurd (omega (arith, two, stalled))) (entries ∙ is.agrees.entries ∙ sym (ended_entries t.base)) none_drafted
 
   -- The merge is finished.
-  module _ (merges : held.state ≡ 2) (full : HasNoZeros t.base.image) (merged : AreMerged old held (length held.entries)) where
+  module _ (merges : held.state ≡ 2) (merged : AreMerged old held (length held.entries)) where
     two : image_state g0.main ≡ 2
     two = state ∙ merges
 
-    alone : t.base.image ≡ g0.main
-    alone = merged_alone held old.files t.base g0 size is.agrees.entries (λ k low. merged k low low) full
+    alone : trimmed t.base.image ≡ g0.main
+    alone = merged_alone held old.files t.base g0 size is.agrees.entries (λ k low. merged k low low)
 
     pub finish_room : HasRoom 0 (image_scn (h0 old held t is).main)
     finish_room = record { stalled = λ e. absurd (omega (arith, e)); other = λ some. absurd (omega (arith, some)) }
@@ -152,7 +151,7 @@ module _ (old : World) (held : Held) (t : Trail) (is : IsOpen old held t) (reads
             composed_within old new last (OfFiles held.name) (Only (delta_name held.name)) (OfFiles held.name) _ _ _ finish_struck removed (λ m one. one) (λ m is. inr is) (λ files others r. r)
             (λ files others r. inr (stands_after held.name finish t (files held.name) (files (delta_name held.name)) (finish-settles t) (ends_in files (image.left (files held.name) (others held.name (main_apart held.name))))))
 
-        pub finish_open : (now : Held) → now.name ≡ held.name → now.page_size ≡ held.page_size → now.state ≡ 0 → now.count ≡ held.count → now.entries ≡ [] → now.drafted ≡ 0 → IsOpen last now (after_stroke finish t)
+        pub finish_open : (now : Held) → now.name ≡ held.name → now.page_size ≡ held.page_size → now.state ≡ 0 → now.count ≡ length (trimmed t.base.image) → now.entries ≡ [] → now.drafted ≡ 0 → IsOpen last now (after_stroke finish t)
         finish_open now named sized zero count entries none_drafted =
             let sixteen : length (Rattle.nb_model.specs.Image.image_guid g0.main) ≡ 16 = kept_sixteen g0.main m0 g0.has in
             let here : Holds (on_base finish t.base) (last.files held.name) (last.files (delta_name held.name)) =
@@ -166,6 +165,6 @@ module _ (old : World) (held : Held) (t : Trail) (is : IsOpen old held t) (reads
               agrees = subst (λ (b : Base). Agrees (record now { name = held.name }) b) (sym (trail_base finish t))
                   (agrees_by (record now { name = held.name }) (on_base finish t.base) (last.files held.name) (last.files (delta_name held.name)) here
                   (sized ∙ size ∙ sym (in_state-size g0.main m0 g0.has 0 None (omega arith) sixteen) ∙ ap image_size (sym one)) (zero ∙ sym (in_state-state g0.main m0 g0.has 0 None (omega arith) sixteen) ∙ ap image_state (sym one))
-                  (count ∙ is.agrees.count ∙ sym (finished_length t.base)) (λ stalled. absurd (omega (arith, zero, stalled))) (entries ∙ sym (finished_entries t.base)));
+                  (count ∙ sym (finished_length t.base)) (λ stalled. absurd (omega (arith, zero, stalled))) (entries ∙ sym (finished_entries t.base)));
               drafted = none_drafted;
             })

@@ -1,4 +1,5 @@
 pub mod FirmLaws
+pub mod FilledLaws
 pub mod AgreeLaws
 pub mod AttachLaws
 pub mod BlockLaws
@@ -7,6 +8,7 @@ pub mod CreateLaws
 pub mod CreatedLaws
 pub mod EndLaws
 pub mod EnterLaws
+pub mod HiddenLaws
 pub mod LeftLaws
 pub mod MakingLaws
 pub mod MergeLaws

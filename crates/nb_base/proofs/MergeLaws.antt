@@ -1,23 +1,22 @@
--- Once every entry is equal in both files, the main file alone has the image.
-use Rattle.std.proofs.Common.{◌≡◌, ◌≢◌, inl, inr, ℕ, zero, suc, ◌+◌, ◌-◌, ◌*◌, ◌<◌, ◌≤◌, List, [], ◌∷◌, ◌++◌, length, get_or, take, drop, replicate, refl, sym, ap, ◌∙◌, arith, length-append, mul-le-mul_right, suc-mul}
-use Rattle.std.specs.Prelude.{true, false, Option, Some, None}
-use Rattle.std.proofs.lemmas.Bool.{true≢false}
+-- Once every entry is equal in both files, the main file alone has the image, but for pages of zeros at its end.
+use Rattle.std.proofs.Common.{◌≡◌, ◌≢◌, inl, inr, ℕ, zero, suc, ◌-◌, ◌*◌, ◌<◌, ◌≤◌, List, [], ◌++◌, length, get_or, take, drop, replicate, refl, sym, ap, ◌∙◌, arith, length-append, mul-le-mul_right, suc-mul}
+use Rattle.std.specs.Prelude.{true, Option, Some, None}
 use Rattle.std.proofs.lemmas.Bool.Decides.{leb_tells}
 use Rattle.std.proofs.lemmas.List.{take-append-le, take-append-drop, length-drop, get_or_append_left, get_or-append_right}
 use Rattle.nb_fields.specs.Bytes.{is_zeros}
 use Rattle.nb_fields.specs.Table.{page_in, slot_place}
 use Rattle.nb_host.specs.Files.{Files, bytes_of}
 use Rattle.nb_delta.proofs.GroupLemmas.{page_past}
-use Rattle.nb_model.specs.Image.{Page, Image, page_at, image_size, image_in}
+use Rattle.nb_model.specs.Image.{Page, Image, page_at, image_size, image_in, trimmed}
 use Rattle.nb_model.specs.Account.{Base}
-use Rattle.nb_model.specs.Sound.{HasNoZeros}
-use Rattle.nb_model.specs.Owner.{delta_name, entry_for, behind_entries, slot_page, main_page, owned_page}
-use Rattle.nb_model.proofs.ImageLaws.{length-joined, page-joined, zeros-are, all-right}
+use Rattle.nb_model.specs.Owner.{delta_name, entry_for, slot_page, main_page, owned_page}
+use Rattle.nb_model.proofs.ImageLaws.{length-joined, page-joined, all-right}
 use Rattle.nb_model.proofs.MainLaws.{IsLaid}
 use Rattle.nb_model.proofs.OwnerLaws.{main_here, main_past}
 use Rattle.nb_model.proofs.SoundLaws.{all_at}
+use Rattle.nb_model.proofs.TrimLaws.{trimmed_alike}
 use Rattle.nb_base.specs.Open.{Held, IsMerged}
-use Rattle.nb_base.proofs.OwnedLaws.{Holds, is_owned, owned-entry, owned-none, entry-first, entry-later, entry_at, base-length, base-page}
+use Rattle.nb_base.proofs.OwnedLaws.{Holds, owned-entry, owned-none, entry_at, main-some, base-length, base-page}
 use Rattle.nb_base.proofs.WrittenLaws.{laid_image, zeros_is}
 
 -- A page of the main file, as its bytes have it.
@@ -50,23 +49,6 @@ module _ (main : Image) (bytes : List ℕ) (l : IsLaid main bytes) where
           page_past (image_size main) p bytes (omega (arith, most, long)) ∙ sym (main_past (image_size main) main p (omega (arith, w.1)))
     ]
   ]
-
--- some entry is the greatest
-pub record IsGreatest (table : List ℕ) : Type 0 where
-  pub page : ℕ
-  pub entry : ℕ
-  pub at : entry_for page table ≡ Some entry
-  pub last : page + 1 ≡ behind_entries table
-
-pub greatest : (table : List ℕ) → 0 < behind_entries table → IsGreatest table
-greatest [] some = absurd (omega (arith, some))
-greatest (q ∷ qs) some = elim (leb_tells (behind_entries qs) (q + 1)) [
-  | inl w ↦ record { page = q; entry = 0; at = entry-first q q qs refl; last = omega (arith, w.1) }
-  | inr w ↦ by (greatest qs (omega (arith, w.1))) (omega (arith, w.1))
-]
-  where
-    by : IsGreatest qs → q + 1 < behind_entries qs → IsGreatest (q ∷ qs)
-    by g above = record { page = g.page; entry = suc g.entry; at = entry-later g.page q qs (λ e. absurd (omega (arith, e, above, g.last))) ∙ ap Rattle.nb_base.proofs.OwnedLaws.later g.at; last = omega (arith, g.last, above) }
 
 -- Every entry is equal in both files.
 module _ (held : Held) (files : Files) (b : Base) (h : Holds b (files held.name) (files (delta_name held.name))) (sized : held.page_size ≡ image_size h.main) (entries : held.entries ≡ b.diverted)
@@ -116,24 +98,20 @@ module _ (held : Held) (files : Files) (b : Base) (h : Holds b (files held.name)
       by None e = owned-none (image_size h.main) h.main delta b.diverted 0 e ∙ main_here (image_size h.main) h.main 0 some
       by (Some k) e = owned-entry (image_size h.main) h.main delta b.diverted 0 k e ∙ slot_zero k e
 
-  -- no entry is behind the main file's pages, since the last page of the image isn't zeros
-  none_behind : HasNoZeros b.image → behind_entries b.diverted ≤ length h.main
-  none_behind full = elim (leb_tells (behind_entries b.diverted) (length h.main)) [
-    | inl w ↦ w.1
-    | inr w ↦ absurd (past (greatest b.diverted (omega (arith, w.1))) (omega (arith, w.1)))
+  -- each page of the image is the main file's, or zeros behind it
+  page_alike : (p : ℕ) → main_page (image_size h.main) b.image p ≡ main_page (image_size h.main) h.main p
+  page_alike p = elim (leb_tells (suc p) (length b.image)) [
+    | inl w ↦ main_here (image_size h.main) b.image p w.1 ∙ base-page b (files held.name) (files (delta_name held.name)) h p w.1 ∙ by p
+    | inr w ↦
+        main_past (image_size h.main) b.image p (omega (arith, w.1)) ∙ sym (main_past (image_size h.main) h.main p (omega (arith, w.1, base-length b (files held.name) (files (delta_name held.name)) h)))
   ]
     where
-      past : IsGreatest b.diverted → length h.main < behind_entries b.diverted → ⊥
-      past g above =
-          let low : g.page < length b.image = omega (arith, g.last, above, base-length b (files held.name) (files (delta_name held.name)) h) in
-          let other : g.page ≢ 0 = λ e. absurd (omega (arith, e, above, g.last, Rattle.nb_base.proofs.OwnedLaws.main-some b (files held.name) (files (delta_name held.name)) h)) in
-          let zeros : page_at b.image g.page ≡ replicate (image_size h.main) 0 =
-          base-page b (files held.name) (files (delta_name held.name)) h g.page low ∙ page_same g.page other ∙ main_past (image_size h.main) h.main g.page (omega (arith, g.last, above)) in
-          true≢false (sym (zeros-are (image_size h.main)) ∙ ap is_zeros (sym zeros) ∙ all_at (λ page. is_zeros page ≡ false) b.image full g.page low)
+      some : 1 ≤ length h.main
+      some = main-some b (files held.name) (files (delta_name held.name)) h
 
-  pub merged_alone : HasNoZeros b.image → b.image ≡ h.main
-  merged_alone full = h.image ∙ sym (is_owned (image_size h.main) h.main delta b.diverted h.main (omega (arith, none_behind full)) each)
-    where
-      each : (p : ℕ) → p < length h.main → page_at h.main p ≡ owned_page (image_size h.main) h.main delta b.diverted p
-      each zero low = sym (page_zero low)
-      each (suc q) low = sym (page_same (suc q) (λ e. absurd (omega (arith, e))) ∙ main_here (image_size h.main) h.main (suc q) low)
+      by : (n : ℕ) → owned_page (image_size h.main) h.main delta b.diverted n ≡ main_page (image_size h.main) h.main n
+      by zero = page_zero (omega (arith, some)) ∙ sym (main_here (image_size h.main) h.main 0 (omega (arith, some)))
+      by (suc q) = page_same (suc q) (λ e. absurd (omega (arith, e)))
+
+  pub merged_alone : trimmed b.image ≡ h.main
+  merged_alone = trimmed_alike (image_size h.main) b.image h.main page_alike ∙ h.has.laid.whole

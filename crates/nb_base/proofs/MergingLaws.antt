@@ -6,7 +6,6 @@ use Rattle.std.proofs.lemmas.Bool.Decides.{eqb_tells}
 use Rattle.std.proofs.lemmas.List.{drop_at, length-take-le}
 use Rattle.nb_fields.specs.Header.{size_of}
 use Rattle.std.proofs.lemmas.Bool.{true≢false}
-use Rattle.nb_fields.specs.Bytes.{is_zeros}
 use Rattle.nb_fields.specs.Table.{page_in, slot_place}
 use Rattle.nb_host.specs.Files.{File, Files, bytes_of, with_file, with_page as with_page_at}
 use Rattle.nb_host.specs.World.{World}
@@ -16,23 +15,25 @@ use Rattle.nb_change.proofs.ChangesLaws.{rested, composed, all_before}
 use Rattle.nb_delta.specs.Entries.{AreEntries}
 use Rattle.nb_delta.proofs.TellLemmas.{apart_at}
 use Rattle.nb_page.specs.Quiet.{Quiet}
-use Rattle.nb_model.specs.Image.{Page, Image, page_at, image_size, image_state, image_in, written_at}
+use Rattle.nb_model.specs.Image.{Page, Image, page_at, image_size, image_state, image_in, trimmed, written_at}
 use Rattle.nb_model.specs.Causes.{not_database}
-use Rattle.nb_model.specs.Sound.{HasNoZeros}
+use Rattle.nb_model.specs.Sound.{IsOfSize}
 use Rattle.nb_model.specs.Owner.{delta_name, entry_for, slot_page, main_page, owned_page}
 use Rattle.nb_model.specs.Trail.{Trail, ShowsIn}
 use Rattle.nb_base.specs.Firm.{StandsFirm}
 use Rattle.nb_model.proofs.OwnerLaws.{named, main_here, other_page, written_length}
-use Rattle.nb_model.proofs.SoundLaws.{all_at}
+use Rattle.nb_model.proofs.ImageLaws.{all-left}
+use Rattle.nb_model.proofs.MainLaws.{some_page}
 use Rattle.nb_model.proofs.TrailLaws.{itself_firm}
+use Rattle.nb_model.proofs.TrimLaws.{trimmed_page}
 use Rattle.nb_base.specs.Open.{Held, OfFiles, IsOpen, IsMerged, AreMerged}
-use Rattle.nb_base.specs.Seen.{IsSeen, IsWrite}
+use Rattle.nb_base.specs.Seen.{IsSeen}
 use Rattle.nb_base.specs.Takes.{StrikesFirm}
 use Rattle.nb_base.proofs.MergeLaws.{page_in-main}
 use Rattle.nb_base.proofs.OwnedLaws.{Holds, entry-first, entry-later, later, owned-entry, base-length, base-page, base-size, bytes-size, main-some, main-long}
-use Rattle.nb_base.proofs.StepLaws.{may, main-size}
+use Rattle.nb_base.proofs.HiddenLaws.{MayHide, may_lay}
 use Rattle.nb_base.proofs.StrokeLaws.{h0}
-use Rattle.nb_base.proofs.WrittenLaws.{HasMain, main_put, written_same, laid_formed, laid_image}
+use Rattle.nb_base.proofs.WrittenLaws.{HasMain, MayLay, main_over, written_same, written_sizes, laid_formed, laid_image}
 use Rattle.nb_base.proofs.WriteLaws.{delta_apart}
 
 -- no page is named twice, so that each entry is its page's
@@ -62,7 +63,7 @@ pub struck_joined : (old mid new : World) (name : List ℕ) (t : Trail) → Stri
 struck_joined old mid new name t first second = composed old mid new (OfFiles name) (StandsFirm name t) (StandsFirm name t) (StandsFirm name t) first second (λ files stands. stands) (λ files stands. stands)
 
 -- An entry of a database that is open, in the merge state.
-module _ (old : World) (held : Held) (t : Trail) (is : IsOpen old held t) (merges : held.state ≡ 2) (full : HasNoZeros t.base.image) (k : ℕ) (inside : k < length held.entries) (are : AreEntries held.entries)
+module _ (old : World) (held : Held) (t : Trail) (is : IsOpen old held t) (merges : held.state ≡ 2) (k : ℕ) (inside : k < length held.entries) (are : AreEntries held.entries)
     (number : ℕ) (names : number ≡ get_or held.entries k 0) (below : number < 1048576) (page : Page)
     (long : length page ≡ held.page_size) where
   abbrev g : Holds t.base (old.files held.name) (old.files (delta_name held.name))
@@ -97,27 +98,32 @@ module _ (old : World) (held : Held) (t : Trail) (is : IsOpen old held t) (merge
     page_is : page ≡ page_at t.base.image number
     page_is = read ∙ ap (λ (l : List ℕ). owned_page (image_size g.main) g.main delta l number) is.agrees.entries ∙ sym (base-page t.base _ _ g number low)
 
-    pub its_write : IsWrite t number page
-    its_write = record {
+    pub its_hiding : MayHide t number page
+    its_hiding = record {
       fits = record { low = omega (arith, low); front = λ e. ap (take 64) page_is ∙ ap (λ n. take 64 (page_at t.base.image n)) e };
       long = long ∙ is.agrees.page_size;
       below = below;
-      other = ap is_zeros page_is ∙ all_at (λ x. is_zeros x ≡ false) t.base.image full number low;
     }
 
     slot : page ≡ slot_page (image_size g.main) g.main delta number k
     slot = read ∙ ap (λ (l : List ℕ). owned_page (image_size g.main) g.main delta l number) is.agrees.entries ∙ owned-entry (image_size g.main) g.main delta t.base.diverted number k its_entry
 
     size : held.page_size ≡ image_size g.main
-    size = is.agrees.page_size ∙ sym (main-size t number page its_write t.base (itself_firm t) _ _ g)
+    size = is.agrees.page_size ∙ base-size t.base _ _ g
 
     -- what the main file's bytes have then
     module _ (new : Files) (put : new ≡ with_file old.files held.name (with_page_at (old.files held.name) (number * length page) page)) where
+      abbrev laid_over : Image
+      laid_over = written_at (image_size g.main) (number, page) g.main
+
       abbrev after : Image
-      after = written_at (image_size g.main) (number, page) g.main
+      after = trimmed laid_over
+
+      laying : MayLay number page (h0 old held t is).main
+      laying = may_lay t number page its_hiding two t.base (itself_firm t) _ _ g
 
       has : HasMain after (new held.name)
-      has = main_put g.main (old.files held.name) (new held.name) number page g.has (may t number page its_write t.base (itself_firm t) _ _ g) (ap (λ (f : Files). f held.name) put ∙ with_file-same old.files held.name _)
+      has = main_over g.main (old.files held.name) (new held.name) number page g.has laying (ap (λ (f : Files). f held.name) put ∙ with_file-same old.files held.name _)
 
       beside : new (delta_name held.name) ≡ old.files (delta_name held.name)
       beside = ap (λ (f : Files). f (delta_name held.name)) put ∙ with_file-other old.files held.name _ (delta_name held.name) (delta_apart held.name)
@@ -125,13 +131,26 @@ module _ (old : World) (held : Held) (t : Trail) (is : IsOpen old held t) (merge
       some : 1 ≤ length g.main
       some = main-some t.base _ _ g
 
-      longer : 1 ≤ length (written_at (image_size g.main) (number, page) g.main)
-      longer = omega (arith, some, written_length (image_size g.main) number page g.main)
+      longer : 1 ≤ length after
+      longer = some_page after has.laid.header
 
-      later_size : image_size (written_at (image_size g.main) (number, page) g.main) ≡ image_size g.main
+      sizes : IsOfSize (image_size g.main) g.main
+      sizes = all-left (λ x. length x ≡ image_size g.main) g.main g.has.laid.rest g.has.laid.sizes
+
+      -- each page is seen so, with the pages of zeros at the end or without them
+      after_page : (q : ℕ) → main_page (image_size g.main) after q ≡ main_page (image_size g.main) laid_over q
+      after_page q = trimmed_page (image_size g.main) laid_over (written_sizes (image_size g.main) number page g.main sizes laying.long) q
+
+      other_after : (q : ℕ) → q ≢ number → main_page (image_size g.main) after q ≡ main_page (image_size g.main) g.main q
+      other_after q other = after_page q ∙ other_page (image_size g.main) number page g.main q other
+
+      here : main_page (image_size g.main) after number ≡ page
+      here = after_page number ∙ main_here (image_size g.main) laid_over number (omega (arith, written_length (image_size g.main) number page g.main)) ∙ written_same (image_size g.main) number page g.main
+
+      later_size : image_size after ≡ image_size g.main
       later_size = elim (eqb_tells number 0) [
-        | inl w ↦ ap (λ n. size_of (page_at (written_at (image_size g.main) (number, page) g.main) n)) (sym w.1) ∙ ap size_of (written_same (image_size g.main) number page g.main) ∙ (may t number page its_write t.base (itself_firm t) _ _ g).size w.1
-        | inr w ↦ ap size_of (sym (main_here (image_size g.main) after 0 longer) ∙ other_page (image_size g.main) number page g.main 0 (λ e. w.1 (sym e)) ∙ main_here (image_size g.main) g.main 0 some)
+        | inl w ↦ ap size_of (sym (main_here (image_size g.main) after 0 longer) ∙ ap (main_page (image_size g.main) after) (sym w.1) ∙ here) ∙ laying.size w.1
+        | inr w ↦ ap size_of (sym (main_here (image_size g.main) after 0 longer) ∙ other_after 0 (λ e. w.1 (sym e)) ∙ main_here (image_size g.main) g.main 0 some)
       ]
 
       page_now : (q : ℕ) → page_in held.page_size (bytes_of (new held.name)) q ≡ main_page (image_size g.main) after q
@@ -145,9 +164,6 @@ module _ (old : World) (held : Held) (t : Trail) (is : IsOpen old held t) (merge
 
       first_then : page_at (image_in (bytes_of (old.files held.name))) 0 ≡ main_page (image_size g.main) g.main 0
       first_then = ap (λ (f : File). page_at (image_in (bytes_of f)) 0) g.has.there ∙ ap (λ (x : Image). page_at x 0) (laid_image g.main g.has.bytes g.has.laid) ∙ sym (main_here (image_size g.main) g.main 0 some)
-
-      here : main_page (image_size g.main) after number ≡ page
-      here = main_here (image_size g.main) after number (omega (arith, written_length (image_size g.main) number page g.main)) ∙ written_same (image_size g.main) number page g.main
 
       slot_now : (j : ℕ) → page_in held.page_size (bytes_of (new (delta_name held.name))) (slot_place held.page_size j) ≡ page_in held.page_size delta (slot_place held.page_size j)
       slot_now j = ap (λ (f : File). page_in held.page_size (bytes_of f) (slot_place held.page_size j)) beside
@@ -179,8 +195,8 @@ module _ (old : World) (held : Held) (t : Trail) (is : IsOpen old held t) (merge
           let apart : get_or held.entries j 0 ≢ number = λ e.
           other (some_same (sym (entry_named held.entries j once fits) ∙ ap (λ n. entry_for n held.entries) (e ∙ names) ∙ entry_named held.entries k once inside)) in
           record {
-            later = λ e. ap (drop 64) (first_now ∙ other_page (image_size g.main) number page g.main 0 (λ z. apart (e ∙ z)) ∙ sym first_then) ∙ was.later e ∙ ap (drop 64) (sym (slot_now j));
-            same = λ some. page_now (get_or held.entries j 0) ∙ other_page (image_size g.main) number page g.main (get_or held.entries j 0) apart ∙ sym (page_then (get_or held.entries j 0)) ∙ was.same some ∙ sym (slot_now j);
+            later = λ e. ap (drop 64) (first_now ∙ other_after 0 (λ z. apart (e ∙ z)) ∙ sym first_then) ∙ was.later e ∙ ap (drop 64) (sym (slot_now j));
+            same = λ some. page_now (get_or held.entries j 0) ∙ other_after (get_or held.entries j 0) apart ∙ sym (page_then (get_or held.entries j 0)) ∙ was.same some ∙ sym (slot_now j);
           }
 
       pub merged_next : (w : World) → w.files ≡ new → AreMerged old held k → AreMerged w held (k + 1)

@@ -15,7 +15,7 @@ use Rattle.nb_model.proofs.TrailLaws.{itself_firm, trail_base}
 use Rattle.nb_base.specs.Seen.{IsWrite}
 use Rattle.nb_base.proofs.OwnedLaws.{Holds, holds, shows, main-some, main-long, base-state, base-size, entry_shows, entry-front, entry-behind}
 use Rattle.nb_base.proofs.LeftLaws.{stroke-image, stroke-frozen, stroke-stalled, noted-new, later_size, later_length, later_front, put_left, stay_left}
-use Rattle.nb_base.proofs.StepLaws.{main-state, main-size, holds_main, left_main, hidden_main, holds_slots, holds_slot, none_left}
+use Rattle.nb_base.proofs.StepLaws.{main-state, main-size, holds_main, left_main, holds_slots, holds_slot, none_left}
 
 some_same : {j k : ℕ} → Some j ≡ Some k → j ≡ k
 some_same h = cc
@@ -79,21 +79,6 @@ module _ (name : List ℕ) (t : Trail) (p : ℕ) (bytes : Page) (is : IsWrite t 
     shows_main_put o put =
         let h : Holds t.base m d = holds name t.base m d o in
         shows name (on_base s t.base) c d (holds_main t p bytes is t.base (itself_firm t) m d h other none c put) ∙ ap (λ (x : Base). Ok x) (sym (trail_base s t))
-
-  -- It is written there, and its entry hides it.
-  module _ (merges : image_state now ≡ 2) (k : ℕ) (at : entry_for p t.base.diverted ≡ Some k) (m d c : File) where
-    not_stalled : image_state now ≢ 1
-    not_stalled e = absurd (omega (arith, e, merges))
-
-    pub stands_hidden : StandsFirmOn name t m d → PageLeft (p * length bytes) bytes m c → StandsFirmOn name t c d
-    stands_hidden o step =
-        let h : Holds o.base m d = holds name o.base m d o.opens in
-        stands_same o.base o.left c d (hidden_main t p bytes is o.base o.left m d h not_stalled k (ap (entry_for p) (o.left.rest.merging merges) ∙ at) c step)
-
-    pub shows_hidden : owner name m d ≡ Ok t.base → PageLeft (p * length bytes) bytes m c → owner name c d ≡ Ok t.base
-    shows_hidden o step =
-        let h : Holds t.base m d = holds name t.base m d o in
-        shows name t.base c d (hidden_main t p bytes is t.base (itself_firm t) m d h not_stalled k at c step)
 
   -- With this difference file no entry is missing, whatever the main file.
   pub all_entries : 0 < image_state now → (m n d : File) (o : StandsFirmOn name t m d) → owner name n d ≡ Ok t.base → o.base.diverted ≡ t.base.diverted

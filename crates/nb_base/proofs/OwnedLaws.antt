@@ -1,26 +1,30 @@
 -- What two files hold of a database, in each backup state, and what a change of one of them makes of its image.
-use Rattle.std.proofs.Common.{◌≡◌, ◌≢◌, inl, inr, ℕ, zero, suc, ◌+◌, ◌<◌, ◌≤◌, List, [], ◌∷◌, ◌++◌, length, get_or, take, drop, refl, sym, ap, subst, ◌∙◌, arith}
+use Rattle.std.proofs.Common.{◌≡◌, ◌≢◌, inl, inr, ℕ, zero, suc, ◌+◌, ◌<◌, ◌≤◌, List, [], ◌∷◌, ◌++◌, length, get_or, take, drop, refl, sym, ap, subst, ◌∙◌, arith, length-append}
 use Rattle.std.specs.Prelude.{Bool, true, false, ◌==◌, Option, Some, None, Result, Ok, Err, max}
 use Rattle.std.proofs.lemmas.Bool.Decides.{leb_tells, eqb_tells}
-use Rattle.std.proofs.lemmas.List.{ext_get_or}
+use Rattle.std.proofs.lemmas.List.{ext_get_or, length-drop, length-replicate, length-take-le}
 use Rattle.nb_fields.specs.Header.{is_header, state_of, size_of}
 use Rattle.nb_fields.specs.Table.{table_of, page_in, slot_place}
 use Rattle.nb_host.specs.Files.{File, bytes_of}
 use Rattle.nb_host.specs.declared.refusals.Refusal.{Refusal}
 use Rattle.nb_host.specs.declared.refusals.Refusal.TheVariants.{BadDelta, Unfinished}
 use Rattle.nb_delta.specs.Slots.{HasTable}
-use Rattle.nb_model.specs.Image.{Page, Image, page_at, first_page, image_size, image_state, image_in, with_page, written_at}
+use Rattle.nb_delta.proofs.PageLemmas.{length-page_in}
+use Rattle.nb_model.specs.Image.{Page, Image, page_at, first_page, image_size, image_state, image_in, trimmed, with_page, written_at}
+use Rattle.nb_model.specs.Sound.{IsOfSize}
 use Rattle.nb_model.specs.Causes.{Cause, not_database}
 use Rattle.nb_model.specs.Account.{Base, base_of}
 use Rattle.nb_model.specs.Strokes.{merged_page}
 use Rattle.nb_model.specs.Owner.{entry_for, behind_entries, slot_page, main_page, owned_page, owned_from, owned, diverted_base, owner_with, owner_in, owner}
 use Rattle.nb_model.proofs.FormLaws.{formed}
 use Rattle.nb_model.proofs.HeaderLaws.{header-long, header-state, same-header, same-number}
-use Rattle.nb_model.proofs.MainLaws.{laid, laid-front, some_page, owner-none, owner-refused, owner-formed, owner_in-normal, owned-first, owned-front, ok_same}
-use Rattle.nb_model.proofs.OwnerLaws.{main_here, other_page, written_length, named}
-use Rattle.nb_model.proofs.SoundLaws.{with_page_length}
+use Rattle.nb_model.proofs.MainLaws.{laid, laid-front, laid-wide, some_page, owner-none, owner-refused, owner-formed, owner_in-normal, owned-first, owned-front, ok_same}
+use Rattle.nb_model.proofs.OwnerLaws.{main_here, main_past, other_page, written_length, named}
+use Rattle.nb_model.proofs.SoundLaws.{all_at, with_page_length}
+use Rattle.nb_model.proofs.ImageLaws.{IsTrimmed, all-left}
 use Rattle.nb_model.proofs.StrokeLaws.{with_page_same, with_page_other}
-use Rattle.nb_base.proofs.WrittenLaws.{HasMain, laid_formed, laid_image, written_same}
+use Rattle.nb_model.proofs.TrimLaws.{trimmed_length, trimmed_at, trimmed_page}
+use Rattle.nb_base.proofs.WrittenLaws.{HasMain, laid_formed, laid_image, written_same, written_inner, written_sizes}
 
 -- The image of two files, page by page.
 module _ (size : ℕ) (main : Image) (delta table : List ℕ) where
@@ -55,6 +59,30 @@ module _ (size : ℕ) (main : Image) (delta table : List ℕ) where
   pub owned-none : (p : ℕ) → entry_for p table ≡ None → owned_page size main delta table p ≡ main_page size main p
   unfolding owned_page
   owned-none p is = ap (λ (x : Option ℕ). elim x as (λ z. Page) [ Some k ↦ slot_page size main delta p k | None ↦ main_page size main p ]) is
+
+-- each page of them has the size of a page
+module _ (size : ℕ) (main : Image) (delta table : List ℕ) (sizes : IsOfSize size main) (wide : 64 ≤ size) (some : 1 ≤ length main) where
+  main_wide : (p : ℕ) → length (main_page size main p) ≡ size
+  main_wide p = elim (leb_tells (suc p) (length main)) [
+    | inl w ↦ ap length (main_here size main p w.1) ∙ all_at (λ page. length page ≡ size) main sizes p w.1
+    | inr w ↦ ap length (main_past size main p (omega (arith, w.1))) ∙ length-replicate {A = ℕ} size 0
+  ]
+
+  slot_wide : (p k : ℕ) → length (slot_page size main delta p k) ≡ size
+  unfolding slot_page
+  slot_wide zero k =
+      let page : List ℕ = page_in size delta (slot_place size k) in
+      let full : length (page_at main 0) ≡ size = all_at (λ page. length page ≡ size) main sizes 0 some in
+      let front : length (take 64 (page_at main 0)) ≡ 64 = length-take-le 64 (page_at main 0) (omega (arith, wide, full)) in
+      omega (arith, length-append (take 64 (page_at main 0)) (drop 64 page), front, length-drop 64 page, length-page_in size delta (slot_place size k), wide)
+  slot_wide (suc p) k = length-page_in size delta (slot_place size k)
+
+  owned-sizes : (p : ℕ) → length (owned_page size main delta table p) ≡ size
+  owned-sizes p = by (entry_for p table) refl
+    where
+      by : (x : Option ℕ) → entry_for p table ≡ x → length (owned_page size main delta table p) ≡ size
+      by None is = ap length (owned-none size main delta table p is) ∙ main_wide p
+      by (Some k) is = ap length (owned-entry size main delta table p k is) ∙ slot_wide p k
 
 -- where there are no entries it is the main file's
 pub owned-alone : (size : ℕ) (main : Image) (delta : List ℕ) → main ≡ owned size main delta []
@@ -163,6 +191,20 @@ pub behind-added : (p : ℕ) (table : List ℕ) → behind_entries (table ++ p �
 behind-added p [] = omega arith
 behind-added p (q ∷ qs) = omega (arith, behind-added p qs)
 
+-- A page is the same with two main files that have the same front, and the same page there where no entry names it.
+slot_alike : (size : ℕ) (a b : Image) (delta : List ℕ) (q k : ℕ) → take 64 (page_at a 0) ≡ take 64 (page_at b 0) → slot_page size a delta q k ≡ slot_page size b delta q k
+unfolding slot_page
+slot_alike size a b delta zero k front = ap (λ (x : List ℕ). x ++ drop 64 (page_in size delta (slot_place size k))) front
+slot_alike size a b delta (suc q) k front = refl
+
+owned_alike : (size : ℕ) (a b : Image) (delta table : List ℕ) (q : ℕ) → take 64 (page_at a 0) ≡ take 64 (page_at b 0) → (entry_for q table ≡ None → main_page size a q ≡ main_page size b q)
+    → owned_page size a delta table q ≡ owned_page size b delta table q
+owned_alike size a b delta table q front same = by (entry_for q table) refl
+  where
+    by : (x : Option ℕ) → entry_for q table ≡ x → owned_page size a delta table q ≡ owned_page size b delta table q
+    by None is = owned-none size a delta table q is ∙ same is ∙ sym (owned-none size b delta table q is)
+    by (Some k) is = owned-entry size a delta table q k is ∙ slot_alike size a b delta q k front ∙ sym (owned-entry size b delta table q k is)
+
 -- One page of the main file is written, which keeps the first 64 bytes of page 0.
 module _ (size : ℕ) (main : Image) (delta table : List ℕ) (p : ℕ) (page : Page) (some : 1 ≤ length main) (long : 64 ≤ length (page_at main 0))
     (front : p ≡ 0 → take 64 page ≡ take 64 (page_at main 0)) where
@@ -178,19 +220,9 @@ module _ (size : ℕ) (main : Image) (delta table : List ℕ) (p : ℕ) (page : 
     | inr w ↦ ap (take 64) (sym (main_here size new 0 (omega (arith, longer))) ∙ other_page size p page main 0 (λ e. w.1 (sym e)) ∙ main_here size main 0 (omega (arith, some)))
   ]
 
-  -- a slot reads as before
-  slot_stays : (q k : ℕ) → slot_page size (written_at size (p, page) main) delta q k ≡ slot_page size main delta q k
-  unfolding slot_page
-  slot_stays zero k = ap (λ (x : List ℕ). x ++ drop 64 (page_in size delta (slot_place size k))) front_stays
-  slot_stays (suc q) k = refl
-
-  -- and so does every other page
+  -- every other page stays
   other_stays : (q : ℕ) → q ≢ p → owned_page size (written_at size (p, page) main) delta table q ≡ owned_page size main delta table q
-  other_stays q other = by (entry_for q table) refl
-    where
-      by : (x : Option ℕ) → entry_for q table ≡ x → owned_page size new delta table q ≡ owned_page size main delta table q
-      by None is = owned-none size new delta table q is ∙ other_page size p page main q other ∙ sym (owned-none size main delta table q is)
-      by (Some k) is = owned-entry size new delta table q k is ∙ slot_stays q k ∙ sym (owned-entry size main delta table q k is)
+  other_stays q other = owned_alike size new main delta table q front_stays (λ none. other_page size p page main q other)
 
   -- Where no entry names it, it is the page of the image.
   pub main_shows : entry_for p table ≡ None → p ≤ length (owned size main delta table) → owned size (written_at size (p, page) main) delta table ≡ with_page p page (owned size main delta table)
@@ -205,17 +237,20 @@ module _ (size : ℕ) (main : Image) (delta table : List ℕ) (p : ℕ) (page : 
         | inr w ↦ with_page_other p q page image low w.1 ∙ owned-page size main delta table q (omega (arith, below, all, low, w.1)) ∙ sym (other_stays q w.1)
       ]))
 
-  -- Where one does, the image stays.
-  pub main_hidden : (k : ℕ) → entry_for p table ≡ Some k → owned size (written_at size (p, page) main) delta table ≡ owned size main delta table
-  main_hidden k is =
+  -- Where one does, the image stays, zeros or not: the main file's image has none at its end.
+  pub main_hidden : (k : ℕ) → entry_for p table ≡ Some k → IsOfSize size main → IsTrimmed main → length page ≡ size → 1 ≤ length (trimmed (written_at size (p, page) main))
+      → owned size (trimmed (written_at size (p, page) main)) delta table ≡ owned size main delta table
+  main_hidden k is sizes whole wide there =
       let image : Image = owned size main delta table in
       let has : length image ≡ max (length main) (behind_entries table) = owned-length size main delta table in
       let inside : p + 1 ≤ behind_entries table = named p table k is in
-      sym (is_owned size new delta table image (omega (arith, has, longer, inside))
-      (λ q below. owned-page size main delta table q below ∙ (elim (eqb_tells q p) [
-        | inl w ↦ ap (owned_page size main delta table) w.1 ∙ owned-entry size main delta table p k is ∙ sym (slot_stays p k) ∙ sym (owned-entry size new delta table p k is) ∙ sym (ap (owned_page size new delta table) w.1)
-        | inr w ↦ sym (other_stays q w.1)
-      ])))
+      sym (is_owned size (trimmed new) delta table image (elim (leb_tells (length main) (behind_entries table)) [
+        | inl w ↦ omega (arith, has, longer, inside, trimmed_length new, w.1)
+        | inr w ↦ omega (arith, has, longer, inside, w.1, ap length (written_inner size p page main (omega (arith, inside, w.1)) whole))
+      ])
+      (λ q below. owned-page size main delta table q below
+      ∙ sym (owned_alike size (trimmed new) main delta table q (ap (take 64) (trimmed_at new 0 there) ∙ front_stays)
+      (λ none. trimmed_page size new (written_sizes size p page main sizes wide) q ∙ other_page size p page main q (λ same. none_some (sym none ∙ ap (λ n. entry_for n table) same ∙ is))))))
 
 -- The difference file changes, and the main file stays.
 module _ (size : ℕ) (main : Image) (delta new : List ℕ) where
@@ -499,3 +534,10 @@ module _ (b : Base) (m d : File) (h : Holds b m d) where
 
   pub base-page : (p : ℕ) → p < length b.image → page_at b.image p ≡ owned_page (image_size h.main) h.main (bytes_of d) b.diverted p
   base-page p low = ap (λ (x : Image). page_at x p) h.image ∙ owned-page (image_size h.main) h.main (bytes_of d) b.diverted p (omega (arith, low, ap length h.image))
+
+  -- each page has the size of a page
+  pub base-sizes : (p : ℕ) → p < length b.image → length (page_at b.image p) ≡ image_size b.image
+  base-sizes p low =
+      let wide : 1024 ≤ image_size h.main = laid-wide h.main h.has.bytes h.has.laid in
+      ap length (base-page p low)
+      ∙ owned-sizes (image_size h.main) h.main (bytes_of d) b.diverted (all-left (λ page. length page ≡ image_size h.main) h.main h.has.laid.rest h.has.laid.sizes) (omega (arith, wide)) main-some p ∙ sym base-size

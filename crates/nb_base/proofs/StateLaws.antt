@@ -6,12 +6,13 @@ use Rattle.nb_fields.specs.Header.{size_of, state_of}
 use Rattle.nb_fields.proofs.PartLemmas.{length-part, part-take}
 use Rattle.nb_host.specs.Files.{File, bytes_of}
 use Rattle.nb_delta.specs.Slots.{HasTable}
-use Rattle.nb_model.specs.Image.{Image, first_page, image_size, image_state, image_scn, image_guid}
+use Rattle.nb_model.specs.Image.{Image, first_page, image_size, image_state, image_scn, image_guid, trimmed}
 use Rattle.nb_model.specs.Account.{Ask, Base}
 use Rattle.nb_model.specs.Strokes.{controlled, with_control, begin, ends, finish, on_base}
 use Rattle.nb_model.specs.Owner.{owned}
 use Rattle.nb_model.proofs.HeaderLaws.{header-long, same-number}
 use Rattle.nb_model.proofs.MainLaws.{some_page}
+use Rattle.nb_model.proofs.TrimLaws.{finish_base}
 use Rattle.nb_base.specs.Control.{next_scn, next_guid, in_state, HasImage}
 use Rattle.nb_base.specs.Open.{Held, Agrees}
 use Rattle.nb_base.proofs.ControlLaws.{controlled-size, controlled-state, with_control-first, with_control-length, owned-control}
@@ -71,11 +72,14 @@ ends-base : (b : Base) → on_base ends b ≡ record b { image = in_state 2 None
 unfolding on_base
 ends-base b = refl
 
-finish-base : (b : Base) → on_base finish b ≡ record b { image = in_state 0 None b.image; diverted = [] }
-unfolding on_base
-finish-base b = refl
-
 module _ (b : Base) (m d : File) (h : Holds b m d) where
+  -- the control block is the main file's
+  scn_same : image_scn b.image ≡ image_scn h.main
+  scn_same = same-number (first_page b.image) (first_page h.main) (base-front b m d h) 28 4 (omega arith)
+
+  guid_same : image_guid b.image ≡ image_guid h.main
+  guid_same = sym (part-take 64 32 16 (first_page b.image) (omega arith)) ∙ ap (part 32 16) (base-front b m d h) ∙ part-take 64 32 16 (first_page h.main) (omega arith)
+
   -- A backup begins: the main file is frozen, and the difference file is empty.
   module _ (guid : List ℕ) (ask : Option Ask) (sixteen : length guid ≡ 16) (normal : image_state h.main ≡ 0) (c e : File) (put : HasImage (in_state 1 (Some guid) h.main) c) (empty : HasTable (image_size h.main) e []) where
     abbrev now : Image
@@ -107,12 +111,6 @@ module _ (b : Base) (m d : File) (h : Holds b m d) where
     size : image_size (in_state 2 None h.main) ≡ image_size h.main
     size = in_state-size h.main m h.has 2 None (omega arith) (kept_sixteen h.main m h.has)
 
-    scn_same : image_scn b.image ≡ image_scn h.main
-    scn_same = same-number (first_page b.image) (first_page h.main) (base-front b m d h) 28 4 (omega arith)
-
-    guid_same : image_guid b.image ≡ image_guid h.main
-    guid_same = sym (part-take 64 32 16 (first_page b.image) (omega arith)) ∙ ap (part 32 16) (base-front b m d h) ∙ part-take 64 32 16 (first_page h.main) (omega arith)
-
     image_is : in_state 2 None b.image ≡ owned (image_size (in_state 2 None h.main)) (in_state 2 None h.main) (bytes_of d) b.diverted
     image_is =
         ap (λ n. with_control 2 (n + 1) (image_guid b.image) b.image) scn_same ∙ ap (λ (g : List ℕ). with_control 2 (image_scn h.main + 1) g b.image) guid_same ∙ ap (with_control 2 (image_scn h.main + 1) (image_guid h.main)) h.image
@@ -129,20 +127,25 @@ module _ (b : Base) (m d : File) (h : Holds b m d) where
       frozen = record { stalled = λ one. absurd (omega (arith, merges, one)); other = λ ne. refl };
     })
 
-  -- The merge is finished: the main file alone has the image.
-  module _ (merges : image_state h.main ≡ 2) (alone : b.image ≡ h.main) (c e : File) (put : HasImage (in_state 0 None h.main) c) where
+  -- The merge is finished: the main file alone has the image, but for pages of zeros at its end.
+  module _ (merges : image_state h.main ≡ 2) (alone : trimmed b.image ≡ h.main) (c e : File) (put : HasImage (in_state 0 None h.main) c) where
     abbrev last : Image
     last = in_state 0 None h.main
 
     normal : image_state (in_state 0 None h.main) ≡ 0
     normal = in_state-state h.main m h.has 0 None (omega arith) (kept_sixteen h.main m h.has)
 
+    pub finished_image : with_control 0 (image_scn b.image) (image_guid b.image) (trimmed b.image) ≡ in_state 0 None h.main
+    finished_image =
+        ap (λ n. with_control 0 n (image_guid b.image) (trimmed b.image)) scn_same ∙ ap (λ (g : List ℕ). with_control 0 (image_scn h.main) g (trimmed b.image)) guid_same
+        ∙ ap (with_control 0 (image_scn h.main) (image_guid h.main)) alone
+
     pub finished_holds : Holds (on_base finish b) c e
-    finished_holds = subst (λ (x : Base). Holds x c e) (sym (finish-base b)) (record {
+    finished_holds = subst (λ (x : Base). Holds x c e) (sym (finish_base b)) (record {
       main = last;
       has = to_main last c put;
       opened = omega (arith, normal);
       entries = record { none = λ zero. refl; some = λ some. absurd (omega (arith, normal, some)) };
-      image = ap (in_state 0 None) alone ∙ owned-alone (image_size last) last (bytes_of e);
+      image = finished_image ∙ owned-alone (image_size last) last (bytes_of e);
       frozen = record { stalled = λ one. absurd (omega (arith, normal, one)); other = λ ne. h.frozen.other (λ one. absurd (omega (arith, merges, one))) };
     })

@@ -13,7 +13,7 @@ use Rattle.nb_model.specs.Trail.{Trail, IsFirm}
 use Rattle.nb_model.proofs.HeaderLaws.{same-header, same-number}
 use Rattle.nb_base.specs.Seen.{IsWrite}
 use Rattle.nb_base.proofs.WrittenLaws.{HasMain, MayWrite, main_put, main_written}
-use Rattle.nb_base.proofs.OwnedLaws.{Holds, main-some, main-long, base-front, base-state, base-size, front_stays, main_shows, main_hidden, slots_stay, slot_shows, entry-front}
+use Rattle.nb_base.proofs.OwnedLaws.{Holds, main-some, main-long, base-front, base-state, base-size, front_stays, main_shows, slots_stay, slot_shows, entry-front}
 use Rattle.nb_base.proofs.LeftLaws.{stroke-image, stroke-frozen, stroke-stalled, stroke-other, noted-there, fits_left, state_left, size_left, put_is}
 
 none_some : {k : ℕ} → None ≡ Some k → ⊥
@@ -95,21 +95,12 @@ module _ (t : Trail) (p : ℕ) (bytes : Page) (is : IsWrite t p bytes) where
     pub holds_main : image_state now ≢ 1 → entry_for p b.diverted ≡ None → (c : File) → c ≡ with_page_at m (p * length bytes) bytes → Holds (on_base s b) c d
     holds_main other none c put = shows_main other none c (main_put h.main m c p bytes h.has may put)
 
-    -- and hides it where one does
-    hides_main : image_state now ≢ 1 → (k : ℕ) → entry_for p b.diverted ≡ Some k → (c : File) → HasMain (written_at (image_size h.main) (p, bytes) h.main) c → Holds b c d
-    hides_main other k at c has =
-        main_moved b b m d c h new_main (λ e. other (sym main-state ∙ e)) has new_front refl refl
-        (h.image ∙ sym (main_hidden (image_size h.main) h.main (bytes_of d) b.diverted p bytes (main-some b m d h) (main-long b m d h) front_main k at))
-
     same_main : image_state now ≢ 1 → (c : File) → HasMain h.main c → Holds b c d
     same_main other c has = main_moved b b m d c h h.main (λ e. other (sym main-state ∙ e)) has refl refl refl h.image
 
     -- what a stop leaves of the write
     pub left_main : image_state now ≢ 1 → entry_for p b.diverted ≡ None → (c : File) → PageLeft (p * length bytes) bytes m c → Holds b c d ⊎ Holds (on_base s b) c d
     left_main other none c step = ⊎_elim (λ has. inl (same_main other c has)) (λ has. inr (shows_main other none c has)) (main_written h.main m c p bytes h.has may step)
-
-    pub hidden_main : image_state now ≢ 1 → (k : ℕ) → entry_for p b.diverted ≡ Some k → (c : File) → PageLeft (p * length bytes) bytes m c → Holds b c d
-    hidden_main other k at c step = ⊎_elim (same_main other c) (hides_main other k at c) (main_written h.main m c p bytes h.has may step)
 
     -- Of the difference file the table and the slots of the entries stay.
     pub holds_slots : 0 < image_state now → (c : File) → HasTable (image_size now) c b.diverted

@@ -28,7 +28,7 @@ use Rattle.nb_model.proofs.TrailLaws.{trail_base}
 use Rattle.nb_base.proofs.OwnedLaws.{Holds, holds, base-state, base-size}
 use Rattle.nb_base.proofs.LeftLaws.{later_state, stroke-other}
 use Rattle.nb_base.proofs.PlaceLaws.{place-entry}
-use Rattle.nb_base.proofs.OutcomeLaws.{stands_stays, stands_main, stands_main_put, shows_main_put, stands_hidden, shows_hidden, all_entries, stands_slot, stands_slot_put, shows_slot_put, stands_add, stands_added, shows_added}
+use Rattle.nb_base.proofs.OutcomeLaws.{stands_stays, stands_main, stands_main_put, shows_main_put, all_entries, stands_slot, stands_slot_put, shows_slot_put, stands_add, stands_added, shows_added}
 
 -- a database's two files have different names
 pub delta_apart : (name : List ℕ) → delta_name name ≢ name
@@ -108,23 +108,6 @@ module _ (name : List ℕ) (t : Trail) (p : ℕ) (bytes : Page) (is : IsWrite t 
             stands_main_put name t p bytes is other none (old.files name) (files (delta_name name)) (files name) (with_delta old reads name t seen (files (delta_name name)) delta) (main ∙ here);
         shows = subst (λ (f : Files). ShowsIn name later.base f) (sym still.files) main_shown;
       }
-
-  -- The main file is written, where an entry hides the page.
-  module _ (mid : World) (merges : image_state t.base.image ≡ 2) (k : ℕ) (at : entry_for p t.base.diverted ≡ Some k) where
-    pub struck_hidden : {T E : Type 0} (tells : Bool) (result : Result T E) → IsTrue tells → WritesPage tells result old mid name (p * length bytes) bytes → mid.said ≡ old.said → Passes old mid → StrikesFirm old mid name t []
-    struck_hidden tells result told writes silent time =
-        page_more tells result old old mid (OfFiles name) Before Before name (p * length bytes) bytes told start (inl refl) writes silent time (λ files o. o)
-        (λ before files all o step others.
-        stands_hidden name t p bytes is merges k at (before name) (files (delta_name name)) (files name) (subst (λ (x : File). StandsFirmOn name t (before name) x) (sym (others (delta_name name) (delta_apart name))) o) step)
-
-    pub hidden_seen : mid.files ≡ with_file old.files name (with_page_at (old.files name) (p * length bytes) bytes) → StrikesFirm old mid name t [] → IsSeen mid name t
-    hidden_seen put left =
-        let here : mid.files name ≡ with_page_at (old.files name) (p * length bytes) bytes = ap (λ (f : Files). f name) put ∙ with_file-same old.files name _ in
-        let beside : mid.files (delta_name name) ≡ old.files (delta_name name) = ap (λ (f : Files). f (delta_name name)) put ∙ with_file-other old.files name _ (delta_name name) (delta_apart name) in
-        record {
-          left = left.now;
-          shows = ap (owner name (mid.files name)) beside ∙ shows_hidden name t p bytes is merges k at (old.files name) (old.files (delta_name name)) (mid.files name) seen.shows (inr (inl here));
-        }
 
   -- The slot of the page's entry is written.
   module _ (new : World) (diverts : 0 < image_state t.base.image) (k : ℕ) (at : entry_for p t.base.diverted ≡ Some k)

@@ -9,15 +9,15 @@ use Rattle.nb_fields.specs.Places.{is_page_size}
 use Rattle.nb_fields.specs.Header.{is_header, size_of}
 use Rattle.nb_host.specs.Files.{File, bytes_of, padded, put_at, with_page as with_page_at}
 use Rattle.nb_host.specs.Crash.{PageLeft}
-use Rattle.nb_model.specs.Image.{Page, Image, page_at, first_page, image_size, image_in, with_page, written_at}
+use Rattle.nb_model.specs.Image.{Page, Image, page_at, first_page, image_size, image_in, trimmed, with_page, written_at}
 use Rattle.nb_model.specs.Causes.{not_database}
 use Rattle.nb_model.specs.Levels.{joined}
 use Rattle.nb_model.specs.Sound.{IsOfSize}
 use Rattle.nb_model.proofs.FormLaws.{no_cause}
 use Rattle.nb_model.proofs.HeaderLaws.{same-header, same-number}
-use Rattle.nb_model.proofs.ImageLaws.{AreZeros, IsTrimmed, length-joined, trimmed-append_zeros, trimmed-before, trimmed-drop, all-append, all-left, all-right, all-take, all-drop, trimmed-nothing}
-use Rattle.nb_model.proofs.MainLaws.{IsLaid, laid-front, laid-wide, image_in-is, some_page}
-use Rattle.nb_model.proofs.PutLaws.{laid_put, laid_grown, put-joined, put-first}
+use Rattle.nb_model.proofs.ImageLaws.{AreZeros, IsTrimmed, length-joined, trimmed-append_zeros, trimmed-before, trimmed-over, trimmed-drop, all-append, all-left, all-right, all-take, all-drop, all-replicate, trimmed-nothing}
+use Rattle.nb_model.proofs.MainLaws.{IsLaid, IsLaidOut, whole_laid, trimmed_laid, laid-front, laid-wide, image_in-is, some_page}
+use Rattle.nb_model.proofs.PutLaws.{with_page-split, laid_put, laid_grown, put-joined, put-first}
 
 -- a file that is laid so has the form of a database, and holds the image
 pub laid_formed : (image : Image) (bytes : List ℕ) → IsLaid image bytes → not_database bytes ≡ Rattle.std.specs.Prelude.None
@@ -50,13 +50,23 @@ one_main i j file h k = sym (laid_image i h.bytes h.laid) ∙ ap image_in (one_f
 pub main_sizes : (image : Image) (bytes : List ℕ) → IsLaid image bytes → (p : ℕ) → p < length image → length (page_at image p) ≡ image_size image
 main_sizes image bytes l p low = Rattle.nb_model.proofs.SoundLaws.all_at (λ page. length page ≡ image_size image) image (all-left (λ page. length page ≡ image_size image) image l.rest l.sizes) p low
 
--- A page that may be written there: its length, that it isn't zeros, and that page 0 has a header of the same page size.
+-- A page that may be laid there, zeros or not: its length, and that page 0 has a header of the same page size.
+pub record MayLay (p : ℕ) (page : Page) (image : Image) : Type 0 where
+  pub below : p < 1048576
+  pub long : length page ≡ image_size image
+  pub header : p ≡ 0 → is_header page ≡ true
+  pub size : p ≡ 0 → size_of page ≡ image_size image
+
+-- A page that may be written there: one that isn't zeros.
 pub record MayWrite (p : ℕ) (page : Page) (image : Image) : Type 0 where
   pub below : p < 1048576
   pub long : length page ≡ image_size image
   pub other : is_zeros page ≡ false
   pub header : p ≡ 0 → is_header page ≡ true
   pub size : p ≡ 0 → size_of page ≡ image_size image
+
+lays : (p : ℕ) (page : Page) (image : Image) → MayWrite p page image → MayLay p page image
+lays p page image may = record { below = may.below; long = may.long; header = may.header; size = may.size }
 
 -- the page itself
 pub written_same : (size n : ℕ) (page : Page) (main : Image) → page_at (written_at size (n, page) main) n ≡ page
@@ -133,12 +143,9 @@ zero_pages size (suc n) (z ∷ zs) zeros sizes low =
     ap (λ (x : Page). x ∷ take n zs) (zeros_is z zeros.0 ∙ ap (λ k. replicate k 0) sizes.0) ∙ ap (λ (x : List Page). replicate size 0 ∷ x) (zero_pages size n zs zeros.1 sizes.1 (omega arith))
 
 -- Page p of a main file, which holds an image.
-module _ (image : Image) (bytes : List ℕ) (l : IsLaid image bytes) (p : ℕ) (page : Page) (may : MayWrite p page image) where
-  size : ℕ
-  size = image_size image
-
+module _ (image : Image) (bytes : List ℕ) (l : IsLaid image bytes) (p : ℕ) (page : Page) (may : MayLay p page image) where
   -- page 0
-  laid_first : p ≡ 0 → (q : Page) (qs : Image) → image ≡ q ∷ qs → IsLaid (page ∷ qs) (put_at bytes 0 page)
+  laid_first : p ≡ 0 → (q : Page) (qs : Image) → image ≡ q ∷ qs → IsLaidOut (page ∷ qs) (put_at bytes 0 page)
   laid_first first q qs is =
       let pages : List Page = qs ++ l.rest in
       let sizes : IsOfSize (image_size image) (q ∷ pages) = subst (λ (x : Image). IsOfSize (image_size image) (x ++ l.rest)) is l.sizes in
@@ -150,14 +157,13 @@ module _ (image : Image) (bytes : List ℕ) (l : IsLaid image bytes) (p : ℕ) (
         size = subst (λ x. IsTrue (is_page_size x)) (sym same) l.size;
         sizes = subst (λ x. IsOfSize x (page ∷ pages)) (sym same) (may.long, sizes.1);
         zeros = l.zeros;
-        whole = trimmed-before [] page qs may.other (trimmed-drop 1 (q ∷ qs) (subst (λ (x : Image). IsTrimmed x) is l.whole));
         header = header;
         least = omega (arith, l.least, ap (λ (x : Image). length (x ++ l.rest)) is);
         most = omega (arith, l.most, ap (λ (x : Image). length (x ++ l.rest)) is);
       }
 
   -- a page past the image, in the zeros behind it
-  laid_past : length image ≤ p → p ≤ length (image ++ l.rest) → IsLaid (image ++ (replicate (p - length image) (replicate (image_size image) 0) ++ page ∷ [])) (put_at bytes (p * image_size image) page)
+  laid_past : length image ≤ p → p ≤ length (image ++ l.rest) → IsLaidOut (image ++ (replicate (p - length image) (replicate (image_size image) 0) ++ page ∷ [])) (put_at bytes (p * image_size image) page)
   laid_past past within =
       let k : ℕ = p - length image in
       let place : p ≡ length image + k = omega (arith, past) in
@@ -185,7 +191,6 @@ module _ (image : Image) (bytes : List ℕ) (l : IsLaid image bytes) (p : ℕ) (
         size = subst (λ x. IsTrue (is_page_size x)) (sym same) l.size;
         sizes = subst (λ x. IsOfSize x (new ++ rest)) (sym same) (subst (λ (x : List Page). IsOfSize (image_size image) x) pages_are ofsize);
         zeros = all-drop (λ x. is_zeros x ≡ true) (suc k) l.rest l.zeros;
-        whole = subst (λ (x : Image). IsTrimmed x) (append_assoc image gap (page ∷ [])) (trimmed-before (image ++ gap) page [] may.other trimmed-nothing);
         header = ap is_header first ∙ l.header;
         least = omega (arith, count, ap length pages_are, l.least);
         most = omega (arith, count, ap length pages_are, l.most, may.below);
@@ -200,26 +205,26 @@ first_set page q qs = elim (leb_tells 1 (length (q ∷ qs))) [
 ]
 
 -- Any page of it.
-pub laid_written : (image : Image) (bytes : List ℕ) (l : IsLaid image bytes) (p : ℕ) (page : Page) → MayWrite p page image
-    → IsLaid (written_at (image_size image) (p, page) image) (put_at bytes (p * image_size image) page)
-laid_written image bytes l p page may = elim (eqb_tells p 0) [
+pub laid_out : (image : Image) (bytes : List ℕ) (l : IsLaid image bytes) (p : ℕ) (page : Page) → MayLay p page image
+    → IsLaidOut (written_at (image_size image) (p, page) image) (put_at bytes (p * image_size image) page)
+laid_out image bytes l p page may = elim (eqb_tells p 0) [
   | inl w ↦ first image refl w.1
   | inr w ↦ elim (leb_tells p (length image)) [
-    | inl v ↦ subst (λ (x : Image). IsLaid x (put_at bytes (p * image_size image) page)) (sym (written_below (image_size image) p page image v.1))
-        (laid_put p page image bytes (record { low = v.1; below = may.below; long = may.long; other = may.other; front = λ e. absurd (w.1 e) }) l)
-    | inr v ↦ subst (λ (x : Image). IsLaid x (put_at bytes (p * image_size image) page)) (sym (written_past (image_size image) p page image (omega (arith, v.1)))) (past (omega (arith, v.1)))
+    | inl v ↦ subst (λ (x : Image). IsLaidOut x (put_at bytes (p * image_size image) page)) (sym (written_below (image_size image) p page image v.1))
+        (laid_put p page image bytes (record { low = v.1; below = may.below; long = may.long; front = λ e. absurd (w.1 e) }) l)
+    | inr v ↦ subst (λ (x : Image). IsLaidOut x (put_at bytes (p * image_size image) page)) (sym (written_past (image_size image) p page image (omega (arith, v.1)))) (past (omega (arith, v.1)))
   ]
 ]
   where
-    first : (x : Image) → image ≡ x → p ≡ 0 → IsLaid (written_at (image_size image) (p, page) image) (put_at bytes (p * image_size image) page)
+    first : (x : Image) → image ≡ x → p ≡ 0 → IsLaidOut (written_at (image_size image) (p, page) image) (put_at bytes (p * image_size image) page)
     first [] is e = absurd (omega (arith, some_page image l.header, ap length is))
     first (q ∷ qs) is e =
         let image_is : written_at (image_size image) (p, page) image ≡ page ∷ qs =
         written_below (image_size image) p page image (omega (arith, e)) ∙ ap (λ n. with_page n page image) e ∙ ap (λ (x : Image). with_page 0 page x) is ∙ first_set page q qs in
         let bytes_are : put_at bytes (p * image_size image) page ≡ put_at bytes 0 page = ap (λ n. put_at bytes n page) (ap (λ n. n * image_size image) e ∙ (let z : 0 * image_size image ≡ 0 = omega arith in z)) in
-        subst (λ (x : Image). IsLaid x (put_at bytes (p * image_size image) page)) (sym image_is) (subst (λ (x : List ℕ). IsLaid (page ∷ qs) x) (sym bytes_are) (laid_first image bytes l p page may e q qs is))
+        subst (λ (x : Image). IsLaidOut x (put_at bytes (p * image_size image) page)) (sym image_is) (subst (λ (x : List ℕ). IsLaidOut (page ∷ qs) x) (sym bytes_are) (laid_first image bytes l p page may e q qs is))
 
-    past : length image ≤ p → IsLaid (image ++ (replicate (p - length image) (replicate (image_size image) 0) ++ page ∷ [])) (put_at bytes (p * image_size image) page)
+    past : length image ≤ p → IsLaidOut (image ++ (replicate (p - length image) (replicate (image_size image) 0) ++ page ∷ [])) (put_at bytes (p * image_size image) page)
     past above =
         let pages : List Page = image ++ l.rest in
         let k : ℕ = p - length pages in
@@ -231,7 +236,7 @@ laid_written image bytes l p page may = elim (eqb_tells p 0) [
           | inr w ↦
               let sum : p ≡ length pages + k = omega (arith, w.1) in
               let room : length bytes + k * image_size image ≤ p * image_size image = omega (arith, long, add-mul (length pages) k (image_size image), ap (λ n. n * image_size image) sum) in
-              subst (λ (x : List ℕ). IsLaid (image ++ (replicate (p - length image) (replicate (image_size image) 0) ++ page ∷ [])) x) (put-padded (k * image_size image) (p * image_size image) bytes page room)
+              subst (λ (x : List ℕ). IsLaidOut (image ++ (replicate (p - length image) (replicate (image_size image) 0) ++ page ∷ [])) x) (put-padded (k * image_size image) (p * image_size image) bytes page room)
               (laid_past image (bytes ++ replicate (k * image_size image) 0) grown p page may above (enough grown sum))
         ]
       where
@@ -245,19 +250,56 @@ laid_written image bytes l p page may = elim (eqb_tells p 0) [
             omega (arith, all, long, length-append bytes (replicate (k * image_size image) 0), length-replicate {A = ℕ} (k * image_size image) 0, add-mul (length (image ++ l.rest)) k (image_size image), ap (λ n. n * image_size image) sum) in
             le_of_mul-le-mul_right {k = image_size image} sum_ (omega arith)
 
+-- a page that isn't zeros leaves no pages of zeros at the end
+written_whole : (size p : ℕ) (page : Page) (image : Image) → is_zeros page ≡ false → IsTrimmed image → IsTrimmed (written_at size (p, page) image)
+written_whole size p page image other whole = elim (leb_tells p (length image)) [
+  | inl w ↦ subst (λ (x : Image). IsTrimmed x) (sym (written_below size p page image w.1 ∙ with_page-split p page image w.1)) (trimmed-before (take p image) page (drop (suc p) image) other (trimmed-drop (suc p) image whole))
+  | inr w ↦
+      let gap : List Page = replicate (p - length image) (replicate size 0) in
+      subst (λ (x : Image). IsTrimmed x) (append_assoc image gap (page ∷ []) ∙ sym (written_past size p page image (omega (arith, w.1)))) (trimmed-before (image ++ gap) page [] other trimmed-nothing)
+]
+
+-- nor does a page before the last one
+pub written_inner : (size p : ℕ) (page : Page) (image : Image) → p + 1 < length image → IsTrimmed image → IsTrimmed (written_at size (p, page) image)
+written_inner size p page image inside whole =
+    let rest : Image = drop (suc p) image in
+    let some : 1 ≤ length rest = omega (arith, inside, length-drop (suc p) image) in
+    subst (λ (x : Image). IsTrimmed x) (sym (written_below size p page image (omega (arith, inside)) ∙ with_page-split p page image (omega (arith, inside))))
+    (trimmed-over (take p image) (page ∷ rest) (omega arith) (trimmed-over (page ∷ []) rest some (trimmed-drop (suc p) image whole)))
+
+-- each page has the size then
+pub written_sizes : (size p : ℕ) (page : Page) (image : Image) → IsOfSize size image → length page ≡ size → IsOfSize size (written_at size (p, page) image)
+written_sizes size p page image sizes long = elim (leb_tells p (length image)) [
+  | inl w ↦ subst (λ (x : Image). IsOfSize size x) (sym (written_below size p page image w.1 ∙ with_page-split p page image w.1))
+      (all-append (λ x. length x ≡ size) (take p image) (page ∷ drop (suc p) image) (all-take (λ x. length x ≡ size) p image sizes) (long, all-drop (λ x. length x ≡ size) (suc p) image sizes))
+  | inr w ↦
+      let gap : List Page = replicate (p - length image) (replicate size 0) in
+      subst (λ (x : Image). IsOfSize size x) (sym (written_past size p page image (omega (arith, w.1))))
+      (all-append (λ x. length x ≡ size) image (gap ++ page ∷ []) sizes
+      (all-append (λ x. length x ≡ size) gap (page ∷ []) (all-replicate (λ x. length x ≡ size) (p - length image) (replicate {A = ℕ} size 0) (length-replicate {A = ℕ} size 0)) (long, tt)))
+]
+
 -- the page written whole
 pub main_put : (image : Image) (file c : File) (p : ℕ) (page : Page) → HasMain image file → MayWrite p page image → c ≡ with_page_at file (p * length page) page → HasMain (written_at (image_size image) (p, page) image) c
 main_put image file c p page h may put = record {
   bytes = put_at h.bytes (p * image_size image) page;
   there = put ∙ ap (λ (x : File). with_page_at x (p * length page) page) h.there ∙ ap (λ n. Some (put_at h.bytes n page)) (ap (λ x. p * x) may.long);
-  laid = laid_written image h.bytes h.laid p page may;
+  laid = whole_laid _ _ (laid_out image h.bytes h.laid p page (lays p page image may)) (written_whole (image_size image) p page image may.other h.laid.whole);
+}
+
+-- the page laid there, zeros or not
+pub main_over : (image : Image) (file c : File) (p : ℕ) (page : Page) → HasMain image file → MayLay p page image → c ≡ with_page_at file (p * length page) page → HasMain (trimmed (written_at (image_size image) (p, page) image)) c
+main_over image file c p page h may put = record {
+  bytes = put_at h.bytes (p * image_size image) page;
+  there = put ∙ ap (λ (x : File). with_page_at x (p * length page) page) h.there ∙ ap (λ n. Some (put_at h.bytes n page)) (ap (λ x. p * x) may.long);
+  laid = trimmed_laid (written_at (image_size image) (p, page) image) _ (laid_out image h.bytes h.laid p page may);
 }
 
 -- what a stop leaves of a page write: the image as it was, or with the page
-pub main_written : (image : Image) (file c : File) (p : ℕ) (page : Page) → HasMain image file → MayWrite p page image → PageLeft (p * length page) page file c → HasMain image c ⊎ HasMain (written_at (image_size image) (p, page) image) c
-main_written image file c p page h may (inl same) = inl (subst (λ (x : File). HasMain image x) (sym same) h)
-main_written image file c p page h may (inr (inl put)) = inr (main_put image file c p page h may put)
-main_written image file c p page h may (inr (inr (k, fits, grown))) =
+page_left : (image after : Image) (file c : File) (p : ℕ) (page : Page) → HasMain image file → MayLay p page image → (c ≡ with_page_at file (p * length page) page → HasMain after c) → PageLeft (p * length page) page file c → HasMain image c ⊎ HasMain after c
+page_left image after file c p page h may done (inl same) = inl (subst (λ (x : File). HasMain image x) (sym same) h)
+page_left image after file c p page h may done (inr (inl put)) = inr (done put)
+page_left image after file c p page h may done (inr (inr (k, fits, grown))) =
     let l : IsLaid image h.bytes = h.laid in
     let wide : 1024 ≤ image_size image = laid-wide image h.bytes l in
     let same : k * length page ≡ k * image_size image = ap (λ x. k * x) may.long in
@@ -268,3 +310,9 @@ main_written image file c p page h may (inr (inr (k, fits, grown))) =
     let most : (length pages + k) * image_size image ≤ 1048576 * image_size image = omega (arith, fits, long, same, place, all, suc-mul p (image_size image), may.long, ap (λ (x : File). length (bytes_of x)) h.there, add-mul (length pages) k (image_size image)) in
     let is : c ≡ Some (h.bytes ++ replicate (k * image_size image) 0) = grown ∙ ap (λ (x : File). Some (bytes_of x ++ replicate (k * length page) 0)) h.there ∙ ap (λ n. Some (h.bytes ++ replicate n 0)) same in
     inl (record { bytes = h.bytes ++ replicate (k * image_size image) 0; there = is; laid = laid_grown k image h.bytes l (le_of_mul-le-mul_right {k = image_size image} most (omega arith)) })
+
+pub main_written : (image : Image) (file c : File) (p : ℕ) (page : Page) → HasMain image file → MayWrite p page image → PageLeft (p * length page) page file c → HasMain image c ⊎ HasMain (written_at (image_size image) (p, page) image) c
+main_written image file c p page h may = page_left image (written_at (image_size image) (p, page) image) file c p page h (lays p page image may) (main_put image file c p page h may)
+
+pub main_overlaid : (image : Image) (file c : File) (p : ℕ) (page : Page) → HasMain image file → MayLay p page image → PageLeft (p * length page) page file c → HasMain image c ⊎ HasMain (trimmed (written_at (image_size image) (p, page) image)) c
+main_overlaid image file c p page h may = page_left image (trimmed (written_at (image_size image) (p, page) image)) file c p page h may (main_over image file c p page h may)

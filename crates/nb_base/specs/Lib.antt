@@ -8,4 +8,5 @@ pub mod Beginnings
 pub mod Attach
 pub mod Control
 pub mod Put
+pub mod Merging
 pub mod Reads

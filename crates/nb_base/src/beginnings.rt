@@ -1,8 +1,9 @@
 // A database is made, so that a stop leaves no half of one, and opened.
-ghost use Rattle.std.specs.Prelude.{◌≡◌, ◌+◌, ◌≤◌, ◌<◌, IsTrue, OnOk, IfOk, length};
+ghost use Rattle.std.specs.Prelude.{◌≡◌, ◌≢◌, ◌+◌, ◌≤◌, ◌<◌, IsTrue, OnOk, IfOk, IfErr, length};
 ghost use Rattle.nb_fields.specs.Places.{is_page_size};
 ghost use Rattle.nb_fields.specs.Fresh.{fresh, fresh_count};
 ghost use Rattle.nb_host.specs.Causes.{CountsFault};
+ghost use Rattle.nb_host.specs.declared.faults.Fault.TheVariants.{Memory};
 ghost use Rattle.nb_change.specs.Changes.{Changes, Only};
 ghost use Rattle.nb_change.specs.Counts.{CountsDevice};
 ghost use Rattle.nb_change.specs.Gave.{GaveNothing};
@@ -55,6 +56,7 @@ fn create_file<H: Host>(host: &mut H, name: &Name, page: &mut [u8], raw: u32) ->
     ensures gave { GaveNothing (H.world host.old) (H.world host.new) }
     ensures count { IfOk result (λ count. count ≤ 1048576) }
     ensures cause { CountsDevice result (H.faults host.old) (H.faults host.new) }
+    ensures takes_none { IfErr result (λ fault. fault ≢ Memory) }
 {
     if !is_free(host, name)? {
         return Err(Fault::Refused(Refusal::FileExists {
@@ -97,7 +99,7 @@ impl TwoFiles {
     }
 
     /// Makes a new database with `raw` raw pages, and opens it. The refusal is `FileExists`, where the name is not free; then nothing
-    /// has changed.
+    /// has changed. Its memory is taken first, and where that is wanting no call was made.
     pub fn create<H: Host>(
         alloc: Global,
         host: &mut H,
@@ -111,6 +113,7 @@ impl TwoFiles {
         ensures creates { IsTrue H.tells → Creates result (H.world host.old) (H.world host.new) name.now (fresh page_size raw) }
         ensures page_size { IfOk result (λ files. files.page_size ≡ page_size) }
         ensures cause { CountsDevice result (H.faults host.old) (H.faults host.new) }
+        ensures on_memory { result ≡ Err Fault.Memory → host.new ≡ host.old }
     {
         let mut page = vec![in alloc; 0; page_size as usize]?;
         let delta = Delta::blank(alloc, &name.delta(), page_size)?;

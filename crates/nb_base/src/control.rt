@@ -1,16 +1,17 @@
 // The calls that change the backup state, and the merge.
-ghost use Rattle.std.specs.Prelude.{◌≡◌, ◌<◌, ◌≤◌, ◌+◌, [], ◌∷◌, length, IsTrue, OnOk, Option};
+ghost use Rattle.std.specs.Prelude.{◌≡◌, ◌<◌, ◌≤◌, ◌+◌, [], ◌∷◌, length, slice_index, IsTrue, OnOk, Option, None};
 ghost use Rattle.nb_fields.specs.Header.{scn_of, guid_of};
 ghost use Rattle.nb_fields.specs.Places.{is_page_size};
 ghost use Rattle.nb_host.specs.Causes.{CountsFault};
 ghost use Rattle.nb_change.specs.Changes.{Changes, Only};
 ghost use Rattle.nb_change.specs.Gave.{GaveNothing};
 ghost use Rattle.nb_model.specs.Account.{Ask};
-ghost use Rattle.nb_model.specs.Image.{Image, image_scn, image_size};
-ghost use Rattle.nb_model.specs.Sound.{HasNoZeros};
+ghost use Rattle.nb_model.specs.Image.{Image, image_scn, image_size, trimmed};
+ghost use Rattle.nb_model.specs.Owner.{delta_name};
 ghost use Rattle.nb_model.specs.Strokes.{controlled, begin as begin_stroke, ends, finish as finish_stroke};
 ghost use Rattle.nb_model.specs.Trail.{Trail};
 ghost use Rattle.nb_base.specs.Control.{next_scn, next_guid, in_state, HasRoom, IsImageOf, ControlLeft};
+ghost use Rattle.nb_base.specs.Merging.{PutsPage};
 ghost use Rattle.nb_base.specs.Open.{IsOpen, AreMerged};
 ghost use Rattle.nb_base.specs.Takes.{TakesFirm};
 
@@ -123,14 +124,16 @@ impl TwoFiles {
         Ok(())
     }
 
-    /// Writes the page of entry `k` from its slot into the main file. It changes no page of the database.
+    /// Writes the page of entry `k` from its slot into the main file, zeros past its end and all. It changes no page of the database, and
+    /// nothing else in its files, whatever they hold.
     pub fn merge_entry<H: Host>(&mut self, host: &mut H, k: u32) -> Result<(), HostFault>
         requires merge { self.old.state ≡ 2 }
         requires inside { k < length self.old.entries }
-        ensures takes { (t : Trail) → IsTrue H.tells → IsOpen (H.world host.old) self.old t → HasNoZeros t.base.image
+        ensures takes { (t : Trail) → IsTrue H.tells → IsOpen (H.world host.old) self.old t
             → TakesFirm result (H.world host.old) (H.world host.new) self.old.name (IsOpen (H.world host.new) self.new) t [] }
-        ensures merged { (t : Trail) → IsTrue H.tells → IsOpen (H.world host.old) self.old t → HasNoZeros t.base.image → AreMerged (H.world host.old) self.old k
+        ensures merged { (t : Trail) → IsTrue H.tells → IsOpen (H.world host.old) self.old t → AreMerged (H.world host.old) self.old k
             → OnOk result (AreMerged (H.world host.new) self.new (k + 1)) }
+        ensures put { IsTrue H.tells → OnOk result (PutsPage (H.world host.old).files (H.world host.new).files self.old.name self.old.page_size (slice_index self.old.entries k)) }
         ensures gave { GaveNothing (H.world host.old) (H.world host.new) }
         ensures same { self.new ≡ self.old }
         ensures name { self.new.name ≡ self.old.name }
@@ -144,13 +147,34 @@ impl TwoFiles {
         Ok(())
     }
 
-    /// Ends the merge, once every entry is equal in both files: its state is 0 again, and the difference file is removed.
+    /// Ends the merge, once every entry is equal in both files: its state is 0 again, pages of zeros at its end are pages no longer, and the
+    /// difference file is removed. A stop may bring that back, which no opening in the normal state looks at.
     pub fn finish<H: Host>(&mut self, host: &mut H) -> Result<(), HostFault>
         requires merge { self.old.state ≡ 2 }
-        ensures takes { (t : Trail) → IsTrue H.tells → IsOpen (H.world host.old) self.old t → HasNoZeros t.base.image → AreMerged (H.world host.old) self.old (length self.old.entries)
+        ensures takes { (t : Trail) → IsTrue H.tells → IsOpen (H.world host.old) self.old t → AreMerged (H.world host.old) self.old (length self.old.entries)
             → TakesFirm result (H.world host.old) (H.world host.new) self.old.name (IsOpen (H.world host.new) self.new) t (finish_stroke ∷ []) }
+        ensures gone { IsTrue H.tells → OnOk result ((H.world host.new).files (delta_name self.old.name) ≡ None) }
         ensures gave { GaveNothing (H.world host.old) (H.world host.new) }
         ensures state { OnOk result (self.new.state ≡ 0) }
+        ensures name { self.new.name ≡ self.old.name }
+        ensures page_size { self.new.page_size ≡ self.old.page_size }
+        ensures cause { CountsFault result (H.faults host.old) (H.faults host.new) }
+    {
+        let count = self.count_filled(host)?;
+        self.finish_with(host, count)?;
+        Ok(())
+    }
+
+    /// Ends the merge, where the database has so many pages without those of zeros at its end.
+    fn finish_with<H: Host>(&mut self, host: &mut H, count: u32) -> Result<(), HostFault>
+        requires merge { self.old.state ≡ 2 }
+        requires most { count ≤ 1048576 }
+        ensures takes { (t : Trail) → IsTrue H.tells → IsOpen (H.world host.old) self.old t → AreMerged (H.world host.old) self.old (length self.old.entries) → count ≡ length (trimmed t.base.image)
+            → TakesFirm result (H.world host.old) (H.world host.new) self.old.name (IsOpen (H.world host.new) self.new) t (finish_stroke ∷ []) }
+        ensures gone { IsTrue H.tells → OnOk result ((H.world host.new).files (delta_name self.old.name) ≡ None) }
+        ensures gave { GaveNothing (H.world host.old) (H.world host.new) }
+        ensures state { OnOk result (self.new.state ≡ 0) }
+        ensures count { OnOk result (self.new.count ≡ count) }
         ensures name { self.new.name ≡ self.old.name }
         ensures page_size { self.new.page_size ≡ self.old.page_size }
         ensures cause { CountsFault result (H.faults host.old) (H.faults host.new) }
@@ -158,7 +182,8 @@ impl TwoFiles {
         host.sync(&self.name)?; // What was merged is kept for good before the state says so.
         control_block(host, &self.name, &mut self.page, NORMAL, None)?;
         self.state = NORMAL;
-        self.main_count = self.count;
+        self.count = count;
+        self.main_count = count;
         self.delta.clear(host)
     }
 }

@@ -11,6 +11,7 @@ mod attach;
 mod beginnings;
 mod control;
 mod files;
+mod filled;
 mod out;
 mod reads;
 mod slots;

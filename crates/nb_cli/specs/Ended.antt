@@ -24,7 +24,7 @@ use Rattle.nb_cli.specs.Exit.{number_of}
 pub record EndsRun {H : Type 0} (tells : Bool) (world : H → World) (status : Status) (old new : H) (asked : Asked) : Type 0 where
   pub ran : Status
   pub behind : H
-  pub run : IsRun tells ran (world old) (world behind) asked
+  pub run : IsRun world tells ran old behind asked
   pub still : IsStill (world behind) (world new)
   pub silent : IsSilent (world behind) (world new)
   pub passes : Passes (world behind) (world new)

@@ -1,5 +1,5 @@
 -- The start of a backup behind its tests: room in the history, the file, and the begin.
-use Rattle.std.proofs.Common.{◌≡◌, ◌≢◌, inl, inr, ℕ, ◌+◌, ◌<◌, ◌≤◌, List, [], ◌∷◌, ◌++◌, length, replicate, refl, sym, ap, subst, ◌∙◌, arith}
+use Rattle.std.proofs.Common.{◌≡◌, ◌≢◌, inl, inr, ℕ, ◌+◌, ◌<◌, ◌≤◌, List, [], ◌∷◌, ◌++◌, length, replicate, refl, sym, ap, subst, ◌∙◌, arith, true≢false}
 use Rattle.std.specs.Prelude.{not, ◌==◌, nat_lt, IsTrue, Some, None, Result, Ok, Err}
 use Rattle.nb_fields.specs.Bytes.{number_in}
 use Rattle.nb_fields.specs.Header.{state_of, scn_of, size_of}
@@ -47,7 +47,7 @@ use Rattle.nb_copy.proofs.BegunLaws.{begun_image, begun_frozen, begun_long, begu
 use Rattle.nb_copy.proofs.FileStartLaws.{file_first, file_starts}
 use Rattle.nb_copy.proofs.RoomedLaws.{IsLike, roomed_is, roomed_like}
 use Rattle.nb_copy.proofs.BesideLaws.{starts_struck, starts_made, starts_then, starts_more, made_kept}
-use Rattle.nb_copy.proofs.StartLaws.{early, strokes, started, struck_some, struck_most, turn_late, turn_strokes, turn_started}
+use Rattle.nb_copy.proofs.StartLaws.{early, strokes, started, struck_some, struck_most, turn_late, turn_told, turn_strokes, turn_started}
 
 -- what a page 0 says of why no backup begins
 abbrev starting_of : Page → Cause
@@ -98,7 +98,7 @@ module _ (old mid : World) (a b : Held) (t : Trail) (s : Seen) (session : ℕ) (
           running = tries.makes.goes.running ∙ runs;
           gave = tt;
           times = tries.makes.gave.times;
-          refused = tries.refused;
+          idle = λ told. tries.idle r tries.test;
           name = tries.makes.goes.name;
           started = tt;
         })
@@ -110,7 +110,7 @@ module _ (old mid : World) (a b : Held) (t : Trail) (s : Seen) (session : ℕ) (
       running = tt;
       gave = tt;
       times = tries.makes.gave.times;
-      refused = tt;
+      idle = λ told. let some = turn_told s session since name none told in tries.idle some.0 some.1;
       name = tries.makes.goes.name;
       started = tt;
     }
@@ -122,7 +122,7 @@ module _ (old mid : World) (a b : Held) (t : Trail) (s : Seen) (session : ℕ) (
       running = tt;
       gave = tt;
       times = tries.makes.gave.times;
-      refused = tt;
+      idle = λ told. let some = turn_told s session since name none told in tries.idle some.0 some.1;
       name = tries.makes.goes.name;
       started = tt;
     }
@@ -198,7 +198,7 @@ module _ (old mid : World) (a b : Held) (t : Trail) (s : Seen) (session : ℕ) (
             running = tt;
             gave = tt;
             times = made_gave.times;
-            refused = tt;
+            idle = λ told. absurd (true≢false (sym told));
             name = tries.makes.goes.name;
             started = tt;
           })
@@ -233,7 +233,7 @@ module _ (old mid : World) (a b : Held) (t : Trail) (s : Seen) (session : ℕ) (
               running = tt;
               gave = tt;
               times = begins.times ∙ made_gave.times;
-              refused = tt;
+              idle = λ told. absurd (true≢false (sym told));
               name = begins.name ∙ tries.makes.goes.name;
               started = tt;
             })
@@ -257,7 +257,7 @@ module _ (old mid : World) (a b : Held) (t : Trail) (s : Seen) (session : ℕ) (
                 running = begins.running;
                 gave = begins.gave ∙ ap (λ (gs : List (List ℕ)). gs ++ guid ∷ []) made_gave.guids;
                 times = begins.times ∙ made_gave.times;
-                refused = tt;
+                idle = λ told. absurd (true≢false (sym told));
                 name = begins.name ∙ tries.makes.goes.name;
                 started = subst (λ (w : Trail). IsStarted new d w copier (started s session since name)) (sym all_strokes) is_started;
               })

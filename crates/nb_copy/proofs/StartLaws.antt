@@ -1,6 +1,6 @@
 -- The start of a backup: tests, room in the history, and the begin.
 use Rattle.std.proofs.Common.{◌≡◌, ◌⊎◌, inl, ℕ, zero, suc, List, [], ◌∷◌, ◌++◌, length, replicate, refl, sym, ap, subst, ◌∙◌}
-use Rattle.std.specs.Prelude.{Option, Some, None, is_none, Err}
+use Rattle.std.specs.Prelude.{true, Option, Some, None, is_none, Err}
 use Rattle.nb_host.specs.World.{World}
 use Rattle.nb_host.specs.declared.faults.Fault.{Fault}
 use Rattle.nb_host.specs.declared.faults.Fault.TheVariants.{Refused as RefusedFault, Device, Memory}
@@ -20,11 +20,11 @@ use Rattle.nb_model.specs.Outcomes.{Outcome, Copies, ClosesBackup, Seen, next_gu
 use Rattle.nb_model.specs.Strokes.{Stroke, begin}
 use Rattle.nb_model.specs.Trail.{Trail}
 use Rattle.nb_state.specs.Open.{Held, IsOpen, but_pages, name_of}
-use Rattle.nb_state.specs.Does.{Tested, unless_by}
+use Rattle.nb_state.specs.Does.{Tested, has_only_told, unless_by}
 use Rattle.nb_state.specs.Turns.{GaveAtMost}
 use Rattle.nb_state.proofs.TurnLaws.{struck_front}
 use Rattle.nb_engine.specs.Room.{room_cause}
-use Rattle.nb_engine.proofs.CauseLaws.{unless_refused, unless_allowed, first_here}
+use Rattle.nb_engine.proofs.CauseLaws.{told_some, unless_refused, unless_allowed, first_here}
 use Rattle.nb_copy.specs.Starting.{HasNotBegun, StartsBackup, earlier_row, row_cause, earlier_cause, file_cause, ask_in, turn_since}
 use Rattle.nb_copy.specs.declared.since.Since.{Since}
 use Rattle.nb_copy.specs.declared.since.Since.TheVariants.{Level, Guid}
@@ -134,6 +134,12 @@ module _ (s : Seen) (session : ℕ) (since : Since) (name : List ℕ) where
     pub turn_late : (r : Refusal) → room_cause s.base.image ≡ Some r → turn ≡ says s (Refused r) []
     turn_late r e = turn_by s session since name ∙ unless_refused s (start_cause s session since name) (started s session since name) r (room_decides ∙ e)
 
+    pub turn_told : has_only_told turn.reply ≡ true → (r : Refusal) × (room_cause s.base.image ≡ Some r)
+    turn_told told =
+        let by = subst (λ (o : Outcome). has_only_told o.reply ≡ true) (turn_by s session since name) told in
+        let some = told_some s (start_cause s session since name) (started s session since name) refl by in
+        (some.0, sym room_decides ∙ some.1)
+
     pub turn_strokes : turn.strokes ≡ unless_by (room_cause s.base.image) (strokes s session since name)
     turn_strokes =
         ap (λ (o : Outcome). o.strokes) (turn_by s session since name) ∙ strokes_by s (start_cause s session since name) (started s session since name)
@@ -162,7 +168,7 @@ module _ (old mid : World) (a b : Held) (t : Trail) (s : Seen) (session : ℕ) (
         running = ap (λ (h : Held). h.running) same ∙ runs;
         gave = tt;
         times = quiet.times;
-        refused = quiet;
+        idle = λ told. quiet;
         name = ap (λ (h : Held). h.files.name) same;
         started = tt;
       })
@@ -177,7 +183,7 @@ module _ (old mid : World) (a b : Held) (t : Trail) (s : Seen) (session : ℕ) (
     running = tt;
     gave = tt;
     times = quiet.times;
-    refused = tt;
+    idle = λ told. quiet;
     name = ap (λ (h : Held). h.files.name) same;
     started = tt;
   }
@@ -189,7 +195,7 @@ module _ (old mid : World) (a b : Held) (t : Trail) (s : Seen) (session : ℕ) (
     running = tt;
     gave = tt;
     times = quiet.times;
-    refused = tt;
+    idle = λ told. quiet;
     name = ap (λ (h : Held). h.files.name) same;
     started = tt;
   }

@@ -1,5 +1,5 @@
 -- The start of a backup.
-use Rattle.std.specs.Prelude.{◌≡◌, ◌⊎◌, ℕ, zero, suc, ◌<◌, ◌≤◌, List, [], ◌∷◌, ◌++◌, length, replicate, Option, Some, None, is_none, nat_eq, Result, OnOk, IfOk, IfErr, ◌≢◌}
+use Rattle.std.specs.Prelude.{◌≡◌, ◌⊎◌, ℕ, zero, suc, ◌<◌, ◌≤◌, List, [], ◌∷◌, ◌++◌, length, replicate, true, Option, Some, None, is_none, nat_eq, Result, OnOk, IfOk, IfErr, ◌≢◌}
 use Rattle.nb_host.specs.Files.{Files}
 use Rattle.nb_host.specs.World.{World}
 use Rattle.nb_host.specs.declared.faults.Fault.{Fault}
@@ -24,7 +24,7 @@ use Rattle.nb_model.specs.Trail.{Trail, StandsIn, after_stroke}
 use Rattle.nb_base.specs.Open.{OfFiles}
 use Rattle.nb_base.specs.Takes.{Strikes, after_strokes}
 use Rattle.nb_state.specs.Open.{Held, IsOpen, name_of}
-use Rattle.nb_state.specs.Does.{Tested, WhereEnded, WhereRefused, unless_by}
+use Rattle.nb_state.specs.Does.{Tested, WhereEnded, has_only_told, unless_by}
 use Rattle.nb_engine.specs.Turns.{SaysNone, starting_cause}
 use Rattle.nb_copy.specs.declared.file_copy.FileCopy.{FileCopy}
 use Rattle.nb_copy.specs.declared.since.Since.{Since}
@@ -75,8 +75,8 @@ pub record HasNotBegun (old new : World) (name db : List ℕ) (t : Trail) (turn 
 abbrev pub IsNotMemory : {T : Type 0} → Result T Fault → Type 0
 IsNotMemory result = IfErr result (λ fault. fault ≢ Memory)
 
--- A backup into the file of that name is started, as its turn says; or it is refused, and changes nothing. However the call ends, nothing has
--- begun, or the file was made; where memory is short nothing has begun.
+-- A backup into the file of that name is started, as its turn says; or that is a refusal, and nothing changes, whatever is answered. However the call
+-- ends, nothing has begun, or the file was made; where memory is short nothing has begun.
 pub record StartsBackup (result : Result Backed Fault) (old new : World) (before after : Held) (t : Trail) (file guid : List ℕ) (turn : Outcome) : Type 0 where
   pub says : SaysNone result turn.reply
   pub left : StartMakes old new file (name_of before) t turn turn.strokes
@@ -85,7 +85,7 @@ pub record StartsBackup (result : Result Backed Fault) (old new : World) (before
   pub running : WhereEnded result (after.running ≡ turn.running)
   pub gave : OnOk result (new.guids ≡ old.guids ++ guid ∷ [])
   pub times : new.times ≡ old.times
-  pub refused : WhereRefused result (Quiet old new)
+  pub idle : has_only_told turn.reply ≡ true → Quiet old new
   pub name : name_of after ≡ name_of before
   pub started : IfOk result (λ copier. IsStarted new after (after_strokes t turn.strokes) copier turn)
 
@@ -140,8 +140,8 @@ file_cause s name = first_cause (read_only s.base.image ∷ not_state 0 s.base.i
 abbrev pub ask_by : LevelHead → Ask
 ask_by head = record { level = head.level; previous = head.previous; previous_scn = head.previous_scn }
 
--- A backup whose head has no GUID and SCN yet begins for the session, with this GUID and whatever is asked of its copy; or it is
--- refused, and changes nothing.
+-- A backup whose head has no GUID and SCN yet begins for the session, with this GUID and whatever is asked of its copy; or there is a cause to
+-- refuse it, and nothing changes, whatever is answered.
 pub record BeginsFor (result : Result LevelHead Fault) (old new : World) (before after : Held) (t : Trail) (guid : List ℕ) (ask : Option Ask) (session : ℕ) (bare : LevelHead) : Type 0 where
   pub test : Tested result (starting_cause t.base.image)
   pub left : Strikes old new (name_of before) t (unless_by (starting_cause t.base.image) (begin guid ask ∷ []))
@@ -149,6 +149,6 @@ pub record BeginsFor (result : Result LevelHead Fault) (old new : World) (before
   pub head : IfOk result (λ begun. begun ≡ record bare { guid = guid; scn = image_scn t.base.image })
   pub gave : OnOk result (new.guids ≡ old.guids ++ guid ∷ [])
   pub times : new.times ≡ old.times
-  pub refused : WhereRefused result (Quiet old new)
+  pub idle : (r : Refusal) → starting_cause t.base.image ≡ Some r → Quiet old new
   pub running : OnOk result (after.running ≡ Some session)
   pub name : name_of after ≡ name_of before

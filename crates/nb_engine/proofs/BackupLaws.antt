@@ -1,6 +1,6 @@
 -- How a backup begins and ends by its turn.
 use Rattle.std.proofs.Common.{◌≡◌, ℕ, ◌+◌, List, [], ◌∷◌, refl, sym, ap, subst, ◌∙◌}
-use Rattle.std.specs.Prelude.{Option, Some, None, Result, Ok, Err}
+use Rattle.std.specs.Prelude.{true, Option, Some, None, Result, Ok, Err}
 use Rattle.nb_host.specs.World.{World}
 use Rattle.nb_host.specs.declared.faults.Fault.{Fault}
 use Rattle.nb_host.specs.declared.faults.Fault.TheVariants.{Refused as RefusedFault, Device, Memory}
@@ -16,11 +16,11 @@ use Rattle.nb_model.specs.Pages.{begin_turn, end_turn, end_strokes, end_scn, end
 use Rattle.nb_model.specs.Trail.{Trail}
 use Rattle.nb_base.specs.Takes.{Strikes, after_strokes}
 use Rattle.nb_state.specs.Open.{Held, IsOpen, name_of}
-use Rattle.nb_state.specs.Does.{Tested, unless_by}
+use Rattle.nb_state.specs.Does.{Tested, has_only_told, unless_by}
 use Rattle.nb_state.specs.Turns.{begin_cause, end_cause, Begins, Ends}
 use Rattle.nb_state.proofs.MakesLaws.{open_still, none_yet}
 use Rattle.nb_engine.specs.Turns.{DoesBegin, DoesEnd, Starts, starting_cause}
-use Rattle.nb_engine.proofs.CauseLaws.{unless_refused, unless_allowed, first_next, first_here}
+use Rattle.nb_engine.proofs.CauseLaws.{told_some, unless_refused, unless_allowed, first_next, first_here}
 use Rattle.nb_engine.proofs.DoesLaws.{seeing}
 
 -- what a turn does that isn't refused, its strokes by the cause
@@ -59,6 +59,7 @@ refused_begin r old new a t s same quiet is closed =
       gave = tt;
       times = quiet.times;
       refused = (refl, quiet);
+      idle = λ told. quiet;
       running = refl;
       name = refl;
     }))
@@ -68,6 +69,10 @@ module _ (old new : World) (a b : Held) (t : Trail) (s : Seen) (is : IsOpen old 
   here = seeing s t.base
 
   -- it begins as the store does
+  -- a turn that begins a backup only tells something where it is refused
+  begun_idle : (has_only_told (unless here (begin_cause t.base.image) (begun here)).reply ≡ true) → ((r : Refusal) → begin_cause t.base.image ≡ Some r → Quiet old new) → Quiet old new
+  begun_idle told idle = let some = told_some here (begin_cause t.base.image) (begun here) refl told in idle some.0 some.1
+
   pub does_begin : (result : Result ℕ Fault) → t.base ≡ s.base → read_only t.base.image ≡ None → Begins result old new a b t (next_guid s.given) None → DoesBegin result old new a b t (next_guid s.given) (begin_turn s)
   does_begin result same free begins =
       subst (λ (x : Base). DoesBegin result old new a b t (next_guid s.given) (begin_turn (seeing s x))) same
@@ -90,6 +95,7 @@ module _ (old new : World) (a b : Held) (t : Trail) (s : Seen) (is : IsOpen old 
             gave = is_begun.gave;
             times = is_begun.times;
             refused = tt;
+            idle = λ told. begun_idle told is_begun.idle;
             running = is_begun.running;
             name = is_begun.name;
           }
@@ -102,11 +108,12 @@ module _ (old new : World) (a b : Held) (t : Trail) (s : Seen) (is : IsOpen old 
             gave = tt;
             times = is_begun.times;
             refused = is_begun.refused;
+            idle = λ told. begun_idle told is_begun.idle;
             running = is_begun.running;
             name = is_begun.name;
           }
-      by (Err Device) is_begun = record { answer = tt; left = left _ is_begun.left refl; opened = tt; gave = tt; times = is_begun.times; refused = tt; running = is_begun.running; name = is_begun.name }
-      by (Err Memory) is_begun = record { answer = tt; left = left _ is_begun.left refl; opened = tt; gave = tt; times = is_begun.times; refused = tt; running = is_begun.running; name = is_begun.name }
+      by (Err Device) is_begun = record { answer = tt; left = left _ is_begun.left refl; opened = tt; gave = tt; times = is_begun.times; refused = tt; idle = λ told. begun_idle told is_begun.idle; running = is_begun.running; name = is_begun.name }
+      by (Err Memory) is_begun = record { answer = tt; left = left _ is_begun.left refl; opened = tt; gave = tt; times = is_begun.times; refused = tt; idle = λ told. begun_idle told is_begun.idle; running = is_begun.running; name = is_begun.name }
 
   -- and ends as the store does
   pub does_end : (result : Result ℕ Fault) (session : ℕ) → t.base ≡ s.base → a.running ≡ s.running → Ends result old new a b t session → DoesEnd result old new a b t (end_scn t.base.image) (end_turn s session)
@@ -127,6 +134,9 @@ module _ (old new : World) (a b : Held) (t : Trail) (s : Seen) (is : IsOpen old 
       end_is : end_turn here session ≡ turn
       end_is = ap (λ (r : Option ℕ). unless here (end_cause t.base.image r session) ended) (sym runs)
 
+      idle : ((r : Refusal) → cause ≡ Some r → Quiet old new) → has_only_told turn.reply ≡ true → Quiet old new
+      idle quiet told = let some = told_some here cause ended refl told in quiet some.0 some.1
+
       left : Strikes old new (name_of a) t (unless_by cause (end_strokes t.base.image)) → Strikes old new (name_of a) t turn.strokes
       left struck = subst (λ (ss : List Stroke). Strikes old new (name_of a) t ss) (sym (strokes_by here cause ended)) struck
 
@@ -142,6 +152,7 @@ module _ (old new : World) (a b : Held) (t : Trail) (s : Seen) (is : IsOpen old 
             merged = is_ended.begins.1;
             gave = is_ended.gave;
             refused = tt;
+            idle = idle is_ended.idle;
             name = is_ended.name;
           }
       by (Err (RefusedFault r)) is_ended =
@@ -155,10 +166,11 @@ module _ (old new : World) (a b : Held) (t : Trail) (s : Seen) (is : IsOpen old 
             merged = tt;
             gave = is_ended.gave;
             refused = is_ended.refused;
+            idle = idle is_ended.idle;
             name = is_ended.name;
           }
-      by (Err Device) is_ended = record { says = tt; left = left is_ended.left; opened = tt; running = tt; answer = tt; merged = tt; gave = is_ended.gave; refused = tt; name = is_ended.name }
-      by (Err Memory) is_ended = record { says = tt; left = left is_ended.left; opened = tt; running = tt; answer = tt; merged = tt; gave = is_ended.gave; refused = tt; name = is_ended.name }
+      by (Err Device) is_ended = record { says = tt; left = left is_ended.left; opened = tt; running = tt; answer = tt; merged = tt; gave = is_ended.gave; refused = tt; idle = idle is_ended.idle; name = is_ended.name }
+      by (Err Memory) is_ended = record { says = tt; left = left is_ended.left; opened = tt; running = tt; answer = tt; merged = tt; gave = is_ended.gave; refused = tt; idle = idle is_ended.idle; name = is_ended.name }
 
 -- A backup that is asked for is refused before it begins, or begins as in the store.
 module _ (t : Trail) (guid : List ℕ) (ask : Option Ask) where
@@ -171,6 +183,7 @@ module _ (t : Trail) (guid : List ℕ) (ask : Option Ask) where
     gave = tt;
     times = refl;
     refused = (refl, quiet);
+    idle = λ r some. quiet;
     running = refl;
     name = refl;
   }
@@ -186,6 +199,7 @@ module _ (t : Trail) (guid : List ℕ) (ask : Option Ask) where
         gave = begins.gave;
         times = begins.times;
         refused = begins.refused;
+        idle = λ r some. begins.idle r (sym same ∙ some);
         running = begins.running;
         name = begins.name;
       }

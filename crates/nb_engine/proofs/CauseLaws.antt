@@ -1,6 +1,6 @@
 -- The first of a turn's causes, and the turn that it makes.
-use Rattle.std.proofs.Common.{◌≡◌, List, [], ◌∷◌, ◌++◌, refl, ap, ◌∙◌}
-use Rattle.std.specs.Prelude.{Some, None}
+use Rattle.std.proofs.Common.{◌≡◌, List, [], ◌∷◌, ◌++◌, refl, sym, ap, ◌∙◌, true≢false}
+use Rattle.std.specs.Prelude.{true, false, Some, None}
 use Rattle.nb_host.specs.declared.refusals.Refusal.{Refusal}
 use Rattle.nb_model.specs.declared.reply.Reply.{Reply}
 use Rattle.nb_model.specs.declared.reply.Reply.TheVariants.{Refused}
@@ -8,6 +8,7 @@ use Rattle.nb_model.specs.Strokes.{Stroke}
 use Rattle.nb_model.specs.Forms.{Draft}
 use Rattle.nb_model.specs.Causes.{Cause, first_cause, not_of_form, no_room}
 use Rattle.nb_model.specs.Outcomes.{Seen, Outcome, says, unless, changes}
+use Rattle.nb_state.specs.Does.{has_only_told}
 
 -- where there is a cause, and where there is none
 pub unless_refused : (s : Seen) (cause : Cause) (o : Outcome) (r : Refusal) → cause ≡ Some r → unless s cause o ≡ says s (Refused r) []
@@ -72,3 +73,9 @@ pub unless_these : (s : Seen) (cause : Cause) (reply : Reply) (xs ys : List Stro
 unfolding unless
 unless_these s None reply xs ys same = ap (λ (ss : List Stroke). says s reply ss) (same refl)
 unless_these s (Some refusal) reply xs ys same = refl
+
+-- a turn that says nothing, or not only what was read, only tells something where there is a cause
+pub told_some : (s : Seen) (cause : Cause) (o : Outcome) → has_only_told o.reply ≡ false → has_only_told (unless s cause o).reply ≡ true → (r : Refusal) × (cause ≡ Some r)
+unfolding unless
+told_some s None o not_told told = absurd (true≢false (sym told ∙ not_told))
+told_some s (Some r) o not_told told = (r, refl)

@@ -1,6 +1,6 @@
 -- What a call does that may be refused before its strokes, and what it does of its turn.
 use Rattle.std.proofs.Common.{◌≡◌, List, [], ◌++◌, refl, sym, ap, subst, ◌∙◌}
-use Rattle.std.specs.Prelude.{Some, None, Result, Ok, Err, OnOk, IfOk, IfErr, IsErr, IsErrAnd}
+use Rattle.std.specs.Prelude.{false, Some, None, Result, Ok, Err, OnOk, IfOk, IfErr, IsErr, IsErrAnd}
 use Rattle.nb_host.specs.World.{World}
 use Rattle.nb_host.specs.declared.faults.Fault.{Fault}
 use Rattle.nb_host.specs.declared.faults.Fault.TheVariants.{Refused as RefusedFault, Device, Memory}
@@ -16,10 +16,11 @@ use Rattle.nb_model.specs.Causes.{Cause}
 use Rattle.nb_model.specs.Outcomes.{Seen, Outcome, says, unless}
 use Rattle.nb_base.specs.Takes.{after_strokes, IsNoRefusal}
 use Rattle.nb_state.specs.Open.{Held, IsOpen, but_pages}
-use Rattle.nb_state.specs.Does.{Tested, Answers, WhereRefused, unless_by, Makes, Does}
+use Rattle.nb_state.specs.Does.{Tested, Answers, only_tells, unless_by, Makes, Does}
 use Rattle.nb_change.proofs.ResultLaws.{passed_on}
 use Rattle.nb_state.proofs.MakesLaws.{never_refused, makes_none, makes_not, makes_then, makes_front, makes_after}
 use Rattle.nb_engine.specs.Tries.{Tries}
+use Rattle.nb_engine.proofs.CauseLaws.{told_some}
 
 -- the strokes by the cause
 pub unless_none : (cause : Cause) (xs : List Stroke) → cause ≡ None → unless_by cause xs ≡ xs
@@ -60,11 +61,8 @@ tested_none (Err (RefusedFault r)) cause none never = absurd never
 tested_none (Err Device) cause none never = tt
 tested_none (Err Memory) cause none never = tt
 
-refused_more : {T : Type 0} (result : Result T Fault) (P Q : Type 0) → (P → Q) → WhereRefused result P → WhereRefused result Q
-refused_more (Ok value) P Q more is = tt
-refused_more (Err (RefusedFault r)) P Q more is = more is
-refused_more (Err Device) P Q more is = tt
-refused_more (Err Memory) P Q more is = tt
+none_some : {r : Refusal} → None ≡ Some r → ⊥
+none_some e = cc
 
 -- a test ended the call before any stroke
 pub tries_failed : (T : Type 0) (fault : Fault) (old new : World) (a b : Held) (t : Trail) (cause : Cause) (xs : List Stroke) → Tested {T = T} (Err fault) cause → but_pages b ≡ but_pages a → Quiet old new → IsOpen old a t → IsOpen new b t
@@ -72,10 +70,10 @@ pub tries_failed : (T : Type 0) (fault : Fault) (old new : World) (a b : Held) (
 tries_failed T (RefusedFault r) old new a b t cause xs tested same quiet is opened = record {
   test = tested;
   makes = subst (λ (ss : List Stroke). Makes {T = T} (Err (RefusedFault r)) old new a b t ss) (sym (unless_some cause xs r tested)) (makes_none (Err (RefusedFault r)) old new a b t same quiet is opened);
-  refused = quiet;
+  idle = λ q some. quiet;
 }
-tries_failed T Device old new a b t cause xs tested same quiet is opened = record { test = tt; makes = makes_not T Device old new a b t (unless_by cause xs) tt same quiet is; refused = tt }
-tries_failed T Memory old new a b t cause xs tested same quiet is opened = record { test = tt; makes = makes_not T Memory old new a b t (unless_by cause xs) tt same quiet is; refused = tt }
+tries_failed T Device old new a b t cause xs tested same quiet is opened = record { test = tt; makes = makes_not T Device old new a b t (unless_by cause xs) tt same quiet is; idle = λ q some. quiet }
+tries_failed T Memory old new a b t cause xs tested same quiet is opened = record { test = tt; makes = makes_not T Memory old new a b t (unless_by cause xs) tt same quiet is; idle = λ q some. quiet }
 
 -- the same where `?` passes the fault on
 pub tries_passed : {T : Type 0} (result : Result T Fault) (fault : Fault) (P : Result T Fault → Type 0) → IsErr result × IsErrAnd result (λ f. f ≡ fault) → P (Err fault) → P result
@@ -92,7 +90,7 @@ pub tries_made : {T : Type 0} (result : Result T Fault) (old new : World) (a b :
 tries_made result old new a b t cause xs none never makes = record {
   test = tested_none result cause none never;
   makes = subst (λ (ss : List Stroke). Makes result old new a b t ss) (sym (unless_none cause xs none)) makes;
-  refused = never_refused result _ never;
+  idle = λ r some. absurd (none_some (sym none ∙ some));
 }
 
 -- what is open behind the strokes
@@ -122,10 +120,10 @@ tries_front S T fault old new a b t cause xs ys first = by fault first
           test = first.test;
           makes = subst (λ (ss : List Stroke). Makes {T = T} (Err (RefusedFault r)) old new a b t ss) none
               (record { left = first.makes.left; opened = first.makes.opened; whole = first.makes.whole; goes = first.makes.goes; gave = first.makes.gave });
-          refused = first.refused;
+          idle = first.idle;
         }
-    by Device first = record { test = tt; makes = failed Device cause tt first.makes; refused = tt }
-    by Memory first = record { test = tt; makes = failed Memory cause tt first.makes; refused = tt }
+    by Device first = record { test = tt; makes = failed Device cause tt first.makes; idle = first.idle }
+    by Memory first = record { test = tt; makes = failed Memory cause tt first.makes; idle = first.idle }
 
 -- calls that change nothing before it
 pub tries_after : {T : Type 0} (result : Result T Fault) (old mid new : World) (a b c : Held) (t : Trail) (cause : Cause) (xs : List Stroke) → but_pages b ≡ but_pages a → Quiet old mid → IsOpen old a t → Tries result mid new b c t cause xs
@@ -133,7 +131,7 @@ pub tries_after : {T : Type 0} (result : Result T Fault) (old mid new : World) (
 tries_after result old mid new a b c t cause xs same quiet is tries = record {
   test = tries.test;
   makes = makes_after result old mid new a b c t (unless_by cause xs) same quiet is tries.makes;
-  refused = refused_more result _ _ (λ rest. quiet_joined old mid new quiet rest) tries.refused;
+  idle = λ r some. quiet_joined old mid new quiet (tries.idle r some);
 }
 
 -- the same strokes, where no cause applies
@@ -142,7 +140,7 @@ pub tries_these : {T : Type 0} (result : Result T Fault) (old new : World) (a b 
 tries_these result old new a b t cause xs ys same tries = record {
   test = tries.test;
   makes = subst (λ (ss : List Stroke). Makes result old new a b t ss) (unless_same cause xs ys same) tries.makes;
-  refused = tries.refused;
+  idle = tries.idle;
 }
 
 -- the strokes and the reply of a turn that is refused where there is a cause
@@ -160,13 +158,13 @@ answer_is reply (Err Device) s cause said xs tested is = tt
 answer_is reply (Err Memory) s cause said xs tested is = tt
 
 -- so the call does that turn
-pub tries_does : {T : Type 0} (reply : T → Reply) (result : Result T Fault) (old new : World) (a b : Held) (t : Trail) (s : Seen) (turn : Seen → Outcome) (cause : Cause) (said : Reply) (xs : List Stroke) → t.base ≡ s.base
-    → turn (seeing s t.base) ≡ unless (seeing s t.base) cause (says (seeing s t.base) said xs) → IfOk result (λ value. reply value ≡ said) → Tries result old new a b t cause xs → Does reply result old new a b t (turn s)
-tries_does reply result old new a b t s turn cause said xs same e is tries =
+pub tries_does : {T : Type 0} (reply : T → Reply) (result : Result T Fault) (old new : World) (a b : Held) (t : Trail) (s : Seen) (turn : Seen → Outcome) (cause : Cause) (said : Reply) → only_tells said ≡ false → (xs : List Stroke)
+    → t.base ≡ s.base → turn (seeing s t.base) ≡ unless (seeing s t.base) cause (says (seeing s t.base) said xs) → IfOk result (λ value. reply value ≡ said) → Tries result old new a b t cause xs → Does reply result old new a b t (turn s)
+tries_does reply result old new a b t s turn cause said not_told xs same e is tries =
     subst (λ (x : Base). Does reply result old new a b t (turn (seeing s x))) same (subst (λ (o : Outcome). Does reply result old new a b t o) (sym e) (record {
       answer = answer_is reply result (seeing s t.base) cause said xs tries.test is;
       makes = subst (λ (ss : List Stroke). Makes result old new a b t ss) (strokes_are (seeing s t.base) cause said xs) tries.makes;
-      refused = tries.refused;
+      idle = λ told. let some = told_some (seeing s t.base) cause (says (seeing s t.base) said xs) not_told told in tries.idle some.0 some.1;
     }))
 
 -- calls that change nothing do a turn that says this and has no stroke
@@ -174,14 +172,14 @@ pub valued_does : {T : Type 0} (reply : T → Reply) (value : T) (old new : Worl
     → turn (seeing s t.base) ≡ says (seeing s t.base) (reply value) [] → Does reply (Ok value) old new a b t (turn s)
 valued_does reply value old new a b t s turn same still quiet is opened e =
     subst (λ (x : Base). Does reply (Ok value) old new a b t (turn (seeing s x))) same
-    (subst (λ (o : Outcome). Does reply (Ok value) old new a b t o) (sym e) (record { answer = refl; makes = makes_none (Ok value) old new a b t still quiet is opened; refused = tt }))
+    (subst (λ (o : Outcome). Does reply (Ok value) old new a b t o) (sym e) (record { answer = refl; makes = makes_none (Ok value) old new a b t still quiet is opened; idle = λ told. quiet }))
 
 -- or one that is refused
 pub refused_does : {T : Type 0} (reply : T → Reply) (r : Refusal) (old new : World) (a b : Held) (t : Trail) (s : Seen) (turn : Seen → Outcome) → t.base ≡ s.base → but_pages b ≡ but_pages a → Quiet old new → IsOpen old a t → IsOpen new b t
     → turn (seeing s t.base) ≡ says (seeing s t.base) (Refused r) [] → Does reply (Err (RefusedFault r)) old new a b t (turn s)
 refused_does reply r old new a b t s turn same still quiet is opened e =
     subst (λ (x : Base). Does reply (Err (RefusedFault r)) old new a b t (turn (seeing s x))) same
-    (subst (λ (o : Outcome). Does reply (Err (RefusedFault r)) old new a b t o) (sym e) (record { answer = refl; makes = makes_none (Err (RefusedFault r)) old new a b t still quiet is opened; refused = quiet }))
+    (subst (λ (o : Outcome). Does reply (Err (RefusedFault r)) old new a b t o) (sym e) (record { answer = refl; makes = makes_none (Err (RefusedFault r)) old new a b t still quiet is opened; idle = λ told. quiet }))
 
 -- A test ended the call, and `?` passed its fault on. The turn is refused where the test has a cause.
 pub tested_does : (S T : Type 0) (reply : T → Reply) (result : Result T Fault) (fault : Fault) (old new : World) (a b : Held) (t : Trail) (s : Seen) (turn : Seen → Outcome) (found : Cause)
@@ -192,5 +190,5 @@ tested_does S T reply result fault old new a b t s turn found passed same still 
   where
     by : (f : Fault) → Tested {T = S} (Err f) found → Does reply (Err f) old new a b t (turn s)
     by (RefusedFault r) tested = refused_does reply r old new a b t s turn same still quiet is opened (refused r tested)
-    by Device tested = record { answer = tt; makes = makes_not T Device old new a b t (turn s).strokes tt still quiet is; refused = tt }
-    by Memory tested = record { answer = tt; makes = makes_not T Memory old new a b t (turn s).strokes tt still quiet is; refused = tt }
+    by Device tested = record { answer = tt; makes = makes_not T Device old new a b t (turn s).strokes tt still quiet is; idle = λ told. quiet }
+    by Memory tested = record { answer = tt; makes = makes_not T Memory old new a b t (turn s).strokes tt still quiet is; idle = λ told. quiet }

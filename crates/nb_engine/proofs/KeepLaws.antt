@@ -244,4 +244,4 @@ pub tries_other : (S T : Type 0) (fault : Fault) (old new : World) (a b : Held) 
 tries_other S T fault old new a b t cause xs tries = subst (λ (ss : List Stroke). Tries {T = T} (Err fault) old new a b t cause ss) (append-nil xs) (tries_front S T fault old new a b t cause xs [] tries)
 
 pub tries_valued : {S T : Type 0} (v : S) (w : T) (old new : World) (a b : Held) (t : Trail) (cause : Cause) (xs : List Stroke) → Tries (Ok v) old new a b t cause xs → Tries (Ok w) old new a b t cause xs
-tries_valued v w old new a b t cause xs tries = record { test = tries.test; makes = makes_valued v w old new a b t (unless_by cause xs) tries.makes; refused = tt }
+tries_valued v w old new a b t cause xs tries = record { test = tries.test; makes = makes_valued v w old new a b t (unless_by cause xs) tries.makes; idle = tries.idle }

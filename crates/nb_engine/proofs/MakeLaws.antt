@@ -79,7 +79,7 @@ map_apart x p q size at e = places_apart (image_size x) q size at (ap (is_scn_pl
 -- a read failed before any stroke, and `?` passed it on
 pub tries_fault : {T : Type 0} (result : Result T Fault) (old new : World) (a b : Held) (t : Trail) (cause : Cause) (xs : List Stroke) → IsErr result × IsErrAnd result (λ f. f ≡ Device) → but_pages b ≡ but_pages a → Quiet old new → IsOpen old a t
     → Tries result old new a b t cause xs
-tries_fault {T} result old new a b t cause xs passed same quiet is = tries_passed result Device (λ r. Tries r old new a b t cause xs) passed (record { test = tt; makes = makes_not T Device old new a b t (unless_by cause xs) tt same quiet is; refused = tt })
+tries_fault {T} result old new a b t cause xs passed same quiet is = tries_passed result Device (λ r. Tries r old new a b t cause xs) passed (record { test = tt; makes = makes_not T Device old new a b t (unless_by cause xs) tt same quiet is; idle = λ r some. quiet })
 
 -- cause and strokes by other names
 pub tries_named : {T : Type 0} (result : Result T Fault) (old new : World) (a b : Held) (t : Trail) (cause other : Cause) (xs ys : List Stroke) → cause ≡ other → xs ≡ ys → Tries result old new a b t cause xs

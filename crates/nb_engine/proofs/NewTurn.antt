@@ -89,5 +89,5 @@ pub made_does : (result : Result ℕ Fault) (old new : World) (a b : Held) (t : 
     → new_turn (seeing s t.base) ≡ says (seeing s t.base) (PageMade n) strokes → IfOk result (λ number. number ≡ n) → IfErr result IsNoRefusal → Makes result old new a b t strokes
     → Does page_made result old new a b t (new_turn s)
 made_does result old new a b t s n strokes same turn number sure makes =
-    tries_does page_made result old new a b t s new_turn None (PageMade n) strokes same
+    tries_does page_made result old new a b t s new_turn None (PageMade n) refl strokes same
     (turn ∙ sym (unless_allowed (seeing s t.base) None (says (seeing s t.base) (PageMade n) strokes) refl)) (number_said result n number) (tries_made result old new a b t None strokes refl sure makes)

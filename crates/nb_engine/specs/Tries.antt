@@ -1,16 +1,17 @@
 -- What a call does that may be refused before its strokes.
-use Rattle.std.specs.Prelude.{List, Result}
+use Rattle.std.specs.Prelude.{◌≡◌, List, Some, Result}
 use Rattle.nb_host.specs.World.{World}
 use Rattle.nb_host.specs.declared.faults.Fault.{Fault}
+use Rattle.nb_host.specs.declared.refusals.Refusal.{Refusal}
 use Rattle.nb_page.specs.Quiet.{Quiet}
 use Rattle.nb_model.specs.Causes.{Cause}
 use Rattle.nb_model.specs.Strokes.{Stroke}
 use Rattle.nb_model.specs.Trail.{Trail}
 use Rattle.nb_state.specs.Open.{Held}
-use Rattle.nb_state.specs.Does.{Tested, WhereRefused, unless_by, Makes}
+use Rattle.nb_state.specs.Does.{Tested, unless_by, Makes}
 
--- The call is refused where there is this cause, and then changes nothing. Otherwise it makes these strokes.
+-- The call is refused where there is this cause, and changes nothing then, whatever is answered. Otherwise it makes these strokes.
 pub record Tries {T : Type 0} (result : Result T Fault) (old new : World) (before after : Held) (t : Trail) (cause : Cause) (strokes : List Stroke) : Type 0 where
   pub test : Tested result cause
   pub makes : Makes result old new before after t (unless_by cause strokes)
-  pub refused : WhereRefused result (Quiet old new)
+  pub idle : (r : Refusal) → cause ≡ Some r → Quiet old new

@@ -1,8 +1,9 @@
 -- What the calls of a backup do of their turns.
-use Rattle.std.specs.Prelude.{◌≡◌, ◌∷◌, ℕ, ◌+◌, List, [], ◌++◌, Option, Some, None, Result, Ok, Err, OnOk, IfOk}
+use Rattle.std.specs.Prelude.{◌≡◌, ◌∷◌, ℕ, ◌+◌, List, [], ◌++◌, true, Option, Some, None, Result, Ok, Err, OnOk, IfOk}
 use Rattle.nb_host.specs.World.{World}
 use Rattle.nb_host.specs.declared.faults.Fault.{Fault}
 use Rattle.nb_host.specs.declared.faults.Fault.TheVariants.{Refused, Device, Memory}
+use Rattle.nb_host.specs.declared.refusals.Refusal.{Refusal}
 use Rattle.nb_page.specs.Quiet.{Quiet}
 use Rattle.nb_change.specs.Gave.{GaveNothing}
 use Rattle.nb_model.specs.declared.reply.Reply.{Reply}
@@ -15,10 +16,10 @@ use Rattle.nb_model.specs.Outcomes.{Outcome}
 use Rattle.nb_model.specs.Trail.{Trail}
 use Rattle.nb_base.specs.Takes.{Strikes, after_strokes}
 use Rattle.nb_state.specs.Open.{Held, IsOpen, name_of}
-use Rattle.nb_state.specs.Does.{Tested, Answers, WhereEnded, WhereRefused, unless_by}
+use Rattle.nb_state.specs.Does.{Tested, Answers, WhereEnded, WhereRefused, has_only_told, unless_by}
 use Rattle.nb_engine.specs.Replies.{scn_is}
 
--- A backup begins with this GUID, as its turn says; or it is refused, and changes nothing.
+-- A backup begins with this GUID, as its turn says; or that is a refusal, and nothing changes, whatever is answered.
 pub record DoesBegin (result : Result ℕ Fault) (old new : World) (before after : Held) (t : Trail) (guid : List ℕ) (turn : Outcome) : Type 0 where
   pub answer : Answers scn_is result turn.reply
   pub left : Strikes old new (name_of before) t turn.strokes
@@ -26,6 +27,7 @@ pub record DoesBegin (result : Result ℕ Fault) (old new : World) (before after
   pub gave : OnOk result (new.guids ≡ old.guids ++ guid ∷ [])
   pub times : new.times ≡ old.times
   pub refused : WhereRefused result ((after ≡ before) × Quiet old new)
+  pub idle : has_only_told turn.reply ≡ true → Quiet old new
   pub running : after.running ≡ before.running
   pub name : name_of after ≡ name_of before
 
@@ -36,7 +38,7 @@ SaysNone (Err (Refused refusal)) said = said ≡ Some (RefusedBy refusal)
 SaysNone (Err Device) said = Unit {0}
 SaysNone (Err Memory) said = Unit {0}
 
--- The stalled state ends, as its turn says, which leaves the merge to later turns; or it is refused, and changes nothing.
+-- The stalled state ends, as its turn says, which leaves the merge to later turns; or that is a refusal, and nothing changes, whatever is answered.
 pub record DoesEnd (result : Result ℕ Fault) (old new : World) (before after : Held) (t : Trail) (scn : ℕ) (turn : Outcome) : Type 0 where
   pub says : SaysNone result turn.reply
   pub left : Strikes old new (name_of before) t turn.strokes
@@ -47,13 +49,14 @@ pub record DoesEnd (result : Result ℕ Fault) (old new : World) (before after :
   pub merged : OnOk result (after.merged ≡ 0)
   pub gave : GaveNothing old new
   pub refused : WhereRefused result ((after ≡ before) × Quiet old new)
+  pub idle : has_only_told turn.reply ≡ true → Quiet old new
   pub name : name_of after ≡ name_of before
 
 -- why no backup begins in a database
 abbrev pub starting_cause : Image → Cause
 starting_cause image = first_cause (read_only image ∷ not_state 0 image ∷ no_scn image ∷ [])
 
--- A backup begins with this GUID and whatever is asked of its copy; or it is refused, and changes nothing.
+-- A backup begins with this GUID and whatever is asked of its copy; or there is a cause to refuse it, and nothing changes, whatever is answered.
 pub record Starts (result : Result ℕ Fault) (old new : World) (before after : Held) (t : Trail) (guid : List ℕ) (ask : Option Ask) : Type 0 where
   pub test : Tested result (starting_cause t.base.image)
   pub left : Strikes old new (name_of before) t (unless_by (starting_cause t.base.image) (begin guid ask ∷ []))
@@ -62,5 +65,6 @@ pub record Starts (result : Result ℕ Fault) (old new : World) (before after : 
   pub gave : OnOk result (new.guids ≡ old.guids ++ guid ∷ [])
   pub times : new.times ≡ old.times
   pub refused : WhereRefused result ((after ≡ before) × Quiet old new)
+  pub idle : (r : Refusal) → starting_cause t.base.image ≡ Some r → Quiet old new
   pub running : after.running ≡ before.running
   pub name : name_of after ≡ name_of before

@@ -5,11 +5,10 @@ ghost use Rattle.nb_change.specs.Counts.{CountsDevice};
 ghost use Rattle.nb_model.specs.Account.{Ask};
 ghost use Rattle.nb_model.specs.Outcomes.{Seen, next_guid};
 ghost use Rattle.nb_model.specs.Pages.{begin_turn, end_turn, end_scn};
-ghost use Rattle.nb_model.specs.Sound.{HasNoZeros};
 ghost use Rattle.nb_model.specs.Trail.{Trail};
 ghost use Rattle.nb_base.specs.Takes.{IsNoRefusal};
 ghost use Rattle.nb_state.specs.Open.{IsOpen};
-ghost use Rattle.nb_state.specs.Turns.{GaveAtMost, GoesOn, Merges};
+ghost use Rattle.nb_state.specs.Turns.{GaveAtMost, GoesOn, PutsOn, Merges};
 ghost use Rattle.nb_engine.specs.Turns.{DoesBegin, DoesEnd, Starts};
 
 use crate::Engine;
@@ -52,19 +51,23 @@ impl Engine {
         ensures page_size { self.new.files.page_size ≡ self.old.files.page_size }
         ensures cap { self.new.cap ≡ self.old.cap }
         ensures cause { CountsDevice result (H.faults host.old) (H.faults host.new) }
+        ensures takes_none { IfErr result (λ fault. fault ≢ Memory) }
     {
         self.store.end(host, session)
     }
 
-    /// Merges one page that was changed in the stalled state, or finishes the merge once all are.
+    /// Merges one page that was changed in the stalled state, which changes that page of the main file and nothing else, or finishes the merge once
+    /// all are, which removes the difference file. Whatever the files hold.
     pub fn merge_turn<H: Host>(&mut self, host: &mut H) -> Result<Progress, Fault>
         requires merge { self.old.files.state ≡ 2 }
-        ensures merges { (t : Trail) → IsTrue H.tells → IsOpen (H.world host.old) self.old t → HasNoZeros t.base.image → Merges result (H.world host.old) (H.world host.new) self.old self.new t }
+        ensures merges { (t : Trail) → IsTrue H.tells → IsOpen (H.world host.old) self.old t → Merges result (H.world host.old) (H.world host.new) self.old self.new t }
         ensures goes { IfOk result (λ progress. GoesOn progress self.old self.new) }
+        ensures puts { IsTrue H.tells → IfOk result (λ progress. PutsOn progress (H.world host.old).files (H.world host.new).files self.old) }
         ensures page_size { self.new.files.page_size ≡ self.old.files.page_size }
         ensures cap { self.new.cap ≡ self.old.cap }
         ensures cause { CountsDevice result (H.faults host.old) (H.faults host.new) }
         ensures not_refused { IfErr result IsNoRefusal }
+        ensures takes_none { IfErr result (λ fault. fault ≢ Memory) }
     {
         self.store.merge_turn(host)
     }

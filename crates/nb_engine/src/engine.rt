@@ -64,6 +64,7 @@ impl Engine {
         ensures scn { IfOk result (λ engine. engine.scn < 4294967296) }
         ensures blank { IfOk result (HoldsNone cache_pages) }
         ensures cause { CountsDevice result (H.faults host.old) (H.faults host.new) }
+        ensures on_memory { result ≡ Err Fault.Memory → host.new ≡ host.old }
     {
         let page = vec![in alloc; 0; page_size as usize]?;
         let scn_page = ScnPage::new(alloc, page_size)?;

@@ -1,6 +1,6 @@
 -- A fold is a level file, and a chain that ends with it is accepted exactly where one is that ends with the files it was made of.
 use Rattle.std.proofs.Common.{◌≡◌, ◌≢◌, inl, inr, ℕ, ◌+◌, ◌^◌, ◌<◌, ◌≤◌, List, [], ◌∷◌, ◌++◌, length, refl, sym, ap, subst, ◌∙◌, arith}
-use Rattle.std.specs.Prelude.{Bool, true, false, not, ◌&&◌, ◌==◌, Option, Some, None, Result, Ok, Err}
+use Rattle.std.specs.Prelude.{Bool, true, false, ◌&&◌, ◌==◌, Option, Some, None, Result, Ok, Err}
 use Rattle.std.specs.List.{AllByRecursion}
 use Rattle.std.specs.Cmp.Lexicographic.{told_text}
 use Rattle.std.proofs.lemmas.Bool.{and_parts, eqb-true}
@@ -29,7 +29,7 @@ use Rattle.nb_fold.specs.Same.{GiveTheSame, Gives, IsFoldOf, links_of}
 use Rattle.nb_fold.specs.Verdict.{chained, files_after}
 use Rattle.nb_fold.proofs.FoldedLaws.{folded_rises, folded_sizes, none_below}
 use Rattle.nb_fold.proofs.PagesLaws.{FirstIsZero, HasPages, level_pages}
-use Rattle.nb_fold.proofs.SameLaws.{AreNextFiles, AreOf, GoesAfter, files_rise, folded_page, goes_after, next_files, no_files, same_image, sizes_alike, test_passed}
+use Rattle.nb_fold.proofs.SameLaws.{AreNextFiles, AreOf, files_rise, folded_page, goes_after, next_files, no_files, same_image, sizes_alike, test_passed}
 
 some_none : {X : Type 0} (x : X) → Some x ≡ None → ⊥
 some_none x e = cc

@@ -16,7 +16,8 @@ use Rattle.nb_model.specs.Owner.{main_page}
 use Rattle.nb_model.specs.Restoring.{Link, all_over, applied, level_link, not_behind}
 use Rattle.nb_model.proofs.OwnerLaws.{other_page}
 use Rattle.nb_model.proofs.ReadLaws.{eq_no}
-use Rattle.nb_inplace.proofs.PagesLaws.{trimmed_alike, written_page}
+use Rattle.nb_model.proofs.TrimLaws.{trimmed_alike}
+use Rattle.nb_inplace.proofs.PagesLaws.{written_page}
 use Rattle.nb_restore.proofs.AnswerLaws.{ok_same, err_ok}
 use Rattle.nb_inplace.proofs.VerdictLaws.{clear_head}
 use Rattle.nb_fold.specs.Folding.{folded, folded_from, folded_pages, last_page, or_before, page_of, pages_of_each, with_number}

@@ -34,6 +34,7 @@ use Rattle.nb_model.proofs.HeaderLaws.{header-long, header-other, same-header, s
 use Rattle.nb_model.proofs.ImageLaws.{trimmed-append_zeros, trimmed-other, length-joined}
 use Rattle.nb_model.proofs.MainLaws.{IsLaid, laid, image_in-is, owner_main}
 use Rattle.nb_model.proofs.StandsLaws.{header_no_level}
+use Rattle.nb_model.proofs.TrimLaws.{trimmed_alike, trimmed_page}
 use Rattle.nb_level.specs.Reading.{Reading, still_to_come}
 use Rattle.nb_restore.specs.Sources.{AreHeaded}
 use Rattle.nb_restore.proofs.AnswerLaws.{some_same, err_ok}
@@ -52,7 +53,7 @@ use Rattle.nb_inplace.proofs.AcceptLaws.{head_clears}
 use Rattle.nb_inplace.proofs.ControlLaws.{applying-size, applying-header}
 use Rattle.nb_inplace.proofs.FirstLaws.{level_first, guid_sixteen}
 use Rattle.nb_inplace.proofs.HalfLaws.{front_size, itself_half}
-use Rattle.nb_inplace.proofs.PagesLaws.{trimmed_alike, over_alike, trimmed_page}
+use Rattle.nb_inplace.proofs.PagesLaws.{over_alike}
 use Rattle.nb_inplace.proofs.StampLaws.{since_image}
 use Rattle.nb_inplace.proofs.VerdictLaws.{answered, verdict_by}
 

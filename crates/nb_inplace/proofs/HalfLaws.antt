@@ -12,9 +12,10 @@ use Rattle.nb_model.specs.Owner.{main_page}
 use Rattle.nb_model.specs.Strokes.{as_standby, merged}
 use Rattle.nb_model.proofs.HeaderLaws.{header-long, same-number}
 use Rattle.nb_model.proofs.MainLaws.{IsLaid, laid, laid-front}
+use Rattle.nb_model.proofs.TrimLaws.{trimmed_alike}
 use Rattle.nb_inplace.specs.Verdict.{IsMergeable}
 use Rattle.nb_inplace.specs.Half.{applying_page, IsBetween, IsHalf}
-use Rattle.nb_inplace.proofs.PagesLaws.{trimmed_alike, over_alike}
+use Rattle.nb_inplace.proofs.PagesLaws.{over_alike}
 use Rattle.nb_inplace.proofs.VerdictLaws.{IsAccepted, IsFor, as_it_stands, begun, accepted}
 use Rattle.nb_inplace.proofs.FirstLaws.{HasFirst, level_first, guid_sixteen}
 use Rattle.nb_inplace.proofs.ControlLaws.{applying-size, applying-state, applying-pending, applying-guid, applying_same, applying_twice}

@@ -21,6 +21,7 @@ use Rattle.nb_model.specs.Sound.{IsOfSize}
 use Rattle.nb_model.specs.Strokes.{standby_page, as_standby}
 use Rattle.nb_model.proofs.HeaderLaws.{header-long, header-other}
 use Rattle.nb_model.proofs.ImageLaws.{all-drop}
+use Rattle.nb_model.proofs.TrimLaws.{main_tail, trimmed_alike}
 use Rattle.nb_level.specs.Reading.{Reading, still_to_come}
 use Rattle.nb_chain.proofs.ImageLaws.{length-written}
 use Rattle.nb_restore.specs.Copied.{Holds, Overwrites}
@@ -33,7 +34,7 @@ use Rattle.nb_inplace.proofs.ControlLaws.{applying-long, applying-size, applying
 use Rattle.nb_inplace.proofs.EndLaws.{merged_whole}
 use Rattle.nb_inplace.proofs.FileLaws.{first_put, half_begun, begun_left, ended_left}
 use Rattle.nb_inplace.proofs.FirstLaws.{HasFirst}
-use Rattle.nb_inplace.proofs.PagesLaws.{main_tail, trimmed_alike, over_alike}
+use Rattle.nb_inplace.proofs.PagesLaws.{over_alike}
 
 -- how many pages there are with the records written over
 length_over : (size : ℕ) (rs : List Numbered) (image : Image) → length (overwritten size rs image) ≡ pages_with rs (length image)

@@ -18,8 +18,8 @@ use Rattle.nb_model.proofs.ImageLaws.{AreZeros, length-joined, drop-joined, page
 use Rattle.nb_model.proofs.MainLaws.{IsLaid, laid}
 use Rattle.nb_model.proofs.OwnerLaws.{main_here, main_past}
 use Rattle.nb_model.proofs.SoundLaws.{all_from}
+use Rattle.nb_model.proofs.TrimLaws.{zeros_behind}
 use Rattle.nb_inplace.proofs.HalfLaws.{front_size}
-use Rattle.nb_inplace.proofs.PagesLaws.{zeros_behind}
 
 -- zeros behind zeros
 zeros_join : (xs ys : List ℕ) → is_zeros xs ≡ true → is_zeros ys ≡ true → is_zeros (xs ++ ys) ≡ true

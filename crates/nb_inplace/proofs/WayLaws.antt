@@ -14,8 +14,9 @@ use Rattle.nb_model.proofs.FollowsLaws.{follows_overwritten}
 use Rattle.nb_model.proofs.ImageLaws.{trimmed-no_zeros}
 use Rattle.nb_model.proofs.OwnerLaws.{main_here, main_past}
 use Rattle.nb_model.proofs.ReadLaws.{lt_no, lt_yes}
+use Rattle.nb_model.proofs.TrimLaws.{trimmed_alike}
 use Rattle.nb_inplace.specs.Half.{IsBetween}
-use Rattle.nb_inplace.proofs.PagesLaws.{trimmed_alike, over_alike}
+use Rattle.nb_inplace.proofs.PagesLaws.{over_alike}
 use Rattle.nb_inplace.proofs.StampLaws.{since_first, since_behind}
 
 -- 1. The pages that a level since an SCN takes

@@ -1,5 +1,5 @@
 -- The control strokes of a backup change no row of a table: they write page 0 alone.
-use Rattle.std.proofs.Common.{◌≡◌, ◌≢◌, ℕ, ◌+◌, ◌≤◌, List, [], ◌∷◌, length, refl, sym, subst, arith}
+use Rattle.std.proofs.Common.{◌≡◌, ◌≢◌, ℕ, ◌+◌, ◌≤◌, List, [], ◌∷◌, length, refl, sym, ap, subst, arith}
 use Rattle.std.specs.Prelude.{Option}
 use Rattle.nb_model.specs.Account.{Ask, Base}
 use Rattle.nb_model.specs.Chains.{Catalogue, History}
@@ -14,6 +14,7 @@ use Rattle.nb_model.proofs.ControlSound.{MayControl, control_rest, control_long,
 use Rattle.nb_model.proofs.HeldChains.{nothing_changes}
 use Rattle.nb_model.proofs.HeldLaws.{IsHeld, held_by}
 use Rattle.nb_model.proofs.NeatLaws.{stays_neat, other_rows}
+use Rattle.nb_model.proofs.TrimLaws.{finish_full}
 
 module _ (b : Base) (header : HasHeader b.image) (is : IsSoundImage b.image) (neat : IsNeat b.image) where
   abbrev Good : Image → Type 0
@@ -48,5 +49,4 @@ module _ (b : Base) (header : HasHeader b.image) (is : IsSoundImage b.image) (ne
   ends_rows stalled = control_rows 2 (image_scn b.image + 1) (image_guid b.image) ends (may_end b.image header stalled) refl
 
   pub finish_rows : KeepsRows b (finish ∷ [])
-  unfolding on_base
-  finish_rows = control_rows 0 (image_scn b.image) (image_guid b.image) finish (may_finish b.image header) refl
+  finish_rows = control_rows 0 (image_scn b.image) (image_guid b.image) finish (may_finish b.image header) (ap (λ (c : Base). c.image) (finish_full b is.sound.no_zeros))

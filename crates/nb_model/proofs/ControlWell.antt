@@ -15,6 +15,7 @@ use Rattle.nb_model.proofs.EntryLaws.{for_below}
 use Rattle.nb_model.proofs.HeaderLaws.{header-room}
 use Rattle.nb_model.proofs.NormalLaws.{told_whole}
 use Rattle.nb_model.proofs.PastLaws.{past_more}
+use Rattle.nb_model.proofs.TrimLaws.{finish_full}
 use Rattle.nb_model.proofs.ControlMay.{may_begin, may_end, may_finish}
 use Rattle.nb_model.proofs.ControlSound.{MayControl, new_state, new_scn, new_guid, new_header, control_sound, control_goes_on, control_past, control_old}
 use Rattle.nb_model.proofs.WellTrailLaws.{settled_well}
@@ -141,8 +142,7 @@ module _ (kept : List Kept) (b : Base) (w : IsWellBaseIn kept b) where
     finished = record { image = with_control 0 (image_scn image) (image_guid image) image; frozen = b.frozen; diverted = [] }
 
     finished_is : finished ≡ on_base finish b
-    unfolding on_base
-    finished_is = refl
+    finished_is = sym (finish_full b w.well.sound.sound.no_zeros)
 
     finish_may : MayControl 0 (image_scn image) (image_guid image) image
     finish_may = may_finish image header

@@ -170,6 +170,10 @@ trimmed-before [] p ps h k = trimmed-other p ps h ∙ ap (λ (qs : Image). p ∷
 trimmed-before (x ∷ xs) p ps h k =
     trimmed-cons x (xs ++ p ∷ ps) ∙ ap (kept x) (trimmed-before xs p ps h k) ∙ kept-some x (xs ++ p ∷ ps) (omega (arith, length-append xs (p ∷ ps)))
 
+pub trimmed-over : (xs : List Page) (ys : Image) → 1 ≤ length ys → IsTrimmed ys → IsTrimmed (xs ++ ys)
+trimmed-over [] ys some whole = whole
+trimmed-over (x ∷ xs) ys some whole = trimmed-cons x (xs ++ ys) ∙ ap (kept x) (trimmed-over xs ys some whole) ∙ kept-some x (xs ++ ys) (omega (arith, some, length-append xs ys))
+
 -- where no page is zeros nothing is cut off
 pub trimmed-no_zeros : (ps : Image) → HasNoZeros ps → IsTrimmed ps
 trimmed-no_zeros [] h = trimmed-none

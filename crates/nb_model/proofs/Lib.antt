@@ -18,6 +18,7 @@ pub mod HeaderLaws
 pub mod ImageLaws
 pub mod FormLaws
 pub mod MainLaws
+pub mod TrimLaws
 pub mod PutLaws
 pub mod FreshImageLaws
 pub mod SoundLaws

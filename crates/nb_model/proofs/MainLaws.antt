@@ -1,5 +1,5 @@
 -- A main file in the normal state: the database of it, and where its pages stand.
-use Rattle.std.proofs.Common.{◌≡◌, ◌≢◌, ◌⊎◌, inl, inr, ℕ, zero, suc, ◌+◌, ◌*◌, ◌<◌, ◌≤◌, List, [], ◌∷◌, ◌++◌, length, take, drop, refl, sym, ap, subst, ◌∙◌, arith, length-append, length-take-le, take-take, mul-le-mul_left}
+use Rattle.std.proofs.Common.{◌≡◌, ◌≢◌, ◌⊎◌, inl, inr, ℕ, zero, suc, ◌+◌, ◌*◌, ◌<◌, ◌≤◌, List, [], ◌∷◌, ◌++◌, length, take, drop, refl, sym, ap, subst, ◌∙◌, arith, append_assoc, length-append, length-take-le, take-take, mul-le-mul_left}
 use Rattle.std.specs.Prelude.{Bool, true, false, IsTrue, ◌==◌, Option, Some, None, Result, Ok, Err, max}
 use Rattle.std.proofs.lemmas.Bool.{eqb-false}
 use Rattle.std.proofs.lemmas.Bool.Decides.{leb_tells}
@@ -21,7 +21,7 @@ use Rattle.nb_model.specs.Owner.{delta_name, entry_for, behind_entries, slot_pag
 use Rattle.nb_model.specs.Main.{HoldsMain}
 use Rattle.nb_model.proofs.FormLaws.{Formed, formed, no_cause}
 use Rattle.nb_model.proofs.HeaderLaws.{header-long, header-state, header-other, same-header, same-number}
-use Rattle.nb_model.proofs.ImageLaws.{AreZeros, IsTrimmed, Pages, pages_of, cut-joined, page-joined, length-joined, trimming, trimmed-other, trimmed-append_zeros, all-left}
+use Rattle.nb_model.proofs.ImageLaws.{AreZeros, IsTrimmed, Pages, pages_of, cut-joined, page-joined, length-joined, trimming, trimmed-other, trimmed-append_zeros, all-append, all-left}
 use Rattle.nb_model.proofs.SoundLaws.{all_at}
 
 -- A file is an image and pages of zeros behind it. The image has a header, and its last page isn't zeros.
@@ -35,6 +35,20 @@ pub record IsLaid (image : Image) (bytes : List ℕ) : Type 0 where
   pub header : is_header (first_page image) ≡ true
   pub least : 5 ≤ length (image ++ rest)
   pub most : length (image ++ rest) ≤ 1048576
+
+-- The same, whether pages of zeros stand at the image's end or not.
+pub record IsLaidOut (image : Image) (bytes : List ℕ) : Type 0 where
+  pub rest : List Page
+  pub is : bytes ≡ joined (image ++ rest)
+  pub size : IsTrue (is_page_size (image_size image))
+  pub sizes : IsOfSize (image_size image) (image ++ rest)
+  pub zeros : AreZeros rest
+  pub header : is_header (first_page image) ≡ true
+  pub least : 5 ≤ length (image ++ rest)
+  pub most : length (image ++ rest) ≤ 1048576
+
+pub whole_laid : (image : Image) (bytes : List ℕ) → IsLaidOut image bytes → IsTrimmed image → IsLaid image bytes
+whole_laid image bytes out whole = record { rest = out.rest; is = out.is; size = out.size; sizes = out.sizes; zeros = out.zeros; whole = whole; header = out.header; least = out.least; most = out.most }
 
 -- an image with a header has a page
 pub some_page : (image : Image) → is_header (first_page image) ≡ true → 1 ≤ length image
@@ -82,9 +96,28 @@ main_laid image bytes laid normal =
     }
 
 -- page 0 of pages of which the first isn't zeros
-trimmed-first : (ps : List Page) → 1 ≤ length ps → is_zeros (first_page ps) ≡ false → first_page (trimmed ps) ≡ first_page ps
+pub trimmed-first : (ps : List Page) → 1 ≤ length ps → is_zeros (first_page ps) ≡ false → first_page (trimmed ps) ≡ first_page ps
 trimmed-first [] some other = absurd (omega arith)
 trimmed-first (p ∷ ps) some other = ap first_page (trimmed-other p ps other)
+
+-- pages of zeros at the image's end are among those behind it
+pub trimmed_laid : (image : Image) (bytes : List ℕ) → IsLaidOut image bytes → IsLaid (trimmed image) bytes
+trimmed_laid image bytes out =
+    let cut_off = trimming image in
+    let first : first_page (trimmed image) ≡ first_page image = trimmed-first image (some_page image out.header) (header-other (first_page image) out.header) in
+    let same : image_size (trimmed image) ≡ image_size image = ap size_of first in
+    let pages : image ++ out.rest ≡ trimmed image ++ (cut_off.rest ++ out.rest) = ap (λ (x : Image). x ++ out.rest) cut_off.is ∙ append_assoc (trimmed image) cut_off.rest out.rest in
+    record {
+      rest = cut_off.rest ++ out.rest;
+      is = out.is ∙ ap joined pages;
+      size = subst (λ x. IsTrue (is_page_size x)) (sym same) out.size;
+      sizes = subst (λ x. IsOfSize x (trimmed image ++ (cut_off.rest ++ out.rest))) (sym same) (subst (λ (x : List Page). IsOfSize (image_size image) x) pages out.sizes);
+      zeros = all-append (λ page. is_zeros page ≡ true) cut_off.rest out.rest cut_off.zeros out.zeros;
+      whole = cut_off.whole;
+      header = ap is_header first ∙ out.header;
+      least = omega (arith, out.least, ap length pages);
+      most = omega (arith, out.most, ap length pages);
+    }
 
 -- a file of the form is laid so
 pub laid : (bytes : List ℕ) → not_database bytes ≡ None → IsLaid (image_in bytes) bytes

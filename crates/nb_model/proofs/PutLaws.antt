@@ -10,12 +10,12 @@ use Rattle.nb_model.specs.Image.{Page, Image, page_at, first_page, image_size, w
 use Rattle.nb_model.specs.Levels.{joined}
 use Rattle.nb_model.specs.Sound.{IsOfSize}
 use Rattle.nb_model.proofs.HeaderLaws.{same-header, same-number}
-use Rattle.nb_model.proofs.ImageLaws.{IsTrimmed, joined-append, length-joined, take-joined, drop-joined, joined-zeros, zeros-are, trimmed-before, trimmed-drop, all-append, all-take, all-drop, all-replicate}
+use Rattle.nb_model.proofs.ImageLaws.{joined-append, length-joined, take-joined, drop-joined, joined-zeros, zeros-are, all-append, all-take, all-drop, all-replicate}
 use Rattle.nb_model.proofs.StrokeLaws.{with_page_front}
-use Rattle.nb_model.proofs.MainLaws.{IsLaid}
+use Rattle.nb_model.proofs.MainLaws.{IsLaid, IsLaidOut}
 
 -- the image with page p: what stands before it, the page, and what stands behind it
-with_page-split : (p : ℕ) (page : Page) (image : Image) → p ≤ length image → with_page p page image ≡ take p image ++ page ∷ drop (suc p) image
+pub with_page-split : (p : ℕ) (page : Page) (image : Image) → p ≤ length image → with_page p page image ≡ take p image ++ page ∷ drop (suc p) image
 unfolding with_page
 with_page-split p page image low = elim (leb_tells (suc p) (length image)) [
   | inl w ↦ rw (w.0, with_page) (set_split image p page w.1)
@@ -80,14 +80,13 @@ pub record MayPut (p : ℕ) (page : Page) (image : Image) : Type 0 where
   pub low : p ≤ length image
   pub below : p < 1048576
   pub long : length page ≡ image_size image
-  pub other : is_zeros page ≡ false
   pub front : p ≡ 0 → take 64 page ≡ take 64 (page_at image 0)
 
 -- page 0 keeps its first 64 bytes
 put-front : (p : ℕ) (page : Page) (image : Image) → MayPut p page image → take 64 (first_page (with_page p page image)) ≡ take 64 (first_page image)
 put-front p page image may = with_page_front p page image may.low may.front
 
-pub laid_put : (p : ℕ) (page : Page) (image : Image) (bytes : List ℕ) → MayPut p page image → IsLaid image bytes → IsLaid (with_page p page image) (put_at bytes (p * image_size image) page)
+pub laid_put : (p : ℕ) (page : Page) (image : Image) (bytes : List ℕ) → MayPut p page image → IsLaid image bytes → IsLaidOut (with_page p page image) (put_at bytes (p * image_size image) page)
 laid_put p page image bytes may laid =
     let size : ℕ = image_size image in
     let new : Image = take p image ++ page ∷ drop (suc p) image in
@@ -111,7 +110,6 @@ laid_put p page image bytes may laid =
       size = subst (λ x. IsTrue (is_page_size x)) (sym same) laid.size;
       sizes = subst (λ (x : List Page). IsOfSize (image_size (with_page p page image)) x) pages_are (subst (λ x. IsOfSize x (take p pages ++ page ∷ drop (suc p) pages)) (sym same) ofsize);
       zeros = all-drop (λ x. is_zeros x ≡ true) (suc p - length image) laid.rest laid.zeros;
-      whole = subst (λ (x : Image). IsTrimmed x) (sym new_is) (trimmed-before (take p image) page (drop (suc p) image) may.other (trimmed-drop (suc p) image laid.whole));
       header = same-header _ (first_page image) front ∙ laid.header;
       least = omega (arith, count, ap length pages_are, laid.least);
       most = omega (arith, count, ap length pages_are, laid.most, may.below);

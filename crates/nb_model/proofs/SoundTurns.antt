@@ -17,6 +17,7 @@ use Rattle.nb_model.proofs.PutSound.{header_whole}
 use Rattle.nb_model.proofs.RoomLaws.{AnyPage, any_history, room_fits, room_there, room_begun, backup_length, slot_fits}
 use Rattle.nb_model.proofs.SoundLaws.{header_stays, fields_stay}
 use Rattle.nb_model.proofs.StrokeLaws.{base_after-append}
+use Rattle.nb_model.proofs.TrimLaws.{finish_full}
 use Rattle.nb_model.proofs.TurnCases.{MayStart, started}
 
 -- What strokes leave of a sound image: a sound one of the same page size, and no shorter.
@@ -68,8 +69,8 @@ unfolding base_after on_base
 ends_keep b header sound stalled = control_keeps 2 (image_scn b.image + 1) (image_guid b.image) b _ header sound (may_end b.image header stalled) refl
 
 pub finish_keeps : (b : Base) → HasHeader b.image → IsSoundImage b.image → KeepsSound b (finish ∷ []) × (image_state (base_after b (finish ∷ [])).image ≡ 0)
-unfolding base_after on_base
-finish_keeps b header sound = control_keeps 0 (image_scn b.image) (image_guid b.image) b _ header sound (may_finish b.image header) refl
+unfolding base_after
+finish_keeps b header sound = control_keeps 0 (image_scn b.image) (image_guid b.image) b (on_base finish b) header sound (may_finish b.image header) (ap (λ (c : Base). c.image) (finish_full b sound.sound.no_zeros))
 
 -- The start of a backup: what stands behind its strokes.
 pub record IsStarted (b new : Base) (page slot : ℕ) : Type 0 where

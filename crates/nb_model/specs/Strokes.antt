@@ -67,7 +67,8 @@ on_base (begin guid ask) b =
     let now : Image = with_control 1 (image_scn b.image + 1) guid b.image in
     record { image = now; frozen = now; diverted = [] }
 on_base ends b = record b { image = with_control 2 (image_scn b.image + 1) (image_guid b.image) b.image; frozen = [] }
-on_base finish b = record b { image = with_control 0 (image_scn b.image) (image_guid b.image) b.image; diverted = [] }
+-- the main file alone has the image then, and pages of zeros at its end are none of it
+on_base finish b = record b { image = with_control 0 (image_scn b.image) (image_guid b.image) (trimmed b.image); diverted = [] }
 on_base fix b = base_of (fixed b.image)
 on_base (merge records) b = base_of (merged records b.image)
 

@@ -5,7 +5,7 @@ ghost use Rattle.nb_model.specs.Earlier.{IsCovered, IsEarlier, LowersNone};
 ghost use Rattle.nb_model.specs.Follows.{Follows, IsMixed};
 ghost use Rattle.nb_model.specs.Forms.{drafted, give_page, new_page, put, take_page};
 ghost use Rattle.nb_model.specs.Going.{AreBeginnings, AreNamed, IsGoing, IsNamed};
-ghost use Rattle.nb_model.specs.Image.{Image, Numbered, Page, first_page, image_guid, image_scn, image_size, image_state, is_forced, is_read_only, overwritten, page_at, with_page, written_at};
+ghost use Rattle.nb_model.specs.Image.{Image, Numbered, Page, first_page, image_guid, image_scn, image_size, image_state, is_forced, is_read_only, overwritten, page_at, trimmed, with_page, written_at};
 ghost use Rattle.nb_model.specs.Levels.{Contents, Head, IsLevel, read_level, taken};
 ghost use Rattle.nb_model.specs.Line.{AreZeroPages, HoldLine, HoldsFirst, IsLine, first_file, last_in, next_files};
 ghost use Rattle.nb_model.specs.Making.{IsNoBackup, IsOfKept, MadeFile};
@@ -15,10 +15,10 @@ ghost use Rattle.nb_model.specs.Owner.{delta_name, entry_for, entry_in, owned, o
 ghost use Rattle.nb_model.specs.Pagewise.{AgreesWith, IsPagewise};
 ghost use Rattle.nb_model.specs.Restoring.{applied, verdict};
 ghost use Rattle.nb_model.specs.Run.{Event, IsPlayed, Now, base_now, files_made, play, rounds, strokes_of};
-ghost use Rattle.nb_model.specs.Sound.{HasNoZeros, IsSoundImage, SoundInventory};
+ghost use Rattle.nb_model.specs.Sound.{HasHeader, HasNoZeros, IsSoundImage, SoundInventory};
 ghost use Rattle.nb_model.specs.Stands.{GoesOn, IsRaised, Stands};
 ghost use Rattle.nb_model.specs.Steps.{AreForced, Step, acked_steps, after_steps, steps_of, strokes_in};
-ghost use Rattle.nb_model.specs.Strokes.{Stroke, after, base_after, begin, ends, finish, fixed, merged_page, on_base, page as page_stroke, records_after, records_of};
+ghost use Rattle.nb_model.specs.Strokes.{Stroke, after, base_after, begin, ends, finish, fixed, merged_page, on_base, page as page_stroke, records_after, records_of, with_control};
 ghost use Rattle.nb_model.specs.Trail.{AreSynced, IsBehindFirst, IsFirm, IsLeft, IsMixture, ShowsIn, StandsIn, StandsOn, Trail, after_stroke, after_strokes, images, settled};
 ghost use Rattle.nb_model.specs.Turns.{first_turn};
 ghost use Rattle.nb_model.specs.Well.{IsWellBaseIn, is_on_pages};
@@ -109,6 +109,13 @@ pub fn a_fixup_changes_the_state()
 /// Where the page in the slot of an entry is written into the main file, the image stays.
 pub fn a_merge_changes_no_image()
     ensures { (size k n : ℕ) (main : Image) (delta table : List ℕ) → entry_for n table ≡ Some k → 1 ≤ length main → 64 ≤ length (page_at main 0) → owned size (written_at size (n, slot_page size main delta n k) main) delta table ≡ owned size main delta table }
+{}
+
+/// The end of a merge drops the pages of zeros at the image's end, so that the image is one that a main file alone may have. Of an image that has
+/// no page of zeros it changes page 0 alone.
+pub fn a_merge_ends_without_zeros_behind()
+    ensures whole { (b : Base) → HasHeader b.image → trimmed (on_base finish b).image ≡ (on_base finish b).image }
+    ensures full { (b : Base) → HasNoZeros b.image → on_base finish b ≡ record b { image = with_control 0 (image_scn b.image) (image_guid b.image) b.image; diverted = [] } }
 {}
 
 /// The strokes that a short form drafts lead to the image that it drafts.

@@ -5,3 +5,4 @@ pub mod WaitLaws
 pub mod OutLaws
 pub mod SlotLaws
 pub mod SeenLaws
+pub mod SizeLaws

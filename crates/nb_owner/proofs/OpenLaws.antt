@@ -1,22 +1,26 @@
 -- What is in memory is what was seen last, behind each call.
-use Rattle.std.proofs.Common.{◌≡◌, ⊎_elim, ℕ, zero, suc, ◌+◌, ◌-◌, ◌<◌, ◌≤◌, Bool, nat_eq, true, false, List, [], ◌∷◌, length, take, Option, Some, None, refl, sym, ap, subst, ◌∙◌, arith}
+use Rattle.std.proofs.Common.{◌≡◌, ◌≢◌, ◌⊎◌, inl, inr, ⊎_elim, ℕ, zero, suc, ◌+◌, ◌-◌, ◌<◌, ◌≤◌, Bool, nat_eq, true, false, List, [], ◌∷◌, length, take, Option, Some, None, refl, sym, ap, subst, ◌∙◌, arith}
 use Rattle.std.specs.Prelude.{is_some, slice_get, MatchOption, Result, Ok, Err, OnErr, if◌then◌else◌}
 use Rattle.std.specs.Option.{option_and_then, option_map, option_map_or}
-use Rattle.std.specs.List.{IsDistinct}
+use Rattle.std.specs.List.{AllByRecursion, IsDistinct}
 use Rattle.std.specs.Map.{keys_of, lookup_entry, remove_entry}
 use Rattle.std.proofs.lemmas.Bool.{true≢false, eqb-false}
+use Rattle.std.proofs.lemmas.Bool.Decides.{leb_tells}
 use Rattle.lru.specs.LruCache.{lru_cache, promoted, put_entries}
-use Rattle.nb_model.specs.Image.{Page, Image, page_at, image_scn, image_guid, with_page}
+use Rattle.nb_model.specs.Image.{Page, Image, page_at, image_scn, image_guid, trimmed, with_page}
 use Rattle.nb_model.specs.Account.{Ask, Base}
 use Rattle.nb_model.specs.Strokes.{page, begin, ends, finish, on_base, with_control}
 use Rattle.nb_model.specs.Trail.{Trail, after_stroke}
 use Rattle.nb_model.proofs.StrokeLaws.{with_page_same, with_page_other}
 use Rattle.nb_model.proofs.TrailLaws.{trail_base}
-use Rattle.nb_base.specs.Open.{Fits}
+use Rattle.nb_model.proofs.TrimLaws.{trimmed_length, trimmed_at, trimmed_past, finish_base}
+use Rattle.nb_host.specs.World.{World}
+use Rattle.nb_base.specs.Open.{Fits, IsOpen as AreOpen}
 use Rattle.nb_base.proofs.ControlLaws.{with_control-behind}
+use Rattle.nb_base.proofs.EndLaws.{finished_length}
 use Rattle.nb_base.proofs.LeftLaws.{merged_fits, stroke-image}
 use Rattle.nb_cache.specs.Held.{Slot, slot_of, rank_of, with_rank, dropped, NoneWaits, IsNoLater, GoesFirst}
-use Rattle.nb_owner.specs.Open.{Pages, AreOf, IsValid, bare, used, behind_first}
+use Rattle.nb_owner.specs.Open.{Pages, AreOf, IsValid, bare, used, behind_first, but_below}
 use Rattle.nb_owner.proofs.UsedLaws.{All-dropped, All-put, All-found, once_put, once_removed, promoted_put, promoted_absent}
 use Rattle.nb_owner.proofs.RankLaws.{none_found, marked_keys, marked_long, found_rank}
 
@@ -56,22 +60,86 @@ module _ (pages : Pages) (once : IsDistinct nat_eq (keys_of pages)) where
   unfolding on_base
   ended_image b = refl
 
-  finished_image : (b : Base) → (on_base finish b).image ≡ with_control 0 (image_scn b.image) (image_guid b.image) b.image
-  unfolding on_base
-  finished_image b = refl
-
   pub of_begun : (t : Trail) (guid : List ℕ) (ask : Option Ask) → AreOf t.base.image pages → AreOf (after_stroke (begin guid ask) t).base.image (behind_first pages)
   of_begun t guid ask all = of_control t.base.image _ 1 _ guid (ap (λ (b : Base). b.image) (trail_base (begin guid ask) t) ∙ begun_image t.base guid ask) all
 
   pub of_ended : (t : Trail) → AreOf t.base.image pages → AreOf (after_stroke ends t).base.image (behind_first pages)
   of_ended t all = of_control t.base.image _ 2 _ _ (ap (λ (b : Base). b.image) (trail_base ends t) ∙ ended_image t.base) all
 
-  pub of_finished : (t : Trail) → AreOf t.base.image pages → AreOf (after_stroke finish t).base.image (behind_first pages)
-  of_finished t all = of_control t.base.image _ 0 _ _ (ap (λ (b : Base). b.image) (trail_base finish t) ∙ finished_image t.base) all
+  -- where none waits, none does once a page is dropped, as page 0 is
+  pub none_waits_gone : (p : ℕ) → NoneWaits pages → NoneWaits (remove_entry (nat_eq p) pages)
+  none_waits_gone p none = All-dropped p pages once (λ e. e.1.rank ≡ None) (λ e. e.1.rank ≡ None) (λ e apart waits. waits) none
 
-  -- where none waits, none waits behind page 0 either
   pub none_waits_dropped : NoneWaits pages → NoneWaits (behind_first pages)
-  none_waits_dropped none = All-dropped 0 pages once (λ e. e.1.rank ≡ None) (λ e. e.1.rank ≡ None) (λ e apart waits. waits) none
+  none_waits_dropped none = none_waits_gone 0 none
+
+-- Pages of so many numbers below one are held no longer.
+abbrev Outside : (low top : ℕ) → ℕ × Slot → Type 0
+Outside low top e = (e.0 < low) ⊎ (top ≤ e.0)
+
+below_once : (k top : ℕ) (pages : Pages) → IsDistinct nat_eq (keys_of pages) → IsDistinct nat_eq (keys_of (but_below k top pages))
+below_once zero top pages once = once
+below_once (suc k) top pages once = once_removed (top - suc k) (but_below k top pages) (below_once k top pages once)
+
+below_all : (P : ℕ × Slot → Type 0) (k top : ℕ) (pages : Pages) → k ≤ top → IsDistinct nat_eq (keys_of pages) → AllByRecursion P pages → AllByRecursion (λ e. P e × Outside (top - k) top e) (but_below k top pages)
+below_all P zero top pages low once all = each pages all
+  where
+    inside : (n : ℕ) → (n < top - 0) ⊎ (top ≤ n)
+    inside n = elim (leb_tells top n) [ inl w ↦ inr w.1 | inr w ↦ inl (omega (arith, w.1)) ]
+
+    each : (es : Pages) → AllByRecursion P es → AllByRecursion (λ e. P e × Outside (top - 0) top e) es
+    each [] all = tt
+    each (e ∷ es) all = ((all.0, inside e.0), each es all.1)
+below_all P (suc k) top pages low once all =
+    All-dropped (top - suc k) (but_below k top pages) (below_once k top pages once) (λ e. P e × Outside (top - k) top e) (λ e. P e × Outside (top - suc k) top e)
+    (λ e apart has. (has.0, ⊎_elim (λ inside. inl (less e.0 (eqb-false (top - suc k) e.0 apart) inside)) (λ past. inr past) has.1)) (below_all P k top pages (omega (arith, low)) once all)
+  where
+    less : (n : ℕ) → top - suc k ≢ n → n < top - k → n < top - suc k
+    less n other inside = elim (leb_tells (top - suc k) n) [
+      | inl w ↦ absurd (other (let e : top - suc k ≡ n = omega (arith, w.1, inside) in e))
+      | inr w ↦ w.1
+    ]
+
+-- none of them waits where none did
+pub below_waits : (k top : ℕ) (pages : Pages) → k ≤ top → IsDistinct nat_eq (keys_of pages) → NoneWaits pages → NoneWaits (but_below k top pages)
+below_waits k top pages low once none = each (but_below k top pages) (below_all (λ e. e.1.rank ≡ None) k top pages low once none)
+  where
+    each : (es : Pages) → AllByRecursion (λ e. (e.1.rank ≡ None) × Outside (top - k) top e) es → NoneWaits es
+    each [] all = tt
+    each (e ∷ es) all = (all.0.0, each es all.1)
+
+-- one after another, from the top down
+pub below_none : (top : ℕ) (pages : Pages) → but_below (top - top) top pages ≡ pages
+below_none top pages = ap (λ k. but_below k top pages) (let e : top - top ≡ 0 = omega arith in e)
+
+pub below_next : (top n : ℕ) (pages : Pages) → n ≤ top → 1 ≤ n → remove_entry (nat_eq (n - 1)) (but_below (top - n) top pages) ≡ but_below (top - (n - 1)) top pages
+below_next top n pages low some =
+    ap (λ m. remove_entry (nat_eq m) (but_below (top - n) top pages)) (let e : n - 1 ≡ top - suc (top - n) = omega (arith, low, some) in e)
+    ∙ ap (λ k. but_below k top pages) (let e : suc (top - n) ≡ top - (n - 1) = omega (arith, low, some) in e)
+
+-- how many pages the files have once the merge is finished
+pub finished_count : (w : World) (files : Rattle.nb_base.specs.Open.Held) (t : Trail) → AreOpen w files (after_stroke finish t) → files.count ≡ length (trimmed t.base.image)
+finished_count w files t is = is.agrees.count ∙ ap (λ (b : Base). length b.image) (trail_base finish t) ∙ finished_length t.base
+
+-- The merge is finished: page 0 has another control block, and pages of zeros at the end are none.
+pub of_finished : (pages : Pages) → IsDistinct nat_eq (keys_of pages) → (t : Trail) (count : ℕ) → count ≡ length (trimmed t.base.image) → AreOf t.base.image pages
+    → AreOf (after_stroke finish t).base.image (but_below (length t.base.image - count) (length t.base.image) (behind_first pages))
+of_finished pages once t count filled all =
+    subst (λ (x : Image). AreOf x (but_below (length t.base.image - count) (length t.base.image) (behind_first pages))) (sym (ap (λ (b : Base). b.image) (trail_base finish t ∙ finish_base t.base)))
+    (each (but_below (length t.base.image - count) (length t.base.image) (behind_first pages))
+    (below_all (λ e. (e.1.bytes ≡ page_at t.base.image e.0) × (e.0 ≢ 0)) (length t.base.image - count) (length t.base.image) (behind_first pages) (omega arith) (once_removed 0 pages once)
+    (All-dropped 0 pages once (λ e. e.1.bytes ≡ page_at t.base.image e.0) (λ e. (e.1.bytes ≡ page_at t.base.image e.0) × (e.0 ≢ 0)) (λ e apart of. (of, λ first. eqb-false 0 e.0 apart (sym first))) all)))
+  where
+    few : count ≤ length t.base.image
+    few = omega (arith, filled, trimmed_length t.base.image)
+
+    seen : (q : ℕ) → (q < length t.base.image - (length t.base.image - count)) ⊎ (length t.base.image ≤ q) → page_at (trimmed t.base.image) q ≡ page_at t.base.image q
+    seen q = ⊎_elim (λ low. trimmed_at t.base.image q (omega (arith, low, few, filled))) (trimmed_past t.base.image q)
+
+    each : (es : Pages) → AllByRecursion (λ e. ((e.1.bytes ≡ page_at t.base.image e.0) × (e.0 ≢ 0)) × Outside (length t.base.image - (length t.base.image - count)) (length t.base.image) e) es
+        → AreOf (with_control 0 (image_scn t.base.image) (image_guid t.base.image) (trimmed t.base.image)) es
+    each [] all = tt
+    each (e ∷ es) all = (all.0.0.0 ∙ sym (seen e.0 all.0.1) ∙ sym (with_control-behind 0 (image_scn t.base.image) (image_guid t.base.image) (trimmed t.base.image) e.0 all.0.0.1), each es all.1)
 
 none_at : (pages : Pages) (n : ℕ) → NoneWaits pages → option_and_then (λ (e : ℕ × Slot). option_map (λ _. e.0) e.1.rank) (slice_get pages n) ≡ None
 none_at [] n none = refl
@@ -177,18 +245,22 @@ module _ (cache after : Rattle.nb_cache.specs.Held.Held) (before size : ℕ) (va
     most = let long = marked_long p rank cache.pages in omega (arith, long, valid.most);
   })
 
-  -- page 0 is dropped
+  -- a page is dropped
+  pub valid_dropped : (p : ℕ) → after ≡ record cache { pages = remove_entry (nat_eq p) cache.pages } → IsValid after size
+  valid_dropped p gone = subst (λ (h : Rattle.nb_cache.specs.Held.Held). IsValid h size) (sym gone) (record {
+    wide = valid.wide ∙ sym same;
+    once = once_removed p cache.pages valid.once;
+    some = valid.some;
+    most = let less = removed_long p cache.pages in omega (arith, less, valid.most);
+  })
+
+  -- page 0 is
   module _ (gone : after ≡ record cache { pages = behind_first cache.pages }) where
     pub gone_behind : after.pages ≡ behind_first cache.pages
     gone_behind = ap (λ (h : Rattle.nb_cache.specs.Held.Held). h.pages) gone
 
     pub valid_gone : IsValid after size
-    valid_gone = subst (λ (h : Rattle.nb_cache.specs.Held.Held). IsValid h size) (sym gone) (record {
-      wide = valid.wide ∙ sym same;
-      once = once_removed 0 cache.pages valid.once;
-      some = valid.some;
-      most = let less = removed_long 0 cache.pages in omega (arith, less, valid.most);
-    })
+    valid_gone = valid_dropped 0 gone
 
   -- a page is looked for
   module _ (p : ℕ) (looked : after ≡ record cache { pages = promoted (nat_eq p) cache.pages }) where

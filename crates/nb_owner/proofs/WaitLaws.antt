@@ -121,6 +121,14 @@ settled_none w held t is none p = by (rank_of held.pages p) refl
     by None at = ap is_some at
     by (Some rank) at = absurd ((is.waits.each p rank at).unsettled none)
 
+-- Nor does one where writes are forced.
+pub forced_none : (w : World) (held : Held) (t : Trail) → IsOpen w held t → is_forced t.base.image ≡ true → (p : ℕ) → waits held.pages p ≡ false
+forced_none w held t is forced p = by (rank_of held.pages p) refl
+  where
+    by : (o : Option ℕ) → rank_of held.pages p ≡ o → waits held.pages p ≡ false
+    by None at = ap is_some at
+    by (Some rank) at = absurd (true≢false (sym forced ∙ (is.waits.each p rank at).loose))
+
 -- Calls that change nothing leave it open.
 pub still_open : (old new : World) (held : Held) (t : Trail) → IsStill old new → IsOpen old held t → IsOpen new held t
 still_open old new held t still is = open_of new held is.sees t (seen_still old new held.files.name is.sees still is.files) is.agrees is.waits is.pages
@@ -247,7 +255,7 @@ rank_same a b p first = ap (λ (x : Page). elim (state_of x == 1) as (λ z. ℕ)
 
 -- One more page waits.
 module _ (w : World) (held : Held) (t : Trail) (is : IsOpen w held t) (valid : IsValid (cache_of held) held.files.page_size) (p rank : ℕ) (bytes : Page)
-    (some : 1 ≤ p) (low : p < held.files.count) (below : p < 1048576) (other : is_zeros bytes ≡ false) (early : held.files.state ≤ 1) (loose : is_forced t.base.image ≡ false)
+    (some : 1 ≤ p) (low : p < held.files.count) (below : p < 1048576) (wide : length bytes ≡ held.files.page_size) (other : is_zeros bytes ≡ false) (early : held.files.state ≤ 1) (loose : is_forced t.base.image ≡ false)
     (drops_none : dropped (cache_of held) p ≡ None) (ranked : rank ≡ rank_for t.base.image p) where
   abbrev later_t : Trail
   later_t = after_stroke (page p bytes) t
@@ -323,6 +331,7 @@ module _ (w : World) (held : Held) (t : Trail) (is : IsOpen w held t) (valid : I
     named = named_own;
     loose = ap (λ (x : Page). not (number_in 64 1 x == 0)) first ∙ loose;
     ranked = ranked ∙ sym (rank_same (after_stroke (page p bytes) t).base.image t.base.image p first);
+    sized = ap length page_same ∙ wide ∙ is.agrees.page_size ∙ sym (ap size_of first);
     other = ap is_zeros page_same ∙ other;
     unsettled = unsettled;
   }
@@ -338,6 +347,7 @@ module _ (w : World) (held : Held) (t : Trail) (is : IsOpen w held t) (valid : I
         (at.0, ap (entry_for q) more.1 ∙ entry-front q t.base.diverted more.0 at.0 at.1);
     loose = ap (λ (x : Page). not (number_in 64 1 x == 0)) first ∙ old.loose;
     ranked = old.ranked ∙ sym (rank_same (after_stroke (page p bytes) t).base.image t.base.image q first);
+    sized = ap length (page_other q ne) ∙ old.sized ∙ sym (ap size_of first);
     other = ap is_zeros (page_other q ne) ∙ old.other;
     unsettled = unsettled;
   }
@@ -425,7 +435,7 @@ ranked_in files b p agrees = ap (λ n. rank_in n files.page_size p) agrees.state
 
 -- A page is in memory, where it waits, and has an entry in the stalled state.
 module _ (w : World) (held : Held) (t : Trail) (is : IsOpen w held t) (valid : IsValid (cache_of held) held.files.page_size) (p : ℕ) (bytes : Page)
-    (some : 1 ≤ p) (low : p < held.files.count) (below : p < 1048576) (other : is_zeros bytes ≡ false) (early : held.files.state ≤ 1) (loose : is_forced t.base.image ≡ false) (drops_none : dropped (cache_of held) p ≡ None)
+    (some : 1 ≤ p) (low : p < held.files.count) (below : p < 1048576) (wide : length bytes ≡ held.files.page_size) (other : is_zeros bytes ≡ false) (early : held.files.state ≤ 1) (loose : is_forced t.base.image ≡ false) (drops_none : dropped (cache_of held) p ≡ None)
     (after : Held)
     (pages_are : after.pages ≡ with_rank p (Some (rank_in held.files.state held.files.page_size p)) (put_entries nat_eq (lru_cache held.pages held.cap) p (record { bytes = bytes; rank = rank_of held.pages p })))
     (cap_is : after.cap ≡ held.cap) (normal : held.files.state ≡ 0 → after.files ≡ held.files) (drafts : held.files.state ≡ 1 → Drafts p held.files after.files) where
@@ -443,13 +453,13 @@ module _ (w : World) (held : Held) (t : Trail) (is : IsOpen w held t) (valid : I
 
   pub held_open : IsOpen w after (after_stroke (page p bytes) t)
   held_open = elim (eqb_tells held.files.state 0) [
-    | inl e ↦ with_files held.files (normal e.1) (wait_main w held t is valid p rank bytes some low below other early loose drops_none ranked (λ stalled. absurd (omega (arith, e.1, stalled, is.agrees.state))))
+    | inl e ↦ with_files held.files (normal e.1) (wait_main w held t is valid p rank bytes some low below wide other early loose drops_none ranked (λ stalled. absurd (omega (arith, e.1, stalled, is.agrees.state))))
     | inr e ↦
         let one : held.files.state ≡ 1 = omega (arith, e.1, early) in
         let stalled : image_state t.base.image ≡ 1 = sym is.agrees.state ∙ one in
         ⊎_elim
-        (λ has. with_files held.files has.1 (wait_there w held t is valid p rank bytes some low below other early loose drops_none ranked stalled has.0.0 (ap (entry_for p) (sym is.agrees.entries) ∙ has.0.1)))
+        (λ has. with_files held.files has.1 (wait_there w held t is valid p rank bytes some low below wide other early loose drops_none ranked stalled has.0.0 (ap (entry_for p) (sym is.agrees.entries) ∙ has.0.1)))
         (λ none. with_files (record held.files { entries = held.files.entries ++ p ∷ []; drafted = held.files.drafted + 1 }) none.1
-        (wait_new w held t is valid p rank bytes some low below other early loose drops_none ranked stalled (ap (entry_for p) (sym is.agrees.entries) ∙ none.0)))
+        (wait_new w held t is valid p rank bytes some low below wide other early loose drops_none ranked stalled (ap (entry_for p) (sym is.agrees.entries) ∙ none.0)))
         (drafts one)
   ]

@@ -1,5 +1,5 @@
 -- A database that is open: its two files, the pages of it that are in memory, and which of them wait to be written.
-use Rattle.std.specs.Prelude.{◌≡◌, ◌≢◌, ℕ, ◌<◌, ◌≤◌, ◌==◌, ◌&&◌, not, nat_eq, nat_lt, List, [], ◌++◌, length, map, Some, Bool, true, false, is_some}
+use Rattle.std.specs.Prelude.{◌≡◌, ◌≢◌, ℕ, zero, suc, ◌-◌, ◌<◌, ◌≤◌, ◌==◌, ◌&&◌, not, nat_eq, nat_lt, List, [], ◌++◌, length, map, Some, Bool, true, false, is_some}
 use Rattle.std.specs.List.{AllByRecursion, IsDistinct}
 use Rattle.std.specs.Map.{keys_of, remove_entry}
 use Rattle.lru.specs.LruCache.{lru_cache, put_entries}
@@ -39,8 +39,8 @@ AreOf image pages = AllByRecursion (λ e. e.1.bytes ≡ page_at image e.0) pages
 abbrev pub waits : Pages → (p : ℕ) → Bool
 waits pages p = is_some (rank_of pages p)
 
--- A page that waits: one below the length other than page 0, with forced writes off, with the rank by which it goes out. In the stalled
--- state it has an entry. In the merge state none waits.
+-- A page that waits: one below the length other than page 0, of the size of a page, with forced writes off, with the rank by which it goes
+-- out. In the stalled state it has an entry. In the merge state none waits.
 pub record IsWaiting (t : Trail) (p rank : ℕ) : Type 0 where
   pub some : 1 ≤ p
   pub low : p < length t.base.image
@@ -49,6 +49,7 @@ pub record IsWaiting (t : Trail) (p rank : ℕ) : Type 0 where
   pub named : image_state t.base.image ≡ 1 → (k : ℕ) × (entry_for p t.base.diverted ≡ Some k)
   pub loose : is_forced t.base.image ≡ false
   pub ranked : rank ≡ rank_for t.base.image p
+  pub sized : length (page_at t.base.image p) ≡ image_size t.base.image
   pub other : is_zeros (page_at t.base.image p) ≡ false
   pub unsettled : t.earlier ≢ []
 
@@ -134,3 +135,8 @@ used pages cap page bytes = put_entries nat_eq (lru_cache pages cap) page bytes
 -- the pages in memory but for page 0
 abbrev pub behind_first : Pages → Pages
 behind_first pages = remove_entry (nat_eq 0) pages
+
+-- the pages in memory but for those of so many numbers below that one
+abbrev pub but_below : (count top : ℕ) → Pages → Pages
+but_below zero top pages = pages
+but_below (suc k) top pages = remove_entry (nat_eq (top - suc k)) (but_below k top pages)

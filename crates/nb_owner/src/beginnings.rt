@@ -42,7 +42,7 @@ impl Pair {
     }
 
     /// Makes a new database with `raw` raw pages, and opens it. The refusal is `FileExists`, where the name is not free; then nothing
-    /// has changed. The memory for so many of its pages is taken first.
+    /// has changed. The memory for so many of its pages is taken first, and where it is wanting no call was made.
     pub fn create<H: Host>(
         alloc: Global,
         host: &mut H,
@@ -60,6 +60,7 @@ impl Pair {
         ensures page_size { IfOk result (λ pair. pair.files.page_size ≡ page_size) }
         ensures blank { IfOk result (IsBlank cache_pages) }
         ensures cause { CountsDevice result (H.faults host.old) (H.faults host.new) }
+        ensures on_memory { result ≡ Err Fault.Memory → host.new ≡ host.old }
     {
         let cache = Cache::new(alloc, cache_pages, page_size)?;
         let page = vec![in alloc; 0u8; page_size as usize]?;

@@ -1,5 +1,7 @@
-// A law of an open database: a public function with an empty body, whose contract is the law.
+// Laws of an open database: public functions with an empty body, whose contracts are the laws.
 ghost use Rattle.std.specs.Prelude.{IsTrue};
+ghost use Rattle.nb_model.specs.Image.{image_size};
+ghost use Rattle.nb_model.specs.Sound.{IsOfSize};
 ghost use Rattle.nb_model.specs.Trail.{Trail};
 ghost use Rattle.nb_owner.specs.Open.{IsOpen};
 ghost use Rattle.nb_owner.specs.Seen.{IsSeenOver};
@@ -11,6 +13,14 @@ use nb_host::Host;
 /// its difference file still lacks behind those that it has.
 pub fn what_waits_is_seen<H: Host>(_host: &H, pair: &Pair)
     ensures { (t : Trail) → IsTrue H.tells → IsOpen (H.world _host.now) pair.now t → IsSeenOver (H.world _host.now) pair.now t.base }
+{
+    // Reading a field shows what holds of each value.
+    let _ = &pair.cache;
+}
+
+/// Each page of an open database has the size of a page, whichever file holds it, and also where it waits.
+pub fn pages_have_one_size<H: Host>(_host: &H, pair: &Pair)
+    ensures { (t : Trail) → IsTrue H.tells → IsOpen (H.world _host.now) pair.now t → IsOfSize (image_size t.base.image) t.base.image }
 {
     // Reading a field shows what holds of each value.
     let _ = &pair.cache;

@@ -177,7 +177,8 @@ impl Pair {
     /// makes the database longer, and where it is page 0 or an SCN inventory page. In the normal state the difference file isn't touched, and
     /// in the stalled state the main file isn't.
     ///
-    /// Where it wants memory it has changed no page, and in the merge state it has made no call.
+    /// Where it wants memory it has changed no page. It has made no call then but to write out what waited, so none in the merge state, and none
+    /// where writes are forced.
     pub fn write<H: Host>(
         &mut self,
         host: &mut H,
@@ -210,6 +211,8 @@ impl Pair {
         ensures on_memory { (t : Trail) → IsTrue H.tells → IsOpen (H.world host.old) self.old t → result ≡ Err Fault.Memory
             → Strikes (H.world host.old) (H.world host.new) self.old.files.name t [] × IsOpen (H.world host.new) self.new t }
         ensures stays { self.old.files.state ≡ 2 → result ≡ Err Fault.Memory → (self.new ≡ self.old) × (host.new ≡ host.old) }
+        ensures forced { (t : Trail) → IsTrue H.tells → IsOpen (H.world host.old) self.old t → is_forced t.base.image ≡ true → result ≡ Err Fault.Memory → (self.new ≡ self.old) × (host.new ≡ host.old) }
+        ensures idle { NoneWaits self.old.pages → self.old.files.drafted ≡ 0 → result ≡ Err Fault.Memory → (self.new ≡ self.old) × (host.new ≡ host.old) }
     {
         if self.may_wait(number, forced) {
             self.hold(host, number, page)?;

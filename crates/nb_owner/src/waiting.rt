@@ -8,7 +8,7 @@ ghost use Rattle.nb_host.specs.declared.faults.Fault.TheVariants.{Memory};
 ghost use Rattle.nb_change.specs.Changes.{Only, Changes};
 ghost use Rattle.nb_change.specs.Gave.{GaveNothing};
 ghost use Rattle.nb_model.specs.Account.{Base};
-ghost use Rattle.nb_model.specs.Image.{page_at, image_state};
+ghost use Rattle.nb_model.specs.Image.{page_at, image_state, is_forced};
 ghost use Rattle.nb_model.specs.Owner.{delta_name};
 ghost use Rattle.nb_model.specs.Strokes.{page as page_stroke, on_base};
 ghost use Rattle.nb_model.specs.Trail.{Trail, IsFirm, StandsIn, ShowsIn};
@@ -355,7 +355,7 @@ impl Pair {
 
     /// Writes all that waits. In the normal state SCN pages go first, which are kept for good, and then the others. In the stalled state
     /// pages go into their slots first, which are kept for good, and then the allocation pages that name them. It changes no page of the
-    /// database, and none in memory. Where nothing waits it makes no call, and at a settled point nothing does.
+    /// database, and none in memory. Where nothing waits it makes no call; at a settled point and where writes are forced nothing does.
     pub fn write_out<H: Host>(&mut self, host: &mut H) -> Result<(), HostFault>
         ensures takes { (t : Trail) → IsTrue H.tells → IsOpen (H.world host.old) self.old t
             → Takes result (H.world host.old) (H.world host.new) self.old.files.name (IsOpen (H.world host.new) self.new) t [] }
@@ -364,6 +364,7 @@ impl Pair {
         ensures no_drafts { OnOk result (self.new.files.drafted ≡ 0) }
         ensures idle { NoneWaits self.old.pages → self.old.files.drafted ≡ 0 → IsOk result × (self.new ≡ self.old) × (host.new ≡ host.old) }
         ensures at_settled { (t : Trail) → IsTrue H.tells → IsOpen (H.world host.old) self.old t → t.earlier ≡ [] → IsOk result × (self.new ≡ self.old) × (host.new ≡ host.old) }
+        ensures at_forced { (t : Trail) → IsTrue H.tells → IsOpen (H.world host.old) self.old t → is_forced t.base.image ≡ true → IsOk result × (self.new ≡ self.old) × (host.new ≡ host.old) }
         ensures outside { self.old.files.state ≡ 2 → IsOk result × (self.new ≡ self.old) × (host.new ≡ host.old) }
         ensures files { but_drafts self.new.files ≡ but_drafts self.old.files }
         ensures bare { bare self.new.pages ≡ bare self.old.pages }

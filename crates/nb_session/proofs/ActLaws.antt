@@ -31,7 +31,7 @@ use Rattle.nb_model.proofs.StepsLaws.{steps_plain, after_settling}
 use Rattle.nb_base.specs.Open.{OfFiles}
 use Rattle.nb_base.specs.Takes.{Strikes, after_strokes}
 use Rattle.nb_state.specs.Open.{Held, IsOpen, but_pages, name_of}
-use Rattle.nb_state.specs.Does.{WhereEnded, WhereRefused, Answers, Does}
+use Rattle.nb_state.specs.Does.{WhereEnded, Answers, Does}
 use Rattle.nb_state.specs.Turns.{GaveAtMost}
 use Rattle.nb_state.proofs.MakesLaws.{where_ended, none_yet}
 use Rattle.nb_state.proofs.TurnLaws.{no_call}
@@ -39,7 +39,8 @@ use Rattle.nb_engine.specs.Replies.{scn_is}
 use Rattle.nb_engine.specs.Turns.{SaysNone, DoesBegin}
 use Rattle.nb_session.specs.Acts.{Says, Grows, shown_by, Touched, TurnLeft, AreKept, Acts, MayAct}
 use Rattle.nb_session.specs.Ready.{IsReady}
-use Rattle.nb_session.specs.Replies.{some_said, only_tells, has_only_told, only_told}
+use Rattle.nb_state.specs.Does.{has_only_told}
+use Rattle.nb_session.specs.Replies.{some_said, only_told}
 use Rattle.nb_session.proofs.EventLaws.{strokes_are_steps, told_reply, unsaid}
 use Rattle.nb_session.proofs.GiftLaws.{given_nothing, grows_none}
 use Rattle.nb_session.proofs.KeepLaws.{begin_gives, begin_refused, begin_running, begin_made}
@@ -101,7 +102,7 @@ module _ {T S : Type 0} (reply : T → Option Reply) (other : S → Option Reply
   may_then_memory value fault (Err e) memory is may =
       subst (λ (f : Fault). MayAct other (Err f) old new a b t now session turn files) (sym (is.1 ∙ memory)) (record {
         grows = may.grows;
-        acts = λ told. let acts = may.acts told in record { says = tt; left = acts.left; opened = tt; running = tt; given = tt; kept = tt; unchanged = tt; name = acts.name; cap = acts.cap };
+        acts = λ told. let acts = may.acts told in record { says = tt; left = acts.left; opened = tt; running = tt; given = tt; kept = tt; unchanged = acts.unchanged; name = acts.name; cap = acts.cap };
       })
 
   -- the same value, said otherwise
@@ -115,33 +116,15 @@ module _ {T S : Type 0} (reply : T → Option Reply) (other : S → Option Reply
 pub trail_plain : (t : Trail) (e : Event) → e.syncs ≡ false → after_strokes t e.strokes ≡ after_steps t (steps_in e)
 trail_plain t e plain = strokes_are_steps t e.strokes ∙ ap (after_steps t) (sym (steps_plain e plain))
 
--- What only tells something changes no file: a refusal, and what was read.
-tells_unchanged : {T : Type 0} (reply : T → Reply) (result : Result T Fault) (old new : World) (e : Event) → Says (some_by reply) result e.reply → WhereRefused result (Quiet old new) → ((value : T) → only_tells (reply value) ≡ true → new.files ≡ old.files)
-    → WhereEnded result (only_told e ≡ true → new.files ≡ old.files)
-tells_unchanged reply (Ok value) old new e said quiet telling = λ told. telling value (ap has_only_told (sym said) ∙ told_reply e told)
-tells_unchanged reply (Err (Refused refusal)) old new e said quiet telling = λ told. quiet.still.files
-tells_unchanged reply (Err Device) old new e said quiet telling = tt
-tells_unchanged reply (Err Memory) old new e said quiet telling = tt
-
--- a refusal changes nothing, and what is held stays
-pub and_quiet : {T : Type 0} (P Q : Type 0) (result : Result T Fault) → WhereRefused result (P × Q) → WhereRefused result Q
-and_quiet P Q (Ok value) is = tt
-and_quiet P Q (Err (Refused refusal)) is = is.1
-and_quiet P Q (Err Device) is = tt
-and_quiet P Q (Err Memory) is = tt
-
--- A turn that answers a value has nothing to say yet, and a refusal changes nothing.
-pub unsaid_unchanged : {T : Type 0} (result : Result T Fault) (old new : World) (e : Event) → Says (λ value. None) result e.reply → WhereRefused result (Quiet old new) → WhereEnded result (only_told e ≡ true → new.files ≡ old.files)
-unsaid_unchanged (Ok value) old new e said quiet = λ told. absurd (unsaid e said told)
-unsaid_unchanged (Err (Refused refusal)) old new e said quiet = λ told. quiet.still.files
-unsaid_unchanged (Err Device) old new e said quiet = tt
-unsaid_unchanged (Err Memory) old new e said quiet = tt
+-- What only tells something changes no file.
+pub idle_unchanged : (old new : World) (reply : Option Reply) (e : Event) → reply ≡ e.reply → (has_only_told reply ≡ true → Quiet old new) → only_told e ≡ true → new.files ≡ old.files
+idle_unchanged old new reply e same idle told = (idle (ap has_only_told same ∙ told_reply e told)).still.files
 
 -- A statement on pages, by what the engine does of its turn.
 pub does_acts : {T : Type 0} (reply : T → Reply) (result : Result T Fault) (old new : World) (a b : Held) (t : Trail) (now : Now) (session : ℕ) (statement it : Statement) → statement ≡ it → is_sync (Begins it) ≡ false → is_on_pages it ≡ true
-    → left_by it now.given ≡ now.given → (o : Outcome) → o ≡ first_turn (seen_now now) session it → IsReady old a t now → ((value : T) → only_tells (reply value) ≡ true → new.files ≡ old.files) → Does reply result old new a b t o
+    → left_by it now.given ≡ now.given → (o : Outcome) → o ≡ first_turn (seen_now now) session it → IsReady old a t now → Does reply result old new a b t o
     → MayAct (some_by reply) result old new a b t now session (Begins statement) []
-does_acts reply result old new a b t now session statement it is plain on none o turn_is ready telling does =
+does_acts reply result old new a b t now session statement it is plain on none o turn_is ready does =
     let this : Outcome = outcome session (Begins statement) now in
     let first : this ≡ first_turn (seen_now now) session statement = outcome_is session statement now in
     let same : o ≡ this = turn_is ∙ ap (first_turn (seen_now now) session) (sym is) ∙ sym first in
@@ -157,7 +140,7 @@ does_acts reply result old new a b t now session statement it is plain on none o
         running = where_ended result _ (does.makes.goes.running ∙ ready.running ∙ sym (ap (λ (x : Outcome). x.running) first ∙ once.running));
         given = where_ended result _ (given_nothing old new now.given this.given does.makes.gave (ap (λ (x : Outcome). x.given) first ∙ once.given ∙ ap (λ (x : Statement). left_by x now.given) is ∙ none));
         kept = where_ended result _ (kept_none new event (ap (λ (x : Outcome). x.made) first ∙ once.made));
-        unchanged = tells_unchanged reply result old new event (subst (λ (x : Outcome). Says (some_by reply) result x.reply) same (as_says reply result o.reply does.answer)) does.refused telling;
+        unchanged = idle_unchanged old new o.reply event (ap (λ (x : Outcome). x.reply) same) does.idle;
         name = does.makes.goes.name;
         cap = does.makes.goes.cap;
       };
@@ -180,6 +163,10 @@ module _ (old new : World) (a b : Held) (t : Trail) (now : Now) (session : ℕ) 
       ∙ ap (λ (x : Statement). after_steps t (made [] ++ elim (is_sync (Begins x)) as (λ z. List Step) [ true ↦ settles ∷ [] | false ↦ [] ])) (sym is)
       ∙ ap (λ (ss : List Stroke). after_steps t (made ss ++ elim (is_sync (Begins statement)) as (λ z. List Step) [ true ↦ settles ∷ [] | false ↦ [] ])) (sym none)
 
+  -- it does more than to tell something
+  sync_told : only_told (event_of session (Begins statement) (outcome session (Begins statement) now)) ≡ true → new.files ≡ old.files
+  sync_told told = absurd (true≢false (sym (told_reply (event_of session (Begins statement) (outcome session (Begins statement) now)) told) ∙ ap (λ (x : Outcome). has_only_told x.reply) sync_turn))
+
   pub sync_acts : {T : Type 0} (value : T) → IsOpen new b (settled t.base) → MayAct (λ v. Some Done) (Ok value) old new a b t now session (Begins statement) []
   sync_acts value opened = record {
     grows = grows_none old new gave;
@@ -190,7 +177,7 @@ module _ (old new : World) (a b : Held) (t : Trail) (now : Now) (session : ℕ) 
       running = ap (λ (h : Held). h.running) same ∙ ready.running ∙ sym (ap (λ (x : Outcome). x.running) sync_turn);
       given = given_nothing old new now.given (outcome session (Begins statement) now).given gave (ap (λ (x : Outcome). x.given) sync_turn);
       kept = kept_none new (event_of session (Begins statement) (outcome session (Begins statement) now)) (ap (λ (x : Outcome). x.made) sync_turn);
-      unchanged = λ told. absurd (true≢false (sym (told_reply (event_of session (Begins statement) (outcome session (Begins statement) now)) told) ∙ ap (λ (x : Outcome). has_only_told x.reply) sync_turn));
+      unchanged = sync_told;
       name = ap (λ (h : Held). name_of h) same;
       cap = ap (λ (h : Held). h.cap) same;
     };
@@ -199,7 +186,7 @@ module _ (old new : World) (a b : Held) (t : Trail) (now : Now) (session : ℕ) 
   pub sync_failed : {T : Type 0} (reply : T → Option Reply) → MayAct reply (Err Device) old new a b t now session (Begins statement) []
   sync_failed reply = record {
     grows = grows_none old new gave;
-    acts = λ told. record { says = tt; left = sync_left; opened = tt; running = tt; given = tt; kept = tt; unchanged = tt; name = ap (λ (h : Held). name_of h) same; cap = ap (λ (h : Held). h.cap) same };
+    acts = λ told. record { says = tt; left = sync_left; opened = tt; running = tt; given = tt; kept = tt; unchanged = sync_told; name = ap (λ (h : Held). name_of h) same; cap = ap (λ (h : Held). h.cap) same };
   }
 
 -- A value that was given, where the first of these were, is the next one of them.
@@ -258,8 +245,7 @@ module _ (result : Result ℕ Fault) (old new : World) (a b : Held) (t : Trail) 
           running = where_ended result _ (does.running ∙ ready.running ∙ sym (sym (ap (λ (x : Outcome). x.running) same) ∙ begin_running (seen_now now)));
           given = subst (λ (x : Outcome). WhereEnded result (WasGiven old new now.given x.given)) same (begin_given result does told);
           kept = where_ended result _ (kept_none new (event_of session (Begins statement) this) (sym (ap (λ (x : Outcome). x.made) same) ∙ begin_made (seen_now now)));
-          unchanged = tells_unchanged scn_is result old new (event_of session (Begins statement) this) (subst (λ (x : Outcome). Says (some_by scn_is) result x.reply) same (as_says scn_is result (begin_turn (seen_now now)).reply does.answer)) (and_quiet (b ≡ a) (Quiet old new) result does.refused)
-              (λ value tells. absurd (true≢false (sym tells)));
+          unchanged = idle_unchanged old new (begin_turn (seen_now now)).reply (event_of session (Begins statement) this) (ap (λ (x : Outcome). x.reply) same) does.idle;
           name = does.name;
           cap = cap;
         };

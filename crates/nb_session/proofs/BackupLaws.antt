@@ -54,7 +54,9 @@ use Rattle.nb_script.specs.Fits.{FitsAsked}
 use Rattle.nb_session.specs.Askers.{IsBackup, file_asked, copy_first, copy_rest}
 use Rattle.nb_session.specs.Ready.{IsReady, IsApart}
 use Rattle.nb_session.specs.Steps.{begun_in, left_making, touching, IsBehind}
-use Rattle.nb_session.proofs.ActLaws.{trail_plain, ended_map, kept_none, says_none, unsaid_unchanged, first_given, most_given, grows_at_most}
+use Rattle.nb_session.proofs.ActLaws.{trail_plain, ended_map, kept_none, says_none, idle_unchanged, first_given, most_given, grows_at_most}
+use Rattle.nb_state.specs.Does.{has_only_told}
+use Rattle.nb_session.specs.Replies.{only_told}
 use Rattle.nb_session.proofs.EventLaws.{unsaid}
 use Rattle.nb_session.proofs.CopyLaws.{apart_one, one_file, file_left, each_one, kept_one, made_by, no_stroke, stalled_now}
 use Rattle.nb_session.proofs.GiftLaws.{given_nothing, grows_none}
@@ -236,7 +238,7 @@ module _ (old new : World) (a b : Held) (t : Trail) (now : Now) (session : ℕ) 
           times = does.times ∙ sym (append-nil old.times);
           times_first = refl;
         })
-    start_given (Err (Refused refusal)) does told = given_nothing old new now.given begins.given (gave_none old new does.refused) (has_not (seen_now now) session x asks refusal does.says).given
+    start_given (Err (Refused refusal)) does told = given_nothing old new now.given begins.given (gave_none old new (does.idle (ap has_only_told does.says))) (has_not (seen_now now) session x asks refusal does.says).given
     start_given (Err Device) does told = tt
     start_given (Err Memory) does told = tt
 
@@ -252,7 +254,7 @@ module _ (old new : World) (a b : Held) (t : Trail) (now : Now) (session : ℕ) 
             running = subst (λ (o : Outcome). WhereEnded result (b.running ≡ o.running)) same does.running;
             given = subst (λ (o : Outcome). WhereEnded result (WasGiven old new now.given o.given)) same (start_given result does told);
             kept = where_ended result _ (kept_none new event (sym (ap (λ (o : Outcome). o.made) same) ∙ start_made (seen_now now) session x asks));
-            unchanged = unsaid_unchanged result old new event (subst (λ (o : Outcome). Says (λ copier. None) result o.reply) same (says_none result begins.reply does.says)) does.refused;
+            unchanged = idle_unchanged old new begins.reply event (ap (λ (o : Outcome). o.reply) same) does.idle;
             name = does.name;
             cap = cap;
           };
@@ -361,12 +363,17 @@ module _ (old new : World) (a b : Held) (t : Trail) (now : Now) (session : ℕ) 
         close_left (outcome session last now).strokes (subst (λ (o : Outcome). Changes old new (OfBackup name (name_of a)) (CloseLeft old name whole (name_of a) t o.strokes)) (sym (close_is session copier.backing now)) does.left)
     turn_left result (suc left) some does = file_left old new a t ready.opened name whole apart reads (outcome session Copies now).strokes (does.alone (omega (arith, some)))
 
+    -- no turn of it says anything
+    copy_told : (left : ℕ) → only_told (event_of session (copy_first left last) (outcome session (copy_first left last) now)) ≡ true → ⊥
+    copy_told zero told = unsaid (event_of session last (outcome session last now)) (ap (λ (x : Outcome). x.reply) (close_is session copier.backing now) ∙ close_reply (seen_now now) copier.backing) told
+    copy_told (suc left) told = unsaid (event_of session Copies (outcome session Copies now)) (ap (λ (x : Outcome). x.reply) (page_is session now)) told
+
     -- it fails
-    failed : (fault : Fault) → IsNoRefusal fault → (u : Turn) → Changes old new (Touched (name_of a) files) (TurnLeft old (name_of a) t (outcome session u now).strokes files)
-        → Acts {T = Progress} (λ progress. None) (Err fault) old new a b t now session u files
-    failed (Refused refusal) none u left = absurd none
-    failed Device none u left = record { says = tt; left = left; opened = tt; running = tt; given = tt; kept = tt; unchanged = tt; name = goes.name; cap = goes.cap }
-    failed Memory none u left = record { says = tt; left = left; opened = tt; running = tt; given = tt; kept = tt; unchanged = tt; name = goes.name; cap = goes.cap }
+    failed : (fault : Fault) → IsNoRefusal fault → (left : ℕ) → Changes old new (Touched (name_of a) files) (TurnLeft old (name_of a) t (outcome session (copy_first left last) now).strokes files)
+        → Acts {T = Progress} (λ progress. None) (Err fault) old new a b t now session (copy_first left last) files
+    failed (Refused refusal) none left struck = absurd none
+    failed Device none left struck = record { says = tt; left = struck; opened = tt; running = tt; given = tt; kept = tt; unchanged = λ told. absurd (copy_told left told); name = goes.name; cap = goes.cap }
+    failed Memory none left struck = record { says = tt; left = struck; opened = tt; running = tt; given = tt; kept = tt; unchanged = λ told. absurd (copy_told left told); name = goes.name; cap = goes.cap }
 
     -- a page is copied
     copied : CopiesOn old new a b copier later t → Changes old new (Touched (name_of a) files) (TurnLeft old (name_of a) t (outcome session Copies now).strokes files)
@@ -380,7 +387,7 @@ module _ (old new : World) (a b : Held) (t : Trail) (now : Now) (session : ℕ) 
           running = goes.running ∙ ready.running ∙ sym (ap (λ (x : Outcome). x.running) o);
           given = given_nothing old new now.given (outcome session Copies now).given does.gave (ap (λ (x : Outcome). x.given) o);
           kept = kept_none new (event_of session Copies (outcome session Copies now)) (ap (λ (x : Outcome). x.made) o);
-          unchanged = λ told. absurd (unsaid (event_of session Copies (outcome session Copies now)) (ap (λ (x : Outcome). x.reply) o) told);
+          unchanged = λ told. absurd (copy_told 1 told);
           name = goes.name;
           cap = goes.cap;
         }
@@ -405,7 +412,7 @@ module _ (old new : World) (a b : Held) (t : Trail) (now : Now) (session : ℕ) 
           });
           kept = made_by new (event_of session last (outcome session last now)) (name, whole)
               (ap (λ (x : Outcome). x.made) o ∙ close_made (seen_now now) copier.backing ∙ ap (λ (bytes : List ℕ). Some (name, bytes)) (sym whole_is)) (kept_one new name whole does.kept);
-          unchanged = λ told. absurd (unsaid (event_of session last (outcome session last now)) (ap (λ (x : Outcome). x.reply) o ∙ close_reply (seen_now now) copier.backing) told);
+          unchanged = λ told. absurd (copy_told zero told);
           name = goes.name;
           cap = goes.cap;
         }
@@ -415,7 +422,7 @@ module _ (old new : World) (a b : Held) (t : Trail) (now : Now) (session : ℕ) 
     acts_by (Ok More) (suc left) some told counts does = copied does.answer (turn_left (Ok More) (suc left) some does)
     acts_by (Ok Finished) zero none told counts does = closed told does.answer does.guids (turn_left (Ok Finished) zero none does)
     acts_by (Ok Finished) (suc left) some told counts does = absurd (omega (arith, some, counts.0))
-    acts_by (Err fault) left is told counts does = failed fault does.sure (copy_first left last) (turn_left (Err fault) left is does)
+    acts_by (Err fault) left is told counts does = failed fault does.sure left (turn_left (Err fault) left is does)
 
     -- where one time was given, or none
     module _ (result : Result Progress Fault) (turns : (given : Given) → GaveTimeAtMost old new (next_time given) → BackupTurn result old new a b copier later t (next_time given) (close_backup (seen_with now given) copier.backing).strokes)

@@ -45,7 +45,8 @@ use Rattle.nb_session.specs.Acts.{Says, Touched, TurnLeft, AreKept, MayAct}
 use Rattle.nb_session.specs.Askers.{copy_first, copy_rest}
 use Rattle.nb_session.specs.Ready.{IsReady, IsApart}
 use Rattle.nb_session.specs.Steps.{touching, IsBehind}
-use Rattle.nb_session.specs.Replies.{has_only_told}
+use Rattle.nb_state.specs.Does.{has_only_told}
+use Rattle.nb_session.specs.Replies.{only_told}
 use Rattle.nb_session.proofs.ActLaws.{trail_plain, ended_map, strikes_left, kept_none, says_none}
 use Rattle.nb_session.proofs.EventLaws.{unsaid, told_reply}
 use Rattle.nb_session.proofs.GiftLaws.{given_nothing, grows_none}
@@ -162,7 +163,7 @@ module _ (old new : World) (a b : Held) (t : Trail) (now : Now) (session : ℕ) 
           running = ended_map result (λ held. ap (λ (h : Held). h.running) held ∙ ap (λ (o : Outcome). o.running) same) starts.held;
           given = where_ended result _ (given_nothing old new now.given this.given (gave_none old new starts.quiet) (sym (ap (λ (o : Outcome). o.given) same) ∙ begin_given (seen_now now) session name));
           kept = where_ended result _ (kept_none new event (sym (ap (λ (o : Outcome). o.made) same) ∙ begin_made (seen_now now) session name));
-          unchanged = where_ended result _ (λ told. starts.quiet.still.files);
+          unchanged = λ told. starts.quiet.still.files;
           name = named;
           cap = cap;
         };
@@ -279,6 +280,12 @@ module _ (old mid : World) (a b : Held) (t : Trail) (now : Now) (session : ℕ) 
   trail_same left =
       sym (ap (after_strokes t) (none_struck left)) ∙ trail_plain t (event_of session (copy_first left last) (outcome session (copy_first left last) now)) (not_sync left (outcome session (copy_first left last) now))
 
+  -- no turn of a copy only tells something
+  copy_told : (left : ℕ) → only_told (event_of session (copy_first left last) (outcome session (copy_first left last) now)) ≡ true → ⊥
+  copy_told zero told =
+      true≢false (sym (ap has_only_told (sym (ap (λ (x : Outcome). x.reply) (close_is session copy.name now) ∙ close_reply (seen_now now) copy.name)) ∙ told_reply (event_of session last (outcome session last now)) told))
+  copy_told (suc left) told = unsaid (event_of session Copies (outcome session Copies now)) (ap (λ (x : Outcome). x.reply) (page_is session now)) told
+
   -- the file alone is touched
   module _ (changes : Changes old mid (Only copy.name) (Remade old copy.name (IsUnfinishedOr whole))) (gave : GaveNothing old mid) where
     -- it fails
@@ -292,7 +299,7 @@ module _ (old mid : World) (a b : Held) (t : Trail) (now : Now) (session : ℕ) 
         running = tt;
         given = tt;
         kept = tt;
-        unchanged = tt;
+        unchanged = λ told. absurd (copy_told left told);
         name = ap (λ (h : Held). name_of h) same;
         cap = ap (λ (h : Held). h.cap) same;
       };
@@ -313,7 +320,7 @@ module _ (old mid : World) (a b : Held) (t : Trail) (now : Now) (session : ℕ) 
             running = ap (λ (h : Held). h.running) same ∙ ready.running ∙ sym (ap (λ (x : Outcome). x.running) o);
             given = given_nothing old mid now.given (outcome session Copies now).given gave (ap (λ (x : Outcome). x.given) o);
             kept = kept_none mid (event_of session Copies (outcome session Copies now)) (ap (λ (x : Outcome). x.made) o);
-            unchanged = λ told. absurd (unsaid (event_of session Copies (outcome session Copies now)) (ap (λ (x : Outcome). x.reply) o) told);
+            unchanged = λ told. absurd (copy_told (suc left) told);
             name = ap (λ (h : Held). name_of h) same;
             cap = ap (λ (h : Held). h.cap) same;
           };
@@ -335,7 +342,7 @@ module _ (old mid : World) (a b : Held) (t : Trail) (now : Now) (session : ℕ) 
             given = given_nothing old mid now.given (outcome session last now).given gave (ap (λ (x : Outcome). x.given) o ∙ close_given (seen_now now) copy.name);
             kept = made_by mid (event_of session last (outcome session last now)) (copy.name, whole) (ap (λ (x : Outcome). x.made) o ∙ close_made (seen_now now) copy.name ∙ ap (λ (f : Image). Some (copy.name, joined f)) (sym frozen_is))
                 (kept_one mid copy.name whole kept);
-            unchanged = λ told. absurd (true≢false (sym (ap has_only_told (sym (ap (λ (x : Outcome). x.reply) o ∙ close_reply (seen_now now) copy.name)) ∙ told_reply (event_of session last (outcome session last now)) told)));
+            unchanged = λ told. absurd (copy_told zero told);
             name = ap (λ (h : Held). name_of h) same;
             cap = ap (λ (h : Held). h.cap) same;
           };

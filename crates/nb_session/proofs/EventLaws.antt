@@ -37,7 +37,8 @@ use Rattle.nb_session.specs.declared.stop.Stop.{Stop}
 use Rattle.nb_session.specs.declared.told.Told.{Told}
 use Rattle.nb_session.specs.Acts.{AreKept, Acts}
 use Rattle.nb_session.specs.Ready.{IsReady, IsApart}
-use Rattle.nb_session.specs.Replies.{HasEnded, has_only_told, only_told}
+use Rattle.nb_state.specs.Does.{has_only_told}
+use Rattle.nb_session.specs.Replies.{HasEnded, only_told}
 use Rattle.nb_session.specs.Says.{FrontSaid, SaysLine}
 use Rattle.nb_session.specs.Steps.{touching}
 use Rattle.nb_session.specs.Stops.{StopLeft, PlayedOut, Plays}
@@ -259,7 +260,7 @@ module _ (old mid new : World) (e0 e1 : Held) (t : Trail) (now : Now) (session :
           status = status_told event told refl ∙ status;
           given = given_joined old mid new now.given here.given one.1.given (ended result has acts.given) (given_nothing mid new here.given one.1.given says.gave given_then);
           kept = kept_still mid new (files_made (event ∷ [])) says.still kept_mid;
-          unchanged = λ settled all. says.still.files ∙ ended result has acts.unchanged (only (one_told event all));
+          unchanged = λ settled all. says.still.files ∙ acts.unchanged (only (one_told event all));
         })
 
 -- The event of the turn, and what is told of it.

@@ -22,7 +22,7 @@ unfolding header_turn
 header_does w held t s reply base quiet is shown = record {
   answer = ap Some (sym (shown ∙ ap header_of base));
   makes = makes_none (Ok reply) w w held held t refl quiet is is;
-  refused = tt;
+  idle = λ told. quiet;
 }
 
 -- in the normal state no entry counts

@@ -28,7 +28,7 @@ unfolding play
 play_none now = refl
 
 -- what a session that has none does is nothing
-play_idle : (session : ℕ) (order : List ℕ) (now : Now) → HasNone session now → play (session ∷ order) now ≡ play order now
+pub play_idle : (session : ℕ) (order : List ℕ) (now : Now) → HasNone session now → play (session ∷ order) now ≡ play order now
 unfolding play
 play_idle session order now none = ap (λ (p : Played). (p.0 ++ (play order p.1).0, (play order p.1).1)) (one_turn_idle session now none)
 
@@ -87,4 +87,4 @@ plays_other old new before after t now p made e f plays =
 
 pub ends_other : (told : Told) (rest : List ℕ) (old new : World) (before after : Held) (t : Trail) (now : Now) (e f : Stop) → EndsBy (Err e) told rest old new before after t now → EndsBy (Err f) told rest old new before after t now
 ends_other told [] old new before after t now e f plays = plays_other old new before after t now ([], now) [] e f plays
-ends_other told (session ∷ rest) old new before after t now e f plays = plays_other old new before after t now (told_turns told (one_turn session now)) (touching_by session now) e f plays
+ends_other told (session ∷ rest) old new before after t now e f ends = (plays_other old new before after t now (told_turns told (one_turn session now)) (touching_by session now) e f ends.0, ends.1)

@@ -32,3 +32,5 @@ pub mod WholeLaws
 pub mod SceneStays
 pub mod OutLaws
 pub mod HeaderLaws
+pub mod ByTurnsLaws
+pub mod GuidsTaken

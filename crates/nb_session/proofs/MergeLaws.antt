@@ -38,7 +38,7 @@ use Rattle.nb_session.specs.declared.task.Task.TheVariants.{Merge}
 use Rattle.nb_session.specs.Ready.{IsReady}
 use Rattle.nb_session.specs.Steps.{IsBehind}
 use Rattle.nb_session.specs.Replies.{only_told}
-use Rattle.nb_session.proofs.ActLaws.{trail_plain, ended_map, strikes_left, kept_none, says_none, and_quiet, unsaid_unchanged}
+use Rattle.nb_session.proofs.ActLaws.{trail_plain, ended_map, strikes_left, kept_none, says_none, idle_unchanged}
 use Rattle.nb_session.proofs.EventLaws.{unsaid}
 use Rattle.nb_session.proofs.GiftLaws.{given_nothing, grows_none}
 use Rattle.nb_session.proofs.TurnLaws.{seen_now, outcome_is}
@@ -159,7 +159,7 @@ module _ (old new : World) (a b : Held) (t : Trail) (now : Now) (session : ℕ) 
           running = subst (λ (x : Outcome). WhereEnded result (b.running ≡ x.running)) same does.running;
           given = where_ended result _ (given_nothing old new now.given (outcome session (Begins EndBackup) now).given does.gave (sym (ap (λ (x : Outcome). x.given) same) ∙ end_given (seen_now now) session));
           kept = where_ended result _ (kept_none new (event_of session (Begins EndBackup) (outcome session (Begins EndBackup) now)) (sym (ap (λ (x : Outcome). x.made) same) ∙ end_made (seen_now now) session));
-          unchanged = unsaid_unchanged result old new (event_of session (Begins EndBackup) (outcome session (Begins EndBackup) now)) (subst (λ (x : Outcome). Says (λ scn. None) result x.reply) same (says_none result turn_of.reply does.says)) (and_quiet (b ≡ a) (Quiet old new) result does.refused);
+          unchanged = idle_unchanged old new turn_of.reply (event_of session (Begins EndBackup) (outcome session (Begins EndBackup) now)) (ap (λ (x : Outcome). x.reply) same) does.idle;
           name = does.name;
           cap = cap;
         };
@@ -233,7 +233,7 @@ module _ (old new : World) (a b : Held) (t : Trail) (now : Now) (session : ℕ) 
         running = subst (λ (r : Option ℕ). WhereEnded result (b.running ≡ r)) running_is does.running;
         given = where_ended result _ (given_nothing old new now.given this.given does.gave (ap (λ (x : Outcome). x.given) (ends_is session reply now) ∙ ends_given (seen_now now) session reply));
         kept = where_ended result _ (kept_none new (event_of session (Ends reply) this) (ap (λ (x : Outcome). x.made) (ends_is session reply now) ∙ ends_made (seen_now now) session reply));
-        unchanged = unsaid_unchanged result old new (event_of session (Ends reply) this) (subst (Says (λ scn. None) result) reply_is (says_none result turn_of.reply does.says)) (and_quiet (b ≡ a) (Quiet old new) result does.refused);
+        unchanged = idle_unchanged old new turn_of.reply (event_of session (Ends reply) this) reply_is does.idle;
         name = does.name;
         cap = cap;
       };
@@ -267,11 +267,18 @@ module _ (old new : World) (a b : Held) (t : Trail) (now : Now) (session : ℕ) 
   diverted : (left : ℕ) → IsMerging session left a → length t.base.diverted ≡ a.merged + left
   diverted left merging = sym (ap length ready.opened.files.agrees.entries) ∙ merging.rest
 
+  -- no turn of a merge only tells something
+  finish_told : only_told (event_of session (Finishes reply) (outcome session (Finishes reply) now)) ≡ true → ⊥
+  finish_told told = true≢false (sym (ap (λ (x : Outcome). only_told (event_of session (Finishes reply) x)) (sym (finish_is session reply now)) ∙ told))
+
+  merge_told : only_told (event_of session MergesOne (outcome session MergesOne now)) ≡ true → ⊥
+  merge_told told = unsaid (event_of session MergesOne (outcome session MergesOne now)) (ap (λ (x : Outcome). x.reply) (merge_is session now)) told
+
   -- it fails
-  failed : (u : Turn) (ss : List Stroke) (fault : Fault) → IsNoRefusal fault → (outcome session u now).strokes ≡ ss → Strikes old new (name_of a) t ss → name_of b ≡ name_of a → Acts (merge_said reply) (Err fault) old new a b t now session u []
-  failed u ss (Refused refusal) none is struck name = absurd none
-  failed u ss Device none is struck name = record { says = tt; left = strikes_left old new (name_of a) t _ (subst (Strikes old new (name_of a) t) (sym is) struck); opened = tt; running = tt; given = tt; kept = tt; unchanged = tt; name = name; cap = cap }
-  failed u ss Memory none is struck name = record { says = tt; left = strikes_left old new (name_of a) t _ (subst (Strikes old new (name_of a) t) (sym is) struck); opened = tt; running = tt; given = tt; kept = tt; unchanged = tt; name = name; cap = cap }
+  failed : (u : Turn) (ss : List Stroke) (fault : Fault) → IsNoRefusal fault → (only_told (event_of session u (outcome session u now)) ≡ true → ⊥) → (outcome session u now).strokes ≡ ss → Strikes old new (name_of a) t ss → name_of b ≡ name_of a → Acts (merge_said reply) (Err fault) old new a b t now session u []
+  failed u ss (Refused refusal) none never is struck name = absurd none
+  failed u ss Device none never is struck name = record { says = tt; left = strikes_left old new (name_of a) t _ (subst (Strikes old new (name_of a) t) (sym is) struck); opened = tt; running = tt; given = tt; kept = tt; unchanged = λ told. absurd (never told); name = name; cap = cap }
+  failed u ss Memory none never is struck name = record { says = tt; left = strikes_left old new (name_of a) t _ (subst (Strikes old new (name_of a) t) (sym is) struck); opened = tt; running = tt; given = tt; kept = tt; unchanged = λ told. absurd (never told); name = name; cap = cap }
 
   finishes : (result : Result Progress Fault) → IfErr result IsNoRefusal → IsMerging session 0 a → Merges result old new a b t → Acts (merge_said reply) result old new a b t now session (Finishes reply) []
   finishes (Ok More) none merging merges = absurd (omega (arith, diverted 0 merging, merges.on.0))
@@ -284,11 +291,11 @@ module _ (old new : World) (a b : Held) (t : Trail) (now : Now) (session : ℕ) 
         running = merges.on.1 ∙ sym (ap (λ (x : Outcome). x.running) o);
         given = given_nothing old new now.given (outcome session (Finishes reply) now).given merges.gave (ap (λ (x : Outcome). x.given) o);
         kept = kept_none new (event_of session (Finishes reply) (outcome session (Finishes reply) now)) (ap (λ (x : Outcome). x.made) o);
-        unchanged = λ told. absurd (true≢false (sym (ap (λ (x : Outcome). only_told (event_of session (Finishes reply) x)) (sym o) ∙ told)));
+        unchanged = λ told. absurd (finish_told told);
         name = merges.name;
         cap = cap;
       }
-  finishes (Err fault) none merging merges = failed (Finishes reply) (finish ∷ []) fault none (ap (λ (x : Outcome). x.strokes) (finish_is session reply now)) merges.left merges.name
+  finishes (Err fault) none merging merges = failed (Finishes reply) (finish ∷ []) fault none finish_told (ap (λ (x : Outcome). x.strokes) (finish_is session reply now)) merges.left merges.name
 
   one_left : (left : ℕ) → IsMerging session (suc left) a → a.merged < length t.base.diverted
   one_left left merging = omega (arith, diverted (suc left) merging)
@@ -303,12 +310,12 @@ module _ (old new : World) (a b : Held) (t : Trail) (now : Now) (session : ℕ) 
         running = merges.on.2 ∙ ready.running ∙ sym (ap (λ (x : Outcome). x.running) o);
         given = given_nothing old new now.given (outcome session MergesOne now).given merges.gave (ap (λ (x : Outcome). x.given) o);
         kept = kept_none new (event_of session MergesOne (outcome session MergesOne now)) (ap (λ (x : Outcome). x.made) o);
-        unchanged = λ told. absurd (unsaid (event_of session MergesOne (outcome session MergesOne now)) (ap (λ (x : Outcome). x.reply) o) told);
+        unchanged = λ told. absurd (merge_told told);
         name = merges.name;
         cap = cap;
       }
   merges_one (Ok Finished) none left merging merges = absurd (omega (arith, diverted (suc left) merging, merges.on.0))
-  merges_one (Err fault) none left merging merges = failed MergesOne [] fault none (ap (λ (x : Outcome). x.strokes) (merge_is session now)) (merges.more (one_left left merging)) merges.name
+  merges_one (Err fault) none left merging merges = failed MergesOne [] fault none merge_told (ap (λ (x : Outcome). x.strokes) (merge_is session now)) (merges.more (one_left left merging)) merges.name
 
   pub merge_acts : (result : Result Progress Fault) → IfErr result IsNoRefusal → (left : ℕ) → IsMerging session left a → Merges result old new a b t
       → MayAct (merge_said reply) result old new a b t now session (merge_first left (Finishes reply)) []

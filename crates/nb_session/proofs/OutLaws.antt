@@ -174,6 +174,7 @@ whole_passed world old new before after t told now schedule e (Err f) is w =
         taken = w.in_turn.taken;
         last = ends_other told w.in_turn.rest (world w.in_turn.mid) (world new) w.in_turn.between after (after_steps t (steps_of (play w.in_turn.front now).0)) (play w.in_turn.front now).1 e f w.in_turn.last;
       };
+      guids = tt;
     }
 
 module _ {H : Type 0} (world : H → World) (old mid new : H) (e0 e1 e2 : Held) (t : Trail) (told : Told) (now : Now) (schedule : List ℕ) (making : IsMaking now) (a : Bool) (first : PlaysInTurn world (Ok a) old mid e0 e1 t told now schedule)
@@ -219,6 +220,7 @@ module _ {H : Type 0} (world : H → World) (old mid new : H) (e0 e1 e2 : Held) 
           last = none_left told first.in_turn.rest (world first.in_turn.mid) (world mid) (world new) first.in_turn.between e1 e2 far_trail far_now a (Ok a) first.in_turn.last
               (λ plays. last_out (world first.in_turn.mid) (world mid) (world new) first.in_turn.between e1 e2 far_trail far_now plays same gave takes still);
         };
+        guids = λ some. gave.guids ∙ first.guids some;
       }
 
   pub whole_stopped : (e : Stop) → ((u : Trail) → IsOpen (world mid) e1 u → Strikes (world mid) (world new) (name_of e1) u []) → PlaysInTurn world (Err e) old new e0 e2 t told now schedule
@@ -241,4 +243,5 @@ module _ {H : Type 0} (world : H → World) (old mid new : H) (e0 e1 e2 : Held) 
           last = none_left told first.in_turn.rest (world first.in_turn.mid) (world mid) (world new) first.in_turn.between e1 e2 far_trail far_now a (Err e) first.in_turn.last
               (λ plays. last_failed (world first.in_turn.mid) (world mid) (world new) first.in_turn.between e1 e2 far_trail far_now plays same gave e struck);
         };
+        guids = tt;
       }

@@ -27,7 +27,8 @@ use Rattle.nb_state.specs.Open.{Held, name_of}
 use Rattle.nb_session.specs.declared.stop.Stop.{Stop}
 use Rattle.nb_session.specs.Acts.{Touched, AreKept}
 use Rattle.nb_session.specs.Ready.{IsReady}
-use Rattle.nb_session.specs.Replies.{has_only_told, only_told}
+use Rattle.nb_state.specs.Does.{has_only_told}
+use Rattle.nb_session.specs.Replies.{only_told}
 use Rattle.nb_session.specs.Stops.{StopLeft, PlayedOut, Plays}
 use Rattle.nb_session.proofs.GiftLaws.{given_nothing, given_joined}
 use Rattle.nb_session.proofs.MadeLaws.{among_left, among_right}

@@ -204,6 +204,13 @@ module _ {H : Type 0} (tells : Bool) (told : IsTrue tells) (world : H → World)
           (told_turns asker.told (one_turn n (play front (from given)).1)) (touching_by n (play front (from given)).1)) mine
           ((took given sixteen (told_first given foretold)).plays (told_then given sixteen foretold)))
 
+      -- where it only tells something it has changed no file
+      pub turn_still : (given : Given) → AreSixteen given.guids → Foretells given (shown ++ next) (world old) (world s'.host) → list_all only_told (one_turn session (play front (from given)).1).0 ≡ true
+          → (world s'.host).files ≡ (world s.host).files
+      turn_still given sixteen foretold =
+          subst (λ (k : ℕ). list_all only_told (one_turn k (play front (from given)).1).0 ≡ true → (world s'.host).files ≡ (world s.host).files) mine
+          ((took given sixteen (told_first given foretold)).unchanged (told_then given sixteen foretold))
+
     module _ (made : Steps tells (Ok tt) (world s.host) (world s'.host) (faults s.host) (faults s'.host) s.shared s'.shared asker moved)
         (placed : (n : ℕ) (a : Asker) → agent_of s'.agents n ≡ Some a → a.number ≡ n) (given : Given) (sixteen : AreSixteen given.guids) (foretold : Foretells given (shown ++ next) (world old) (world s'.host)) where
       abbrev p : Played
@@ -251,7 +258,7 @@ module _ {H : Type 0} (tells : Bool) (told : IsTrue tells) (world : H → World)
       takes = record {
         refused = made.refused;
         plays = subst (λ (u : Trail). Plays (Ok made.refused) (world s.host) (world s'.host) s.shared s'.shared u p.1 (told_turns how (one_turn session p.1)) (touching_by session p.1)) (told_trail how t p) (turn_plays (Ok tt) made given sixteen foretold);
-        unchanged = subst (λ (k : ℕ). list_all only_told (one_turn k p.1).0 ≡ true → (world s'.host).files ≡ (world s.host).files) mine (next_is.unchanged (told_then (Ok tt) made given sixteen foretold));
+        unchanged = turn_still (Ok tt) made given sixteen foretold;
       }
 
       turn_far : IsSoFar (shown ++ next) (front ++ session ∷ []) s' given

@@ -115,7 +115,7 @@ module _ {T : Type 0} (refused : T → Bool) (task : T → Option Task) (old new
     plays = λ told. subst (λ (f : Fault). Plays (as_played {T = Unit {0}} (λ done. which) (Err f)) old new a b t now (told_turns asker.told (one_turn asker.number now)) (touching_by asker.number now)) (sym is.1)
         (plays_err {S = Unit {0}} refused (λ done. which) fault old new a b t now (told_turns asker.told (one_turn asker.number now)) (touching_by asker.number now)
         (plays_one (as_played refused (Err fault)) (turns.plays (told_turn told))));
-    unchanged = λ told. tt;
+    unchanged = λ told all. turns.unchanged (told_turn told) (told_only all);
     todo = λ told. tt;
     goes = λ told. tt;
   }

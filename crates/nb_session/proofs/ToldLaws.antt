@@ -15,7 +15,8 @@ use Rattle.nb_model.specs.Strokes.{Stroke}
 use Rattle.nb_model.proofs.OutputLaws.{output_one, status_one, output-quiet, output_no_event, status_no_event}
 use Rattle.nb_session.specs.declared.told.Told.{Told}
 use Rattle.nb_session.specs.declared.told.Told.TheVariants.{Whole, WithPages, Sparingly}
-use Rattle.nb_session.specs.Replies.{has_only_told, only_told}
+use Rattle.nb_state.specs.Does.{has_only_told}
+use Rattle.nb_session.specs.Replies.{only_told}
 use Rattle.nb_session.specs.Told.{told_reply, told_events, told_line, told_status}
 
 pub told_nothing : (how : Told) → told_events how [] ≡ []

@@ -1,6 +1,6 @@
 -- One turn, by what it made of the database and by its line.
 use Rattle.std.proofs.Common.{◌≡◌, ℕ, ◌-◌, List, [], ◌∷◌, ◌++◌, Bool, false, refl, sym, ap, subst, ◌∙◌}
-use Rattle.std.specs.Prelude.{true, Result, Ok, Err, IsErr, IsErrAnd, IfOk, IfErr, Option, Some, None, IsTrue, if◌then◌else◌}
+use Rattle.std.specs.Prelude.{true, Result, Ok, Err, IsErr, IsErrAnd, IfOk, IfErr, Option, Some, None, if◌then◌else◌}
 use Rattle.std.specs.List.{slice_index_or}
 use Rattle.std.proofs.lemmas.List.{append-nil}
 use Rattle.nb_host.specs.World.{World}
@@ -72,7 +72,7 @@ module _ {T S : Type 0} (how : Told) (reply : T → Option Reply) (result : Resu
   turns_failed answer failed = record {
     grows = may.grows;
     plays = λ told. plays_err refused answer old mid e0 e1 t now played (touching session u tail now) failed (event_failed how old mid mid e0 e1 t now session u tail more result reply (acting told) (marks told));
-    unchanged = λ told. err_none answer _ failed;
+    unchanged = λ told. (acting told).unchanged;
     behind = λ told. err_none answer _ failed;
   }
 
@@ -85,7 +85,7 @@ module _ {T S : Type 0} (how : Told) (reply : T → Option Reply) (result : Resu
         let acts = acting told in
         subst (λ (b : Bool). Plays (Ok b) old mid e0 e1 t now played (touching session u tail now)) (sym not_refused)
         (event_quiet how old mid mid e0 e1 t now session u tail more result reply acts (marks told) has place ready makes (quiet _ acts.says));
-    unchanged = λ told. ended result has (acting told).unchanged;
+    unchanged = λ told. (acting told).unchanged;
     behind = behind;
   }
 
@@ -104,7 +104,7 @@ module _ {T S : Type 0} (how : Told) (reply : T → Option Reply) (result : Resu
           let acts = acting (before told) in
           plays_err refused answer old new e0 e1 t now played (touching session u tail now) failed
           (event_unsaid how old mid new e0 e1 t now session u tail more result reply acts (marks (before told)) has place ready makes r (is_said _ acts.says) line_said says);
-      unchanged = λ told. err_none answer _ failed;
+      unchanged = λ told only. says.still.files ∙ (acting (before told)).unchanged only;
       behind = λ told. err_none answer _ failed;
     }
 
@@ -117,7 +117,7 @@ module _ {T S : Type 0} (how : Told) (reply : T → Option Reply) (result : Resu
           let acts = acting (before told) in
           let reply_is = is_said _ acts.says in
           event_said how old mid new e0 e1 t now session u tail more result reply acts (marks (before told)) has place ready makes r reply_is line_said says (refused value) said (status reply_is);
-      unchanged = λ told only. says.still.files ∙ ended result has (acting (before told)).unchanged only;
+      unchanged = λ told only. says.still.files ∙ (acting (before told)).unchanged only;
       behind = λ told. behind (before told);
     }
 
@@ -195,7 +195,7 @@ module _ (fault : Fault) (answer : Result Taken Fault) (handed : IsErr answer ×
       subst (λ (r : Result Taken Fault). Turns how (λ taken. taken.refused) (λ taken. taken.task) r old new a b t now session u tail more) (sym (passed_on answer fault handed)) (record {
         grows = turns.grows;
         plays = λ told. subst (λ (r : Result Bool Stop). Plays r old new a b t now (told_turns how (take_turn session (u ∷ (tail ++ more)) now)) (touching session u tail now)) (played_err refused (λ (x : Taken). x.refused) fault) (turns.plays told);
-        unchanged = λ told. tt;
+        unchanged = turns.unchanged;
         behind = λ told. tt;
       })
 

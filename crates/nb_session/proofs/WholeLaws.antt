@@ -42,12 +42,13 @@ use Rattle.nb_session.specs.Told.{told_events, told_turns}
 use Rattle.nb_session.proofs.AllLaws.{all_append}
 use Rattle.nb_session.proofs.EndLaws.{turns_end}
 use Rattle.nb_session.proofs.GiftLaws.{foretold_first, grows_joined}
+use Rattle.nb_session.proofs.GuidsTaken.{given_taken}
 use Rattle.nb_session.proofs.InTurnLaws.{told_trail}
 use Rattle.nb_session.proofs.MadeLaws.{among_left}
 use Rattle.nb_session.proofs.NameLaws.{HaveNames, made_named, begun_plain}
 use Rattle.nb_session.proofs.NextLaws.{play_length, play_more, next_among, next_once, next_others, play_ahead, finished_among}
 use Rattle.nb_session.proofs.PlayLaws.{behind, trail_after, plays_none, plays_wider, plays_failed, plays_cut}
-use Rattle.nb_session.proofs.SceneLaws.{sessions_kind, done_todo, agent_some, Holds, HoldsAt, rests_hold, moves_hold, none_hold, turn_plays, turn_grows, at_place}
+use Rattle.nb_session.proofs.SceneLaws.{sessions_kind, done_todo, agent_some, Holds, HoldsAt, rests_hold, moves_hold, none_hold, turn_plays, turn_still, turn_grows, at_place}
 use Rattle.nb_session.proofs.StopLaws.{AreApart}
 use Rattle.nb_session.proofs.ToldLaws.{told_append, told_among, told_others}
 
@@ -184,6 +185,7 @@ module _ {H : Type 0} (tells : Bool) (told : IsTrue tells) (world : H → World)
             taken = far.in_turn;
             last = plays_none (world after.host) after.shared (after_steps t (steps_of p.0)) p.1 timely_then ready_then;
           };
+          guids = λ some. given_taken (world old) (world after.host) order now making far.plays.done.given some;
         }
 
     -- A turn ended early, and these would have come behind it.
@@ -232,6 +234,8 @@ module _ {H : Type 0} (tells : Bool) (told : IsTrue tells) (world : H → World)
           let is : full ≡ e.front ++ (e.session ∷ (e.rest ++ end.more)) = end.is ∙ ap (λ (xs : List ℕ). xs ++ end.more) e.is ∙ append_assoc e.front (e.session ∷ e.rest) end.more in
           let plays = turn_plays tells told world faults old before t how now order numbers making e.holds.shown e.front e.rest e.session e.last after (sym e.is) before_it number e.move.agent e.move.moved e.move.there e.move.agents e.move.same_session
           (Err fault) e.move.made now.given making.going.sixteen foretold in
+          let still = turn_still tells told world faults old before t how now order numbers making e.holds.shown e.front e.rest e.session e.last after (sym e.is) before_it number e.move.agent e.move.moved e.move.there e.move.agents e.move.same_session
+          (Err fault) e.move.made now.given making.going.sixteen foretold in
           let far = before_it.so_far now.given making.going.sixteen (foretold_first (world old) (world e.last.host) (world after.host) now.given e.holds.shown (shown_next e.move.agent e.last.shared) before_it.grown last_grows foretold) in
           let p : Played = play e.front now in
           let files : List MadeFile = far.made ++ touching_by e.session p.1 in
@@ -257,8 +261,9 @@ module _ {H : Type 0} (tells : Bool) (told : IsTrue tells) (world : H → World)
               mid = e.last.host;
               between = e.last.shared;
               taken = far.in_turn;
-              last = subst (λ (u : Trail). Plays (Err stop) (world e.last.host) (world after.host) e.last.shared after.shared u p.1 (told_turns how (one_turn e.session p.1)) (touching_by e.session p.1)) (told_trail how t p) last;
+              last = (subst (λ (u : Trail). Plays (Err stop) (world e.last.host) (world after.host) e.last.shared after.shared u p.1 (told_turns how (one_turn e.session p.1)) (touching_by e.session p.1)) (told_trail how t p) last, still);
             };
+            guids = tt;
           }
 
     -- what was given meanwhile

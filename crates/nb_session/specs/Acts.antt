@@ -64,8 +64,8 @@ pub record TurnLeft (old : World) (name : List ℕ) (t : Trail) (strokes : List 
   pub each : MadeLeft old made files
 
 -- The strokes of a turn are made in order, and what it is to say is answered. Once it has ended with a value or a refusal the database is
--- open behind its steps, the file that the turn made whole is kept for good, and where it only tells something no file has changed. As many
--- pages may be in memory as before.
+-- open behind its steps, and the file that the turn made whole is kept for good. Where it only tells something no file has changed, also where a call of
+-- the host failed in it. As many pages may be in memory as before.
 pub record Acts {T : Type 0} (reply : T → Option Reply) (result : Result T Fault) (old new : World) (before after : Held) (t : Trail) (now : Now) (session : ℕ) (turn : Turn) (made : List MadeFile) : Type 0 where
   pub says : Says reply result (outcome session turn now).reply
   pub left : Changes old new (Touched (name_of before) made) (TurnLeft old (name_of before) t (outcome session turn now).strokes made)
@@ -73,7 +73,7 @@ pub record Acts {T : Type 0} (reply : T → Option Reply) (result : Result T Fau
   pub running : WhereEnded result (after.running ≡ (outcome session turn now).running)
   pub given : WhereEnded result (WasGiven old new now.given (outcome session turn now).given)
   pub kept : WhereEnded result (AreKept new (files_made (event_of session turn (outcome session turn now) ∷ [])))
-  pub unchanged : WhereEnded result (only_told (event_of session turn (outcome session turn now)) ≡ true → new.files ≡ old.files)
+  pub unchanged : only_told (event_of session turn (outcome session turn now)) ≡ true → new.files ≡ old.files
   pub name : name_of after ≡ name_of before
   pub cap : after.cap ≡ before.cap
 

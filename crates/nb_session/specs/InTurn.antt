@@ -35,12 +35,15 @@ InTurn {H} world told (session ∷ order) old new before after t now =
     ⊎ ((mid : H) × (between : Held) × TakesOne (world old) (world mid) before between t told now session
     × InTurn world told order mid new between after (after_steps t (steps_of (one_turn session now).0)) (one_turn session now).1)
 
--- The last thing done of a run, of which these numbers are left: what waits is written out behind all turns, or a turn ended early, or that.
+-- The last thing done of a run, of which these numbers are left: what waits is written out behind all turns, or a turn ended early, or that. Where
+-- that turn was only to tell something, the files read as before it.
 abbrev pub EndsBy : Result Bool Stop → Told → (rest : List ℕ) → (old new : World) → (before after : Held) → Trail → Now → Type 0
 EndsBy (Ok refused) told [] old new before after t now = Plays (Ok false) old new before after t now ([], now) []
 EndsBy (Ok refused) told (session ∷ rest) old new before after t now = ⊥
 EndsBy (Err stop) told [] old new before after t now = Plays (Err stop) old new before after t now ([], now) []
-EndsBy (Err stop) told (session ∷ rest) old new before after t now = Plays (Err stop) old new before after t now (told_turns told (one_turn session now)) (touching_by session now)
+EndsBy (Err stop) told (session ∷ rest) old new before after t now =
+    Plays (Err stop) old new before after t now (told_turns told (one_turn session now)) (touching_by session now)
+    × (list_all only_told (one_turn session now).0 ≡ true → new.files ≡ old.files)
 
 -- The turns of an order were taken one by one, to the end of all or up to one that ended early, which was the last thing done then.
 pub record RunsInTurn {H : Type 0} (world : H → World) (result : Result Bool Stop) (old new : H) (before after : Held) (t : Trail) (told : Told) (now : Now) (order : List ℕ) : Type 0 where

@@ -12,3 +12,4 @@ pub mod Steps
 pub mod Others
 pub mod MadeNames
 pub mod StillOpen
+pub mod ByTurns

@@ -9,6 +9,7 @@ use Rattle.nb_model.specs.Image.{image_size, image_state, image_scn, image_guid,
 use Rattle.nb_model.specs.Lines.{flag}
 use Rattle.nb_model.specs.Pages.{delta_count}
 use Rattle.nb_model.specs.Run.{Event}
+use Rattle.nb_state.specs.Does.{has_only_told}
 
 -- it is said
 abbrev pub some_said : Reply → Option Reply
@@ -29,23 +30,6 @@ header_of b =
 -- the reply is a refusal
 abbrev pub is_refusal : Reply → Bool
 is_refusal reply = elim reply [ RefusedBy refusal ↦ true | _ ↦ false ]
-
--- the reply is a refusal, or tells what was read
-abbrev pub only_tells : Reply → Bool
-only_tells (RefusedBy refusal) = true
-only_tells (Opened pages state) = true
-only_tells (Value text) = true
-only_tells (Rows rows) = true
-only_tells (HeaderShown size pages state scn guid forced access delta) = true
-only_tells (PagesShown header inventory scn rows raw other free) = true
-only_tells (ImageShown pages digest) = true
-only_tells (CacheShown pages held) = true
-only_tells other = false
-
--- so it is with what is said, if anything is
-abbrev pub has_only_told : Option Reply → Bool
-has_only_told None = false
-has_only_told (Some reply) = only_tells reply
 
 -- a turn that makes no stroke and only tells something
 abbrev pub only_told : Event → Bool

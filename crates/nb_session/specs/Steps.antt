@@ -70,13 +70,14 @@ pub record IsBehind (w : World) (held : Held) (session : ℕ) (turn : Turn) (tai
   pub next : (outcome session turn now).next ++ tail ≡ task_todo task
   pub goes : TaskGoes session w held (base_after (base_now now) (outcome session turn now).strokes).frozen task
 
--- A turn was taken, and what is told of it said, where the outside gave what it may give. Where it only told something, no file has changed. `tail` is
+-- A turn was taken, and what is told of it said, where the outside gave what it may give. Where it only tells something, no file has changed, however
+-- it ended. `tail` is
 -- what its statement has to do behind it, and `more` what its session has behind that.
 pub record Turns {T : Type 0} (told : Told) (refused : T → Bool) (task : T → Option Task) (result : Result T Fault) (old new : World) (before after : Held) (t : Trail) (now : Now) (session : ℕ) (turn : Turn) (tail more : List Turn) : Type 0 where
   pub grows : Grows old new
   pub plays : Foretells now.given (shown_by turn before) old new
       → Plays (as_played refused result) old new before after t now (told_turns told (take_turn session (turn ∷ (tail ++ more)) now)) (touching session turn tail now)
-  pub unchanged : Foretells now.given (shown_by turn before) old new → OnOk result (only_told (event_of session turn (outcome session turn now)) ≡ true → new.files ≡ old.files)
+  pub unchanged : Foretells now.given (shown_by turn before) old new → only_told (event_of session turn (outcome session turn now)) ≡ true → new.files ≡ old.files
   pub behind : Foretells now.given (shown_by turn before) old new → IfOk result (λ value. IsBehind new after session turn tail now (task value))
 
 -- What is under way took its next turn, where the session has that to do and it goes on from where it is. It is `now_task` then, where it goes on.
@@ -86,12 +87,12 @@ GoesFurther told (Some task) now_task result old new before after t now session 
     slice_index_or now.todo (session - 1) [] ≡ task_first task ∷ (task_rest task ++ more) → TaskGoes session old before t.base.frozen (Some task)
     → Turns told left_refused (left_task now_task) result old new before after t now session (task_first task) (task_rest task) more
 
--- The next turn of a session was taken, what it has to do then is left, and what is under way of it goes on. Where it only told something, no file has
--- changed.
+-- The next turn of a session was taken, what it has to do then is left, and what is under way of it goes on. Where it only tells something, no file has
+-- changed, however it ended.
 pub record TakesNext (refused : Bool) (result : Result (Unit {0}) Fault) (old new : World) (before after : Held) (t : Trail) (now : Now) (asker moved : Asker) : Type 0 where
   pub grows : Grows old new
   pub plays : Foretells now.given (shown_next asker before) old new → Plays (as_played (λ done. refused) result) old new before after t now (told_turns asker.told (one_turn asker.number now)) (touching_by asker.number now)
-  pub unchanged : Foretells now.given (shown_next asker before) old new → OnOk result (list_all only_told (one_turn asker.number now).0 ≡ true → new.files ≡ old.files)
+  pub unchanged : Foretells now.given (shown_next asker before) old new → list_all only_told (one_turn asker.number now).0 ≡ true → new.files ≡ old.files
   pub todo : Foretells now.given (shown_next asker before) old new → OnOk result (HasTodo moved (one_turn asker.number now).1)
   pub goes : Foretells now.given (shown_next asker before) old new → OnOk result (TaskGoes asker.number new after (base_now (one_turn asker.number now).1).frozen moved.task)
 

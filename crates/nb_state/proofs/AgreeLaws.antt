@@ -24,6 +24,16 @@ use Rattle.nb_state.specs.Does.{Goes}
 use Rattle.nb_state.specs.Whole.{StaysWhole}
 use Rattle.nb_state.proofs.WholeLaws.{whole_written}
 
+-- what is held of page 0 goes by page 0 alone
+pub agrees_front : (held : Held) (a b : Base) → first_page b.image ≡ first_page a.image → AgreesWith held a → AgreesWith held b
+agrees_front held a b same agrees = record {
+  scn = agrees.scn ∙ ap scn_of (sym same);
+  four = agrees.four;
+  guid = agrees.guid ∙ ap guid_of (sym same);
+  forced = agrees.forced ∙ ap (λ (x : Page). not (number_in 64 1 x == 0)) (sym same);
+  read_only = agrees.read_only ∙ ap (λ (x : Page). not (number_in 65 1 x == 0)) (sym same);
+}
+
 -- Behind another control block: the SCN and the GUID are those of the block, and the flags stay.
 module _ (held now : Held) (before after : Base) (state scn : ℕ) (guid : List ℕ) where
   pub agrees_control : AgreesWith held before → is_header (first_page before.image) ≡ true → length guid ≡ 16 → scn < 4294967296 → after.image ≡ with_control state scn guid before.image

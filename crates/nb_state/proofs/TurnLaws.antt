@@ -8,11 +8,12 @@ use Rattle.nb_host.specs.Calls.{IsStill}
 use Rattle.nb_host.specs.Moments.{IsNow, IsTimely, Passes}
 use Rattle.nb_host.specs.declared.faults.Fault.{Fault}
 use Rattle.nb_host.specs.declared.faults.Fault.TheVariants.{Refused, Device, Memory}
+use Rattle.nb_host.specs.declared.refusals.Refusal.{Refusal}
 use Rattle.nb_change.proofs.MomentLaws.{started, untouched_begun}
 use Rattle.nb_change.proofs.ChangesLaws.{weaker_has}
 use Rattle.nb_change.proofs.CallLaws.{still_alone}
 use Rattle.nb_change.proofs.ReachedLaws.{strokes_composed, reached_front}
-use Rattle.nb_model.specs.Image.{Image, first_page, image_state, image_scn, image_guid}
+use Rattle.nb_model.specs.Image.{Image, first_page, image_state, image_scn, image_guid, trimmed}
 use Rattle.nb_model.specs.Account.{Ask, Base}
 use Rattle.nb_model.specs.Causes.{Cause}
 use Rattle.nb_model.specs.Strokes.{Stroke, begin, ends, finish, on_base, with_control}
@@ -22,6 +23,7 @@ use Rattle.nb_model.proofs.ControlLaws.{control_state}
 use Rattle.nb_model.proofs.HeaderLaws.{header-long, header-room}
 use Rattle.nb_model.proofs.MainLaws.{some_page}
 use Rattle.nb_model.proofs.TrailLaws.{trail_base}
+use Rattle.nb_model.proofs.TrimLaws.{trimmed_front, finish_base}
 use Rattle.nb_base.specs.Open.{OfFiles, AreMerged}
 use Rattle.nb_base.specs.Takes.{Strikes}
 use Rattle.nb_base.proofs.ControlLaws.{with_control-first}
@@ -33,7 +35,7 @@ use Rattle.nb_state.specs.Open.{Held, AgreesWith, IsOpen, name_of, pair_of}
 use Rattle.nb_state.specs.Does.{Tested, unless_by}
 use Rattle.nb_state.specs.Turns.{begin_cause, end_cause, Begins, Ends, Merges}
 use Rattle.nb_state.specs.declared.turns.Progress.{Progress}
-use Rattle.nb_state.proofs.AgreeLaws.{agrees_control}
+use Rattle.nb_state.proofs.AgreeLaws.{agrees_front, agrees_control}
 use Rattle.nb_state.proofs.MakesLaws.{none_yet, gave_none}
 
 -- no call is quiet
@@ -73,10 +75,6 @@ begun_image b guid ask = refl
 ended_image : (b : Base) → (on_base ends b).image ≡ with_control 2 (image_scn b.image + 1) (image_guid b.image) b.image
 unfolding on_base
 ended_image b = refl
-
-finished_image : (b : Base) → (on_base finish b).image ≡ with_control 0 (image_scn b.image) (image_guid b.image) b.image
-unfolding on_base
-finished_image b = refl
 
 module _ (old new : World) (held : Held) (t : Trail) (is : IsOpen old held t) (pair : Rattle.nb_owner.specs.Open.Held) where
   header : is_header (first_page t.base.image) ≡ true
@@ -126,19 +124,29 @@ module _ (old new : World) (held : Held) (t : Trail) (is : IsOpen old held t) (p
     abbrev finished : Base
     finished = (after_stroke finish t).base
 
-    finished_is : finished.image ≡ with_control 0 (image_scn t.base.image) (image_guid t.base.image) t.base.image
-    finished_is = ap (λ (b : Base). b.image) (trail_base finish t) ∙ finished_image t.base
+    -- without the pages of zeros at its end
+    abbrev cut : Base
+    cut = record t.base { image = trimmed t.base.image }
+
+    front : first_page (trimmed t.base.image) ≡ first_page t.base.image
+    front = trimmed_front t.base.image header
+
+    cut_header : is_header (first_page (trimmed t.base.image)) ≡ true
+    cut_header = ap is_header front ∙ header
+
+    finished_is : finished.image ≡ with_control 0 (image_scn t.base.image) (image_guid t.base.image) (trimmed t.base.image)
+    finished_is = ap (λ (b : Base). b.image) (trail_base finish t ∙ finish_base t.base)
 
     sixteen_there : length (image_guid t.base.image) ≡ 16
     sixteen_there = ap length (sym is.agrees.guid) ∙ sixteen
 
     normal : pair.files.state ≡ 0
-    normal = opened.agrees.state ∙ state_control t.base finished 0 (image_scn t.base.image) (image_guid t.base.image) header sixteen_there (omega arith) finished_is
+    normal = opened.agrees.state ∙ state_control cut finished 0 (image_scn t.base.image) (image_guid t.base.image) cut_header sixteen_there (omega arith) finished_is
 
     pub open_finished : IsOpen new (record held { files = pair.files; pages = pair.pages; cap = pair.cap; running = None }) (after_stroke finish t)
     open_finished = record {
       files = opened;
-      agrees = agrees_control held (record held { files = pair.files; pages = pair.pages; cap = pair.cap; running = None }) t.base finished 0 (image_scn t.base.image) (image_guid t.base.image) is.agrees header sixteen_there (omega (arith, low, is.agrees.scn)) finished_is is.agrees.scn
+      agrees = agrees_control held (record held { files = pair.files; pages = pair.pages; cap = pair.cap; running = None }) cut finished 0 (image_scn t.base.image) (image_guid t.base.image) (agrees_front held t.base cut front is.agrees) cut_header sixteen_there (omega (arith, low, is.agrees.scn)) finished_is is.agrees.scn
           is.agrees.guid refl refl;
       merged = λ two. absurd (omega (arith, two, normal));
       most = λ two. absurd (omega (arith, two, normal));
@@ -216,14 +224,20 @@ scn_other image ne = ap (λ (b : Bool). elim b as (λ z. ℕ) [ true ↦ image_s
 unless_none : (cause : Cause) (strokes : List Stroke) → cause ≡ None → unless_by cause strokes ≡ strokes
 unless_none cause strokes none = ap (λ (c : Cause). unless_by c strokes) none
 
+none_some : {r : Refusal} → None ≡ Some r → ⊥
+none_some e = cc
+
 -- A backup that may begin, with the GUID that was given.
 module _ (old mid new : World) (before after : Held) (t : Trail) (guid : List ℕ) (ask : Option Ask) (is : IsOpen old before t) (allowed : begin_cause t.base.image ≡ None) (struck : Strikes old new (name_of before) t (begin guid ask ∷ []))
     (gave : mid.guids ≡ old.guids ++ guid ∷ []) (nothing : GaveNothing mid new) (times : mid.times ≡ old.times) (running : after.running ≡ before.running) (name : name_of after ≡ name_of before) where
   left : Strikes old new (name_of before) t (unless_by (begin_cause t.base.image) (begin guid ask ∷ []))
   left = subst (λ (ss : List Stroke). Strikes old new (name_of before) t ss) (sym (unless_none (begin_cause t.base.image) (begin guid ask ∷ []) allowed)) struck
 
+  allows : (r : Refusal) → begin_cause t.base.image ≡ Some r → Quiet old new
+  allows r some = absurd (none_some (sym allowed ∙ some))
+
   pub begin_failed : Begins (Err Device) old new before after t guid ask
-  begin_failed = record { test = tt; left = left; opened = tt; answer = tt; gave = tt; times = nothing.times ∙ times; refused = tt; running = running; name = name }
+  begin_failed = record { test = tt; left = left; opened = tt; answer = tt; gave = tt; times = nothing.times ∙ times; refused = tt; idle = allows; running = running; name = name }
 
   pub begin_done : (scn : ℕ) → scn ≡ before.scn + 1 → IsOpen new after (after_strokes t (begin guid ask ∷ [])) → Begins (Ok scn) old new before after t guid ask
   begin_done scn next opened = record {
@@ -234,6 +248,7 @@ module _ (old mid new : World) (before after : Held) (t : Trail) (guid : List �
     gave = nothing.guids ∙ gave;
     times = nothing.times ∙ times;
     refused = tt;
+    idle = allows;
     running = running;
     name = name;
   }
@@ -248,10 +263,11 @@ end_refused w held t session (Refused r) is quiet test = record {
   begins = tt;
   gave = gave_none w w quiet;
   refused = (refl, quiet);
+  idle = λ r some. quiet;
   name = refl;
 }
-end_refused w held t session Device is quiet test = record { test = tt; left = none_yet w w held t _ quiet is; opened = tt; answer = tt; begins = tt; gave = gave_none w w quiet; refused = tt; name = refl }
-end_refused w held t session Memory is quiet test = record { test = tt; left = none_yet w w held t _ quiet is; opened = tt; answer = tt; begins = tt; gave = gave_none w w quiet; refused = tt; name = refl }
+end_refused w held t session Device is quiet test = record { test = tt; left = none_yet w w held t _ quiet is; opened = tt; answer = tt; begins = tt; gave = gave_none w w quiet; refused = tt; idle = λ r some. quiet; name = refl }
+end_refused w held t session Memory is quiet test = record { test = tt; left = none_yet w w held t _ quiet is; opened = tt; answer = tt; begins = tt; gave = gave_none w w quiet; refused = tt; idle = λ r some. quiet; name = refl }
 
 -- An end that may be.
 module _ (old new : World) (before after : Held) (t : Trail) (session : ℕ) (allowed : end_cause t.base.image before.running session ≡ None) (struck : Strikes old new (name_of before) t (end_strokes t.base.image)) (gave : GaveNothing old new)
@@ -259,11 +275,14 @@ module _ (old new : World) (before after : Held) (t : Trail) (session : ℕ) (al
   end_left : Strikes old new (name_of before) t (unless_by (end_cause t.base.image before.running session) (end_strokes t.base.image))
   end_left = subst (λ (ss : List Stroke). Strikes old new (name_of before) t ss) (sym (unless_none (end_cause t.base.image before.running session) (end_strokes t.base.image) allowed)) struck
 
+  end_allows : (r : Refusal) → end_cause t.base.image before.running session ≡ Some r → Quiet old new
+  end_allows r some = absurd (none_some (sym allowed ∙ some))
+
   pub end_failed : Ends (Err Device) old new before after t session
-  end_failed = record { test = tt; left = end_left; opened = tt; answer = tt; begins = tt; gave = gave; refused = tt; name = name }
+  end_failed = record { test = tt; left = end_left; opened = tt; answer = tt; begins = tt; gave = gave; refused = tt; idle = end_allows; name = name }
 
   pub end_done : (scn : ℕ) → scn ≡ end_scn t.base.image → IsOpen new after (after_strokes t (end_strokes t.base.image)) → after.running ≡ Some session → after.merged ≡ 0 → Ends (Ok scn) old new before after t session
-  end_done scn is opened running merged = record { test = allowed; left = end_left; opened = opened; answer = is; begins = (running, merged); gave = gave; refused = tt; name = name }
+  end_done scn is opened running merged = record { test = allowed; left = end_left; opened = opened; answer = is; begins = (running, merged); gave = gave; refused = tt; idle = end_allows; name = name }
 
 -- A turn of a merge that failed.
 pub merge_failed : (old new : World) (before after : Held) (t : Trail) (result : Result Progress Fault) → result ≡ Err Device → Strikes old new (name_of before) t (finish ∷ []) → (before.merged < length t.base.diverted → Strikes old new (name_of before) t [])

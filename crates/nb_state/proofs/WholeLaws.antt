@@ -8,12 +8,14 @@ use Rattle.nb_host.specs.World.{World}
 use Rattle.nb_model.specs.Account.{Ask, Base}
 use Rattle.nb_model.specs.Image.{Page, Image, page_at, first_page, image_scn, image_guid, with_page}
 use Rattle.nb_model.specs.Strokes.{begin, ends, finish, on_base, with_control}
+use Rattle.nb_model.specs.Sound.{HasNoZeros}
 use Rattle.nb_model.specs.Trail.{Trail}
 use Rattle.nb_model.proofs.ControlSound.{control_long, control_rest}
 use Rattle.nb_model.proofs.HeaderLaws.{header-other}
 use Rattle.nb_model.proofs.SoundLaws.{all_at, all_from, with_page_length}
 use Rattle.nb_model.proofs.StrokeLaws.{with_page_same, with_page_other}
 use Rattle.nb_model.proofs.TrailLaws.{trail_base}
+use Rattle.nb_model.proofs.TrimLaws.{finish_full}
 use Rattle.nb_base.specs.Takes.{after_strokes}
 use Rattle.nb_state.specs.Open.{Held, IsOpen}
 use Rattle.nb_state.specs.Whole.{StaysWhole}
@@ -65,6 +67,6 @@ module _ (w : World) (held : Held) (t : Trail) where
   unfolding on_base
   ends_whole is = controlled (after_strokes t (ends ∷ [])) 2 (image_scn t.base.image + 1) (image_guid t.base.image) (ap (λ (b : Base). b.image) (trail_base ends t)) is
 
-  pub finish_whole : IsOpen w held (after_strokes t (finish ∷ [])) → StaysWhole t.base.image (after_strokes t (finish ∷ [])).base.image
-  unfolding on_base
-  finish_whole is = controlled (after_strokes t (finish ∷ [])) 0 (image_scn t.base.image) (image_guid t.base.image) (ap (λ (b : Base). b.image) (trail_base finish t)) is
+  -- the end of a merge drops no page of an image that has none of zeros
+  pub finish_whole : HasNoZeros t.base.image → IsOpen w held (after_strokes t (finish ∷ [])) → StaysWhole t.base.image (after_strokes t (finish ∷ [])).base.image
+  finish_whole full is = controlled (after_strokes t (finish ∷ [])) 0 (image_scn t.base.image) (image_guid t.base.image) (ap (λ (b : Base). b.image) (trail_base finish t ∙ finish_full t.base full)) is

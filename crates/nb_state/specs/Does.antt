@@ -1,11 +1,11 @@
 -- What a call does that is one turn of the table of turns.
-use Rattle.std.specs.Prelude.{◌≡◌, List, [], Option, Some, None, Result, Ok, Err}
+use Rattle.std.specs.Prelude.{◌≡◌, List, [], Bool, true, false, Option, Some, None, Result, Ok, Err}
 use Rattle.nb_host.specs.World.{World}
 use Rattle.nb_host.specs.declared.faults.Fault.{Fault}
 use Rattle.nb_host.specs.declared.faults.Fault.TheVariants.{Refused, Device, Memory}
 use Rattle.nb_page.specs.Quiet.{Quiet}
 use Rattle.nb_model.specs.declared.reply.Reply.{Reply}
-use Rattle.nb_model.specs.declared.reply.Reply.TheVariants.{Refused as RefusedBy}
+use Rattle.nb_model.specs.declared.reply.Reply.TheVariants.{Refused as RefusedBy, Opened, Value, Rows, HeaderShown, PagesShown, ImageShown, CacheShown}
 use Rattle.nb_model.specs.Causes.{Cause}
 use Rattle.nb_model.specs.Outcomes.{Outcome}
 use Rattle.nb_model.specs.Strokes.{Stroke}
@@ -43,6 +43,23 @@ WhereRefused (Err (Refused refusal)) P = P
 WhereRefused (Err Device) P = Unit {0}
 WhereRefused (Err Memory) P = Unit {0}
 
+-- the reply is a refusal, or tells what was read
+abbrev pub only_tells : Reply → Bool
+only_tells (RefusedBy refusal) = true
+only_tells (Opened pages state) = true
+only_tells (Value text) = true
+only_tells (Rows rows) = true
+only_tells (HeaderShown size pages state scn guid forced access delta) = true
+only_tells (PagesShown header inventory scn rows raw other free) = true
+only_tells (ImageShown pages digest) = true
+only_tells (CacheShown pages held) = true
+only_tells other = false
+
+-- so it is with what is said, if anything is
+abbrev pub has_only_told : Option Reply → Bool
+has_only_told None = false
+has_only_told (Some reply) = only_tells reply
+
 -- these strokes, or none where there is a cause
 abbrev pub unless_by : Cause → List Stroke → List Stroke
 unless_by cause strokes = elim cause [ Some refusal ↦ [] | None ↦ strokes ]
@@ -67,8 +84,9 @@ pub record Makes {T : Type 0} (result : Result T Fault) (old new : World) (befor
   pub goes : Goes before after
   pub gave : GaveNothing old new
 
--- The call answers what the turn says, and makes its strokes. A refusal changes nothing.
+-- The call answers what the turn says, and makes its strokes. A turn that only tells something, as a refusal, changes nothing, also where a call
+-- of the host fails in it.
 pub record Does {T : Type 0} (reply : T → Reply) (result : Result T Fault) (old new : World) (before after : Held) (t : Trail) (turn : Outcome) : Type 0 where
   pub answer : Answers reply result turn.reply
   pub makes : Makes result old new before after t turn.strokes
-  pub refused : WhereRefused result (Quiet old new)
+  pub idle : has_only_told turn.reply ≡ true → Quiet old new

@@ -1,7 +1,9 @@
 -- The turns of a backup: begin, end, and the merge.
-use Rattle.std.specs.Prelude.{◌≡◌, ◌⊎◌, ℕ, ◌+◌, ◌<◌, ◌≤◌, List, [], ◌∷◌, ◌++◌, length, Option, Some, None, Result, Ok, Err, OnOk, IfOk, ◌==◌}
+use Rattle.std.specs.Prelude.{◌≡◌, ◌⊎◌, ℕ, ◌+◌, ◌<◌, ◌≤◌, List, [], ◌∷◌, ◌++◌, length, Option, Some, None, Result, Ok, Err, OnOk, IfOk, slice_index, ◌==◌}
+use Rattle.nb_host.specs.Files.{Files}
 use Rattle.nb_host.specs.World.{World}
 use Rattle.nb_host.specs.declared.faults.Fault.{Fault}
+use Rattle.nb_host.specs.declared.refusals.Refusal.{Refusal}
 use Rattle.nb_host.specs.declared.refusals.Refusal.TheVariants.{WrongState}
 use Rattle.nb_page.specs.Quiet.{Quiet}
 use Rattle.nb_change.specs.Gave.{GaveNothing}
@@ -10,7 +12,9 @@ use Rattle.nb_model.specs.Image.{Image, image_state, image_scn}
 use Rattle.nb_model.specs.Causes.{Cause, first_cause, when, not_state, no_scn, runs_other}
 use Rattle.nb_model.specs.Pages.{end_strokes, end_scn}
 use Rattle.nb_model.specs.Strokes.{begin, finish}
+use Rattle.nb_model.specs.Owner.{delta_name}
 use Rattle.nb_model.specs.Trail.{Trail}
+use Rattle.nb_base.specs.Merging.{PutsPage}
 use Rattle.nb_base.specs.Takes.{Strikes, after_strokes}
 use Rattle.nb_state.specs.Open.{Held, IsOpen, name_of}
 use Rattle.nb_state.specs.Does.{Tested, WhereRefused, unless_by}
@@ -29,7 +33,7 @@ end_cause image running session = first_cause (when (image_state image == 0) (Wr
 abbrev pub GaveAtMost : (old new : World) (guid : List ℕ) → Type 0
 GaveAtMost old new guid = (new.guids ≡ old.guids) ⊎ (new.guids ≡ old.guids ++ guid ∷ [])
 
--- A backup begins with this GUID, or is refused and changes nothing.
+-- A backup begins with this GUID; or there is a cause to refuse it, and nothing changes, whatever is answered.
 pub record Begins (result : Result ℕ Fault) (old new : World) (before after : Held) (t : Trail) (guid : List ℕ) (ask : Option Ask) : Type 0 where
   pub test : Tested result (begin_cause t.base.image)
   pub left : Strikes old new (name_of before) t (unless_by (begin_cause t.base.image) (begin guid ask ∷ []))
@@ -38,10 +42,11 @@ pub record Begins (result : Result ℕ Fault) (old new : World) (before after : 
   pub gave : OnOk result (new.guids ≡ old.guids ++ guid ∷ [])
   pub times : new.times ≡ old.times
   pub refused : WhereRefused result ((after ≡ before) × Quiet old new)
+  pub idle : (r : Refusal) → begin_cause t.base.image ≡ Some r → Quiet old new
   pub running : after.running ≡ before.running
   pub name : name_of after ≡ name_of before
 
--- The stalled state ends, or a stopped merge begins again; or it is refused and changes nothing.
+-- The stalled state ends, or a stopped merge begins again; or there is a cause to refuse it, and nothing changes, whatever is answered.
 pub record Ends (result : Result ℕ Fault) (old new : World) (before after : Held) (t : Trail) (session : ℕ) : Type 0 where
   pub test : Tested result (end_cause t.base.image before.running session)
   pub left : Strikes old new (name_of before) t (unless_by (end_cause t.base.image before.running session) (end_strokes t.base.image))
@@ -50,6 +55,7 @@ pub record Ends (result : Result ℕ Fault) (old new : World) (before after : He
   pub begins : OnOk result ((after.running ≡ Some session) × (after.merged ≡ 0))
   pub gave : GaveNothing old new
   pub refused : WhereRefused result ((after ≡ before) × Quiet old new)
+  pub idle : (r : Refusal) → end_cause t.base.image before.running session ≡ Some r → Quiet old new
   pub name : name_of after ≡ name_of before
 
 -- How far a merge has come behind one turn more, whatever the host tells.
@@ -57,6 +63,12 @@ abbrev pub GoesOn : Progress → (before after : Held) → Type 0
 GoesOn More before after =
     (before.merged < length before.files.entries) × (after.merged ≡ before.merged + 1) × (after.files.state ≡ 2) × (after.running ≡ before.running) × (after.files.entries ≡ before.files.entries)
 GoesOn Finished before after = length before.files.entries ≤ before.merged
+
+-- What a turn of a merge changes of the files, whatever they hold: one page of the main file, that of the next entry; or behind the last one the
+-- difference file is gone.
+abbrev pub PutsOn : Progress → (old new : Files) (before : Held) → Type 0
+PutsOn More old new before = PutsPage old new (name_of before) before.files.page_size (slice_index before.files.entries before.merged)
+PutsOn Finished old new before = new (delta_name (name_of before)) ≡ None
 
 -- One entry more is merged, or all are and the merge is over.
 abbrev pub MergesOn : Result Progress Fault → (new : World) (before after : Held) → Trail → Type 0

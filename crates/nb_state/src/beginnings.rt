@@ -75,7 +75,7 @@ impl Store {
     }
 
     /// Makes a new database with `raw` raw pages, and opens it. The refusal is `FileExists`, where the name is not free; then nothing
-    /// has changed. The memory for so many of its pages is taken first.
+    /// has changed. The memory for so many of its pages is taken first, and where it is wanting no call was made.
     pub fn create<H: Host>(
         alloc: Global,
         host: &mut H,
@@ -94,6 +94,7 @@ impl Store {
         ensures scn { IfOk result (λ store. store.scn < 4294967296) }
         ensures blank { IfOk result (HoldsNone cache_pages) }
         ensures cause { CountsDevice result (H.faults host.old) (H.faults host.new) }
+        ensures on_memory { result ≡ Err Fault.Memory → host.new ≡ host.old }
     {
         let pair = Pair::create(alloc, host, name, page_size, raw, cache_pages)?;
         Ok(Store {

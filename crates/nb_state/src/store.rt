@@ -184,7 +184,7 @@ impl Store {
     /// forced, where it makes the database longer, and where it is page 0. Every other write may wait in memory, and then makes no call; in the stalled state
     /// its entry may want memory. In the normal state the difference file isn't touched, and in the stalled state the main file isn't.
     ///
-    /// Where it wants memory it has changed no page.
+    /// Where it wants memory it has changed no page, and has made no call but to write out what waited, so none where writes are forced.
     pub fn write<H: Host>(&mut self, host: &mut H, number: u32, page: &[u8]) -> Result<(), Fault>
         requires size { length page.now ≡ self.old.files.page_size }
         requires most { number < 1048576 }
@@ -199,6 +199,8 @@ impl Store {
         ensures waits { may_wait (pair_of self.old) number self.old.forced ≡ true → (self.old.files.state ≡ 0 → IsOk result) × IfErr result (λ fault. fault ≡ Fault.Memory) × (host.new ≡ host.old) }
         ensures on_memory { (t : Trail) → IsTrue H.tells → IsOpen (H.world host.old) self.old t → result ≡ Err Fault.Memory
             → Strikes (H.world host.old) (H.world host.new) (name_of self.old) t [] × IsOpen (H.world host.new) self.new t }
+        ensures idle { NoPageWaits self.old → result ≡ Err Fault.Memory → (self.new ≡ self.old) × (host.new ≡ host.old) }
+        ensures forced { (t : Trail) → IsTrue H.tells → IsOpen (H.world host.old) self.old t → self.old.forced ≡ true → result ≡ Err Fault.Memory → (self.new ≡ self.old) × (host.new ≡ host.old) }
     {
         self.pair.write(host, number, page, self.forced)?;
         self.take_flags(number, page);

@@ -6,13 +6,12 @@ ghost use Rattle.nb_change.specs.Counts.{CountsDevice};
 ghost use Rattle.nb_change.specs.Gave.{GaveNothing};
 ghost use Rattle.nb_model.specs.Account.{Ask};
 ghost use Rattle.nb_model.specs.Image.{Image, image_state, image_scn};
-ghost use Rattle.nb_model.specs.Sound.{HasNoZeros};
 ghost use Rattle.nb_model.specs.Strokes.{begin as begin_stroke, ends as ends_stroke};
 ghost use Rattle.nb_model.specs.Trail.{Trail};
 ghost use Rattle.nb_base.specs.Takes.{Takes, IsNoRefusal};
 ghost use Rattle.nb_state.specs.Open.{IsOpen, name_of};
 ghost use Rattle.nb_state.specs.Does.{Tested};
-ghost use Rattle.nb_state.specs.Turns.{Begins, Ends, Merges, GaveAtMost, GoesOn, begin_cause, end_cause};
+ghost use Rattle.nb_state.specs.Turns.{Begins, Ends, Merges, GaveAtMost, GoesOn, PutsOn, begin_cause, end_cause};
 
 use crate::Store;
 use nb_cases::{Case, Event, case_of};
@@ -63,6 +62,7 @@ impl Store {
         ensures some { OnOk result (1 ≤ self.now.files.state) }
         ensures own { (other : ℕ) → self.now.running ≡ Some other → OnOk result (other ≡ session) }
         ensures cause { (faults : ℕ) → CountsDevice result faults faults }
+        ensures takes_none { IfErr result (λ fault. fault ≢ Memory) }
     {
         let state = self.pair.state();
         if case_of(state, Event::End) == Case::WrongState {
@@ -129,6 +129,7 @@ impl Store {
         ensures page_size { self.new.files.page_size ≡ self.old.files.page_size }
         ensures cap { self.new.cap ≡ self.old.cap }
         ensures cause { CountsDevice result (H.faults host.old) (H.faults host.new) }
+        ensures takes_none { IfErr result (λ fault. fault ≢ Memory) }
     {
         self.check_end(session)?;
         if self.pair.state() == 1 {
@@ -162,15 +163,18 @@ impl Store {
         Ok(scn)
     }
 
-    /// Merges the next entry, or finishes the merge.
+    /// Merges the next entry, which changes one page of the main file and nothing else, or finishes the merge, which removes the difference
+    /// file. Whatever the files hold.
     pub fn merge_turn<H: Host>(&mut self, host: &mut H) -> Result<Progress, Fault>
         requires merge { self.old.files.state ≡ 2 }
-        ensures merges { (t : Trail) → IsTrue H.tells → IsOpen (H.world host.old) self.old t → HasNoZeros t.base.image → Merges result (H.world host.old) (H.world host.new) self.old self.new t }
+        ensures merges { (t : Trail) → IsTrue H.tells → IsOpen (H.world host.old) self.old t → Merges result (H.world host.old) (H.world host.new) self.old self.new t }
         ensures goes { IfOk result (λ progress. GoesOn progress self.old self.new) }
+        ensures puts { IsTrue H.tells → IfOk result (λ progress. PutsOn progress (H.world host.old).files (H.world host.new).files self.old) }
         ensures page_size { self.new.files.page_size ≡ self.old.files.page_size }
         ensures cap { self.new.cap ≡ self.old.cap }
         ensures cause { CountsDevice result (H.faults host.old) (H.faults host.new) }
         ensures not_refused { IfErr result IsNoRefusal }
+        ensures takes_none { IfErr result (λ fault. fault ≢ Memory) }
     {
         if self.merged < self.pair.delta_count() {
             self.pair.merge_entry(host, self.merged)?;

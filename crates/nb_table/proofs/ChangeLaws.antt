@@ -65,7 +65,7 @@ found_kind image chain formed key row found =
 pub row_does : (result : Result (Unit {0}) Fault) (old new : World) (a b : Held) (t : Trail) (s : Seen) (chain : Chain) (key : ℕ) (bytes : Slot) (row : Found) → t.base ≡ s.base → IsWell t.base.image → broken_at (pages_of chain t.base.image) ≡ None
     → Some row ≡ found_at (row_spot key (spots chain t.base.image)) → 0 < row.place.page → Tries result old new a b t None (put_slot row.place.page row.place.slot bytes (drafted t.base.image)).strokes → Does done result old new a b t (in_row s chain key bytes)
 row_does result old new a b t s chain key bytes row same is formed found some tries =
-    tries_does done result old new a b t s (λ (x : Seen). in_row x chain key bytes) None Done (put_slot row.place.page row.place.slot bytes (drafted image)).strokes same turn (said result) tries
+    tries_does done result old new a b t s (λ (x : Seen). in_row x chain key bytes) None Done refl (put_slot row.place.page row.place.slot bytes (drafted image)).strokes same turn (said result) tries
   where
     image : Image
     image = t.base.image

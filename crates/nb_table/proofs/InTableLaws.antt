@@ -18,7 +18,7 @@ use Rattle.nb_model.specs.Outcomes.{Seen, Outcome, says, unless}
 use Rattle.nb_model.specs.Tables.{with_spot, in_table}
 use Rattle.nb_model.specs.Trail.{Trail}
 use Rattle.nb_state.specs.Open.{Held, IsOpen, but_pages}
-use Rattle.nb_state.specs.Does.{WhereRefused, Does}
+use Rattle.nb_state.specs.Does.{Does}
 use Rattle.nb_state.proofs.MakesLaws.{makes_after}
 use Rattle.nb_engine.proofs.CauseLaws.{unless_refused, unless_allowed, first_none, first_next, first_here, one_cause}
 use Rattle.nb_engine.proofs.DoesLaws.{seeing, tries_passed}
@@ -153,14 +153,8 @@ pub does_after : {T : Type 0} (reply : T → Reply) (result : Result T Fault) (o
 does_after {T} reply result old mid new a b c t turn same quiet is does = record {
   answer = does.answer;
   makes = makes_after result old mid new a b c t turn.strokes same quiet is does.makes;
-  refused = refused_more result does.refused;
+  idle = λ told. quiet_joined old mid new quiet (does.idle told);
 }
-  where
-    refused_more : (r : Result T Fault) → WhereRefused r (Quiet mid new) → WhereRefused r (Quiet old new)
-    refused_more (Ok value) rest = tt
-    refused_more (Err (RefusedFault q)) rest = quiet_joined old mid new quiet rest
-    refused_more (Err Device) rest = tt
-    refused_more (Err Memory) rest = tt
 
 -- What was found of a table holds also where its database is seen by a turn. So a turn that goes on with it is done by a call that does the rest.
 pub table_does : {T : Type 0} (reply : T → Reply) (result : Result T Fault) (old new : World) (a b : Held) (t : Trail) (s : Seen) (turn : Seen → Outcome) → t.base ≡ s.base → (rest : Outcome) → turn (seeing s t.base) ≡ rest

@@ -1,9 +1,9 @@
 -- What the call of the first statement gives to a run, whether it creates a database or opens one.
 use Rattle.std.proofs.Common.{◌≡◌, ◌≢◌, ℕ, List, [], ◌++◌, Bool, sym, ap, subst, ◌∙◌}
-use Rattle.std.specs.Prelude.{Result, Ok, Err, Some, IfOk, OnOk, if◌then◌else◌}
+use Rattle.std.specs.Prelude.{Result, Ok, Err, None, Some, IfOk, OnOk, if◌then◌else◌}
 use Rattle.nb_host.specs.World.{World}
-use Rattle.nb_host.specs.Crash.{Untouched}
-use Rattle.nb_host.specs.Moments.{AtEachMoment}
+use Rattle.nb_host.specs.Crash.{Leaves, Untouched}
+use Rattle.nb_host.specs.Moments.{AtEachMoment, IsTimely}
 use Rattle.nb_host.specs.declared.faults.Fault.{Fault}
 use Rattle.nb_host.specs.declared.faults.Fault.TheVariants.{Refused}
 use Rattle.nb_host.specs.declared.refusals.Refusal.{Refusal}
@@ -18,7 +18,7 @@ use Rattle.nb_model.specs.Going.{IsMaking}
 use Rattle.nb_model.specs.Lines.{line_text}
 use Rattle.nb_model.specs.Outcomes.{Given}
 use Rattle.nb_model.specs.Output.{status_after}
-use Rattle.nb_model.specs.Run.{Event, Now, base_now, begun}
+use Rattle.nb_model.specs.Run.{Event, Now, base_now, begun, opening}
 use Rattle.nb_model.specs.Steps.{after_steps, steps_in}
 use Rattle.nb_model.specs.Trail.{settled}
 use Rattle.nb_model.proofs.TodoLaws.{status_refused}
@@ -32,10 +32,12 @@ use Rattle.nb_session.specs.Says.{SaysLine}
 use Rattle.nb_top.specs.declared.status.Status.{Status}
 use Rattle.nb_top.specs.declared.status.Status.TheVariants.{Refused as RefusedStatus}
 use Rattle.nb_top.specs.Numbers.{number_of}
-use Rattle.nb_top.specs.Performed.{RunsTo, HasSmallScn, PlaysOpened, first_event, opened_reply, pages_first, refused_at, told_first}
+use Rattle.nb_top.specs.ByTurns.{ScriptByTurns, TurnsFrom}
+use Rattle.nb_top.specs.Performed.{RunsTo, HasSmallScn, PlaysOpened, first_event, opened_reply, pages_first, refused_at, told_first, told_later}
 use Rattle.nb_top.specs.declared.telling.Telling.{Telling}
 use Rattle.nb_top.specs.Requests.{ToRun}
 use Rattle.nb_top.proofs.BegunRuns.{Left, start, first_one, begun_fails, begun_runs}
+use Rattle.nb_top.proofs.ByTurnsLaws.{OpensBeside, script_turns}
 use Rattle.nb_top.proofs.FirstLaws.{First}
 use Rattle.nb_top.proofs.QuietRuns.{runs_quietly}
 use Rattle.nb_top.proofs.ToldLaws.{Ran, performed_refused}
@@ -61,12 +63,15 @@ pub record FirstDone (old mid : World) (account : Account) (given : Given) (plan
 pub record FirstRefused (old mid : World) (account : Account) (given : Given) (plan : Plan) (refusal : Refusal) : Type 0 where
   pub quiet : Quiet old mid
   pub ran : Ran account given plan (refused_at plan.first_session refusal) account given
+  pub ends : (opening account given plan.sessions plan.first_session plan.first).now ≡ None
   pub not_usage : refusal ≢ Usage
 
 pub record Beginning (old : World) (account : Account) (given : Given) (plan : Plan) (telling : Telling) (askable : IsAskable plan) (mid : World) (result : Result Held Fault) : Type 0 where
   pub fails : (e : Stop) → RunsTo (Err e) old mid (Ok (ToRun plan telling)) account given
   pub refused : (refusal : Refusal) → result ≡ Err (Refused refusal) → FirstRefused old mid account given plan refusal
   pub done : (held : Held) → result ≡ Ok held → FirstDone old mid account given plan telling askable held
+  -- whatever it ended as
+  pub beside : OpensBeside old mid account given plan
 
 module _ (old : World) (account : Account) (given : Given) (plan : Plan) (telling : Telling) (askable : IsAskable plan) (mid : World) where
   -- a refusal is said
@@ -123,14 +128,24 @@ module _ (old : World) (account : Account) (given : Given) (plan : Plan) (tellin
         (subst (λ (x : Reply). PlaysOpened r mid new held after its_start (told_first telling (first_event plan.first_session is.first.strokes x)) telling held.files.count is.first.now plan) (sym is.says) plays)
 
     -- the turns ended early
-    pub script_ends_early : (new : World) (after : Held) (e : Stop) {f : Stop} → PlaysOpened (Err f) mid new held after (start old account given plan telling askable is.first) said_first telling held.files.count script_now plan → RunsTo (Err e) old new (Ok (ToRun plan telling)) account given
+    pub script_ends_early : (new : World) → IsTimely new → ((m : List ℕ) → Leaves new m (new.files m)) → (after : Held) (e : Stop) {f : Stop} → PlaysOpened (Err f) mid new held after (start old account given plan telling askable is.first) said_first telling held.files.count script_now plan → RunsTo (Err e) old new (Ok (ToRun plan telling)) account given
     unfolding script_now
-    script_ends_early new after e plays =
-        begun_fails old account given plan telling askable is.first mid new is.alone is.read is.silent is.gave is.opens is.stops held after is.named is.small e (says_it new after plays)
+    script_ends_early new timely reads after e plays =
+        begun_fails old account given plan telling askable is.first mid new is.alone is.read is.silent is.gave is.opens is.stops held after is.named is.small timely reads e (says_it new after plays)
 
     -- all turns were taken
-    pub script_ends : (new : World) (after : Held) (refused : Bool) (status : Status) → number_of status ≡ (if refused then 1 else 0) → NoPageWaits after
+    pub script_ends : (new : World) → IsTimely new → ((m : List ℕ) → Leaves new m (new.files m)) → (after : Held) (refused : Bool) (status : Status) → number_of status ≡ (if refused then 1 else 0) → NoPageWaits after
         → PlaysOpened (Ok refused) mid new held after (start old account given plan telling askable is.first) said_first telling held.files.count script_now plan → RunsTo (Ok status) old new (Ok (ToRun plan telling)) account given
     unfolding script_now
-    script_ends new after refused status number none plays =
-        begun_runs old account given plan telling askable is.first mid new is.alone is.read is.silent is.gave is.opens is.stops held after is.named is.small refused status number none (says_it new after plays)
+    script_ends new timely reads after refused status number none plays =
+        begun_runs old account given plan telling askable is.first mid new is.alone is.read is.silent is.gave is.opens is.stops held after is.named is.small timely reads refused status number none (says_it new after plays)
+
+-- Turn by turn.
+module _ {H : Type 0} (world : H → World) (old mid : H) (account : Account) (given : Given) (plan : Plan) (telling : Telling) (askable : IsAskable plan) (beside : OpensBeside (world old) (world mid) account given plan) (held : Held)
+    (is : FirstDone (world old) (world mid) account given plan telling askable held) where
+  pub script_by_turns : (early ended : Type 0) → (ended → early) → (new : H)
+      → TurnsFrom world ended (told_later telling held.files.count) mid new (script_now (world old) account given plan telling askable (world mid) held is) plan.schedule → ScriptByTurns world early old new plan telling account given
+  unfolding script_now
+  script_by_turns early ended so new turns =
+      script_turns world early account given plan telling old mid new is.first.now ended so is.first.goes_on beside
+      (subst (λ (n : ℕ). TurnsFrom world ended (told_later telling n) mid new is.first.now plan.schedule) is.counted turns)

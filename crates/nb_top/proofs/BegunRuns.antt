@@ -1,11 +1,11 @@
 -- A run behind its first statement.
-use Rattle.std.proofs.Common.{◌≡◌, ◌⊎◌, inl, inr, ⊎_elim, ℕ, List, [], ◌∷◌, ◌++◌, true, false, refl, sym, ap, subst, ◌∙◌, true≢false}
+use Rattle.std.proofs.Common.{◌≡◌, ◌⊎◌, inl, inr, ⊎_elim, ℕ, List, [], ◌∷◌, ◌++◌, take, true, false, refl, sym, ap, subst, ◌∙◌, true≢false}
 use Rattle.std.specs.List.{list_all}
 use Rattle.std.specs.Prelude.{Bool, Option, None, Some, Ok, Err, Contains, if◌then◌else◌}
 use Rattle.nb_host.specs.Files.{Files}
 use Rattle.nb_host.specs.World.{World}
-use Rattle.nb_host.specs.Crash.{Untouched}
-use Rattle.nb_host.specs.Moments.{AtEachMoment}
+use Rattle.nb_host.specs.Crash.{Leaves, Untouched}
+use Rattle.nb_host.specs.Moments.{AtEachMoment, IsTimely}
 use Rattle.nb_change.specs.Changes.{Other}
 use Rattle.nb_change.specs.Gave.{GaveNothing}
 use Rattle.nb_change.proofs.MomentLaws.{joined, left_before}
@@ -13,12 +13,14 @@ use Rattle.nb_page.specs.Quiet.{Quiet}
 use Rattle.nb_model.specs.Account.{Base, Account}
 use Rattle.nb_model.specs.Gifts.{WasGiven}
 use Rattle.nb_model.specs.Making.{MadeFile, IsNoneOf}
+use Rattle.nb_model.specs.NewGuids.{guids_in}
 use Rattle.nb_model.specs.Outcomes.{Given}
 use Rattle.nb_model.specs.Output.{output}
-use Rattle.nb_model.specs.Run.{Event, AreFinished, files_made}
-use Rattle.nb_model.specs.Steps.{steps_of}
+use Rattle.nb_model.specs.Run.{Event, AreFinished, files_made, strokes_of}
+use Rattle.nb_model.specs.Steps.{after_steps, steps_of, strokes_in}
 use Rattle.nb_model.specs.Strokes.{Stroke, base_in}
-use Rattle.nb_model.specs.Trail.{settled}
+use Rattle.nb_model.specs.Trail.{StandsIn, settled}
+use Rattle.nb_model.proofs.GuidLaws.{guids_append, strokes_in_steps}
 use Rattle.nb_base.specs.Open.{OfFiles}
 use Rattle.nb_state.specs.Open.{Held, NoPageWaits, IsOpen, name_of}
 use Rattle.nb_state.proofs.ShownLaws.{shown}
@@ -26,11 +28,12 @@ use Rattle.nb_script.specs.Asked.{IsAskable}
 use Rattle.nb_script.specs.Scripts.{Plan}
 use Rattle.nb_session.specs.declared.stop.Stop.{Stop}
 use Rattle.nb_session.specs.Acts.{Touched}
-use Rattle.nb_session.specs.Replies.{only_tells, only_told}
+use Rattle.nb_state.specs.Does.{only_tells}
+use Rattle.nb_session.specs.Replies.{only_told}
 use Rattle.nb_session.specs.Stops.{StopLeft}
 use Rattle.nb_top.specs.declared.status.Status.{Status}
 use Rattle.nb_top.specs.Numbers.{number_of}
-use Rattle.nb_top.specs.Performed.{RunLeft, RunsTo, Finished, HasSmallScn, IsEnded, IsPerformed, PlaysOpened, Target, begins_refused, first_event, seen_after, pages_first, target_named, target_of, told_first, told_later, only_opens}
+use Rattle.nb_top.specs.Performed.{RunLeft, RunReads, RunsTo, Finished, HasSmallScn, IsEnded, IsPerformed, PlaysOpened, Target, begins_refused, first_event, seen_after, pages_first, target_named, target_of, told_first, told_later, only_opens}
 use Rattle.nb_top.specs.declared.telling.Telling.{Telling}
 use Rattle.nb_top.specs.declared.telling.Telling.TheVariants.{All, Quietly, WithSize, Sparingly}
 use Rattle.nb_top.specs.Requests.{ToRun}
@@ -40,7 +43,7 @@ use Rattle.nb_top.proofs.FirstEnds.{first_ends}
 use Rattle.nb_top.proofs.FirstLaws.{First, turns}
 use Rattle.nb_top.proofs.MadeRuns.{made_behind}
 use Rattle.nb_top.proofs.QuietRuns.{given_from}
-use Rattle.nb_top.proofs.ToldLaws.{later_files, told_begins, told_cons, told_first_made, performed_told}
+use Rattle.nb_top.proofs.ToldLaws.{later_files, told_begins, told_cons, told_first_made, told_steps, performed_told}
 
 -- it makes no stroke
 opens_without : (e : Event) → only_opens e ≡ true → e.strokes ≡ []
@@ -89,8 +92,8 @@ module _ (old : World) (account : Account) (given : Given) (plan : Plan) (tellin
   -- its reply is no refusal, so the database is asked for
   begins : (n : ℕ) → begins_refused (events n) ≡ false
   begins n =
-      let done : Event = first_event plan.first_session first.strokes first.reply in
-      ap begins_refused (told_cons telling pages done (turns plan first.now n).0) ∙ told_begins telling pages (done ∷ (turns plan first.now n).0) ∙ first.allowed
+      let whole : Event = first_event plan.first_session first.strokes first.reply in
+      ap begins_refused (told_cons telling pages whole (turns plan first.now n).0) ∙ told_begins telling pages (whole ∷ (turns plan first.now n).0) ∙ first.allowed
 
   target_is : (n : ℕ) → target_of (Ok (ToRun plan telling)) (events n) ≡ Some first.target
   target_is n = ap (λ (b : Bool). elim b as (λ z. Option Target) [ true ↦ None | false ↦ target_named plan.first ]) (begins n) ∙ first.named
@@ -105,9 +108,30 @@ module _ (old : World) (account : Account) (given : Given) (plan : Plan) (tellin
   performed n finished =
       performed_told telling plan account given (first_event plan.first_session first.strokes first.reply) (turns plan first.now n).0 (turns plan first.now n).1.account (turns plan first.now n).1.given (first.ran n finished)
 
+  reads_with : (n : ℕ) (new : World) → RunReads old new account (Some first.target) (events n) → RunReads old new account (target_of (Ok (ToRun plan telling)) (events n)) (events n)
+  reads_with n new is = subst (λ (d : Option Target). RunReads old new account d (events n)) (sym (target_is n)) is
+
+  -- the first event as it is, and not as it is told
+  abbrev done : Event
+  done = first_event plan.first_session first.strokes first.reply
+
+  -- what is told of the strokes is all of them
+  strokes_are : (n : ℕ) → strokes_of (events n) ≡ strokes_of (done ∷ (turns plan first.now n).0)
+  strokes_are n =
+      let whole : List Event = done ∷ (turns plan first.now n).0 in
+      sym (strokes_in_steps (events n)) ∙ ap strokes_in (ap steps_of (told_cons telling pages done (turns plan first.now n).0) ∙ told_steps telling pages whole) ∙ strokes_in_steps whole
+
+  -- the first statement begins no backup
+  guids_are : (n : ℕ) → guids_in (strokes_of (turns plan first.now n).0) ≡ guids_in (strokes_of (events n))
+  unfolding strokes_of
+  guids_are n =
+      let more : List Stroke = strokes_of (turns plan first.now n).0 in
+      sym (ap guids_in (strokes_are n) ∙ guids_append first.strokes more ∙ ap (λ (l : List (List ℕ)). l ++ guids_in more) first.none)
+
   -- it ended early, in the first statement
-  pub first_fails : (new : World) (e : Stop) → HasSmallScn account (Some first.target) ⊎ Quiet old new → ((n : ℕ) → AtEachMoment old new (Left n)) → RunsTo (Err e) old new (Ok (ToRun plan telling)) account given
-  first_fails new e opened stops =
+  pub first_fails : (new : World) (e : Stop) → HasSmallScn account (Some first.target) ⊎ Quiet old new → ((n : ℕ) → AtEachMoment old new (Left n)) → ((n : ℕ) → RunReads old new account (Some first.target) (events n))
+      → RunsTo (Err e) old new (Ok (ToRun plan telling)) account given
+  first_fails new e opened stops reads =
       let end = first_ends plan askable first.now first.todo in
       record {
         events = events end.0;
@@ -116,6 +140,7 @@ module _ (old : World) (account : Account) (given : Given) (plan : Plan) (tellin
         performed = performed end.0 end.1;
         opened = ⊎_elim (λ small. inl (opened_with end.0 small)) inr opened;
         stops = with_target end.0 old new (stops end.0);
+        reads = reads_with end.0 new (reads end.0);
         finished = tt;
       }
 
@@ -155,28 +180,41 @@ module _ (old : World) (account : Account) (given : Given) (plan : Plan) (tellin
         left_behind n (subst (λ (m : List ℕ). AreApart m (made n)) named apart) files said
         (subst (λ (m : List ℕ). StopLeft mid m (settled start) (events n) (made n) files said) named left))
 
+    -- what reads then
+    module _ (timely : IsTimely new) (reads : (m : List ℕ) → Leaves new m (new.files m)) where
+      reads_behind : (n : ℕ) → AtEachMoment mid new (StopLeft mid (name_of held) (settled start) (events n) (made n)) → ((m : List ℕ) → Other (Touched (name_of held) (made n)) m → new.files m ≡ mid.files m)
+          → RunReads old new account (Some first.target) (events n)
+      reads_behind n behind beside =
+          let here : StopLeft mid (name_of held) (settled start) (events n) (made n) new.files new.said = behind.each new.files new.said (timely.counts_now mid.moment new.files behind.later reads) in
+          record {
+            others = λ m other none. beside m (λ one. outside n m other none (subst (λ (k : List ℕ). Touched k (made n) m) named one)) ∙ read m other;
+            database = inl (here.count, subst (λ (m : List ℕ). StandsIn m (after_steps (settled start) (take here.count (steps_of (events n)))) new.files) named here.database);
+          }
+
     -- the turns ended early
-    pub begun_fails : (e : Stop) {f : Stop} → PlaysOpened (Err f) mid new held after start first_one telling pages first.now plan → RunsTo (Err e) old new (Ok (ToRun plan telling)) account given
-    begun_fails e plays = record {
+    pub begun_fails : IsTimely new → ((m : List ℕ) → Leaves new m (new.files m)) → (e : Stop) {f : Stop} → PlaysOpened (Err f) mid new held after start first_one telling pages first.now plan → RunsTo (Err e) old new (Ok (ToRun plan telling)) account given
+    begun_fails timely reads e plays = record {
       events = events plays.how_often;
       last = (turns plan first.now plays.how_often).1.account;
       left = (turns plan first.now plays.how_often).1.given;
       performed = performed plays.how_often plays.finished;
       opened = inl (opened_with plays.how_often small);
       stops = with_target plays.how_often old new (stops_behind plays.how_often plays.plays.apart plays.plays.stops);
+      reads = reads_with plays.how_often new (reads_behind timely reads plays.how_often plays.plays.stops plays.plays.others_read);
       finished = tt;
     }
 
     -- all turns were taken
-    pub begun_runs : (refused : Bool) (status : Status) → number_of status ≡ (if refused then 1 else 0) → NoPageWaits after → PlaysOpened (Ok refused) mid new held after start first_one telling pages first.now plan → RunsTo (Ok status) old new (Ok (ToRun plan telling)) account given
-    begun_runs refused status number none plays = record {
+    pub begun_runs : IsTimely new → ((m : List ℕ) → Leaves new m (new.files m)) → (refused : Bool) (status : Status) → number_of status ≡ (if refused then 1 else 0) → NoPageWaits after → PlaysOpened (Ok refused) mid new held after start first_one telling pages first.now plan → RunsTo (Ok status) old new (Ok (ToRun plan telling)) account given
+    begun_runs timely reads refused status number none plays = record {
       events = events n;
       last = (turns plan first.now n).1.account;
       left = (turns plan first.now n).1.given;
       performed = performed n plays.finished;
       opened = inl (opened_with n small);
       stops = with_target n old new (stops_behind n plays.plays.apart plays.plays.stops);
-      finished = subst (λ (d : Option Target). Finished status old new account d (events n) given (turns plan first.now n).1.given) (sym (target_is n)) done;
+      reads = reads_with n new (reads_behind timely reads n plays.plays.stops plays.plays.others_read);
+      finished = subst (λ (d : Option Target). Finished status old new account d (events n) given (turns plan first.now n).1.given) (sym (target_is n)) its_end;
     }
       where
         n : ℕ
@@ -191,14 +229,14 @@ module _ (old : World) (account : Account) (given : Given) (plan : Plan) (tellin
         ended : IsEnded new name (seen_after account name (steps_of (events n)))
         ended = subst (λ (m : List ℕ). IsEnded new m (seen_after account name (steps_of (events n)))) after_is (record { shows = shown new after (seen_after account name (steps_of (events n))) none open_then; left = open_then.files.left })
 
-        done : Finished status old new account (Some first.target) (events n) given (turns plan first.now n).1.given
-        done = record {
+        its_end : Finished status old new account (Some first.target) (events n) given (turns plan first.now n).1.given
+        its_end = record {
           said = plays.plays.done.said ∙ ap (λ (l : List ℕ). l ++ output (events n)) silent;
           ended = number ∙ sym plays.plays.done.status;
           gave = given_from old mid new given (turns plan first.now n).1.given gave (subst (λ (g : Given). WasGiven mid new g (turns plan first.now n).1.given) first.given_is plays.plays.done.given);
           database = ended;
           kept = plays.plays.done.kept;
-          others = λ m other none. plays.plays.others_read m (λ one. outside n m other none (subst (λ (k : List ℕ). Touched k (made n) m) named one)) ∙ read m other;
+          guids = λ more. plays.guids more ∙ ap (λ (l : List (List ℕ)). l ++ guids_in (strokes_of (turns plan first.now n).0)) gave.guids ∙ ap (λ (l : List (List ℕ)). old.guids ++ l) (guids_are n);
           unchanged = λ only.
               let both = both_true (only_opens first_one) (list_all only_told (later n)) only in
               plays.unchanged both.1 ∙ opens (sym (told_strokes telling (first_event plan.first_session first.strokes first.reply)) ∙ opens_without first_one both.0);

@@ -1,6 +1,6 @@
 -- A run whose first statement creates its database.
-use Rattle.std.proofs.Common.{◌≡◌, ◌≢◌, inl, inr, ⊎_elim, ℕ, List, [], ◌∷◌, ◌++◌, length, take, true, false, refl, sym, ap, subst, ◌∙◌, arith}
-use Rattle.std.specs.Prelude.{Bool, Some, Result, Ok, Err, Contains, IfOk}
+use Rattle.std.proofs.Common.{◌≡◌, ◌≢◌, ◌⊎◌, inl, inr, ⊎_elim, ℕ, List, [], ◌∷◌, ◌++◌, length, take, true, false, refl, sym, ap, subst, ◌∙◌, arith}
+use Rattle.std.specs.Prelude.{Bool, None, Some, Result, Ok, Err, Contains, IfOk}
 use Rattle.std.proofs.lemmas.Bool.{true≢false}
 use Rattle.std.proofs.lemmas.List.{append-nil, take-append-le, take_all}
 use Rattle.nb_fields.specs.Free.{is_free_file}
@@ -28,7 +28,7 @@ use Rattle.nb_model.specs.Image.{Image}
 use Rattle.nb_model.specs.Making.{MadeFile, IsNoneOf}
 use Rattle.nb_model.specs.Outcomes.{Given}
 use Rattle.nb_model.specs.Owner.{delta_name}
-use Rattle.nb_model.specs.Run.{Event, IsRun, base_now, files_made, rounds}
+use Rattle.nb_model.specs.Run.{Event, IsRun, Opening, base_now, files_made, opening, rounds}
 use Rattle.nb_model.specs.Steps.{Step, steps_in, steps_of}
 use Rattle.nb_model.specs.Trail.{Trail, ShowsIn, StandsIn, settled}
 use Rattle.nb_model.proofs.FreshImageLaws.{fresh_length}
@@ -48,15 +48,18 @@ use Rattle.nb_script.specs.Scripts.{Plan}
 use Rattle.nb_session.specs.declared.stop.Stop.{Stop}
 use Rattle.nb_session.specs.Acts.{MadeLeft}
 use Rattle.nb_session.specs.Stops.{IsSaid}
-use Rattle.nb_top.specs.Performed.{cache_asked, KnowsNames, MayBeGiven, RunsTo, HasSmallScn, first_event, opened_reply, pages_first, refused_at, seen_after, target_of}
+use Rattle.nb_session.proofs.OthersLaws.{leaves_among, leaves_changes}
+use Rattle.nb_top.specs.Performed.{cache_asked, KnowsNames, MayBeGiven, ReadsAsked, RunReads, RunsTo, HasSmallScn, first_event, opened_reply, pages_first, refused_at, seen_after, target_of}
 use Rattle.nb_top.specs.declared.telling.Telling.{Telling}
 use Rattle.nb_top.specs.Requests.{ToRun}
 use Rattle.nb_top.proofs.QuietRuns.{left_quietly}
+use Rattle.nb_top.proofs.ReadsLaws.{reads_quiet}
 use Rattle.nb_top.proofs.FirstLaws.{First, first_created, first_strikes, created_base, turns}
 use Rattle.nb_top.proofs.FirstReady.{IsBehind, apart_play, base_name, begins_making, first_ready}
 use Rattle.nb_top.proofs.MadeRuns.{made_behind, none_yet}
 use Rattle.nb_top.proofs.BegunRuns.{Left, events, first_one, first_fails}
 use Rattle.nb_top.proofs.BegunRuns.{later as later_told}
+use Rattle.nb_top.proofs.ByTurnsLaws.{OpensBeside, beside_none, beside_now}
 use Rattle.nb_top.proofs.Beginnings.{Beginning, FirstRefused, FirstDone}
 use Rattle.nb_top.proofs.ToldLaws.{Ran, later_files, told_first_made, told_first_steps, performed_refused}
 
@@ -80,6 +83,11 @@ module _ (old : World) (account : Account) (given : Given) (plan : Plan) (tellin
       subst (λ (first : Statement). IsRun account given plan.first_session first plan.schedule plan.sessions (refused_at plan.first_session (FileExists name)) account given) (sym first_is)
       (run_ends account given plan.first_session (CreateDb name size raw cache) plan.schedule plan.sessions (RefusedReply (FileExists name)) (not_created account given plan.sessions plan.first_session name size raw cache taken))
 
+  taken_ends : is_free_entry (account.entry name) ≡ false → (opening account given plan.sessions plan.first_session plan.first).now ≡ None
+  taken_ends taken =
+      ap (λ (s : Statement). (opening account given plan.sessions plan.first_session s).now) first_is
+      ∙ ap (λ (o : Opening). o.now) (not_created account given plan.sessions plan.first_session name size raw cache taken)
+
   taken_fails : (new : World) (e : Stop) → is_free_entry (account.entry name) ≡ false → Quiet old new → RunsTo (Err e) old new (Ok (ToRun plan telling)) account given
   taken_fails new e taken quiet = record {
     events = refused_at plan.first_session (FileExists name);
@@ -88,6 +96,7 @@ module _ (old : World) (account : Account) (given : Given) (plan : Plan) (tellin
     performed = performed_refused telling plan account given plan.first_session (FileExists name) account given (taken_ran taken);
     opened = inl tt;
     stops = left_quietly old new account (target_of (Ok (ToRun plan telling)) (refused_at plan.first_session (FileExists name))) _ quiet;
+    reads = reads_quiet old new quiet account _ _;
     finished = tt;
   }
 
@@ -136,6 +145,18 @@ module _ (old : World) (account : Account) (given : Given) (plan : Plan) (tellin
         (made_behind one (later n) (told_first_made telling (first_event plan.first_session first.strokes first.reply)) ∙ later_files telling (pages_first account plan.first) (turns plan first.now n).0) there in
         apart_play plan askable first.now first.todo (making may) (plan.schedule ++ rounds n) m bytes its (inl (same ∙ sym first.name_is))
 
+    -- all steps of the creation
+    made_cut : (n : ℕ) → take (length (steps_in one)) (steps_of (es n)) ≡ steps_in one
+    made_cut n =
+        ap (take (length (steps_in one))) (steps_append (one ∷ []) (later n) ∙ ap (λ (ss : List Step). ss ++ steps_of (later n)) (steps_one one))
+        ∙ take-append-le (length (steps_in one)) (steps_in one) (steps_of (later n)) (omega arith) ∙ take_all (length (steps_in one)) (steps_in one) (omega arith)
+
+    made_seen : (n : ℕ) → seen_after account name (take (length (steps_in one)) (steps_of (es n))) ≡ settled (base_of image)
+    unfolding first_created
+    made_seen n =
+        ap (seen_after account name) (made_cut n) ∙ ap (seen_after account name) (told_first_steps telling (first_event plan.first_session first.strokes first.reply)) ∙ first.trail
+        ∙ ap settled (created_base account given plan name size raw cache first_is free)
+
     -- while it is created
     left_creating : MayBeGiven given → (n : ℕ) (files : Files) (said : List ℕ) → ChangedLeft old (Only name) (CreateLeft old name image) files said → Left old account given plan telling askable first n files said
     unfolding first_created
@@ -175,17 +196,6 @@ module _ (old : World) (account : Account) (given : Given) (plan : Plan) (tellin
           others = unasked;
         }
 
-        -- all steps of the creation
-        cut : take (length (steps_in one)) (steps_of (es n)) ≡ steps_in one
-        cut =
-            ap (take (length (steps_in one))) (steps_append (one ∷ []) (later n) ∙ ap (λ (ss : List Step). ss ++ steps_of (later n)) (steps_one one))
-            ∙ take-append-le (length (steps_in one)) (steps_in one) (steps_of (later n)) (omega arith) ∙ take_all (length (steps_in one)) (steps_in one) (omega arith)
-
-        seen : seen_after account name (take (length (steps_in one)) (steps_of (es n))) ≡ settled (base_of image)
-        seen =
-            ap (seen_after account name) cut ∙ ap (seen_after account name) (told_first_steps telling (first_event plan.first_session first.strokes first.reply)) ∙ first.trail
-            ∙ ap settled (created_base account given plan name size raw cache first_is free)
-
         whole : ShowsIn name (base_of image) files → Left old account given plan telling askable first n files said
         whole is = record {
           out = out;
@@ -194,11 +204,27 @@ module _ (old : World) (account : Account) (given : Given) (plan : Plan) (tellin
             most = omega (arith, steps_length (one ∷ []) (later n), ap length (steps_one one));
             acknowledged = omega (arith, acked_steps_none (es n));
           };
-          database = inl (subst (λ (t : Trail). StandsIn name t files) (sym seen) (shows_settled name (base_of image) (files name) (files (delta_name name)) is));
+          database = inl (subst (λ (t : Trail). StandsIn name t files) (sym (made_seen n)) (shows_settled name (base_of image) (files name) (files (delta_name name)) is));
           each = each;
           whole = λ m bytes there. absurd (none_yet (es n) (m, bytes) there);
           others = unasked;
         }
+
+    -- what reads then
+    reads_creating : (mid : World) (n : ℕ) → ((m : List ℕ) → m ≢ name → mid.files m ≡ old.files m) → CreateLeft old name image mid.files → RunReads old mid account (Some first.target) (es n)
+    unfolding first_created
+    reads_creating mid n beside left = record { others = λ m other none. beside m (λ e. other (inl e)); database = by left }
+      where
+        half : (is_free_file (mid.files name) ≡ true) ⊎ Leaves old name (mid.files name) → ReadsAsked old mid account (Some first.target) (es n)
+        half made = inr (record { main = inr (refl, made); delta = beside (delta_name name) (no_main name name plain) })
+
+        by : CreateLeft old name image mid.files → ReadsAsked old mid account (Some first.target) (es n)
+        by (inl was) = half (inr was)
+        by (inr (inl free)) = half (inl free)
+        by (inr (inr shows)) = inl (
+          length (steps_in one),
+          subst (λ (t : Trail). StandsIn name t mid.files) (sym (made_seen n)) (shows_settled name (base_of image) (mid.files name) (mid.files (delta_name name)) shows),
+        )
 
   -- nothing happened, whatever the run must have been
   pub creating_unbegun : (new : World) (e : Stop) → Quiet old new → RunsTo (Err e) old new (Ok (ToRun plan telling)) account given
@@ -206,22 +232,33 @@ module _ (old : World) (account : Account) (given : Given) (plan : Plan) (tellin
   creating_unbegun new e quiet = by (is_free_entry (account.entry name)) refl
     where
       by : (free : Bool) → is_free_entry (account.entry name) ≡ free → RunsTo (Err e) old new (Ok (ToRun plan telling)) account given
-      by true is = first_fails old account given plan telling askable (first is) new e (inl (small is)) (λ n. left_quietly old new account _ _ quiet)
+      by true is = first_fails old account given plan telling askable (first is) new e (inl (small is)) (λ n. left_quietly old new account _ _ quiet) (λ n. reads_quiet old new quiet account _ _)
       by false is = taken_fails new e is quiet
 
-  module _ (may : MayBeGiven given) (mid : World) (result : Result Held Fault) (creates : Creates result old mid name image) (cap : IfOk result (λ held. held.cap ≡ cache_asked plan.first)) where
+  module _ (may : MayBeGiven given) (mid : World) (result : Result Held Fault) (creates : Creates result old mid name image) (cap : IfOk result (λ held. held.cap ≡ cache_asked plan.first)) (reads : (m : List ℕ) → Leaves mid m (mid.files m)) where
     creating : (free : is_free_entry (account.entry name) ≡ true) (n : ℕ) → AtEachMoment old mid (Left old account given plan telling askable (first free) n)
     creating free n = weaker old mid _ _ creates.left.moments (left_creating free may n)
 
+    reading : (free : is_free_entry (account.entry name) ≡ true) (n : ℕ) → RunReads old mid account (Some (first free).target) (es free n)
+    reading free n = reads_creating free mid n creates.left.others_read (creates.left.now mid.files reads)
+
     pub creates_begins : Beginning old account given plan telling askable mid result
     unfolding first_created
-    creates_begins = record { fails = fails; refused = refused; done = done }
+    creates_begins = record { fails = fails; refused = refused; done = done; beside = by_free (is_free_entry (account.entry name)) refl }
       where
+        by_free : (free : Bool) → is_free_entry (account.entry name) ≡ free → OpensBeside old mid account given plan
+        by_free true is =
+            let one : First account given plan = first is in
+            let own : name ≡ one.now.name = sym one.name_is in
+            beside_now old mid account given plan one.now one.goes_on
+            (leaves_among old mid (Only name) (OfFiles one.now.name) (λ m same. inl (same ∙ own)) (leaves_changes old mid (Only name) _ creates.left))
+        by_free false is = beside_none old mid account given plan (taken_ends is) (creates.taken (knows ∙ is)).still.files
+
         fails : (e : Stop) → RunsTo (Err e) old mid (Ok (ToRun plan telling)) account given
         fails e = by (is_free_entry (account.entry name)) refl
           where
             by : (free : Bool) → is_free_entry (account.entry name) ≡ free → RunsTo (Err e) old mid (Ok (ToRun plan telling)) account given
-            by true is = first_fails old account given plan telling askable (first is) mid e (inl (small is)) (creating is)
+            by true is = first_fails old account given plan telling askable (first is) mid e (inl (small is)) (creating is) (reading is)
             by false is = taken_fails mid e is (creates.taken (knows ∙ is))
 
         refused : (refusal : Refusal) → result ≡ Err (Refused refusal) → FirstRefused old mid account given plan refusal
@@ -230,6 +267,7 @@ module _ (old : World) (account : Account) (given : Given) (plan : Plan) (tellin
             record {
               quiet = creates.taken answer.0;
               ran = subst (λ (r : Refusal). Ran account given plan (refused_at plan.first_session r) account given) (sym answer.1) (taken_ran (sym knows ∙ answer.0));
+              ends = taken_ends (sym knows ∙ answer.0);
               not_usage = λ e. exists_usage (sym answer.1 ∙ e);
             }
           where

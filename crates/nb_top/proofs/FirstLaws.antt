@@ -10,6 +10,7 @@ use Rattle.nb_model.specs.Image.{Image, image_state}
 use Rattle.nb_model.specs.Account.{Base, base_of, IsBase, Account}
 use Rattle.nb_model.specs.Strokes.{Stroke, make, on_base, base_in}
 use Rattle.nb_model.specs.Causes.{is_free_entry}
+use Rattle.nb_model.specs.NewGuids.{guids_in}
 use Rattle.nb_model.specs.Outcomes.{Given}
 use Rattle.nb_model.specs.Output.{status_after}
 use Rattle.nb_model.specs.Run.{Event, Now, Played, base_now, begun, opening, play, rounds, AreFinished, IsRun}
@@ -41,6 +42,9 @@ pub record First (account : Account) (given : Given) (plan : Plan) : Type 0 wher
   pub running : now.running ≡ None
   pub cache_is : now.cache ≡ cache_asked plan.first
   pub given_is : now.given ≡ given
+  -- the sessions go on behind it, and it begins no backup
+  pub goes_on : (opening account given plan.sessions plan.first_session plan.first).now ≡ Some now
+  pub none : guids_in strokes ≡ []
   -- behind it the database stands settled
   pub trail : after_steps (settled (base_in (account.entry target.name))) (steps_in (first_event plan.first_session strokes reply)) ≡ settled (base_now now)
   pub ran : (n : ℕ) → AreFinished (turns plan now n).1.todo
@@ -60,7 +64,19 @@ pub kept_trail : (b : Base) (session : ℕ) (reply : Reply) → after_steps (set
 unfolding after_steps after_step made
 kept_trail b session reply = refl
 
+pub made_none : (image : Image) → guids_in (make image ∷ []) ≡ []
+unfolding guids_in
+made_none image = refl
+
+pub kept_none : guids_in [] ≡ []
+unfolding guids_in
+kept_none = refl
+
 module _ (account : Account) (given : Given) (plan : Plan) (name : List ℕ) where
+  -- where its sessions go on
+  pub goes_on_as : (first : Statement) (now : Now) → plan.first ≡ first → (opening account given plan.sessions plan.first_session first).now ≡ Some now → (opening account given plan.sessions plan.first_session plan.first).now ≡ Some now
+  goes_on_as first now is goes = ap (λ (s : Statement). (opening account given plan.sessions plan.first_session s).now) is ∙ goes
+
   -- creating under a free name
   module _ (size raw cache : ℕ) (first_is : plan.first ≡ CreateDb name size raw cache) (free : is_free_entry (account.entry name) ≡ true) where
     abbrev new_one : IsCreated account given plan.sessions plan.first_session name size raw cache (opening account given plan.sessions plan.first_session (CreateDb name size raw cache))
@@ -88,6 +104,8 @@ module _ (account : Account) (given : Given) (plan : Plan) (name : List ℕ) whe
       running = new_one.running;
       cache_is = new_one.cache_is ∙ sym (ap cache_asked first_is);
       given_is = new_one.given_is;
+      goes_on = goes_on_as (CreateDb name size raw cache) new_one.now first_is new_one.goes_on;
+      none = made_none (fresh size raw);
       trail = made_trail (base_in (account.entry name)) (fresh size raw) plan.first_session (Pages (fresh_count size raw)) ∙ ap settled (sym new_one.base);
       ran = created_ran;
     }
@@ -128,6 +146,8 @@ module _ (account : Account) (given : Given) (plan : Plan) (name : List ℕ) whe
       running = again.running;
       cache_is = again.cache_is ∙ sym (ap cache_asked first_is);
       given_is = again.given_is;
+      goes_on = goes_on_as (OpenDb name cache) again.now first_is again.goes_on;
+      none = kept_none;
       trail = kept_trail (base_in (account.entry name)) plan.first_session (Opened (length b.image) (image_state b.image)) ∙ ap (λ e. settled (base_in e)) there ∙ ap settled (base_in_base b) ∙ ap settled (sym again.base);
       ran = opened_ran;
     }

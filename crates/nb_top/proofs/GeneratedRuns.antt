@@ -28,9 +28,10 @@ use Rattle.nb_model.specs.Making.{MadeFile, IsNoneOf}
 use Rattle.nb_model.specs.Outcomes.{Given}
 use Rattle.nb_model.specs.Output.{output, status_after, status_of}
 use Rattle.nb_model.specs.Owner.{delta_name}
-use Rattle.nb_model.specs.Run.{Event, files_made, replies_of}
+use Rattle.nb_model.specs.NewGuids.{guids_in}
+use Rattle.nb_model.specs.Run.{Event, files_made, replies_of, strokes_of}
 use Rattle.nb_model.specs.Steps.{Step, made, steps_of, after_steps, acked_steps, acked_turns}
-use Rattle.nb_model.specs.Strokes.{base_in}
+use Rattle.nb_model.specs.Strokes.{Stroke, base_in}
 use Rattle.nb_model.specs.Trail.{Trail, StandsIn, settled}
 use Rattle.nb_model.proofs.OutputLaws.{output-quiet}
 use Rattle.nb_model.proofs.RunLaws.{entry_same}
@@ -47,12 +48,13 @@ use Rattle.nb_top.specs.declared.status.Status.{Status}
 use Rattle.nb_top.specs.declared.status.Status.TheVariants.{Refused as RefusedStatus}
 use Rattle.nb_top.specs.declared.telling.Telling.TheVariants.{Sparingly}
 use Rattle.nb_top.specs.Numbers.{number_of}
-use Rattle.nb_top.specs.Performed.{EndsIn, Finished, HasSmallScn, IsEnded, IsPerformed, IsReadRun, IsUnasked, Knows, KnowsNames, KnowsOpened, MayBeGiven, RunLeft, RunsTo, StandsAsked, Target, begins_refused, refused_at, script_made, seen_after, target_named, target_of}
+use Rattle.nb_top.specs.Performed.{EndsIn, Finished, ReadsAsked, RunReads, HasSmallScn, IsEnded, IsPerformed, IsReadRun, IsUnasked, Knows, KnowsNames, KnowsOpened, MayBeGiven, RunLeft, RunsTo, StandsAsked, Target, begins_refused, refused_at, script_made, seen_after, target_named, target_of}
 use Rattle.nb_top.specs.Requests.{Request, ToGenerate, ToRun}
 use Rattle.nb_session.proofs.ReadyLaws.{free_same}
 use Rattle.nb_top.proofs.GeneratedEvents.{IsApart, SomeRun, its_database, its_target, read_run, script_apart, some_run, with_script}
 use Rattle.nb_top.proofs.MadeRuns.{first_or, none_yet}
 use Rattle.nb_top.proofs.QuietRuns.{given_from, left_quietly, runs_quietly}
+use Rattle.nb_top.proofs.ReadsLaws.{reads_quiet}
 use Rattle.nb_top.proofs.RefusedRuns.{refused_runs}
 
 -- the file, and what a run does behind it
@@ -161,6 +163,13 @@ module _ (old mid : World) (account : Account) (name bytes : List ℕ) (plain : 
   pub script_unwritten : AtEachMoment old mid (RunLeft old account target whole)
   script_unwritten = weaker old mid _ _ written.moments left_writing
 
+  pub script_unread : RunReads old mid account target whole
+  script_unread = record { others = λ m off made_none. written.others_read m (others_then m made_none).0; database = by target apart }
+    where
+      by : (t : Option Target) → IsApart t name → ReadsAsked old mid account t whole
+      by None off = tt
+      by (Some t) off = inr (record { main = inl (written.others_read t.name off); delta = written.others_read (delta_name t.name) (no_main t.name name plain) })
+
   -- The file was kept for good.
   module _ (kept : IsKept mid name bytes) where
     -- the file itself
@@ -208,6 +217,26 @@ module _ (old mid : World) (account : Account) (name bytes : List ℕ) (plain : 
       others = λ m off made_none. let both = others_then m made_none in before m (files m) both.0 (left.others m off both.1);
     }
 
+    pub script_reads : (new : World) → RunReads mid new then target es → RunReads old new account target whole
+    script_reads new reads = record {
+      others = λ m off made_none. let both = others_then m made_none in reads.others m off both.1 ∙ written.others_read m both.0;
+      database = by target apart reads.database;
+    }
+      where
+        by : (t : Option Target) → IsApart t name → ReadsAsked mid new then t es → ReadsAsked old new account t whole
+        by None off is = tt
+        by (Some t) off (inl stands) = inl (
+          stands.0,
+          subst (λ (tr : Trail). StandsIn t.name tr new.files) (seen_same t off (take stands.0 (steps_of es)) ∙ ap (λ (ss : List Step). seen_after account t.name (take stands.0 ss)) (sym (steps_are name bytes es))) stands.1,
+        )
+        by (Some t) off (inr unbegun) = inr (record {
+          main = ⊎_elim
+              (λ same. inl (same ∙ written.others_read t.name off))
+              (λ made. inr (made.0, ⊎_elim inl (λ left. inr (before t.name (new.files t.name) off left)) made.1))
+              unbegun.main;
+          delta = unbegun.delta ∙ written.others_read (delta_name t.name) (no_main t.name name plain);
+        })
+
     pub script_stops : (new : World) → AtEachMoment mid new (RunLeft mid then target es) → AtEachMoment old new (RunLeft old account target whole)
     script_stops new stops = joined old mid new _ _ _ written.moments stops left_writing left_then
 
@@ -222,6 +251,10 @@ module _ (old mid : World) (account : Account) (name bytes : List ℕ) (plain : 
       script_kept : IsKept new name bytes
       script_kept = record { durable = record { none_back = λ c b. its_left c (inl b); only = λ c n. its_left c (inr n) }; reads = its_left (new.files name) (reads name) }
 
+      strokes_are : strokes_of whole ≡ strokes_of es
+      unfolding strokes_of
+      strokes_are = refl
+
       pub script_finished : (status : Status) (given left : Given) → GaveNothing old mid → Finished status mid new then target es given left → Finished status old new account target whole given left
       script_finished status given left gave done = record {
         said = done.said ∙ ap (λ (l : List ℕ). l ++ output es) written.said ∙ ap (λ (l : List ℕ). old.said ++ l) (sym (output_is name bytes es));
@@ -232,8 +265,8 @@ module _ (old mid : World) (account : Account) (name bytes : List ℕ) (plain : 
             (λ own. subst (λ (n : List ℕ). IsKept new n b) (sym own.0) (subst (λ (x : List ℕ). IsKept new name x) (sym own.1) script_kept))
             (λ one. done.kept m b one)
             (there m b is);
-        others = λ m off made_none. let both = others_then m made_none in done.others m off both.1 ∙ written.others_read m both.0;
         unchanged = λ only. absurd (true≢false (sym only));
+        guids = λ more. done.guids more ∙ ap (λ (l : List (List ℕ)). l ++ guids_in (strokes_of es)) gave.guids ∙ ap (λ (ss : List Stroke). old.guids ++ guids_in ss) (sym strokes_are);
       }
         where
           by : (t : Option Target) → IsApart t name → EndsIn new then t es → EndsIn new account t whole
@@ -279,6 +312,7 @@ module _ (old : World) (number : ℕ) (name : List ℕ) (account : Account) (giv
       performed = refused_performed;
       opened = inl tt;
       stops = left_quietly old new account (target_of asked (refused_at 1 (FileExists name))) (refused_at 1 (FileExists name)) quiet;
+      reads = reads_quiet old new quiet account _ _;
       finished = tt;
     }
 
@@ -315,6 +349,7 @@ module _ (old : World) (number : ℕ) (name : List ℕ) (account : Account) (giv
           performed = written_performed some.rest some.last some.left some.run;
           opened = inl (small some.rest);
           stops = left_quietly old new account (its_target some.rest) (script_made name bytes ∷ some.rest) quiet;
+          reads = reads_quiet old new quiet account (its_target some.rest) (script_made name bytes ∷ some.rest);
           finished = tt;
         }
 
@@ -348,6 +383,7 @@ module _ (old : World) (number : ℕ) (name : List ℕ) (account : Account) (giv
             performed = written_performed some.rest some.last some.left some.run;
             opened = inl (small some.rest);
             stops = script_unwritten old mid account name bytes plain written (its_target some.rest) apart.0 some.rest apart.1;
+            reads = script_unread old mid account name bytes plain written (its_target some.rest) apart.0 some.rest apart.1;
             finished = tt;
           }
 
@@ -355,8 +391,8 @@ module _ (old : World) (number : ℕ) (name : List ℕ) (account : Account) (giv
         module _ (gave : GaveNothing old mid) (new : World) (timely : IsTimely new) (reads : (m : List ℕ) → Leaves new m (new.files m)) where
           -- the run behind it is that of the whole
           whole_runs : (result : Result Status Stop) (rest : List Event) (last : Account) (left : Given) → IsReadRun (script_of bytes) Sparingly behind given rest last left → AtEachMoment mid new (RunLeft mid behind (its_target rest) rest)
-              → IfOk result (λ status. Finished status mid new behind (its_target rest) rest given left) → RunsTo result old new asked account given
-          whole_runs result rest last left run stops finished =
+              → RunReads mid new behind (its_target rest) rest → IfOk result (λ status. Finished status mid new behind (its_target rest) rest given left) → RunsTo result old new asked account given
+          whole_runs result rest last left run stops beside finished =
               let apart = apart_of sixteen rest last left run in
               record {
                 events = script_made name bytes ∷ rest;
@@ -365,6 +401,7 @@ module _ (old : World) (number : ℕ) (name : List ℕ) (account : Account) (giv
                 performed = written_performed rest last left run;
                 opened = inl (small rest);
                 stops = script_stops old mid account name bytes plain written (its_target rest) apart.0 rest apart.1 kept new stops;
+                reads = script_reads old mid account name bytes plain written (its_target rest) apart.0 rest apart.1 kept new beside;
                 finished = by result finished;
               }
             where
@@ -377,12 +414,14 @@ module _ (old : World) (number : ℕ) (name : List ℕ) (account : Account) (giv
           pub written_runs : (read : Result Plan Refusal) → script_of bytes ≡ read → (result : Result Status Stop) → RunsTo result mid new (read_request read) behind given → RunsTo result old new asked account given
           written_runs (Ok plan) is result runs = whole_runs result runs.events runs.last runs.left (subst (λ (r : Result Plan Refusal). IsReadRun r Sparingly behind given runs.events runs.last runs.left) (sym is) runs.performed)
               (subst (λ (t : Option Target). AtEachMoment mid new (RunLeft mid behind t runs.events)) target runs.stops)
+              (subst (λ (t : Option Target). RunReads mid new behind t runs.events) target runs.reads)
               (subst (λ (t : Option Target). IfOk result (λ status. Finished status mid new behind t runs.events given runs.left)) target runs.finished)
             where
               target : target_of (Ok (ToRun plan Sparingly)) runs.events ≡ its_target runs.events
               target = ap (λ first. elim (begins_refused runs.events) as (λ z. Option Target) [ true ↦ None | false ↦ target_named first ]) (creates_its_own number plan is)
           written_runs (Err refusal) is result runs = whole_runs result runs.events runs.last runs.left (subst (λ (r : Result Plan Refusal). IsReadRun r Sparingly behind given runs.events runs.last runs.left) (sym is) runs.performed)
               (subst (λ (t : Option Target). AtEachMoment mid new (RunLeft mid behind t runs.events)) target runs.stops)
+              (subst (λ (t : Option Target). RunReads mid new behind t runs.events) target runs.reads)
               (subst (λ (t : Option Target). IfOk result (λ status. Finished status mid new behind t runs.events given runs.left)) target runs.finished)
             where
               target : None ≡ its_target runs.events

@@ -23,15 +23,15 @@ use Rattle.nb_model.proofs.StandsLaws.{entry_other}
 use Rattle.nb_gen.proofs.GeneratedScript.{generated_text}
 use Rattle.nb_gen.proofs.WrittenLaws.{text_no_backup}
 use Rattle.nb_top.specs.declared.status.Status.{Status}
-use Rattle.nb_top.specs.Performed.{Finished, IsPerformed, IsSure, IsWrittenRun, MayBeGiven, RunLeft, Target, begins_refused, kept_after, refused_at, script_made, seen_after, target_of}
+use Rattle.nb_top.specs.Performed.{Finished, IsPerformed, IsSure, IsWrittenRun, MayBeGiven, RunLeft, RunReads, Target, begins_refused, kept_after, refused_at, script_made, seen_after, target_of}
 use Rattle.nb_top.specs.Standing.{HoldsKept, StandsFor}
 use Rattle.nb_top.specs.Requests.{Request, ToGenerate}
 use Rattle.nb_top.proofs.GeneratedEvents.{IsApart, ReadRun, ends, goes_on, its_database, read_run, script_apart, with_script}
-use Rattle.nb_top.proofs.MadeEnds.{made_stands}
+use Rattle.nb_top.proofs.MadeEnds.{made_after, made_stands}
 use Rattle.nb_top.proofs.MadeRuns.{no_file, first_or}
 use Rattle.nb_top.proofs.MadeStand.{IsNewFile, made_holds}
 use Rattle.nb_top.proofs.MadeWhole.{none_whole}
-use Rattle.nb_top.proofs.SureTargets.{IsSureRun, target_left, target_end}
+use Rattle.nb_top.proofs.SureTargets.{IsSureRun, target_after, target_left, target_end}
 use Rattle.nb_top.proofs.WellRuns.{IsOfRun, IsWellRun}
 
 -- Events without a database make files under names that were free, which are no backups, and else leave the account.
@@ -171,14 +171,27 @@ module _ (old : World) (number : ℕ) (name : List ℕ) (account : Account) (giv
       by None only l = made_holds old account sure.stands before (files_made events) only.new files l.each (λ m off. l.others m tt off) (λ f there. none_whole account.kept f.1 (only.none f there))
       by (Some target) run l = target_left old account sure.stands before target events last sure.new run files said l
 
-  -- at its end
-  pub generated_end : (new : World) → IsTimely new → ((m : List ℕ) → Leaves new m (new.files m)) → AtEachMoment old new (RunLeft old account (target_of asked events) events) → (status : Status)
-      → Finished status old new account (target_of asked events) events given left → StandsFor new last
-  generated_end new timely reads stops status finished = by (target_of asked events) known stops finished
+  -- behind it, however it ended
+  pub generated_after : (new : World) → IsTimely new → ((m : List ℕ) → Leaves new m (new.files m)) → AtEachMoment old new (RunLeft old account (target_of asked events) events) → RunReads old new account (target_of asked events) events
+      → (later : Account) × StandsFor new later × (later.kept ≡ kept_after account (target_of asked events) (take (length (steps_of events)) (steps_of events)))
+  generated_after new timely reads stops read = by (target_of asked events) known stops read
     where
-      by : (target : Option Target) → IsKnown account target events last → AtEachMoment old new (RunLeft old account target events) → Finished status old new account target events given left → StandsFor new last
-      by None only moments done =
+      by : (target : Option Target) → IsKnown account target events last → AtEachMoment old new (RunLeft old account target events) → RunReads old new account target events
+          → (later : Account) × StandsFor new later × (later.kept ≡ kept_after account target (take (length (steps_of events)) (steps_of events)))
+      by None only moments beside =
+          made_after old new account sure.stands before (files_made events) only.new (λ f there. none_whole account.kept f.1 (only.none f there)) (λ m off. beside.others m tt off) reads
+          (λ files leaves. let l = moments.each files new.said (timely.counts_now old.moment files moments.later leaves) in (l.each, λ m off. l.others m tt off))
+      by (Some target) run moments beside = target_after old account sure.stands before target events last sure.new run new timely reads moments beside
+
+  -- at its end
+  pub generated_end : (new : World) → IsTimely new → ((m : List ℕ) → Leaves new m (new.files m)) → AtEachMoment old new (RunLeft old account (target_of asked events) events)
+      → RunReads old new account (target_of asked events) events → (status : Status) → Finished status old new account (target_of asked events) events given left → StandsFor new last
+  generated_end new timely reads stops read status finished = by (target_of asked events) known stops read finished
+    where
+      by : (target : Option Target) → IsKnown account target events last → AtEachMoment old new (RunLeft old account target events) → RunReads old new account target events
+          → Finished status old new account target events given left → StandsFor new last
+      by None only moments beside done =
           subst (StandsFor new) (sym only.is)
-          (made_stands old new account sure.stands before (files_made events) only.new (λ f there. none_whole account.kept f.1 (only.none f there)) done.kept (λ m off. done.others m tt off) reads
-          (λ files leaves. let l = moments.each files new.said (timely.counts_now old.moment files moments.later leaves) in (l.each, λ m off. l.others m tt off)))
-      by (Some target) run moments done = target_end old account sure.stands before target events last sure.new run new timely reads moments given left status done
+          (made_stands old new account sure.stands before (files_made events) only.new (λ f there. none_whole account.kept f.1 (only.none f there)) (λ m off. beside.others m tt off) reads
+          (λ files leaves. let l = moments.each files new.said (timely.counts_now old.moment files moments.later leaves) in (l.each, λ m off. l.others m tt off)) done.kept)
+      by (Some target) run moments beside done = target_end old account sure.stands before target events last sure.new run new timely reads moments beside given left status done

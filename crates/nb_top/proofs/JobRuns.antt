@@ -1,5 +1,5 @@
 -- A job is done, from the words to its end.
-use Rattle.std.proofs.Common.{◌≡◌, ◌≢◌, inl, ⊎_elim, ℕ, List, [], ◌++◌, take, refl, sym, ap, subst, ◌∙◌}
+use Rattle.std.proofs.Common.{◌≡◌, ◌≢◌, inl, ⊎_elim, ℕ, List, [], ◌++◌, length, take, refl, sym, ap, subst, ◌∙◌, arith}
 use Rattle.std.specs.Prelude.{Result, Ok, Err, IfOk, IfErr, OnOk, false}
 use Rattle.nb_host.specs.Files.{File, Files}
 use Rattle.nb_host.specs.World.{World}
@@ -7,7 +7,7 @@ use Rattle.nb_host.specs.Crash.{Leaves}
 use Rattle.nb_host.specs.Moments.{IsNow, IsTimely, AtEachMoment}
 use Rattle.nb_host.specs.declared.refusals.Refusal.{Refusal}
 use Rattle.nb_host.specs.declared.refusals.Refusal.TheVariants.{Usage}
-use Rattle.nb_change.proofs.MomentLaws.{weaker}
+use Rattle.nb_change.proofs.MomentLaws.{left_before, weaker}
 use Rattle.nb_page.specs.Quiet.{Quiet}
 use Rattle.nb_model.specs.declared.reply.Reply.TheVariants.{Refused as RefusedReply}
 use Rattle.nb_model.specs.Account.{Account}
@@ -23,7 +23,7 @@ use Rattle.nb_session.specs.Says.{SaysLine}
 use Rattle.nb_top.specs.declared.status.Status.{Status}
 use Rattle.nb_top.specs.declared.status.Status.TheVariants.{Refused as RefusedStatus, Usage as UsageStatus, Device, Memory}
 use Rattle.nb_top.specs.Numbers.{number_of}
-use Rattle.nb_top.specs.Performed.{HasSmallScn, RunLeft, RunStands, RunsTo, GoesTo, KnowsAsked, Performs, PerformsRun, Finished, IsPerformed, IsSure, IsUndone, Knows, MayBeGiven, kept_after, target_of, first_event, refused_job}
+use Rattle.nb_top.specs.Performed.{HasSmallScn, RunLeft, RunReads, RunStands, RunsTo, GoesTo, KnowsAsked, Performs, PerformsRun, StandsAfter, Finished, IsPerformed, IsSure, IsUndone, Knows, MayBeGiven, kept_after, target_of, first_event, refused_job}
 use Rattle.nb_top.specs.Standing.{HoldsKept, StandsFor}
 use Rattle.nb_top.specs.Requests.{Request, ToRun, ToGenerate, Deed, ToRestore, ToFix, ToMerge, ToFold, ToPlan, Asked, Runs, Does, script_in}
 use Rattle.nb_top.specs.OneTurn.{DoesTurn, TurnEnded, leaves_all, one_turn}
@@ -33,17 +33,18 @@ use Rattle.nb_top.proofs.FoldStands.{fold_sound}
 use Rattle.nb_top.proofs.Planned.{plan_sound}
 use Rattle.nb_top.proofs.Merged.{merge_sound}
 use Rattle.nb_top.proofs.GeneratedRuns.{generated_unbegun}
-use Rattle.nb_top.proofs.GeneratedSure.{generated_left, generated_end}
+use Rattle.nb_top.proofs.GeneratedSure.{generated_after, generated_left, generated_end}
 use Rattle.nb_top.proofs.LeftLaws.{left_first, first_count}
 use Rattle.nb_top.proofs.MadeRuns.{none_alone}
 use Rattle.nb_top.proofs.QuietRuns.{left_quietly}
+use Rattle.nb_top.proofs.ReadsLaws.{reads_quiet}
 use Rattle.nb_top.proofs.RefusedRuns.{refused_runs}
 use Rattle.nb_top.proofs.RequestLaws.{CanBeAsked, CanBeDone, CanBeMet}
 use Rattle.nb_top.proofs.Restored.{restore_sound}
 use Rattle.nb_top.proofs.ScriptRead.{refused_script}
 use Rattle.nb_top.proofs.ScriptRuns.{script_unbegun}
 use Rattle.nb_top.proofs.SureFiles.{kept_none, still_stands}
-use Rattle.nb_top.proofs.SureRuns.{script_left, script_end}
+use Rattle.nb_top.proofs.SureRuns.{script_after, script_left, script_end}
 use Rattle.nb_top.proofs.Turns.{quiet_turn}
 use Rattle.nb_top.proofs.TurnsStand.{IsSoundJob, turn_stands}
 
@@ -57,6 +58,7 @@ module _ (old new : World) (account : Account) (given : Given) (e : Stop) (quiet
     performed = (refl, refl, refl);
     opened = inl tt;
     stops = left_quietly old new account (target_of (Err refusal) (refused_job refusal)) (refused_job refusal) quiet;
+    reads = reads_quiet old new quiet account (target_of (Err refusal) (refused_job refusal)) (refused_job refusal);
     finished = tt;
   }
 
@@ -98,18 +100,32 @@ module _ (old : World) (account : Account) (given : Given) (sixteen : MayBeGiven
   sure_left (Ok (ToGenerate number name)) can performed sure small files said l =
       generated_left old number name account given can before sixteen events last left performed sure files said l
 
+  -- behind it, however it ended
+  sure_after : (asked : Result Request Refusal) → CanBeMet (Runs asked) → IsPerformed old.files asked account given events last left → IsSure old account events → HasSmallScn account (target_of asked events)
+      → (new : World) → IsTimely new → ((name : List ℕ) → Leaves new name (new.files name)) → AtEachMoment old new (RunLeft old account (target_of asked events) events) → RunReads old new account (target_of asked events) events
+      → (later : Account) × StandsFor new later × (later.kept ≡ kept_after account (target_of asked events) (take (length (steps_of events)) (steps_of events)))
+  sure_after (Err refusal) can performed sure small new timely reads stops beside = (
+    account,
+    still_stands old new account sure.stands reads (λ m. beside.others m tt (none_refused events refusal performed.0 m))
+        (λ files leaves m. (stops.each files new.said (timely.counts_now old.moment files stops.later leaves)).others m tt (none_refused events refusal performed.0 m)),
+    refl,
+  )
+  sure_after (Ok (ToRun plan telling)) can performed sure small new timely reads stops beside = script_after old plan telling can account given before events last left performed sixteen sure small new timely reads stops beside
+  sure_after (Ok (ToGenerate number name)) can performed sure small new timely reads stops beside =
+      generated_after old number name account given can before sixteen events last left performed sure new timely reads stops beside
+
   -- at its end
   sure_end : (asked : Result Request Refusal) → CanBeMet (Runs asked) → IsPerformed old.files asked account given events last left → IsSure old account events → HasSmallScn account (target_of asked events)
-      → (new : World) → IsTimely new → ((name : List ℕ) → Leaves new name (new.files name)) → AtEachMoment old new (RunLeft old account (target_of asked events) events) → (status : Status)
-      → Finished status old new account (target_of asked events) events given left → StandsFor new last
-  sure_end (Err refusal) can performed sure small new timely reads stops status done =
+      → (new : World) → IsTimely new → ((name : List ℕ) → Leaves new name (new.files name)) → AtEachMoment old new (RunLeft old account (target_of asked events) events)
+      → RunReads old new account (target_of asked events) events → (status : Status) → Finished status old new account (target_of asked events) events given left → StandsFor new last
+  sure_end (Err refusal) can performed sure small new timely reads stops beside status done =
       subst (StandsFor new) (sym performed.1)
-      (still_stands old new account sure.stands reads (λ m. done.others m tt (none_refused events refusal performed.0 m))
+      (still_stands old new account sure.stands reads (λ m. beside.others m tt (none_refused events refusal performed.0 m))
       (λ files leaves m. (stops.each files new.said (timely.counts_now old.moment files stops.later leaves)).others m tt (none_refused events refusal performed.0 m)))
-  sure_end (Ok (ToRun plan telling)) can performed sure small new timely reads stops status done =
-      script_end old plan telling can account given before events last left performed sixteen sure small new timely reads stops status done
-  sure_end (Ok (ToGenerate number name)) can performed sure small new timely reads stops status done =
-      generated_end old number name account given can before sixteen events last left performed sure new timely reads stops status done
+  sure_end (Ok (ToRun plan telling)) can performed sure small new timely reads stops beside status done =
+      script_end old plan telling can account given before events last left performed sixteen sure small new timely reads stops beside status done
+  sure_end (Ok (ToGenerate number name)) can performed sure small new timely reads stops beside status done =
+      generated_end old number name account given can before sixteen events last left performed sure new timely reads stops beside status done
 
 module _ (old new : World) (asked : Result Request Refusal) (can : CanBeMet (Runs asked)) (account : Account) (given : Given) (sixteen : MayBeGiven given)
     (before : (name : List ℕ) → Leaves old name (old.files name)) (timely : IsTimely new) (reads : (name : List ℕ) → Leaves new name (new.files name)) where
@@ -130,23 +146,34 @@ module _ (old new : World) (asked : Result Request Refusal) (can : CanBeMet (Run
   performs status result runs ends = ⊎_elim
       (λ small.
       with_stops (weaker old new _ _ runs.stops (λ files said left. record { left = left; stands = λ sure. sure_left old account given sixteen before runs.events runs.last runs.left asked can runs.performed sure small files said left }))
-      (λ d m sure. sure_end old account given sixteen before runs.events runs.last runs.left asked can runs.performed sure small new timely reads runs.stops status (ends d m).1))
+      (λ sure.
+      let its = sure_after old account given sixteen before runs.events runs.last runs.left asked can runs.performed sure small new timely reads runs.stops runs.reads in
+      record {
+        count = length (steps_of runs.events);
+        last = λ files leaves. let l = runs.stops.each files new.said (timely.counts_now old.moment files runs.stops.later leaves) in (l, l.front.most);
+        later = its.0;
+        stands = its.1;
+        kept = its.2;
+      })
+      (λ d m sure. sure_end old account given sixteen before runs.events runs.last runs.left asked can runs.performed sure small new timely reads runs.stops runs.reads status (ends d m).1))
       (λ undone.
-      with_stops (weaker old new _ _ (undone_quiet result undone).moments nothing_left)
+      with_stops (weaker old new _ _ (undone_quiet result undone).moments nothing_left) (nothing_after (undone_quiet result undone))
       (λ d m. never_ended result undone (ends d m).0))
       runs.opened
     where
       At : Files → List ℕ → Type 0
       At = RunStands old account asked runs.events
 
-      with_stops : AtEachMoment old new At → (status ≢ Device → status ≢ Memory → IsSure old account runs.events → StandsFor new runs.last) → PerformsRun status old new asked account given
-      with_stops stops ended = record {
+      with_stops : AtEachMoment old new At → (IsSure old account runs.events → StandsAfter old new account (target_of asked runs.events) runs.events) → (status ≢ Device → status ≢ Memory → IsSure old account runs.events → StandsFor new runs.last) → PerformsRun status old new asked account given
+      with_stops stops behind ended = record {
         events = runs.events;
         last = runs.last;
         left = runs.left;
         performed = runs.performed;
         stops = stops;
         now = stops.each new.files new.said (timely.counts_now old.moment new.files stops.later reads);
+        reads = runs.reads;
+        after = behind;
         finished = λ d m. (ends d m).1;
         stands = ended;
       }
@@ -157,6 +184,18 @@ module _ (old new : World) (asked : Result Request Refusal) (can : CanBeMet (Run
         stands = λ sure. subst (HoldsKept files)
             (sym (ap (λ (n : ℕ). kept_after account (target_of asked runs.events) (take n (steps_of runs.events))) (first_count old account (target_of asked runs.events) runs.events files said is) ∙ kept_none account (target_of asked runs.events)))
             (sure.stands.left files is.left);
+      }
+
+      -- what stood before stands then
+      nothing_after : Quiet old new → IsSure old account runs.events → StandsAfter old new account (target_of asked runs.events) runs.events
+      nothing_after quiet sure = record {
+        count = 0;
+        last = λ files leaves.
+            let is : IsNow old files new.said = record { left = λ m. left_before old new _ quiet.still.left m (files m) tt (leaves m); output = quiet.said } in
+            (left_first old account (target_of asked runs.events) runs.events files new.said is, omega (arith, first_count old account (target_of asked runs.events) runs.events files new.said is));
+        later = account;
+        stands = still_stands old new account sure.stands reads (λ m. ap (λ (f : Files). f m) quiet.still.files) (λ files leaves m. left_before old new _ quiet.still.left m (files m) tt (leaves m));
+        kept = sym (kept_none account (target_of asked runs.events));
       }
 
   run_ended : (status : Status) → Goes (Ok status) → PerformsRun status old new asked account given

@@ -1,5 +1,7 @@
 pub mod MadeRuns
 pub mod FirstReady
+pub mod ReadsLaws
+pub mod ByTurnsLaws
 pub mod QuietRuns
 pub mod RefusedRuns
 pub mod LeftLaws
@@ -20,6 +22,7 @@ pub mod AsWas
 pub mod MadeStand
 pub mod MadeWhole
 pub mod MadeEnds
+pub mod MoreRecords
 pub mod SureLaws
 pub mod WellRuns
 pub mod SureFiles
@@ -27,6 +30,9 @@ pub mod SureRuns
 pub mod JobRuns
 pub mod RequestLaws
 pub mod KnownLaws
+pub mod NamesStay
+pub mod NextRuns
+pub mod CountedGuids
 pub mod JobLaws
 pub mod ToldLaws
 pub mod ChainRefusals

@@ -26,9 +26,10 @@ use Rattle.nb_top.proofs.GoesLaws.{goes_quietly, goes_turn_quietly}
 use Rattle.nb_model.proofs.TodoLaws.{status_refused}
 
 -- a plan that begins with calls that change nothing
-pub plan_quietly : (tells : Bool) (old mid new : World) (keep : ℕ) (names : Result (List (List ℕ)) Refusal) (result : Result Status Stop) → Quiet old mid → Goes tells result mid new (to_plan keep names) → Goes tells result old new (to_plan keep names)
-plan_quietly tells old mid new keep (Ok names) result quiet goes = goes_turn_quietly tells old mid new _ result quiet goes
-plan_quietly tells old mid new keep (Err refusal) result quiet goes = goes_quietly tells old mid new (Err refusal) result quiet goes
+pub plan_quietly : {H : Type 0} (world : H → World) (tells : Bool) (old mid new : H) (keep : ℕ) (names : Result (List (List ℕ)) Refusal) (result : Result Status Stop) → Quiet (world old) (world mid) → Goes world tells result mid new (to_plan keep names)
+    → Goes world tells result old new (to_plan keep names)
+plan_quietly world tells old mid new keep (Ok names) result quiet goes = goes_turn_quietly world tells old mid new _ result quiet goes
+plan_quietly world tells old mid new keep (Err refusal) result quiet goes = goes_quietly world tells old mid new (Err refusal) result quiet goes
 
 -- ---- a list is never refused as words are that name no job
 

@@ -12,7 +12,8 @@ use Rattle.nb_model.specs.Account.{Base}
 use Rattle.nb_model.specs.Going.{IsMaking}
 use Rattle.nb_model.specs.Making.{MadeFile, NamesOnce}
 use Rattle.nb_model.specs.Output.{output, status_of}
-use Rattle.nb_model.specs.Run.{Event, Now, Played, base_now, begun, replies_of, files_made, play, rounds}
+use Rattle.nb_model.specs.NewGuids.{guids_in}
+use Rattle.nb_model.specs.Run.{Event, Now, Played, base_now, begun, replies_of, files_made, rounds, strokes_of}
 use Rattle.nb_model.specs.Steps.{after_steps, steps_in, steps_of, acked_turns}
 use Rattle.nb_model.specs.Trail.{Trail, StandsIn, settled}
 use Rattle.nb_model.proofs.MakingLaws.{made_once}
@@ -22,18 +23,15 @@ use Rattle.nb_state.proofs.MakesLaws.{still_open}
 use Rattle.nb_script.specs.Asked.{IsAskable}
 use Rattle.nb_script.specs.Scripts.{Plan}
 use Rattle.nb_session.specs.declared.stop.Stop.{Stop}
-use Rattle.nb_session.specs.declared.told.Told.{Told}
 use Rattle.nb_session.specs.Ready.{IsReady}
 use Rattle.nb_session.specs.Says.{FrontSaid, SaysLine}
 use Rattle.nb_session.specs.Stops.{StopLeft, PlayedOut, Plays}
-use Rattle.nb_session.specs.Todo.{PlaysWhole}
-use Rattle.nb_session.specs.Told.{told_events}
 use Rattle.nb_session.proofs.GiftLaws.{given_nothing}
 use Rattle.nb_session.proofs.PlayLaws.{plays_then, plays_failed, plays_cut, plays_wider}
 use Rattle.nb_session.proofs.StopLaws.{AreApart}
 use Rattle.nb_session.proofs.EndLaws.{HasEnd, turns_end}
 use Rattle.nb_top.specs.declared.telling.Telling.{Telling}
-use Rattle.nb_top.specs.Performed.{PlaysOpened, PlaysTold, played_behind, told_later, told_turns}
+use Rattle.nb_top.specs.Performed.{PlaysOpened, PlaysTold, played_behind, told_turns}
 use Rattle.nb_top.proofs.FirstLaws.{turns}
 use Rattle.nb_top.proofs.FirstReady.{apart_play}
 use Rattle.nb_top.proofs.MadeRuns.{no_file, none_front, none_made}
@@ -119,6 +117,7 @@ module _ (old mid new : World) (held after : Held) (start : Base) (now : Now) (p
             (plays_cut old mid held held (settled start) now one more.0 more.1 [] e (plays_one (Err e) tt));
         finished = end.finished;
         unchanged = tt;
+        guids = tt;
       }
 
   pub ready_mid : IsReady mid held (settled (base_now now)) now
@@ -148,6 +147,7 @@ module _ (old mid new : World) (held after : Held) (start : Base) (now : Now) (p
             (subst (λ (t : Trail). Plays (Ok refused) mid new held after t now more files) (sym trail_is) whole.plays);
         finished = whole.finished;
         unchanged = λ only. whole.plays.done.unchanged refl only ∙ says.still.files;
+        guids = λ some. whole.guids some ∙ ap (λ (l : List (List ℕ)). l ++ guids_in (strokes_of (behind_it whole.how_often).0)) says.gave.guids;
       }
   reply_said_then fine said (Err e) whole =
       let more : Played = told_behind whole.how_often in
@@ -159,15 +159,5 @@ module _ (old mid new : World) (held after : Held) (start : Base) (now : Now) (p
             (subst (λ (t : Trail). Plays (Err e) mid new held after t now more files) (sym trail_is) whole.plays);
         finished = whole.finished;
         unchanged = tt;
+        guids = tt;
       }
-
--- Turns that sessions told are told so.
-pub told_as : (result : Result Bool Stop) (old new : World) (before after : Held) (t : Trail) (how : Told) (telling : Telling) (pages : ℕ) (now : Now) (schedule : List ℕ)
-    → ((events : List Event) → told_events how events ≡ told_later telling pages events) → PlaysWhole result old new before after t how now schedule → PlaysTold result old new before after t telling pages now schedule
-told_as result old new before after t how telling pages now schedule same whole =
-    let played : Played = play (schedule ++ rounds whole.how_often) now in
-    record {
-      how_often = whole.how_often;
-      plays = subst (λ (events : List Event). Plays result old new before after t now (events, played.1) (files_made played.0)) (same played.0) whole.plays;
-      finished = whole.finished;
-    }

@@ -11,15 +11,17 @@ use Rattle.nb_page.specs.Quiet.{Quiet}
 use Rattle.nb_page.proofs.QuietLemmas.{quiet_joined}
 use Rattle.nb_model.specs.Account.{Account}
 use Rattle.nb_model.specs.Gifts.{Foretells, WasGiven}
+use Rattle.nb_model.specs.NewGuids.{guids_in}
 use Rattle.nb_model.specs.Outcomes.{Given}
 use Rattle.nb_model.specs.Output.{output}
-use Rattle.nb_model.specs.Run.{Event}
+use Rattle.nb_model.specs.Run.{Event, strokes_of}
 use Rattle.nb_session.specs.declared.stop.Stop.{Stop}
 use Rattle.nb_session.proofs.GiftLaws.{given_nothing, given_joined}
 use Rattle.nb_top.specs.declared.status.Status.{Status}
 use Rattle.nb_top.specs.Performed.{RunLeft, RunsTo, Finished, IsPerformed, IsUndone, Knows, Target, target_of}
 use Rattle.nb_top.specs.Requests.{Request}
 use Rattle.nb_top.proofs.LeftLaws.{left_first, left_before_all}
+use Rattle.nb_top.proofs.ReadsLaws.{reads_quietly}
 
 -- nothing may be given
 abbrev pub no_given : Given
@@ -60,8 +62,8 @@ module _ (old mid new : World) (account : Account) (target : Option Target) (eve
     gave = given_from old mid new given left (quiet_gave old mid quiet) done.gave;
     database = done.database;
     kept = done.kept;
-    others = λ m unasked none. done.others m unasked none ∙ ap (λ (f : Files). f m) quiet.still.files;
     unchanged = λ only. done.unchanged only ∙ quiet.still.files;
+    guids = λ more. done.guids more ∙ ap (λ (l : List (List ℕ)). l ++ guids_in (strokes_of events)) quiet.guids;
   }
   finished_quietly (Err e) given left done = tt
 
@@ -84,6 +86,7 @@ runs_quietly result old mid new asked account given quiet runs = record {
   performed = subst (λ (f : Files). IsPerformed f asked account given runs.events runs.last runs.left) quiet.still.files runs.performed;
   opened = ⊎_elim inl (λ undone. inr (undone_quietly old mid new result quiet undone)) runs.opened;
   stops = stops_quietly old mid new account (target_of asked runs.events) runs.events quiet runs.stops;
+  reads = reads_quietly old mid new quiet account (target_of asked runs.events) runs.events runs.reads;
   finished = finished_quietly old mid new account (target_of asked runs.events) runs.events quiet result given runs.left runs.finished;
 }
 

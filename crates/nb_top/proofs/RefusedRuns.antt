@@ -1,6 +1,7 @@
 -- A run that is refused at once.
 use Rattle.std.proofs.Common.{◌≡◌, inl, ℕ, zero, suc, List, [], ◌∷◌, ◌++◌, length, take, refl, sym, ap, subst, ◌∙◌, arith}
 use Rattle.std.specs.Prelude.{Result, Ok, Err, IfOk, OnOk, Option, None}
+use Rattle.std.proofs.lemmas.List.{append-nil}
 use Rattle.nb_host.specs.Files.{Files}
 use Rattle.nb_host.specs.World.{World}
 use Rattle.nb_host.specs.Moments.{AtEachMoment}
@@ -10,7 +11,8 @@ use Rattle.nb_model.specs.declared.reply.Reply.TheVariants.{Refused}
 use Rattle.nb_model.specs.Account.{Account}
 use Rattle.nb_model.specs.Lines.{line_text}
 use Rattle.nb_model.specs.Outcomes.{Given}
-use Rattle.nb_model.specs.Run.{Event}
+use Rattle.nb_model.specs.NewGuids.{guids_in}
+use Rattle.nb_model.specs.Run.{Event, strokes_of}
 use Rattle.nb_model.specs.Steps.{steps_of, acked_turns}
 use Rattle.nb_model.specs.Output.{status_after}
 use Rattle.nb_model.proofs.OutputLaws.{output_one, status_one}
@@ -20,7 +22,7 @@ use Rattle.nb_session.specs.Says.{FrontSaid, SaysLine}
 use Rattle.nb_session.proofs.GiftLaws.{given_nothing}
 use Rattle.nb_top.specs.declared.status.Status.{Status}
 use Rattle.nb_top.specs.Numbers.{number_of}
-use Rattle.nb_top.specs.Performed.{RunLeft, RunsTo, Finished, HasSmallScn, IsPerformed, Target, first_event, target_of}
+use Rattle.nb_top.specs.Performed.{RunLeft, RunReads, RunsTo, Finished, HasSmallScn, IsPerformed, Target, first_event, target_of}
 use Rattle.nb_top.specs.Requests.{Request, ToRun, ToGenerate}
 use Rattle.nb_top.proofs.MadeRuns.{none_front, none_made}
 
@@ -57,6 +59,15 @@ module _ (old new : World) (session : ℕ) (refusal : Refusal) (account : Accoun
         others = λ m unasked none. front.left m;
       }
 
+  -- it takes no GUID
+  none_given : old.guids ≡ old.guids ++ guids_in (strokes_of (event ∷ []))
+  unfolding strokes_of guids_in
+  none_given = sym (append-nil old.guids)
+
+  -- no file reads otherwise
+  refused_reads : {S E : Type 0} (told : Result S E) → SaysLine told old new (line_text session (Refused refusal)) → RunReads old new account None (event ∷ [])
+  refused_reads told says = record { others = λ m unasked none. ap (λ (f : Files). f m) says.still.files; database = tt }
+
   refused_finished : {S E : Type 0} (told : Result S E) (result : Result Status Stop) → SaysLine told old new (line_text session (Refused refusal)) → IfOk result (λ status. number_of status ≡ status_after (Refused refusal))
       → OnOk result (new.said ≡ old.said ++ line_text session (Refused refusal)) → IfOk result (λ status. Finished status old new account None (event ∷ []) given given)
   refused_finished told (Ok status) says number said = record {
@@ -65,8 +76,8 @@ module _ (old new : World) (session : ℕ) (refusal : Refusal) (account : Accoun
     gave = given_nothing old new given given says.gave refl;
     database = tt;
     kept = λ n bytes there. absurd (none_made event refl (n, bytes) there);
-    others = λ m unasked none. ap (λ (f : Files). f m) says.still.files;
     unchanged = λ only. says.still.files;
+    guids = λ more. says.gave.guids ∙ none_given;
   }
   refused_finished told (Err e) says number said = tt
 
@@ -79,5 +90,6 @@ module _ (old new : World) (session : ℕ) (refusal : Refusal) (account : Accoun
     performed = performed;
     opened = inl (subst (HasSmallScn account) (sym none_asked) tt);
     stops = subst (λ (d : Option Target). AtEachMoment old new (RunLeft old account d (event ∷ []))) (sym none_asked) (weaker old new _ _ says.moments refused_left);
+    reads = subst (λ (d : Option Target). RunReads old new account d (event ∷ [])) (sym none_asked) (refused_reads told says);
     finished = subst (λ (d : Option Target). IfOk result (λ status. Finished status old new account d (event ∷ []) given given)) (sym none_asked) (refused_finished told result says number said);
   }

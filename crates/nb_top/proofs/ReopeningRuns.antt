@@ -1,6 +1,6 @@
 -- A run whose first statement opens its database.
 use Rattle.std.proofs.Common.{◌≡◌, inl, inr, ℕ, ◌<◌, List, length, refl, sym, ap, subst, ◌∙◌}
-use Rattle.std.specs.Prelude.{false, Result, Ok, Err, IfOk}
+use Rattle.std.specs.Prelude.{false, None, Result, Ok, Err, IfOk}
 use Rattle.nb_host.specs.Files.{Files}
 use Rattle.nb_host.specs.Names.{is_delta}
 use Rattle.nb_host.specs.World.{World}
@@ -17,7 +17,7 @@ use Rattle.nb_model.specs.Image.{image_state, image_scn}
 use Rattle.nb_model.specs.Account.{Base, IsBase, Account}
 use Rattle.nb_model.specs.Outcomes.{Given}
 use Rattle.nb_model.specs.Owner.{delta_name, owner, not_opened}
-use Rattle.nb_model.specs.Run.{IsRun, base_now}
+use Rattle.nb_model.specs.Run.{IsRun, Opening, base_now, opening}
 use Rattle.nb_model.specs.Sound.{IsSoundImage}
 use Rattle.nb_model.specs.Strokes.{base_in}
 use Rattle.nb_model.specs.Trail.{settled}
@@ -35,9 +35,11 @@ use Rattle.nb_top.specs.Performed.{cache_asked, KnowsNames, MayBeGiven, RunsTo, 
 use Rattle.nb_top.specs.declared.telling.Telling.{Telling}
 use Rattle.nb_top.specs.Requests.{ToRun}
 use Rattle.nb_top.proofs.QuietRuns.{left_quietly, quiet_gave}
+use Rattle.nb_top.proofs.ReadsLaws.{reads_quiet}
 use Rattle.nb_top.proofs.FirstLaws.{First, first_opened, opened_base}
 use Rattle.nb_top.proofs.FirstReady.{IsBehind, base_name, first_ready, opened_making}
 use Rattle.nb_top.proofs.BegunRuns.{first_fails}
+use Rattle.nb_top.proofs.ByTurnsLaws.{beside_quiet}
 use Rattle.nb_top.proofs.Beginnings.{Beginning, FirstRefused, FirstDone}
 use Rattle.nb_top.proofs.ToldLaws.{Ran, performed_refused}
 use Rattle.nb_top.proofs.OpenLaws.{shown_entry, refused_entry, owner_never_usage}
@@ -50,6 +52,13 @@ module _ (old : World) (account : Account) (given : Given) (plan : Plan) (tellin
       (run_ends account given plan.first_session (OpenDb name cache) plan.schedule plan.sessions (RefusedReply refusal)
       (not_reopened account given plan.sessions plan.first_session name cache refusal
       (ap (not_opened name) knows.same ∙ refused_entry name (old.files name) (old.files (delta_name name)) refusal is)))
+
+  refused_ends : (refusal : Refusal) → owner name (old.files name) (old.files (delta_name name)) ≡ Err refusal → (opening account given plan.sessions plan.first_session plan.first).now ≡ None
+  refused_ends refusal is =
+      ap (λ (s : Statement). (opening account given plan.sessions plan.first_session s).now) first_is
+      ∙ ap (λ (o : Opening). o.now)
+      (not_reopened account given plan.sessions plan.first_session name cache refusal
+      (ap (not_opened name) knows.same ∙ refused_entry name (old.files name) (old.files (delta_name name)) refusal is))
 
   there : (b : Base) → owner name (old.files name) (old.files (delta_name name)) ≡ Ok b → account.entry name ≡ IsBase b
   there b opens = knows.same ∙ shown_entry old.files name b opens
@@ -79,19 +88,21 @@ module _ (old : World) (account : Account) (given : Given) (plan : Plan) (tellin
         performed = performed_refused telling plan account given plan.first_session refusal account given (refused_ran refusal is);
         opened = inl tt;
         stops = left_quietly old new account _ _ quiet;
+        reads = reads_quiet old new quiet account _ _;
         finished = tt;
       }
-      by (Ok b) is = first_fails old account given plan telling askable (first_opened account given plan name cache first_is b (there b is)) new e (inr quiet) (λ n. left_quietly old new account _ _ quiet)
+      by (Ok b) is =
+          first_fails old account given plan telling askable (first_opened account given plan name cache first_is b (there b is)) new e (inr quiet) (λ n. left_quietly old new account _ _ quiet) (λ n. reads_quiet old new quiet account _ _)
 
   module _ (names : KnowsNames old.files account) (may : MayBeGiven given) (mid : World) (result : Result Held Fault) (attaches : Attaches result old mid name) (quiet : Quiet old mid) (scn : IfOk result (λ held. held.scn < 4294967296)) (cap : IfOk result (λ held. held.cap ≡ cache_asked plan.first)) where
     pub attaches_begins : Beginning old account given plan telling askable mid result
     unfolding first_opened
-    attaches_begins = record { fails = λ e. open_fails mid e quiet; refused = is_refused; done = done }
+    attaches_begins = record { fails = λ e. open_fails mid e quiet; refused = is_refused; done = done; beside = beside_quiet old mid account given plan quiet }
       where
         is_refused : (refusal : Refusal) → result ≡ Err (Refused refusal) → FirstRefused old mid account given plan refusal
         is_refused refusal is =
             let answer : owner name (old.files name) (old.files (delta_name name)) ≡ Err refusal = subst (λ (r : Result Held Fault). Attaches r old mid name) is attaches in
-            record { quiet = quiet; ran = refused_ran refusal answer; not_usage = λ e. owner_never_usage name (old.files name) (old.files (delta_name name)) (answer ∙ ap Err e) }
+            record { quiet = quiet; ran = refused_ran refusal answer; ends = refused_ends refusal answer; not_usage = λ e. owner_never_usage name (old.files name) (old.files (delta_name name)) (answer ∙ ap Err e) }
 
         read : (m : List ℕ) → Other (OfFiles name) m → mid.files m ≡ old.files m
         read m other = ap (λ (f : Files). f m) quiet.still.files

@@ -1,8 +1,8 @@
 -- What is sure of the files of a run, where they stand for the account as it begins and the GUIDs that it takes are new.
-use Rattle.std.proofs.Common.{◌≡◌, ◌≢◌, inl, inr, ⊎_elim, ℕ, ◌-◌, ◌≤◌, List, [], ◌++◌, length, take, true, false, refl, sym, ap, subst, ◌∙◌}
+use Rattle.std.proofs.Common.{◌≡◌, ◌≢◌, inl, inr, ⊎_elim, ℕ, ◌-◌, ◌≤◌, List, [], ◌++◌, length, take, true, false, refl, sym, ap, subst, ◌∙◌, arith}
 use Rattle.std.specs.Prelude.{Ok, Option, Some, None, Contains}
 use Rattle.std.proofs.lemmas.Bool.{true≢false}
-use Rattle.std.proofs.lemmas.List.{append-nil}
+use Rattle.std.proofs.lemmas.List.{append-nil, take-take}
 use Rattle.nb_fields.specs.Free.{is_free_file}
 use Rattle.nb_host.specs.Files.{File, Files}
 use Rattle.nb_host.specs.Names.{is_delta}
@@ -10,7 +10,7 @@ use Rattle.nb_host.specs.World.{World}
 use Rattle.nb_host.specs.Crash.{Leaves, LeavesAll}
 use Rattle.nb_change.specs.Changes.{Other}
 use Rattle.nb_change.proofs.NameLaws.{decide}
-use Rattle.nb_model.specs.Account.{Kept, IsBase, Account, with_entry}
+use Rattle.nb_model.specs.Account.{Kept, Base, IsBase, Account, with_entry}
 use Rattle.nb_model.specs.Causes.{is_free_entry}
 use Rattle.nb_model.specs.Making.{MadeFile, IsNoneOf, with_files}
 use Rattle.nb_model.specs.NewGuids.{AreNew, guids_in}
@@ -36,18 +36,24 @@ use Rattle.nb_session.specs.Acts.{MadeLeft, AreKept}
 use Rattle.nb_top.specs.Performed.{IsEnded, IsUnbegun, Target, kept_after, seen_after}
 use Rattle.nb_top.specs.Standing.{HoldsKept, StandsFor}
 use Rattle.nb_top.proofs.AsWas.{as_was, was_has}
-use Rattle.nb_top.proofs.MadeStand.{IsNewFile, none_delta, free_name, free_left, made_holds}
+use Rattle.nb_top.proofs.MadeStand.{IsNewFile, none_delta, free_name, free_left, made_along}
 use Rattle.nb_top.proofs.MadeRuns.{no_file}
 use Rattle.nb_top.proofs.MadeWhole.{none_whole, stands_with_whole}
 use Rattle.nb_top.proofs.OpenLaws.{none_shown}
-use Rattle.nb_top.proofs.SureLaws.{both, beside, holds_along, holds_free}
-use Rattle.nb_top.proofs.WellRuns.{IsWellRun, kept_first, kept_front, seen_behind, kept_behind, cut_is}
+use Rattle.nb_top.proofs.MoreRecords.{front_well}
+use Rattle.nb_top.proofs.SureLaws.{both, beside, holds_along, holds_free, holds_within}
+use Rattle.nb_top.proofs.WellRuns.{IsWellRun, kept_front, seen_behind, kept_behind, cut_is}
 
 -- no record behind no step
 pub kept_none : (account : Account) (target : Option Target) → kept_after account target [] ≡ account.kept
 unfolding strokes_in records_after
 kept_none account None = refl
 kept_none account (Some target) = append-nil account.kept
+
+-- where a database can be opened its name isn't free
+pub opens_in_use : (name : List ℕ) (file d : File) (b : Base) → owner name file d ≡ Ok b → is_free_file file ≡ true → ⊥
+opens_in_use name None d b shows free = none_shown name d b shows
+opens_in_use name (Some bytes) d b shows free = true≢false (sym free ∙ opened_in_use name bytes d b shows)
 
 -- What is sure of the files of a run that is under way.
 module _ (old : World) (account : Account) (stands : StandsFor old account) (reads : (m : List ℕ) → Leaves old m (old.files m)) (name : List ℕ) (plain : is_delta name ≡ false) (events : List Event) (last : Account)
@@ -92,31 +98,55 @@ module _ (old : World) (account : Account) (stands : StandsFor old account) (rea
   behind_holds ss along fresh among files left s =
       holds_along old account stands reads name plain made new_file apart files left.0 left.1 (settled run.base) ss along fresh (whole_with (kept_along account.kept (settled run.base) ss) among) s
 
-  -- so behind a front of all steps
-  pub stood_holds : (count : ℕ) → length run.first ≤ count → (files : Files) → Left files
-      → StandsIn name (seen_after account name (take count (steps_of events))) files → HoldsKept files (account.kept ++ records_after (base_in (account.entry name)) (strokes_in (take count (steps_of events))))
-  stood_holds count low files left s =
-      let k : ℕ = count - length run.first in
-      let ss : List Step = take k run.further in
-      let cut : take count (steps_of events) ≡ run.first ++ ss = cut_is account name events last run count low in
-      subst (λ (xs : List Step). HoldsKept files (account.kept ++ records_after (base_in (account.entry name)) (strokes_in xs))) (sym cut)
-      (subst (HoldsKept files) (sym (kept_behind account name events last run ss))
-      (behind_holds ss (along_front account.kept (settled run.base) run.further run.along k) (front_new old account.kept run.further further_new k) (kept_front account.kept (settled run.base) run.further k) files left
-      (subst (λ (t : Trail). StandsIn name t files) (seen_behind account name events last run ss) (subst (λ (xs : List Step). StandsIn name (seen_after account name xs) files) cut s))))
+  -- the records that are kept in a front of all steps
+  abbrev KeptIn : (count : ℕ) → Files → Type 0
+  KeptIn count files = HoldsKept files (account.kept ++ records_after (base_in (account.entry name)) (strokes_in (take count (steps_of events))))
 
-  -- it isn't begun
-  pub unbegun_holds : (target : Target) → target.name ≡ name → (target.creates ≡ true → is_free_entry (account.entry name) ≡ true) → (said count : ℕ) (files : Files)
-      → Left files → IsUnbegun old target said count files → HoldsKept files account.kept
-  unbegun_holds target named free said count files left none = ⊎_elim as_before (λ halfway. creating (free halfway.0) (ap (λ (n : List ℕ). is_free_file (files n)) (sym named) ∙ halfway.1)) none.main
+  kept_in : (count : ℕ) → length run.first ≤ count → (files : Files) → HoldsKept files (kept_along account.kept (settled run.base) (take (count - length run.first) run.further)) → KeptIn count files
+  kept_in count low files holds =
+      let ss : List Step = take (count - length run.first) run.further in
+      subst (λ (xs : List Step). HoldsKept files (account.kept ++ records_after (base_in (account.entry name)) (strokes_in xs))) (sym (cut_is account name events last run count low))
+      (subst (HoldsKept files) (sym (kept_behind account name events last run ss)) holds)
+
+  -- Behind a front of all steps they stand with the records of each longer front: none of them names a GUID that is taken later, but where it is the whole
+  -- file of that backup.
+  pub stood_within : (count most : ℕ) → length run.first ≤ count → count ≤ most → (files : Files) → Left files → StandsIn name (seen_after account name (take count (steps_of events))) files → KeptIn most files
+  stood_within count most low high files left s =
+      let k : ℕ = count - length run.first in
+      let m : ℕ = most - length run.first in
+      let front : List Step = take k run.further in
+      let ss : List Step = take m run.further in
+      let along : WellAlong account.kept (settled run.base) ss = along_front account.kept (settled run.base) run.further run.along m in
+      let well_front : IsWellTrail (kept_along account.kept (settled run.base) ss) (after_steps (settled run.base) front) =
+      subst (λ (xs : List Step). IsWellTrail (kept_along account.kept (settled run.base) ss) (after_steps (settled run.base) xs)) (take-take k m run.further (omega (arith, high))) (front_well account.kept (settled run.base) ss along k) in
+      kept_in most (omega (arith, low, high)) files
+      (holds_within old account stands reads name plain made new_file apart files left.0 left.1 (settled run.base) ss along (front_new old account.kept run.further further_new m)
+      (whole_with (kept_along account.kept (settled run.base) ss) (kept_front account.kept (settled run.base) run.further m)) (after_steps (settled run.base) front) well_front
+      (subst (λ (t : Trail). StandsIn name t files) (seen_behind account name events last run front) (subst (λ (xs : List Step). StandsIn name (seen_after account name xs) files) (cut_is account name events last run count low) s)))
+
+  -- so with its own
+  pub stood_holds : (count : ℕ) → length run.first ≤ count → (files : Files) → Left files → StandsIn name (seen_after account name (take count (steps_of events))) files → KeptIn count files
+  stood_holds count low files left s = stood_within count count low (omega arith) files left s
+
+  -- It isn't begun, and the files stand with the records that are kept along some of the further steps.
+  pub unbegun_along : (k : ℕ) (target : Target) → target.name ≡ name → (target.creates ≡ true → is_free_entry (account.entry name) ≡ true) → (said count : ℕ) (files : Files)
+      → Left files → IsUnbegun old target said count files → HoldsKept files (kept_along account.kept (settled run.base) (take k run.further))
+  unbegun_along k target named free said count files left none = ⊎_elim as_before (λ halfway. creating (free halfway.0) (ap (λ (n : List ℕ). is_free_file (files n)) (sym named) ∙ halfway.1)) none.main
     where
       delta : Leaves old (delta_name name) (files (delta_name name))
       delta = subst (λ (n : List ℕ). Leaves old (delta_name n) (files (delta_name n))) named none.delta
 
-      are_whole : (f : MadeFile) → Contains made f → IsWholeFile account.kept f.1
-      are_whole = whole_with account.kept (kept_first account.kept (settled run.base) run.further)
+      along : WellAlong account.kept (settled run.base) (take k run.further)
+      along = along_front account.kept (settled run.base) run.further run.along k
 
-      as_before : Leaves old target.name (files target.name) → HoldsKept files account.kept
-      as_before main = made_holds old account stands reads made new_file files left.0
+      fresh : AreNew old account.kept (guids_in (strokes_in (take k run.further)))
+      fresh = front_new old account.kept run.further further_new k
+
+      are_whole : (f : MadeFile) → Contains made f → IsWholeFile (kept_along account.kept (settled run.base) (take k run.further)) f.1
+      are_whole = whole_with (kept_along account.kept (settled run.base) (take k run.further)) (kept_front account.kept (settled run.base) run.further k)
+
+      as_before : Leaves old target.name (files target.name) → HoldsKept files (kept_along account.kept (settled run.base) (take k run.further))
+      as_before main = made_along old account stands reads made new_file files left.0
           (λ m apart_m. elim (decide m name) [
             | inl same ↦ subst (λ (n : List ℕ). Leaves old n (files n)) (named ∙ sym same) main
             | inr off ↦ elim (decide m (delta_name name)) [
@@ -124,12 +154,30 @@ module _ (old : World) (account : Account) (stands : StandsFor old account) (rea
               | inr other ↦ left.1 m (λ one. ⊎_elim off other one) apart_m
             ]
           ])
-          are_whole
+          (settled run.base) (take k run.further) along fresh are_whole
 
-      creating : is_free_entry (account.entry name) ≡ true → is_free_file (files name) ≡ true → HoldsKept files account.kept
+      creating : is_free_entry (account.entry name) ≡ true → is_free_file (files name) ≡ true → HoldsKept files (kept_along account.kept (settled run.base) (take k run.further))
       creating was now_free =
           let free = free_name old account stands (name, []) (record { plain = plain; free = was }) in
-          holds_free old account stands reads name plain made new_file apart files left.0 left.1 are_whole now_free (stands.free name plain free.0 free.1 (files (delta_name name)) delta)
+          holds_free old account stands reads name plain made new_file apart files left.0 left.1 (settled run.base) (take k run.further) along fresh are_whole now_free (stands.free name plain free.0 free.1 (files (delta_name name)) delta)
+
+  -- so with those of before, and with those that are kept in each front
+  pub unbegun_holds : (target : Target) → target.name ≡ name → (target.creates ≡ true → is_free_entry (account.entry name) ≡ true) → (said count : ℕ) (files : Files) → Left files → IsUnbegun old target said count files
+      → HoldsKept files account.kept
+  unbegun_holds target named free said count files left none = unbegun_along 0 target named free said count files left none
+
+  pub unbegun_within : (most : ℕ) → length run.first ≤ most → (target : Target) → target.name ≡ name → (target.creates ≡ true → is_free_entry (account.entry name) ≡ true) → (said count : ℕ) (files : Files) → Left files
+      → IsUnbegun old target said count files → KeptIn most files
+  unbegun_within most low target named free said count files left none = kept_in most low files (unbegun_along (most - length run.first) target named free said count files left none)
+
+  -- Where a name beside the database's is free behind it, a stop brings no difference file back.
+  module _ (end : World) (read : (m : List ℕ) → Other (OfFiles name) m → IsNoneOf made m → end.files m ≡ old.files m) (reads_end : (m : List ℕ) → Leaves end m (end.files m)) (left : (files : Files) → LeavesAll end files → Left files) where
+    pub free_beside : (n : List ℕ) → n ≢ name → is_delta n ≡ false → is_free_file (end.files n) ≡ true → end.files (delta_name n) ≡ None → (d : File) → Leaves end (delta_name n) d → d ≡ None
+    free_beside n off plain_n free alone d is =
+        let other : Other (OfFiles name) n = λ one. ⊎_elim off (λ e. no_main name n plain_n (sym e)) one in
+        let other_delta : Other (OfFiles name) (delta_name n) = λ one. ⊎_elim (λ e. no_main n name plain e) (λ e. off (delta_same n name e)) one in
+        let none : IsNoneOf made (delta_name n) = none_delta account made new_file n in
+        free_left old account stands made new_file end reads_end n (read n other) (read (delta_name n) other_delta none) plain_n (λ files leaves. (left files leaves).1 (delta_name n) other_delta none) free alone d is
 
   -- At its end.
   well : IsWellTrail kept trail
@@ -176,18 +224,9 @@ module _ (old : World) (account : Account) (stands : StandsFor old account) (rea
     -- a name that is free isn't that of the database
     free_then : (n : List ℕ) → is_delta n ≡ false → is_free_file (end.files n) ≡ true → end.files (delta_name n) ≡ None → (d : File) → Leaves end (delta_name n) d → d ≡ None
     free_then n plain_n free alone d is = elim (decide n name) [
-      | inl same ↦ absurd (in_use (end.files name) refl (ap (λ (k : List ℕ). is_free_file (end.files k)) (sym same) ∙ free))
-      | inr off ↦
-          let other : Other (OfFiles name) n = λ one. ⊎_elim off (λ e. no_main name n plain_n (sym e)) one in
-          let other_delta : Other (OfFiles name) (delta_name n) = λ one. ⊎_elim (λ e. no_main n name plain e) (λ e. off (delta_same n name e)) one in
-          let none : IsNoneOf made (delta_name n) = none_delta account made new_file n in
-          free_left old account stands made new_file end reads_end n (read n other) (read (delta_name n) other_delta none) plain_n (λ files leaves. (left files leaves).1 (delta_name n) other_delta none) free alone d is
+      | inl same ↦ absurd (opens_in_use name (end.files name) (end.files (delta_name name)) trail.base shows (ap (λ (k : List ℕ). is_free_file (end.files k)) (sym same) ∙ free))
+      | inr off ↦ free_beside end read reads_end left n off plain_n free alone d is
     ]
-      where
-        in_use : (file : File) → end.files name ≡ file → is_free_file (end.files name) ≡ true → ⊥
-        in_use None none is_free = none_shown name (end.files (delta_name name)) trail.base (subst (λ (f : File). owner name f (end.files (delta_name name)) ≡ Ok trail.base) none shows)
-        in_use (Some bytes) some is_free =
-            true≢false (sym is_free ∙ ap is_free_file some ∙ opened_in_use name bytes (end.files (delta_name name)) trail.base (subst (λ (f : File). owner name f (end.files (delta_name name)) ≡ Ok trail.base) some shows))
 
     pub ended_stands : StandsFor end last
     ended_stands = record { now = now_stands; left = left_holds; free = free_then }

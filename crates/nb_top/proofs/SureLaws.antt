@@ -26,7 +26,7 @@ use Rattle.nb_gather.specs.Making.{IsUnfinishedOr}
 use Rattle.nb_session.specs.Acts.{MadeLeft}
 use Rattle.nb_top.specs.Standing.{HoldsKept, StandsFor}
 use Rattle.nb_top.proofs.AsWas.{as_was, was_has, was_off}
-use Rattle.nb_top.proofs.MadeStand.{IsNewFile, made_holds, made_along}
+use Rattle.nb_top.proofs.MadeStand.{IsNewFile, made_along}
 
 -- the database's two names
 abbrev pub both : List ℕ → List (List ℕ)
@@ -54,23 +54,27 @@ module _ (old : World) (account : Account) (stands : StandsFor old account) (rea
   same_beside : (m : List ℕ) → m ≢ name → m ≢ delta_name name → files m ≡ mid m
   same_beside m off other = sym (beside name old.files files m off other)
 
-  -- where they hold what may be left of what was seen behind steps
-  pub holds_along : (t : Trail) (ss : List Step) → WellAlong account.kept t ss → AreNew old account.kept (guids_in (strokes_in ss)) → ((f : MadeFile) → Contains made f → IsWholeFile (kept_along account.kept t ss) f.1)
-      → StandsIn name (after_steps t ss) files → HoldsKept files (kept_along account.kept t ss)
-  holds_along t ss well fresh whole s =
-      let its : HoldsKept mid (kept_along account.kept t ss) = made_along old account stands reads made new mid mid_left mid_others t ss well fresh whole in
-      record {
-        account = with_entry name (IsBase s.base) its.account;
-        stands = stood_stands mid files its.account name (after_steps t ss) its.stands plain same_beside (subst (λ (rs : List Kept). IsWellTrail rs (after_steps t ss)) (sym its.same) (along_last account.kept t ss well)) s;
-        same = with_kept name (IsBase s.base) its.account ∙ its.same;
-      }
+  -- They stand with the records that are kept along steps.
+  module _ (t : Trail) (ss : List Step) (well : WellAlong account.kept t ss) (fresh : AreNew old account.kept (guids_in (strokes_in ss))) (whole : (f : MadeFile) → Contains made f → IsWholeFile (kept_along account.kept t ss) f.1) where
+    its : HoldsKept mid (kept_along account.kept t ss)
+    its = made_along old account stands reads made new mid mid_left mid_others t ss well fresh whole
 
-  -- where its creation was stopped
-  pub holds_free : ((f : MadeFile) → Contains made f → IsWholeFile account.kept f.1) → is_free_file (files name) ≡ true → files (delta_name name) ≡ None → HoldsKept files account.kept
-  holds_free whole free alone =
-      let its : HoldsKept mid account.kept = made_holds old account stands reads made new mid mid_left mid_others whole in
-      record {
-        account = with_entry name (entry_in files name) its.account;
-        stands = stands_free mid files its.account name its.stands plain same_beside free alone;
-        same = with_kept name (entry_in files name) its.account ∙ its.same;
-      }
+    -- where they hold what may be left of what was seen, which is well with these records
+    pub holds_within : (seen : Trail) → IsWellTrail (kept_along account.kept t ss) seen → StandsIn name seen files → HoldsKept files (kept_along account.kept t ss)
+    holds_within seen is_well s = record {
+      account = with_entry name (IsBase s.base) its.account;
+      stands = stood_stands mid files its.account name seen its.stands plain same_beside (subst (λ (rs : List Kept). IsWellTrail rs seen) (sym its.same) is_well) s;
+      same = with_kept name (IsBase s.base) its.account ∙ its.same;
+    }
+
+    -- so behind all steps
+    pub holds_along : StandsIn name (after_steps t ss) files → HoldsKept files (kept_along account.kept t ss)
+    holds_along s = holds_within (after_steps t ss) (along_last account.kept t ss well) s
+
+    -- where its creation was stopped
+    pub holds_free : is_free_file (files name) ≡ true → files (delta_name name) ≡ None → HoldsKept files (kept_along account.kept t ss)
+    holds_free free alone = record {
+      account = with_entry name (entry_in files name) its.account;
+      stands = stands_free mid files its.account name its.stands plain same_beside free alone;
+      same = with_kept name (entry_in files name) its.account ∙ its.same;
+    }

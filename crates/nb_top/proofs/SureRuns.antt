@@ -1,5 +1,5 @@
 -- Where the files stand for the account as a run begins, and the GUIDs that it takes are new, they stand for one at each moment.
-use Rattle.std.proofs.Common.{◌≡◌, ℕ, zero, suc, ◌<◌, ◌≤◌, List, [], ◌∷◌, ◌++◌, take, true, false, refl, sym, ap, subst, ◌∙◌, arith}
+use Rattle.std.proofs.Common.{◌≡◌, ℕ, zero, suc, ◌<◌, ◌≤◌, List, [], ◌∷◌, ◌++◌, length, take, true, false, refl, sym, ap, subst, ◌∙◌, arith}
 use Rattle.std.specs.Prelude.{Bool, Result, Ok, Err, Option, Some, None, Contains}
 use Rattle.nb_fields.specs.Fresh.{fresh}
 use Rattle.nb_host.specs.Files.{Files}
@@ -35,7 +35,7 @@ use Rattle.nb_script.specs.Asked.{IsAskable}
 use Rattle.nb_script.specs.Fits.{FitsFirst}
 use Rattle.nb_script.specs.Scripts.{Plan}
 use Rattle.nb_top.specs.declared.status.Status.{Status}
-use Rattle.nb_top.specs.Performed.{RunLeft, Finished, HasSmallScn, IsScriptRun, IsSure, MayBeGiven, Target, begins_refused, kept_after, pages_first, seen_after, target_named, target_of}
+use Rattle.nb_top.specs.Performed.{RunLeft, RunReads, Finished, HasSmallScn, IsScriptRun, IsSure, MayBeGiven, Target, begins_refused, kept_after, pages_first, seen_after, target_named, target_of}
 use Rattle.nb_top.specs.Standing.{HoldsKept, StandsFor}
 use Rattle.nb_top.specs.declared.telling.Telling.{Telling}
 use Rattle.nb_top.specs.Requests.{Request, ToRun}
@@ -44,7 +44,7 @@ use Rattle.nb_top.proofs.MadeRuns.{no_file, made_behind}
 use Rattle.nb_top.proofs.OpenLaws.{shown_entry, refused_entry}
 use Rattle.nb_top.proofs.ScriptRuns.{Opens, creates, opens, first_opens}
 use Rattle.nb_top.proofs.SureFiles.{still_stands}
-use Rattle.nb_top.proofs.SureTargets.{IsSureRun, target_left, target_end}
+use Rattle.nb_top.proofs.SureTargets.{IsSureRun, target_after, target_left, target_end}
 use Rattle.nb_top.proofs.ToldLaws.{told_files, told_steps, told_begins}
 use Rattle.nb_top.proofs.WellRuns.{IsWellRun, IsWellBehind, rest_well}
 
@@ -342,12 +342,27 @@ module _ (old : World) (plan : Plan) (telling : Telling) (askable : IsAskable pl
         by None is few l = sure.stands.left files (λ m. l.others m tt (none_made is m))
         by (Some target) is few l = target_left old account sure.stands before target events last sure.new (sure_run target is few) files said l
 
-    pub script_end : (new : World) → IsTimely new → ((name : List ℕ) → Leaves new name (new.files name)) → AtEachMoment old new (RunLeft old account (target_of asked events) events) → (status : Status)
-        → Finished status old new account (target_of asked events) events given left → StandsFor new last
-    script_end new timely reads stops status finished = by (target_of asked events) refl small stops finished
+    -- behind it, however it ended
+    pub script_after : (new : World) → IsTimely new → ((name : List ℕ) → Leaves new name (new.files name)) → AtEachMoment old new (RunLeft old account (target_of asked events) events) → RunReads old new account (target_of asked events) events
+        → (later : Account) × StandsFor new later × (later.kept ≡ kept_after account (target_of asked events) (take (length (steps_of events)) (steps_of events)))
+    script_after new timely reads stops read = by (target_of asked events) refl small stops read
       where
-        by : (target : Option Target) → target_of asked events ≡ target → HasSmallScn account target → AtEachMoment old new (RunLeft old account target events) → Finished status old new account target events given left → StandsFor new last
-        by None is few moments done =
+        by : (target : Option Target) → target_of asked events ≡ target → HasSmallScn account target → AtEachMoment old new (RunLeft old account target events) → RunReads old new account target events
+            → (later : Account) × StandsFor new later × (later.kept ≡ kept_after account target (take (length (steps_of events)) (steps_of events)))
+        by None is few moments beside = (
+          account,
+          still_stands old new account sure.stands reads (λ m. beside.others m tt (none_made is m)) (λ files leaves m. (moments.each files new.said (timely.counts_now old.moment files moments.later leaves)).others m tt (none_made is m)),
+          refl,
+        )
+        by (Some target) is few moments beside = target_after old account sure.stands before target events last sure.new (sure_run target is few) new timely reads moments beside
+
+    pub script_end : (new : World) → IsTimely new → ((name : List ℕ) → Leaves new name (new.files name)) → AtEachMoment old new (RunLeft old account (target_of asked events) events)
+        → RunReads old new account (target_of asked events) events → (status : Status) → Finished status old new account (target_of asked events) events given left → StandsFor new last
+    script_end new timely reads stops read status finished = by (target_of asked events) refl small stops read finished
+      where
+        by : (target : Option Target) → target_of asked events ≡ target → HasSmallScn account target → AtEachMoment old new (RunLeft old account target events) → RunReads old new account target events
+            → Finished status old new account target events given left → StandsFor new last
+        by None is few moments beside done =
             subst (StandsFor new) (sym (refused_run is).1)
-            (still_stands old new account sure.stands reads (λ m. done.others m tt (none_made is m)) (λ files leaves m. (moments.each files new.said (timely.counts_now old.moment files moments.later leaves)).others m tt (none_made is m)))
-        by (Some target) is few moments done = target_end old account sure.stands before target events last sure.new (sure_run target is few) new timely reads moments given left status done
+            (still_stands old new account sure.stands reads (λ m. beside.others m tt (none_made is m)) (λ files leaves m. (moments.each files new.said (timely.counts_now old.moment files moments.later leaves)).others m tt (none_made is m)))
+        by (Some target) is few moments beside done = target_end old account sure.stands before target events last sure.new (sure_run target is few) new timely reads moments beside given left status done

@@ -7,24 +7,31 @@ use Rattle.nb_model.specs.Outcomes.{Given}
 use Rattle.nb_session.specs.Acts.{Grows}
 use Rattle.nb_session.specs.declared.stop.Stop.{Stop}
 use Rattle.nb_top.specs.declared.status.Status.{Status}
+use Rattle.nb_top.specs.ByTurns.{AskedByTurns, EndsEarly}
 use Rattle.nb_top.specs.Performed.{GoesTo, KnowsAsked, MayBeGiven, Performs}
 use Rattle.nb_top.specs.Requests.{Asked}
 use Rattle.nb_top.specs.Touched.{IsWholeAsked, OfAsked, TouchesOnly}
 
+-- It was done: what is said of all of it, and of each turn.
+pub record IsDone {H : Type 0} (world : H → World) (result : Result Status Stop) (old new : H) (asked : Asked) (account : Account) (given : Given) (done : Type 0) : Type 0 where
+  pub whole : done
+  pub turns : AskedByTurns world (EndsEarly result) old new asked account given
+
 -- It was done, up to its end or to what stopped it.
-pub record DoesAsked (tells : Bool) (result : Result Status Stop) (old new : World) (asked : Asked) (done : Account → Given → Type 0) : Type 0 where
+pub record DoesAsked {H : Type 0} (world : H → World) (tells : Bool) (result : Result Status Stop) (old new : H) (asked : Asked) (done : Account → Given → Type 0) : Type 0 where
   -- Where an account knows what the files tell, and whatever GUIDs of 16 bytes and times may still be given. The numbers of pages in memory
   -- that were shown are the same for every account.
-  pub does : IsTrue tells → (shown : List ℕ) × ((account : Account) (given : Given) → KnowsAsked old.files account asked → MayBeGiven given → Foretells given shown old new → done account given)
+  pub does : IsTrue tells → (shown : List ℕ) × ((account : Account) (given : Given) → KnowsAsked (world old).files account asked → MayBeGiven given → Foretells given shown (world old) (world new)
+      → IsDone world result old new asked account given (done account given))
   -- there are such GUIDs and times
-  pub grows : (account : Account) → IsTrue tells → KnowsAsked old.files account asked → Grows old new
+  pub grows : (account : Account) → IsTrue tells → KnowsAsked (world old).files account asked → Grows (world old) (world new)
   -- whatever stands in the files, and with no account
-  pub touches : IsTrue tells → IsWholeAsked old.files asked → TouchesOnly result old new (OfAsked old.files asked)
+  pub touches : IsTrue tells → IsWholeAsked (world old).files asked → TouchesOnly result (world old) (world new) (OfAsked (world old).files asked)
 
 -- what is done within a run
-abbrev pub Goes : (tells : Bool) (result : Result Status Stop) (old new : World) → Asked → Type 0
-Goes tells result old new asked = DoesAsked tells result old new asked (GoesTo result old new asked)
+abbrev pub Goes : {H : Type 0} → (world : H → World) → (tells : Bool) → (result : Result Status Stop) → (old new : H) → Asked → Type 0
+Goes world tells result old new asked = DoesAsked world tells result old new asked (GoesTo result (world old) (world new) asked)
 
 -- what a run does that ends so
-abbrev pub IsRun : (tells : Bool) (status : Status) (old new : World) → Asked → Type 0
-IsRun tells status old new asked = DoesAsked tells (Ok status) old new asked (Performs status old new asked)
+abbrev pub IsRun : {H : Type 0} → (world : H → World) → (tells : Bool) → (status : Status) → (old new : H) → Asked → Type 0
+IsRun world tells status old new asked = DoesAsked world tells (Ok status) old new asked (Performs status (world old) (world new) asked)

@@ -8,3 +8,4 @@ pub mod Worlds
 pub mod Touched
 pub mod Goes
 pub mod Shown
+pub mod ByTurns

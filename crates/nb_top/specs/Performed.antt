@@ -7,7 +7,7 @@
 -- is written, is as it was, unfinished or whole, and whole once that is acknowledged. No other file changes. At its end all lines were said,
 -- all steps stand, and all files are whole. Where the files stood for an account with the records of its backups, and the GUIDs that the outside gives are new, they stand for
 -- one at each moment, with the records of the backups that have begun by then.
-use Rattle.std.specs.Prelude.{◌≡◌, ◌≢◌, ◌⊎◌, ℕ, ◌<◌, List, [], ◌∷◌, ◌++◌, length, take, Bool, true, false, ◌&&◌, Option, None, Some, Result, Ok, Err, IfOk}
+use Rattle.std.specs.Prelude.{◌≡◌, ◌≢◌, ◌⊎◌, ℕ, ◌<◌, ◌≤◌, List, [], ◌∷◌, ◌++◌, length, take, Bool, true, false, ◌&&◌, Option, None, Some, Result, Ok, Err, IfOk}
 use Rattle.std.specs.Global.{Vec}
 use Rattle.std.specs.List.{AllByRecursion, list_all}
 use Rattle.nb_fields.specs.Free.{is_free_file}
@@ -48,7 +48,8 @@ use Rattle.nb_state.specs.Open.{Held}
 use Rattle.nb_gen.specs.Texts.{generated_first}
 use Rattle.nb_script.specs.Scripts.{Plan, script_of}
 use Rattle.nb_session.specs.declared.stop.Stop.{Stop}
-use Rattle.nb_session.specs.Replies.{is_refusal, only_tells, only_told}
+use Rattle.nb_state.specs.Does.{only_tells}
+use Rattle.nb_session.specs.Replies.{is_refusal, only_told}
 use Rattle.nb_session.specs.Acts.{MadeLeft, AreKept as AreFilesKept}
 use Rattle.nb_session.specs.Stops.{IsSaid, IsFront, AreWhole, Plays}
 use Rattle.nb_top.specs.declared.status.Status.{Status}
@@ -272,16 +273,33 @@ only_tell [] = true
 only_tell (e ∷ es) = only_opens e && list_all only_told es
 
 -- A run to its end: all of its lines were said, the status is the one that they give, just what the run asks for was given, the database
--- stands behind all of its steps, each file that it made is whole and kept for good, and other files read as before. Where its turns only
--- told something no file has changed.
+-- stands behind all of its steps, and each file that it made is whole and kept for good. Where its turns only told something no file has
+-- changed. Where more GUIDs could have been given, just those of the backups that it began were given, in order.
 pub record Finished (status : Status) (old new : World) (account : Account) (target : Option Target) (events : List Event) (given left : Given) : Type 0 where
   pub said : new.said ≡ old.said ++ output events
   pub ended : number_of status ≡ status_of (replies_of events)
   pub gave : WasGiven old new given left
   pub database : EndsIn new account target events
   pub kept : AreFilesKept new (files_made events)
-  pub others : (m : List ℕ) → IsUnasked target m → IsNoneOf (files_made events) m → new.files m ≡ old.files m
   pub unchanged : only_tell events ≡ true → new.files ≡ old.files
+  pub guids : left.guids ≢ [] → new.guids ≡ old.guids ++ guids_in (strokes_of events)
+
+-- The run hasn't begun to change its database: both files read as before. Only where the run creates the database, its main file may also
+-- be one whose name is free, or one of those that a stop would have left before.
+pub record ReadsUnbegun (old new : World) (target : Target) : Type 0 where
+  pub main : (new.files target.name ≡ old.files target.name) ⊎ ((target.creates ≡ true) × ((is_free_file (new.files target.name) ≡ true) ⊎ Leaves old target.name (new.files target.name)))
+  pub delta : new.files (delta_name target.name) ≡ old.files (delta_name target.name)
+
+-- The files as they read hold what may be left of what was seen of the database behind some of the steps, or the run hasn't begun.
+abbrev pub ReadsAsked : (old new : World) → Account → Option Target → List Event → Type 0
+ReadsAsked old new account None events = Unit {0}
+ReadsAsked old new account (Some target) events = ((count : ℕ) × StandsIn target.name (seen_after account target.name (take count (steps_of events))) new.files) ⊎ ReadsUnbegun old new target
+
+-- What reads behind a run, however it ended: each file but the database's two and those that the run makes reads as before, and so do the two where
+-- the run hasn't begun.
+pub record RunReads (old new : World) (account : Account) (target : Option Target) (events : List Event) : Type 0 where
+  pub others : (m : List ℕ) → IsUnasked target m → IsNoneOf (files_made events) m → new.files m ≡ old.files m
+  pub database : ReadsAsked old new account target events
 
 -- each GUID that may be given has 16 bytes
 abbrev pub MayBeGiven : Given → Type 0
@@ -298,8 +316,8 @@ IsUndone (Ok status) old new = ⊥
 IsUndone (Err stop) old new = Quiet old new
 
 -- What a run does that a script asks for, where the account knows of the database what the files tell, and these are the GUIDs and times
--- that were given and may still be: its events are those that the script must have. At each moment a stop leaves a front of them, and
--- at its end all is done.
+-- that were given and may still be: its events are those that the script must have. At each moment a stop leaves a front of them, behind it
+-- other files read as before, and at its end all is done.
 pub record RunsTo (result : Result Status Stop) (old new : World) (asked : Result Request Refusal) (account : Account) (given : Given) : Type 0 where
   pub events : List Event
   pub last : Account
@@ -307,11 +325,22 @@ pub record RunsTo (result : Result Status Stop) (old new : World) (asked : Resul
   pub performed : IsPerformed old.files asked account given events last left
   pub opened : HasSmallScn account (target_of asked events) ⊎ IsUndone result old new
   pub stops : AtEachMoment old new (RunLeft old account (target_of asked events) events)
+  pub reads : RunReads old new account (target_of asked events) events
   pub finished : IfOk result (λ status. Finished status old new account (target_of asked events) events given left)
 
+-- Behind a run, however it ended, the world stands for an account with the records of the backups that begin in a front of its steps. What a stop leaves now
+-- is behind no longer front. So the next run may begin.
+pub record StandsAfter (old new : World) (account : Account) (target : Option Target) (events : List Event) : Type 0 where
+  pub count : ℕ
+  pub last : (files : Files) → LeavesAll new files → (l : RunLeft old account target events files new.said) × (l.count ≤ count)
+  pub later : Account
+  pub stands : StandsFor new later
+  pub kept : later.kept ≡ kept_after account target (take count (steps_of events))
+
 -- What is done of a run. Its events are those that it asks for, with the account after it and what is left to give.
--- At each moment a stop leaves a front of it. So do the files as they read now, where it ended early too. Where no call of the host failed
--- and memory was enough, it came to its end, and where it was sure the files stand for the account after.
+-- At each moment a stop leaves a front of it. So do the files as they read now, where it ended early too, and other files read as before. Where it
+-- was sure, the next run may begin. Where no call of the host failed and memory was enough, it came to its end, and where it was sure the files
+-- stand for the account after.
 pub record PerformsRun (status : Status) (old new : World) (asked : Result Request Refusal) (account : Account) (given : Given) : Type 0 where
   pub events : List Event
   pub last : Account
@@ -319,6 +348,8 @@ pub record PerformsRun (status : Status) (old new : World) (asked : Result Reque
   pub performed : IsPerformed old.files asked account given events last left
   pub stops : AtEachMoment old new (RunStands old account asked events)
   pub now : RunStands old account asked events new.files new.said
+  pub reads : RunReads old new account (target_of asked events) events
+  pub after : IsSure old account events → StandsAfter old new account (target_of asked events) events
   pub finished : status ≢ Device → status ≢ Memory → Finished status old new account (target_of asked events) events given left
   pub stands : status ≢ Device → status ≢ Memory → IsSure old account events → StandsFor new last
 
@@ -356,11 +387,13 @@ played_behind event played = (event ∷ played.0, played.1)
 abbrev pub told_turns : Telling → (pages : ℕ) → Played → Played
 told_turns telling pages played = (told_later telling pages played.0, played.1)
 
--- The script's turns were taken to their end and told, or some of them.
+-- The script's turns were taken to their end and told, or some of them. Where more GUIDs could have been given, just those of the backups that they
+-- began were given, in order.
 pub record PlaysTold (result : Result Bool Stop) (old new : World) (before after : Held) (t : Trail) (telling : Telling) (pages : ℕ) (now : Now) (schedule : List ℕ) : Type 0 where
   pub how_often : ℕ
   pub plays : Plays result old new before after t now (told_turns telling pages (play (schedule ++ rounds how_often) now)) (files_made (play (schedule ++ rounds how_often) now).0)
   pub finished : AreFinished (play (schedule ++ rounds how_often) now).1.todo
+  pub guids : IfOk result (λ refused. (play (schedule ++ rounds how_often) now).1.given.guids ≢ [] → new.guids ≡ old.guids ++ guids_in (strokes_of (play (schedule ++ rounds how_often) now).0))
 
 -- The reply of the first statement was said, and then the script's turns were taken to their end, or some of them. `start` stood before
 -- the strokes of the first statement.
@@ -369,6 +402,7 @@ pub record PlaysOpened (result : Result Bool Stop) (old new : World) (before aft
   pub plays : Plays result old new before after (settled start) now (played_behind first (told_turns telling pages (play (plan.schedule ++ rounds how_often) now))) (files_made (play (plan.schedule ++ rounds how_often) now).0)
   pub finished : AreFinished (play (plan.schedule ++ rounds how_often) now).1.todo
   pub unchanged : IfOk result (λ refused. list_all only_told (told_later telling pages (play (plan.schedule ++ rounds how_often) now).0) ≡ true → new.files ≡ old.files)
+  pub guids : IfOk result (λ refused. (play (plan.schedule ++ rounds how_often) now).1.given.guids ≢ [] → new.guids ≡ old.guids ++ guids_in (strokes_of (play (plan.schedule ++ rounds how_often) now).0))
 
 -- what is read of a script's file: its bytes, or that it isn't there or is too long
 abbrev pub IsFileRead : Result (Vec ℕ) Fault → (name : List ℕ) → File → Type 0

@@ -1,5 +1,5 @@
 -- The files stand for an account, whatever a stop leaves of them.
-use Rattle.std.specs.Prelude.{◌≡◌, ℕ, List, None, true, false}
+use Rattle.std.specs.Prelude.{◌≡◌, ℕ, List, None, true, false, Contains}
 use Rattle.nb_fields.specs.Free.{is_free_file}
 use Rattle.nb_host.specs.Files.{File, Files}
 use Rattle.nb_host.specs.Names.{is_delta}
@@ -22,3 +22,9 @@ pub record StandsFor (w : World) (account : Account) : Type 0 where
   pub now : Stands w.files account
   pub left : (files : Files) → LeavesAll w files → HoldsKept files account.kept
   pub free : (name : List ℕ) → is_delta name ≡ false → is_free_file (w.files name) ≡ true → w.files (delta_name name) ≡ None → (d : File) → Leaves w (delta_name name) d → d ≡ None
+
+-- The next run may begin behind one that began with this account: the files stand for one that has all of its records.
+pub record NextMayBegin (new : World) (account : Account) : Type 0 where
+  pub later : Account
+  pub stands : StandsFor new later
+  pub kept : (r : Kept) → Contains account.kept r → Contains later.kept r

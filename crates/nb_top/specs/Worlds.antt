@@ -1,12 +1,13 @@
 -- Worlds in which a run may begin: one with plain files or none, one that starts again from what a stop left, and one to which files were
 -- copied.
-use Rattle.std.specs.Prelude.{◌≡◌, ℕ, List, [], Some, None, true, false}
+use Rattle.std.specs.Prelude.{◌≡◌, ℕ, List, [], Some, None, true, false, Contains}
 use Rattle.nb_fields.specs.Header.{is_header}
 use Rattle.nb_host.specs.Files.{File, Files}
 use Rattle.nb_host.specs.Names.{is_name, is_delta}
 use Rattle.nb_host.specs.World.{World}
 use Rattle.nb_host.specs.Crash.{Leaves}
 use Rattle.nb_model.specs.Account.{Base, Kept, IsBase, Missing, Account}
+use Rattle.nb_model.specs.NewGuids.{IsUnnamed}
 use Rattle.nb_model.specs.Owner.{entry_in}
 use Rattle.nb_model.specs.Sound.{IsSoundImage}
 
@@ -18,6 +19,14 @@ pub record StartsFrom (w : World) (files : Files) : Type 0 where
 -- each file has a name that a host may give it
 abbrev pub HaveNames : Files → Type 0
 HaveNames files = (name bytes : List ℕ) → files name ≡ Some bytes → is_name name ≡ true
+
+-- so has each that a stop may leave
+abbrev pub LeaveNames : World → Type 0
+LeaveNames w = (name bytes : List ℕ) → Leaves w name (Some bytes) → is_name name ≡ true
+
+-- no file names one of these GUIDs
+abbrev pub NameNone : Files → (guids : List (List ℕ)) → Type 0
+NameNone files guids = (guid name bytes : List ℕ) → Contains guids guid → is_delta name ≡ false → files name ≡ Some bytes → IsUnnamed bytes guid
 
 -- no file under any name
 abbrev pub no_files : Files

@@ -24,7 +24,7 @@ pub(crate) fn run_generated<H: Host>(
     name: &Name,
 ) -> Result<Status, Stop>
     requires { is_delta name.now ≡ false }
-    ensures goes { Goes H.tells result (H.world host.old) (H.world host.new) (Runs (Ok (ToGenerate number name.now))) }
+    ensures goes { Goes H.world H.tells result host.old host.new (Runs (Ok (ToGenerate number name.now))) }
     ensures done { IfOk result (λ status. (status ≡ Status.Done) ⊎ (status ≡ Status.Refused)) }
     ensures cause { CountsStop result (H.faults host.old) (H.faults host.new) }
 {

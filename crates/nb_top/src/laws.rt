@@ -1,22 +1,28 @@
 // Laws of the whole program: each is a public function with an empty body, whose contract is the law. They show that what a run is
 // promised on holds where a first run begins and where the next one begins behind a stop, and that a job is what it asks for.
-ghost use Rattle.std.specs.Prelude.{◌≡◌, ℕ, List, [], ◌∷◌, Some};
+ghost use Rattle.std.specs.Prelude.{◌≡◌, ℕ, ◌+◌, ◌^◌, ◌<◌, List, [], ◌∷◌, Some, Result, Contains, false};
 ghost use Rattle.nb_host.specs.Files.{Files, with_file};
 ghost use Rattle.nb_host.specs.Crash.{LeavesAll};
+ghost use Rattle.nb_host.specs.Moments.{AtEachMoment};
+ghost use Rattle.nb_host.specs.declared.refusals.Refusal.{Refusal};
 ghost use Rattle.nb_mem.specs.declared.entry.Entry.{Entry};
-ghost use Rattle.nb_mem.specs.Histories.{files_of, world_of};
+ghost use Rattle.nb_mem.specs.Histories.{files_of, guids_behind, world_of};
 ghost use Rattle.nb_mem.specs.Outcomes.{IsLeft, placed};
 ghost use Rattle.nb_model.specs.Account.{Account, Kept};
 ghost use Rattle.nb_model.specs.Jobs.{Asks, IsAttaching, asks_of, turn_of};
+ghost use Rattle.nb_model.specs.NewGuids.{AreNew};
 ghost use Rattle.nb_model.specs.Outcomes.{Given};
 ghost use Rattle.nb_model.specs.Run.{Event};
 ghost use Rattle.nb_model.specs.Stands.{Stands};
 ghost use Rattle.nb_model.specs.declared.job.Job.{Job};
-ghost use Rattle.nb_top.specs.OneTurn.{one_turn};
-ghost use Rattle.nb_top.specs.Performed.{IsPerformed, KnowsAsked};
-ghost use Rattle.nb_top.specs.Requests.{Deed, Does, Runs, request_asked, request_of, run_of};
-ghost use Rattle.nb_top.specs.Standing.{HoldsKept, StandsFor};
-ghost use Rattle.nb_top.specs.Worlds.{AreCopies, ArePlain, HaveNames, HaveSound, StartsFrom, account_of, empty, no_files};
+ghost use Rattle.nb_session.specs.Others.{LeavesOthers};
+ghost use Rattle.nb_top.specs.declared.status.Status.{Status};
+ghost use Rattle.nb_top.specs.OneTurn.{DoesTurn, leaves_all, one_turn};
+ghost use Rattle.nb_top.specs.Performed.{IsPerformed, IsSure, KnowsAsked, PerformsRun};
+ghost use Rattle.nb_top.specs.Requests.{Deed, Does, Request, Runs, request_asked, request_of, run_of};
+ghost use Rattle.nb_top.specs.Standing.{HoldsKept, NextMayBegin, StandsFor};
+ghost use Rattle.nb_top.specs.Touched.{OfAsked};
+ghost use Rattle.nb_top.specs.Worlds.{AreCopies, ArePlain, HaveNames, HaveSound, LeaveNames, NameNone, StartsFrom, account_of, empty, no_files};
 
 use nb_host::Host;
 
@@ -34,6 +40,26 @@ pub fn a_next_run_may_begin<H: Host>(_host: &H)
         → (account : Account) × StandsFor (H.world _host.now) account × (account.kept ≡ kept) }
 {}
 
+/// The next run may begin behind a run with no stop between, whatever its status: where the files stood for the account and the GUIDs were new, they
+/// stand for one that has all records of before; and so behind a job of one turn, where the files that it takes are of kept backups. So what is
+/// promised of restoring kept backups is promised over any list of runs.
+pub fn a_next_run_may_begin_at_once<H: Host>(_before: &H, _behind: &H)
+    ensures runs { (status : Status) (asked : Result Request Refusal) (account : Account) (given : Given) (performs : PerformsRun status (H.world _before.now) (H.world _behind.now) asked account given)
+        → IsSure (H.world _before.now) account performs.events → NextMayBegin (H.world _behind.now) account }
+    ensures turns { (status : Status) (deed : Deed) (account : Account) → DoesTurn status (H.world _before.now) (H.world _behind.now) (one_turn (H.world _before.now).files deed) account → StandsFor (H.world _before.now) account
+        → (leaves_all ((one_turn (H.world _before.now).files deed).turn account) ≡ false → (one_turn (H.world _before.now).files deed).takes account.kept) → NextMayBegin (H.world _behind.now) account }
+{}
+
+/// Files keep names that a host may give them: where all that a stop may leave has such names as a run begins, it has at each moment of the run and
+/// behind it, whatever its words ask for and whatever stands in the files. A host that starts from such files leaves such names.
+pub fn names_stay_names<H: Host>(_before: &H, _behind: &H)
+    ensures moments { (words : List (List ℕ)) → LeavesOthers (H.world _before.now) (H.world _behind.now) (OfAsked (H.world _before.now).files (request_asked (H.world _before.now).files words)) → LeaveNames (H.world _before.now)
+        → AtEachMoment (H.world _before.now) (H.world _behind.now) (λ files said. HaveNames files) }
+    ensures behind { (words : List (List ℕ)) → LeavesOthers (H.world _before.now) (H.world _behind.now) (OfAsked (H.world _before.now).files (request_asked (H.world _before.now).files words)) → LeaveNames (H.world _before.now)
+        → LeaveNames (H.world _behind.now) }
+    ensures starts { (files : Files) → HaveNames files → StartsFrom (H.world _behind.now) files → LeaveNames (H.world _behind.now) }
+{}
+
 /// A run may begin where files were copied to, as backups to another machine. Copies of files that stand for an account, under whatever
 /// names and without a difference file, stand for one with the same records. So what is promised of restoring kept backups is promised there.
 pub fn a_run_may_begin_on_copies<H: Host>(_host: &H)
@@ -47,6 +73,13 @@ pub fn hosts_in_memory_begin_so()
     ensures none { StartsFrom (world_of []) no_files }
     ensures placed { (es : List Entry) (files : Files) (name bytes : List ℕ) → StartsFrom (world_of es) files → StartsFrom (world_of (placed name (Some bytes) es)) (with_file files name (Some bytes)) }
     ensures left { (stopped left : List Entry) → IsLeft stopped left → LeavesAll (world_of stopped) (files_of left) × StartsFrom (world_of left) (files_of left) }
+{}
+
+/// On a host in memory the GUIDs of a next run are new. Behind a stop the host counts on from those that were given before, as
+/// `nb_mem::MemHost::behind_guids` lets it, so it gives none that a kept record has, and no GUID twice; where no file names one, they are new.
+pub fn counted_guids_are_new<H: Host>(_host: &H)
+    ensures { (files : Files) (kept : List Kept) (count more : ℕ) → count + more < 2 ^ 64 → StartsFrom (H.world _host.now) files → ((r : Kept) → Contains kept r → Contains (guids_behind 0 count) r.guid)
+        → NameNone files (guids_behind count more) → AreNew (H.world _host.now) kept (guids_behind count more) }
 {}
 
 /// An account for which the files stand knows what any words ask of it: of each name that a file may have it knows whether it is free, and of

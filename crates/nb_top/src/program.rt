@@ -41,7 +41,7 @@ fn run_bytes<H: Host>(
     broken: &mut Option<Broken>,
 ) -> Result<Status, Stop>
     requires { broken.old ≡ None }
-    ensures goes { Goes H.tells result (H.world host.old) (H.world host.new) (Runs (to_run (script_of bytes.now))) }
+    ensures goes { Goes H.world H.tells result host.old host.new (Runs (to_run (script_of bytes.now))) }
     ensures shown { IsShownOf result broken.new (Runs (to_run (script_of bytes.now))) }
     ensures done { IfOk result (λ status. (status ≡ Status.Done) ⊎ (status ≡ Status.Refused)) }
     ensures cause { CountsStop result (H.faults host.old) (H.faults host.new) }
@@ -63,7 +63,7 @@ fn run_file<H: Host>(
     broken: &mut Option<Broken>,
 ) -> Result<Status, Stop>
     requires { broken.old ≡ None }
-    ensures goes { Goes H.tells result (H.world host.old) (H.world host.new) (Runs (to_run (script_in name.now ((H.world host.old).files name.now)))) }
+    ensures goes { Goes H.world H.tells result host.old host.new (Runs (to_run (script_in name.now ((H.world host.old).files name.now)))) }
     ensures shown { IsTrue H.tells → IsShownOf result broken.new (Runs (to_run (script_in name.now ((H.world host.old).files name.now)))) }
     ensures done { IfOk result (λ status. (status ≡ Status.Done) ⊎ (status ≡ Status.Refused)) }
     ensures cause { CountsStop result (H.faults host.old) (H.faults host.new) }
@@ -83,7 +83,7 @@ fn plan_bytes<H: Host>(
     broken: &mut Option<Broken>,
 ) -> Result<Status, Stop>
     requires { broken.old ≡ None }
-    ensures goes { Goes H.tells result (H.world host.old) (H.world host.new) (to_plan keep (list_of bytes.now)) }
+    ensures goes { Goes H.world H.tells result host.old host.new (to_plan keep (list_of bytes.now)) }
     ensures shown { IsShownOf result broken.new (to_plan keep (list_of bytes.now)) }
     ensures done { IfOk result (λ status. (status ≡ Status.Done) ⊎ (status ≡ Status.Refused)) }
     ensures cause { CountsStop result (H.faults host.old) (H.faults host.new) }
@@ -106,7 +106,7 @@ fn plan_list<H: Host>(
     broken: &mut Option<Broken>,
 ) -> Result<Status, Stop>
     requires { broken.old ≡ None }
-    ensures goes { Goes H.tells result (H.world host.old) (H.world host.new) (to_plan keep (names_in list.now ((H.world host.old).files list.now))) }
+    ensures goes { Goes H.world H.tells result host.old host.new (to_plan keep (names_in list.now ((H.world host.old).files list.now))) }
     ensures shown { IsTrue H.tells → IsShownOf result broken.new (to_plan keep (names_in list.now ((H.world host.old).files list.now))) }
     ensures done { IfOk result (λ status. (status ≡ Status.Done) ⊎ (status ≡ Status.Refused)) }
     ensures cause { CountsStop result (H.faults host.old) (H.faults host.new) }
@@ -126,7 +126,7 @@ fn run_asking<H: Host>(
     telling: Telling,
 ) -> Result<Status, Stop>
     requires askable { IsAskable (plan_of db.now (statement ∷ [])) }
-    ensures goes { Goes H.tells result (H.world host.old) (H.world host.new) (Runs (Ok (ToRun (plan_of db.now (statement ∷ [])) telling))) }
+    ensures goes { Goes H.world H.tells result host.old host.new (Runs (Ok (ToRun (plan_of db.now (statement ∷ [])) telling))) }
     ensures done { IfOk result (λ status. (status ≡ Status.Done) ⊎ (status ≡ Status.Refused)) }
     ensures cause { CountsStop result (H.faults host.old) (H.faults host.new) }
 {
@@ -139,7 +139,7 @@ fn run_asking<H: Host>(
 /// Shows the header of a database and its pages.
 fn run_stat<H: Host>(alloc: Global, host: &mut H, db: &Name) -> Result<Status, Stop>
     requires askable { IsAskable (plan_of db.now (ShowHeader ∷ ShowPages ∷ [])) }
-    ensures goes { Goes H.tells result (H.world host.old) (H.world host.new) (Runs (Ok (ToRun (plan_of db.now (ShowHeader ∷ ShowPages ∷ [])) Telling.Quietly))) }
+    ensures goes { Goes H.world H.tells result host.old host.new (Runs (Ok (ToRun (plan_of db.now (ShowHeader ∷ ShowPages ∷ [])) Telling.Quietly))) }
     ensures done { IfOk result (λ status. (status ≡ Status.Done) ⊎ (status ≡ Status.Refused)) }
     ensures cause { CountsStop result (H.faults host.old) (H.faults host.new) }
 {
@@ -158,7 +158,7 @@ fn run_job<H: Host>(
 ) -> Result<Status, Stop>
     requires fits { FitsJob job.now }
     requires none { broken.old ≡ None }
-    ensures goes { Goes H.tells result (H.world host.old) (H.world host.new) (request_of (H.world host.old).files job.now) }
+    ensures goes { Goes H.world H.tells result host.old host.new (request_of (H.world host.old).files job.now) }
     ensures shown { IsTrue H.tells → IsShownOf result broken.new (request_of (H.world host.old).files job.now) }
     ensures done { IfOk result (λ status. (status ≡ Status.Done) ⊎ (status ≡ Status.Refused)) }
     ensures cause { CountsStop result (H.faults host.old) (H.faults host.new) }
@@ -227,7 +227,7 @@ fn do_job<H: Host>(
 ) -> Result<Status, Stop>
     requires read { IsReadJob job.now }
     requires none { broken.old ≡ None }
-    ensures goes { (asked : Asked) → IsAskedBy job.now (H.world host.old).files asked → Goes H.tells result (H.world host.old) (H.world host.new) asked }
+    ensures goes { (asked : Asked) → IsAskedBy job.now (H.world host.old).files asked → Goes H.world H.tells result host.old host.new asked }
     ensures shown { (asked : Asked) → IsTrue H.tells → IsAskedBy job.now (H.world host.old).files asked → IsShownOf result broken.new asked }
     ensures usage { IfOk result (λ status. status ≡ Status.Usage → NamesNone job.now) }
     ensures no_job { IfOk result (λ status. IsErr job.now → status ≡ Status.Usage) }
@@ -262,7 +262,7 @@ pub fn run_read<H: Host>(
     ensures no_device { result ≢ Status.Device → H.faults host.new ≡ H.faults host.old }
     ensures usage { result ≡ Status.Usage → NamesNone job.now }
     ensures no_job { IsErr job.now → result ≢ Status.Done × result ≢ Status.Refused }
-    ensures runs { (asked : Asked) → IsAskedBy job.now (H.world host.old).files asked → IsRun H.tells result (H.world host.old) (H.world host.new) asked }
+    ensures runs { (asked : Asked) → IsAskedBy job.now (H.world host.old).files asked → IsRun H.world H.tells result host.old host.new asked }
     // A line is shown exactly where the script is refused for it; where a call of the host fails or memory runs out it may be lost.
     ensures shown { (asked : Asked) → IsTrue H.tells → IsAskedBy job.now (H.world host.old).files asked → IsShown result broken.new asked }
 {
@@ -288,14 +288,18 @@ pub fn run<H: Host>(alloc: Global, words: &[String], host: &mut H) -> Status
     // What the words ask for is done. Where an account knows what the files tell as the call begins, and whatever GUIDs of 16 bytes and times
     // may still be given (`does`, `Performs`): the output is that of the run which the words ask for, and at each moment a stop leaves what may be left of the
     // database behind a front of its steps that holds every acknowledged one, each file that the run makes as it was, unfinished or whole, and
-    // whole once its turn is acknowledged, and other files as before. So do the files as they read where the run ended early. Where the files
-    // stand for the account and the GUIDs are new, they stand for one with the records behind that front, and at the end for the account after.
+    // whole once its turn is acknowledged, and other files as before. So do the files as they read where the run ended early, and other files read
+    // as before, whatever the status. Where the files stand for the account and the GUIDs are new, they stand for one with the records behind that
+    // front, at the end for the account after, and behind every status for one with which the next run may begin.
+    //
+    // Turn by turn (`turns`, `AskedByTurns`): each turn leaves alone every file but the database's two and those that this turn may touch, from the host
+    // at which the one before it ended, and one that only tells something, as a refusal, leaves all files as they read before it, byte for byte.
     //
     // Whatever stands in the files, and with no account (`touches`): at each moment, and at the end, no file is other than a stop would have left
     // it before, or reads otherwise, but the two of the database that the words ask for and those that the job is to make: the files of the
     // backups and copies that its statements name, and that of a script which it writes. The answer is Refused or Usage only where a line of a refusal
     // was said. Where a statement ends in a merge, it is asked that no page of a database that is opened is all zeros.
-    ensures performs { IsRun H.tells result (H.world host.old) (H.world host.new) (request_asked (H.world host.old).files (map string_bytes words.now)) }
+    ensures performs { IsRun H.world H.tells result host.old host.new (request_asked (H.world host.old).files (map string_bytes words.now)) }
 {
     let mut broken = None;
     run_read(alloc, &read_job(alloc, words), host, &mut broken)

@@ -24,7 +24,8 @@ ghost use Rattle.nb_session.specs.Ready.{IsReady};
 ghost use Rattle.nb_session.specs.Says.{SaysLine};
 ghost use Rattle.nb_session.specs.StillOpen.{IsStillOpen, ScriptStays, script_merges};
 ghost use Rattle.nb_session.specs.Told.{told_events};
-ghost use Rattle.nb_top.specs.Performed.{PlaysOpened, PlaysTold, cache_asked, first_event, is_all, opened_reply, told_first, told_later};
+ghost use Rattle.nb_top.specs.ByTurns.{RunsOpened, TakesTold};
+ghost use Rattle.nb_top.specs.Performed.{cache_asked, first_event, is_all, opened_reply, told_first, told_later};
 ghost use Rattle.nb_top.specs.Numbers.{number_of};
 ghost use Rattle.nb_top.specs.Goes.{Goes};
 ghost use Rattle.nb_top.specs.Requests.{Runs, ToRun};
@@ -162,7 +163,7 @@ fn take_told<H: Host>(
     requires askable { IsAskable script.now }
     ensures plays { IsTrue H.tells → (shown : List ℕ) × ((now : Now) (t : Trail) → IsReady (H.world host.old) engine.old t now → now.todo ≡ begun script.now.sessions → IsMaking now
         → Foretells now.given shown (H.world host.old) (H.world host.new)
-        → PlaysTold result (H.world host.old) (H.world host.new) engine.old engine.new t telling engine.old.files.count now script.now.schedule) }
+        → TakesTold H.world result host.old host.new engine.old engine.new t telling engine.old.files.count now script.now.schedule) }
     ensures none_waits { IfOk result (λ refused. NoPageWaits engine.new) }
     ensures stays_open { IsTrue H.tells → IsStillOpen (script_merges script.now) (H.world host.old) engine.old → ScriptStays result (H.world host.old) (H.world host.new) engine.old engine.new script.now }
     ensures grows { (now : Now) (t : Trail) → IsTrue H.tells → IsReady (H.world host.old) engine.old t now → now.todo ≡ begun script.now.sessions → IsMaking now
@@ -186,7 +187,7 @@ fn run_opened<H: Host>(
     ensures plays { IsTrue H.tells → (shown : List ℕ) × ((now : Now) (start : Base) (strokes : List Stroke) → IsReady (H.world host.old) engine.old (settled_trail (base_now now)) now → now.todo ≡ begun script.now.sessions
         → IsMaking now → Foretells now.given shown (H.world host.old) (H.world host.new)
         → after_steps (settled_trail start) (steps_in (first_event script.now.first_session strokes (opened_reply script.now.first engine.old.files.count engine.old.files.state))) ≡ settled_trail (base_now now)
-        → PlaysOpened result (H.world host.old) (H.world host.new) engine.old engine.new start
+        → RunsOpened H.world result host.old host.new engine.old engine.new start
         (told_first telling (first_event script.now.first_session strokes (opened_reply script.now.first engine.old.files.count engine.old.files.state))) telling engine.old.files.count now script.now) }
     ensures none_waits { IfOk result (λ refused. NoPageWaits engine.new) }
     ensures stays_open { IsTrue H.tells → IsStillOpen (script_merges script.now) (H.world host.old) engine.old → ScriptStays result (H.world host.old) (H.world host.new) engine.old engine.new script.now }
@@ -219,7 +220,7 @@ pub fn run_script<H: Host>(
     telling: Telling,
 ) -> Result<Status, Stop>
     requires askable { IsAskable script.now }
-    ensures goes { Goes H.tells result (H.world host.old) (H.world host.new) (Runs (Ok (ToRun script.now telling))) }
+    ensures goes { Goes H.world H.tells result host.old host.new (Runs (Ok (ToRun script.now telling))) }
     ensures done { IfOk result (λ status. (status ≡ Status.Done) ⊎ (status ≡ Status.Refused)) }
     ensures cause { CountsStop result (H.faults host.old) (H.faults host.new) }
 {

@@ -149,7 +149,7 @@ fn say_taken<H: Host>(
 pub(crate) fn run_turn<H: Host>(alloc: Global, host: &mut H, job: &Job) -> Result<Status, Stop>
     requires deed { (deed : Deed) × (deed_of job.now ≡ Some deed) }
     requires fits { FitsJob job.now }
-    ensures goes { (deed : Deed) → deed_of job.now ≡ Some deed → Goes H.tells result (H.world host.old) (H.world host.new) (Does deed) }
+    ensures goes { (deed : Deed) → deed_of job.now ≡ Some deed → Goes H.world H.tells result host.old host.new (Does deed) }
     ensures done { IfOk result (λ status. (status ≡ Status.Done) ⊎ (status ≡ Status.Refused)) }
     ensures cause { CountsStop result (H.faults host.old) (H.faults host.new) }
 {
@@ -165,7 +165,7 @@ pub(crate) fn run_plan<H: Host>(
     files: &[Name],
 ) -> Result<Status, Stop>
     requires few { length files.now < 2 ^ 32 }
-    ensures goes { Goes H.tells result (H.world host.old) (H.world host.new) (Does (ToPlan keep files.now)) }
+    ensures goes { Goes H.world H.tells result host.old host.new (Does (ToPlan keep files.now)) }
     ensures done { IfOk result (λ status. (status ≡ Status.Done) ⊎ (status ≡ Status.Refused)) }
     ensures cause { CountsStop result (H.faults host.old) (H.faults host.new) }
 {

@@ -40,7 +40,7 @@ returns-clause-begins g c t guid ask tells is given =
       head = ap (λ (x : List ℕ). record bare { guid = x; scn = c.scn-scn.result }) its_guid ∙ ap (λ (n : ℕ). record bare { guid = guid; scn = n }) its_scn;
       gave = starts.gave;
       times = starts.times;
-      refused = tt;
+      idle = starts.idle;
       running = ap (λ (h : Held). h.running) c.set_running.ensures;
       name = ap (λ (h : Held). h.files.name) c.set_running.ensures ∙ starts.name;
     }

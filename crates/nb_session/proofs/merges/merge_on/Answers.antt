@@ -3,8 +3,6 @@ use Rattle.std.specs.Prelude.{Ok, Err, Some, true, None, false}
 use Rattle.nb_model.specs.declared.reply.Reply.{Reply}
 use Rattle.nb_session.specs.Says.{SaysLine}
 use Rattle.nb_session.specs.Told.{told_line, told_reply}
-use Rattle.nb_model.specs.Account.{Base}
-use Rattle.nb_model.specs.Sound.{HasNoZeros}
 use Rattle.nb_state.specs.Turns.{Merges, GoesOn}
 use Rattle.nb_state.specs.declared.turns.Progress.{Progress}
 use Rattle.nb_state.specs.declared.turns.Progress.TheVariants.{More, Finished}
@@ -27,9 +25,8 @@ returns-in_err-merge_turn-clause-turn g c now t more tells ready makes here =
     let a = c.args.engine.now in
     let b = c.merge_turn.new.self in
     let m = c.args.merging.now in
-    let zeros = subst (λ (x : Base). HasNoZeros x.image) (sym ready.base) makes.going.sound.sound.no_zeros in
     turns_failed c.args.told (merge_said m.reply) (Err c.in_err-merge_turn.field-0.0) left_refused (left_task _) old mid mid a b t now c.args.session _ _ more [] (merges_touch c.args.session m.left m.reply now) makes here
-    (merge_acts old mid a b t now c.args.session m.reply ready c.merge_turn.ensures.cap (Err c.in_err-merge_turn.field-0.0) c.in_err-merge_turn.ensures.not_refused m.left c.requires.fits.0 (c.in_err-merge_turn.ensures.merges t tells ready.opened zeros)) (λ acts. marks_none old mid a)
+    (merge_acts old mid a b t now c.args.session m.reply ready c.merge_turn.ensures.cap (Err c.in_err-merge_turn.field-0.0) c.in_err-merge_turn.ensures.not_refused m.left c.requires.fits.0 (c.in_err-merge_turn.ensures.merges t tells ready.opened)) (λ acts. marks_none old mid a)
     c.from_residual.result c.from_residual.ensures.0
 
 pub returns-in-More-clause-turn : goal.returns-in-More-clause-turn
@@ -39,8 +36,7 @@ returns-in-More-clause-turn g c now t more tells ready makes here =
     let a = c.args.engine.now in
     let b = c.merge_turn.new.self in
     let m = c.args.merging.now in
-    let zeros = subst (λ (x : Base). HasNoZeros x.image) (sym ready.base) makes.going.sound.sound.no_zeros in
-    let merges = subst (λ (p : Progress). Merges (Ok p) old mid a b t) c.in-More.is (c.in_ok-merge_turn.ensures.merges t tells ready.opened zeros) in
+    let merges = subst (λ (p : Progress). Merges (Ok p) old mid a b t) c.in-More.is (c.in_ok-merge_turn.ensures.merges t tells ready.opened) in
     let goes = subst (λ (p : Progress). GoesOn p a b) c.in-More.is c.in_ok-merge_turn.ensures.goes in
     turns_quiet c.args.told (merge_said m.reply) (Ok More) left_refused (left_task _) old mid mid a b t now c.args.session _ _ more [] (merges_touch c.args.session m.left m.reply now) makes here
     (merge_acts old mid a b t now c.args.session m.reply ready c.merge_turn.ensures.cap (Ok More) tt m.left c.requires.fits.0 merges) (λ acts. marks_none old mid a)
@@ -53,8 +49,7 @@ returns-in_err-tell-in-Finished-clause-turn g c now t more tells ready makes her
     let a = c.args.engine.now in
     let b = c.merge_turn.new.self in
     let m = c.args.merging.now in
-    let zeros = subst (λ (x : Base). HasNoZeros x.image) (sym ready.base) makes.going.sound.sound.no_zeros in
-    let merges = subst (λ (p : Progress). Merges (Ok p) old mid a b t) c.in-Finished.is (c.in_ok-merge_turn.ensures.merges t tells ready.opened zeros) in
+    let merges = subst (λ (p : Progress). Merges (Ok p) old mid a b t) c.in-Finished.is (c.in_ok-merge_turn.ensures.merges t tells ready.opened) in
     turns_unsaid c.args.told (merge_said m.reply) (Ok Finished) left_refused (left_task _) old mid (g.H.Host.world c.tell.new.host) a b t now c.args.session _ _ more [] (merges_touch c.args.session m.left m.reply now) makes here
     (merge_acts old mid a b t now c.args.session m.reply ready c.merge_turn.ensures.cap (Ok Finished) tt m.left c.requires.fits.0 merges) (λ acts. marks_none old mid a)
     tt m.reply (λ said is. is) c.tell.result (subst (λ (r : Reply). SaysLine c.tell.result mid (g.H.Host.world c.tell.new.host) (told_line c.args.session (told_reply c.args.told (Some r)))) c.replace-reply.ensures.value (c.tell.ensures.line tells)) ready c.from_residual-in_err-tell-in-Finished.result c.from_residual-in_err-tell-in-Finished.ensures.0
@@ -67,8 +62,7 @@ returns-in_ok-tell-in-Finished-clause-turn g c now t more tells ready makes here
     let a = c.args.engine.now in
     let b = c.merge_turn.new.self in
     let m = c.args.merging.now in
-    let zeros = subst (λ (x : Base). HasNoZeros x.image) (sym ready.base) makes.going.sound.sound.no_zeros in
-    let merges = subst (λ (p : Progress). Merges (Ok p) old mid a b t) c.in-Finished.is (c.in_ok-merge_turn.ensures.merges t tells ready.opened zeros) in
+    let merges = subst (λ (p : Progress). Merges (Ok p) old mid a b t) c.in-Finished.is (c.in_ok-merge_turn.ensures.merges t tells ready.opened) in
     let goes = subst (λ (p : Progress). GoesOn p a b) c.in-Finished.is c.in_ok-merge_turn.ensures.goes in
     turns_said c.args.told (merge_said m.reply) (Ok Finished) left_refused (left_task _) old mid new a b t now c.args.session _ _ more [] (merges_touch c.args.session m.left m.reply now) makes here
     (merge_acts old mid a b t now c.args.session m.reply ready c.merge_turn.ensures.cap (Ok Finished) tt m.left c.requires.fits.0 merges) (λ acts. marks_none old mid a)
@@ -83,8 +77,8 @@ returns-in_err-merge_turn-clause-stays_open g c tells still =
     let b = c.merge_turn.new.self in
     let t = still.trail in
     let fault = c.in_err-merge_turn.field-0.0 in
-    let merges = c.in_err-merge_turn.ensures.merges t tells still.opened (still.no_zeros refl) in
-    turn_failed true old mid a b NoNames still (Err fault) (stays_merges (Err fault) old mid a b t NoNames c.in_err-merge_turn.ensures.not_refused merges) left_refused (left_task _) c.from_residual.result c.from_residual.ensures.0
+    let merges = c.in_err-merge_turn.ensures.merges t tells still.opened in
+    turn_failed true old mid a b NoNames still (Err fault) (stays_merges (Err fault) old mid a b t NoNames c.in_err-merge_turn.ensures.not_refused (still.no_zeros refl) merges) left_refused (left_task _) c.from_residual.result c.from_residual.ensures.0
 
 pub returns-in-More-clause-stays_open : goal.returns-in-More-clause-stays_open
 returns-in-More-clause-stays_open g c tells still =
@@ -93,8 +87,8 @@ returns-in-More-clause-stays_open g c tells still =
     let a = c.args.engine.now in
     let b = c.merge_turn.new.self in
     let t = still.trail in
-    let merges = subst (λ (p : Progress). Merges (Ok p) old mid a b t) c.in-More.is (c.in_ok-merge_turn.ensures.merges t tells still.opened (still.no_zeros refl)) in
-    turn_unheard true old mid a b NoNames still (Ok More) (stays_merges (Ok More) old mid a b t NoNames tt merges) left_refused (left_task _) Same b tt refl refl (λ m none. none) refl
+    let merges = subst (λ (p : Progress). Merges (Ok p) old mid a b t) c.in-More.is (c.in_ok-merge_turn.ensures.merges t tells still.opened) in
+    turn_unheard true old mid a b NoNames still (Ok More) (stays_merges (Ok More) old mid a b t NoNames tt (still.no_zeros refl) merges) left_refused (left_task _) Same b tt refl refl (λ m none. none) refl
 
 pub returns-in_err-tell-in-Finished-clause-stays_open : goal.returns-in_err-tell-in-Finished-clause-stays_open
 returns-in_err-tell-in-Finished-clause-stays_open g c tells still =
@@ -103,8 +97,8 @@ returns-in_err-tell-in-Finished-clause-stays_open g c tells still =
     let a = c.args.engine.now in
     let b = c.merge_turn.new.self in
     let t = still.trail in
-    let merges = subst (λ (p : Progress). Merges (Ok p) old mid a b t) c.in-Finished.is (c.in_ok-merge_turn.ensures.merges t tells still.opened (still.no_zeros refl)) in
-    turn_unsaid true old mid a b NoNames still (Ok Finished) (stays_merges (Ok Finished) old mid a b t NoNames tt merges) left_refused (left_task _)
+    let merges = subst (λ (p : Progress). Merges (Ok p) old mid a b t) c.in-Finished.is (c.in_ok-merge_turn.ensures.merges t tells still.opened) in
+    turn_unsaid true old mid a b NoNames still (Ok Finished) (stays_merges (Ok Finished) old mid a b t NoNames tt (still.no_zeros refl) merges) left_refused (left_task _)
     (g.H.Host.world c.tell.new.host) c.tell.result _ (g.met.H.Host.timely c.tell.new.host) (g.met.H.Host.reads_left c.tell.new.host tells) (c.tell.ensures.line tells) b refl c.from_residual-in_err-tell-in-Finished.result c.from_residual-in_err-tell-in-Finished.ensures.0
 
 pub returns-in_ok-tell-in-Finished-clause-stays_open : goal.returns-in_ok-tell-in-Finished-clause-stays_open
@@ -114,6 +108,6 @@ returns-in_ok-tell-in-Finished-clause-stays_open g c tells still =
     let a = c.args.engine.now in
     let b = c.merge_turn.new.self in
     let t = still.trail in
-    let merges = subst (λ (p : Progress). Merges (Ok p) old mid a b t) c.in-Finished.is (c.in_ok-merge_turn.ensures.merges t tells still.opened (still.no_zeros refl)) in
-    turn_said true old mid a b NoNames still (Ok Finished) (stays_merges (Ok Finished) old mid a b t NoNames tt merges) left_refused (left_task _)
+    let merges = subst (λ (p : Progress). Merges (Ok p) old mid a b t) c.in-Finished.is (c.in_ok-merge_turn.ensures.merges t tells still.opened) in
+    turn_said true old mid a b NoNames still (Ok Finished) (stays_merges (Ok Finished) old mid a b t NoNames tt (still.no_zeros refl) merges) left_refused (left_task _)
     (g.H.Host.world c.tell.new.host) c.tell.result _ (g.met.H.Host.timely c.tell.new.host) (g.met.H.Host.reads_left c.tell.new.host tells) (c.tell.ensures.line tells) b refl (Other (record { task = None; refused = false })) tt tt (λ m none. none) (λ yes. absurd (true≢false (sym yes)))

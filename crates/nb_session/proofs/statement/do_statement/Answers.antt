@@ -27,7 +27,7 @@ unfolding first_turn
 returns-in_err-page_write-in-Write-clause-turn g c now t session tells ready sound =
     let s = seen_now now in
     may_passed (some_by done) some_said _ _ _ _ t now session _ [] _ c.from_residual.result c.from_residual.ensures
-    (does_acts done _ _ _ _ _ t now session c.args.statement.now _ c.in-Write.is refl refl refl _ (ap (λ text. write_turn s c.in-Write.page text) c.as_slice.ensures) ready (λ value tells. absurd (true≢false (sym tells)))
+    (does_acts done _ _ _ _ _ t now session c.args.statement.now _ c.in-Write.is refl refl refl _ (ap (λ text. write_turn s c.in-Write.page text) c.as_slice.ensures) ready
     (c.in_err-page_write-in-Write.ensures.turn s t tells ready.base ready.opened))
 
 pub returns-in_ok-page_write-in-Write-clause-turn : goal.returns-in_ok-page_write-in-Write-clause-turn
@@ -35,7 +35,7 @@ unfolding first_turn
 returns-in_ok-page_write-in-Write-clause-turn g c now t session tells ready sound =
     let s = seen_now now in
     may_value (some_by done) some_said _ _ _ _ t now session _ [] c.in_ok-page_write-in-Write.field-0 Done refl
-    (does_acts done _ _ _ _ _ t now session c.args.statement.now _ c.in-Write.is refl refl refl _ (ap (λ text. write_turn s c.in-Write.page text) c.as_slice.ensures) ready (λ value tells. absurd (true≢false (sym tells)))
+    (does_acts done _ _ _ _ _ t now session c.args.statement.now _ c.in-Write.is refl refl refl _ (ap (λ text. write_turn s c.in-Write.page text) c.as_slice.ensures) ready
     (c.in_ok-page_write-in-Write.ensures.turn s t tells ready.base ready.opened))
 
 pub returns-in_err-text-in-Read-clause-turn : goal.returns-in_err-text-in-Read-clause-turn
@@ -43,14 +43,14 @@ unfolding first_turn
 returns-in_err-text-in-Read-clause-turn g c now t session tells ready sound =
     let s = seen_now now in
     may_passed (some_by valued) some_said _ _ _ _ t now session _ [] _ c.from_residual-in_err-text-in-Read.result c.from_residual-in_err-text-in-Read.ensures
-    (does_acts valued _ _ _ _ _ t now session c.args.statement.now _ c.in-Read.is refl refl refl _ refl ready (λ value tells. c.in_err-text-in-Read.ensures.quiet.still.files) (c.in_err-text-in-Read.ensures.turn s t tells ready.base ready.opened))
+    (does_acts valued _ _ _ _ _ t now session c.args.statement.now _ c.in-Read.is refl refl refl _ refl ready (c.in_err-text-in-Read.ensures.turn s t tells ready.base ready.opened))
 
 pub returns-in_err-new-in-Read-clause-turn : goal.returns-in_err-new-in-Read-clause-turn
 unfolding first_turn
 returns-in_err-new-in-Read-clause-turn g c now t session tells ready sound =
     let s = seen_now now in
     may_then_memory (some_by valued) some_said _ _ _ _ t now session _ [] _ _ c.from_residual-in_err-new-in-Read.result c.in_err-new-in-Read.ensures.only_memory c.from_residual-in_err-new-in-Read.ensures
-    (does_acts valued _ _ _ _ _ t now session c.args.statement.now _ c.in-Read.is refl refl refl _ refl ready (λ value tells. c.in_ok-text-in-Read.ensures.quiet.still.files) (c.in_ok-text-in-Read.ensures.turn s t tells ready.base ready.opened))
+    (does_acts valued _ _ _ _ _ t now session c.args.statement.now _ c.in-Read.is refl refl refl _ refl ready (c.in_ok-text-in-Read.ensures.turn s t tells ready.base ready.opened))
 
 pub returns-in_ok-new-in-Read-clause-turn : goal.returns-in_ok-new-in-Read-clause-turn
 unfolding first_turn
@@ -58,14 +58,14 @@ returns-in_ok-new-in-Read-clause-turn g c now t session tells ready sound =
     let s = seen_now now in
     may_value (some_by valued) some_said _ _ _ _ t now session _ [] c.in_ok-text-in-Read.text (Value c.in_ok-new-in-Read.field-0)
     (ap (λ text. Some (Value text)) (sym (c.in_ok-new-in-Read.ensures.ok ∙ c.as_slice-in-Read.ensures.value)))
-    (does_acts valued _ _ _ _ _ t now session c.args.statement.now _ c.in-Read.is refl refl refl _ refl ready (λ value tells. c.in_ok-text-in-Read.ensures.quiet.still.files) (c.in_ok-text-in-Read.ensures.turn s t tells ready.base ready.opened))
+    (does_acts valued _ _ _ _ _ t now session c.args.statement.now _ c.in-Read.is refl refl refl _ refl ready (c.in_ok-text-in-Read.ensures.turn s t tells ready.base ready.opened))
 
 pub returns-in_err-page-in-PageNew-clause-turn : goal.returns-in_err-page-in-PageNew-clause-turn
 unfolding first_turn
 returns-in_err-page-in-PageNew-clause-turn g c now t session tells ready sound =
     let s = seen_now now in
     may_passed (some_by page_made) some_said _ _ _ _ t now session _ [] _ c.from_residual-in_err-page-in-PageNew.result c.from_residual-in_err-page-in-PageNew.ensures
-    (does_acts page_made _ _ _ _ _ t now session c.args.statement.now _ c.in-PageNew.is refl refl refl _ refl ready (λ value tells. absurd (true≢false (sym tells)))
+    (does_acts page_made _ _ _ _ _ t now session c.args.statement.now _ c.in-PageNew.is refl refl refl _ refl ready
     (c.in_err-page-in-PageNew.ensures.turn s t tells ready.base ready.opened (subst (λ (b : Base). IsSoundImage b.image) ready.base (sound (subst GoesByInventories (sym c.in-PageNew.is) tt)))))
 
 pub returns-in_ok-page-in-PageNew-clause-turn : goal.returns-in_ok-page-in-PageNew-clause-turn
@@ -73,7 +73,7 @@ unfolding first_turn
 returns-in_ok-page-in-PageNew-clause-turn g c now t session tells ready sound =
     let s = seen_now now in
     may_value (some_by page_made) some_said _ _ _ _ t now session _ [] c.in_ok-page-in-PageNew.page (PageMade c.in_ok-page-in-PageNew.page) refl
-    (does_acts page_made _ _ _ _ _ t now session c.args.statement.now _ c.in-PageNew.is refl refl refl _ refl ready (λ value tells. absurd (true≢false (sym tells)))
+    (does_acts page_made _ _ _ _ _ t now session c.args.statement.now _ c.in-PageNew.is refl refl refl _ refl ready
     (c.in_ok-page-in-PageNew.ensures.turn s t tells ready.base ready.opened (subst (λ (b : Base). IsSoundImage b.image) ready.base (sound (subst GoesByInventories (sym c.in-PageNew.is) tt)))))
 
 pub returns-in_err-page_free-in-Free-clause-turn : goal.returns-in_err-page_free-in-Free-clause-turn
@@ -81,42 +81,42 @@ unfolding first_turn
 returns-in_err-page_free-in-Free-clause-turn g c now t session tells ready sound =
     let s = seen_now now in
     may_passed (some_by done) some_said _ _ _ _ t now session _ [] _ c.from_residual-in_err-page_free-in-Free.result c.from_residual-in_err-page_free-in-Free.ensures
-    (does_acts done _ _ _ _ _ t now session c.args.statement.now _ c.in-Free.is refl refl refl _ refl ready (λ value tells. absurd (true≢false (sym tells))) (c.in_err-page_free-in-Free.ensures.turn s t tells ready.base ready.opened))
+    (does_acts done _ _ _ _ _ t now session c.args.statement.now _ c.in-Free.is refl refl refl _ refl ready (c.in_err-page_free-in-Free.ensures.turn s t tells ready.base ready.opened))
 
 pub returns-in_ok-page_free-in-Free-clause-turn : goal.returns-in_ok-page_free-in-Free-clause-turn
 unfolding first_turn
 returns-in_ok-page_free-in-Free-clause-turn g c now t session tells ready sound =
     let s = seen_now now in
     may_value (some_by done) some_said _ _ _ _ t now session _ [] c.in_ok-page_free-in-Free.field-0 Done refl
-    (does_acts done _ _ _ _ _ t now session c.args.statement.now _ c.in-Free.is refl refl refl _ refl ready (λ value tells. absurd (true≢false (sym tells))) (c.in_ok-page_free-in-Free.ensures.turn s t tells ready.base ready.opened))
+    (does_acts done _ _ _ _ _ t now session c.args.statement.now _ c.in-Free.is refl refl refl _ refl ready (c.in_ok-page_free-in-Free.ensures.turn s t tells ready.base ready.opened))
 
 pub returns-in_err-set_forced-in-Forced-clause-turn : goal.returns-in_err-set_forced-in-Forced-clause-turn
 unfolding first_turn
 returns-in_err-set_forced-in-Forced-clause-turn g c now t session tells ready sound =
     let s = seen_now now in
     may_passed (some_by done) some_said _ _ _ _ t now session _ [] _ c.from_residual-in_err-set_forced-in-Forced.result c.from_residual-in_err-set_forced-in-Forced.ensures
-    (does_acts done _ _ _ _ _ t now session c.args.statement.now _ c.in-Forced.is refl refl refl _ refl ready (λ value tells. absurd (true≢false (sym tells))) (c.in_err-set_forced-in-Forced.ensures.turn s t tells ready.base ready.opened))
+    (does_acts done _ _ _ _ _ t now session c.args.statement.now _ c.in-Forced.is refl refl refl _ refl ready (c.in_err-set_forced-in-Forced.ensures.turn s t tells ready.base ready.opened))
 
 pub returns-in_ok-set_forced-in-Forced-clause-turn : goal.returns-in_ok-set_forced-in-Forced-clause-turn
 unfolding first_turn
 returns-in_ok-set_forced-in-Forced-clause-turn g c now t session tells ready sound =
     let s = seen_now now in
     may_value (some_by done) some_said _ _ _ _ t now session _ [] c.in_ok-set_forced-in-Forced.field-0 Done refl
-    (does_acts done _ _ _ _ _ t now session c.args.statement.now _ c.in-Forced.is refl refl refl _ refl ready (λ value tells. absurd (true≢false (sym tells))) (c.in_ok-set_forced-in-Forced.ensures.turn s t tells ready.base ready.opened))
+    (does_acts done _ _ _ _ _ t now session c.args.statement.now _ c.in-Forced.is refl refl refl _ refl ready (c.in_ok-set_forced-in-Forced.ensures.turn s t tells ready.base ready.opened))
 
 pub returns-in_err-set_access-in-Access-clause-turn : goal.returns-in_err-set_access-in-Access-clause-turn
 unfolding first_turn
 returns-in_err-set_access-in-Access-clause-turn g c now t session tells ready sound =
     let s = seen_now now in
     may_passed (some_by done) some_said _ _ _ _ t now session _ [] _ c.from_residual-in_err-set_access-in-Access.result c.from_residual-in_err-set_access-in-Access.ensures
-    (does_acts done _ _ _ _ _ t now session c.args.statement.now _ c.in-Access.is refl refl refl _ refl ready (λ value tells. absurd (true≢false (sym tells))) (c.in_err-set_access-in-Access.ensures.turn s t tells ready.base ready.opened))
+    (does_acts done _ _ _ _ _ t now session c.args.statement.now _ c.in-Access.is refl refl refl _ refl ready (c.in_err-set_access-in-Access.ensures.turn s t tells ready.base ready.opened))
 
 pub returns-in_ok-set_access-in-Access-clause-turn : goal.returns-in_ok-set_access-in-Access-clause-turn
 unfolding first_turn
 returns-in_ok-set_access-in-Access-clause-turn g c now t session tells ready sound =
     let s = seen_now now in
     may_value (some_by done) some_said _ _ _ _ t now session _ [] c.in_ok-set_access-in-Access.field-0 Done refl
-    (does_acts done _ _ _ _ _ t now session c.args.statement.now _ c.in-Access.is refl refl refl _ refl ready (λ value tells. absurd (true≢false (sym tells))) (c.in_ok-set_access-in-Access.ensures.turn s t tells ready.base ready.opened))
+    (does_acts done _ _ _ _ _ t now session c.args.statement.now _ c.in-Access.is refl refl refl _ refl ready (c.in_ok-set_access-in-Access.ensures.turn s t tells ready.base ready.opened))
 
 pub returns-in_err-scn-in-BeginBackup-clause-turn : goal.returns-in_err-scn-in-BeginBackup-clause-turn
 returns-in_err-scn-in-BeginBackup-clause-turn g c now t session tells ready sound =
@@ -149,7 +149,7 @@ returns-in-ShowHeader-clause-turn g c now t session tells ready sound =
     let s = seen_now now in
     let w = g.H.Host.world c.args.host.now in
     let held = c.args.engine.now in
-    does_acts (λ r. r) (Ok c.header_shown.result) w w held held t now session c.args.statement.now _ c.in-ShowHeader.is refl refl refl (header_turn s) refl ready (λ value tells. refl)
+    does_acts (λ r. r) (Ok c.header_shown.result) w w held held t now session c.args.statement.now _ c.in-ShowHeader.is refl refl refl (header_turn s) refl ready
     (header_does w held t s c.header_shown.result ready.base (no_call w (g.met.H.Host.timely _)) ready.opened (c.header_shown.ensures t.base ready.opened.files.agrees ready.opened.agrees))
 
 pub returns-in-ShowCache-clause-turn : goal.returns-in-ShowCache-clause-turn
@@ -162,21 +162,21 @@ unfolding first_turn
 returns-in_err-counts-in-ShowPages-clause-turn g c now t session tells ready sound =
     let s = seen_now now in
     may_passed (some_by pages_shown) some_said _ _ _ _ t now session _ [] _ c.from_residual-in_err-counts-in-ShowPages.result c.from_residual-in_err-counts-in-ShowPages.ensures
-    (does_acts pages_shown _ _ _ _ _ t now session c.args.statement.now _ c.in-ShowPages.is refl refl refl _ refl ready (λ value tells. c.in_err-counts-in-ShowPages.ensures.quiet.still.files) (c.in_err-counts-in-ShowPages.ensures.turn s t tells ready.base ready.opened))
+    (does_acts pages_shown _ _ _ _ _ t now session c.args.statement.now _ c.in-ShowPages.is refl refl refl _ refl ready (c.in_err-counts-in-ShowPages.ensures.turn s t tells ready.base ready.opened))
 
 pub returns-in_ok-counts-in-ShowPages-clause-turn : goal.returns-in_ok-counts-in-ShowPages-clause-turn
 unfolding first_turn
 returns-in_ok-counts-in-ShowPages-clause-turn g c now t session tells ready sound =
     let s = seen_now now in
     may_value (some_by pages_shown) some_said _ _ _ _ t now session _ [] c.in_ok-counts-in-ShowPages.counts c.pages_shown.result (ap Some (sym c.pages_shown.ensures))
-    (does_acts pages_shown _ _ _ _ _ t now session c.args.statement.now _ c.in-ShowPages.is refl refl refl _ refl ready (λ value tells. c.in_ok-counts-in-ShowPages.ensures.quiet.still.files) (c.in_ok-counts-in-ShowPages.ensures.turn s t tells ready.base ready.opened))
+    (does_acts pages_shown _ _ _ _ _ t now session c.args.statement.now _ c.in-ShowPages.is refl refl refl _ refl ready (c.in_ok-counts-in-ShowPages.ensures.turn s t tells ready.base ready.opened))
 
 pub returns-in_err-sha256-in-ShowImage-clause-turn : goal.returns-in_err-sha256-in-ShowImage-clause-turn
 unfolding first_turn
 returns-in_err-sha256-in-ShowImage-clause-turn g c now t session tells ready sound =
     let s = seen_now now in
     may_passed (some_by (image_shown c.args.engine.now.files.count)) some_said _ _ _ _ t now session _ [] _ c.from_residual-in_err-sha256-in-ShowImage.result c.from_residual-in_err-sha256-in-ShowImage.ensures
-    (does_acts (image_shown c.args.engine.now.files.count) _ _ _ _ _ t now session c.args.statement.now _ c.in-ShowImage.is refl refl refl _ refl ready (λ value tells. c.in_err-sha256-in-ShowImage.ensures.quiet.still.files) (c.in_err-sha256-in-ShowImage.ensures.turn s t tells ready.base ready.opened))
+    (does_acts (image_shown c.args.engine.now.files.count) _ _ _ _ _ t now session c.args.statement.now _ c.in-ShowImage.is refl refl refl _ refl ready (c.in_err-sha256-in-ShowImage.ensures.turn s t tells ready.base ready.opened))
 
 pub returns-in_ok-sha256-in-ShowImage-clause-turn : goal.returns-in_ok-sha256-in-ShowImage-clause-turn
 unfolding first_turn
@@ -186,7 +186,7 @@ returns-in_ok-sha256-in-ShowImage-clause-turn g c now t session tells ready soun
     let pages = c.count.ensures.value ∙ ap (λ (h : Held). h.files.count) shown.same in
     may_value (some_by (image_shown c.args.engine.now.files.count)) some_said _ _ _ _ t now session _ [] c.in_ok-sha256-in-ShowImage.sha256 (ImageShown c.count.result c.in_ok-sha256-in-ShowImage.sha256)
     (ap (λ (n : ℕ). Some (ImageShown n c.in_ok-sha256-in-ShowImage.sha256)) (sym pages))
-    (does_acts (image_shown c.args.engine.now.files.count) _ _ _ _ _ t now session c.args.statement.now _ c.in-ShowImage.is refl refl refl _ refl ready (λ value tells. shown.quiet.still.files) (shown.turn s t tells ready.base ready.opened))
+    (does_acts (image_shown c.args.engine.now.files.count) _ _ _ _ _ t now session c.args.statement.now _ c.in-ShowImage.is refl refl refl _ refl ready (shown.turn s t tells ready.base ready.opened))
 
 pub returns-in_err-page_write-in-Write-clause-stays_open : goal.returns-in_err-page_write-in-Write-clause-stays_open
 returns-in_err-page_write-in-Write-clause-stays_open g c t tells is =

@@ -20,7 +20,7 @@ unfolding first_turn
 returns-in_err-create-in-CreateTable-clause-turn g c now t session tells ready sound =
     let s = seen_now now in
     may_passed (some_by done) some_said _ _ _ _ t now session _ [] _ c.from_residual.result c.from_residual.ensures
-    (does_acts done _ _ _ _ _ t now session c.args.statement.now _ c.in-CreateTable.is refl refl refl _ refl ready (λ value tells. absurd (true≢false (sym tells)))
+    (does_acts done _ _ _ _ _ t now session c.args.statement.now _ c.in-CreateTable.is refl refl refl _ refl ready
     (c.in_err-create-in-CreateTable.ensures.turn s t tells ready.base ready.opened (subst (λ (b : Base). IsSoundImage b.image) ready.base (sound (subst GoesByInventories (sym c.in-CreateTable.is) tt)))))
 
 pub returns-in_ok-create-in-CreateTable-clause-turn : goal.returns-in_ok-create-in-CreateTable-clause-turn
@@ -28,7 +28,7 @@ unfolding first_turn
 returns-in_ok-create-in-CreateTable-clause-turn g c now t session tells ready sound =
     let s = seen_now now in
     may_value (some_by done) some_said _ _ _ _ t now session _ [] c.in_ok-create-in-CreateTable.field-0 Done refl
-    (does_acts done _ _ _ _ _ t now session c.args.statement.now _ c.in-CreateTable.is refl refl refl _ refl ready (λ value tells. absurd (true≢false (sym tells)))
+    (does_acts done _ _ _ _ _ t now session c.args.statement.now _ c.in-CreateTable.is refl refl refl _ refl ready
     (c.in_ok-create-in-CreateTable.ensures.turn s t tells ready.base ready.opened (subst (λ (b : Base). IsSoundImage b.image) ready.base (sound (subst GoesByInventories (sym c.in-CreateTable.is) tt)))))
 
 pub returns-in_err-drop_table-in-DropTable-clause-turn : goal.returns-in_err-drop_table-in-DropTable-clause-turn
@@ -36,7 +36,7 @@ unfolding first_turn
 returns-in_err-drop_table-in-DropTable-clause-turn g c now t session tells ready sound =
     let s = seen_now now in
     may_passed (some_by done) some_said _ _ _ _ t now session _ [] _ c.from_residual-in_err-drop_table-in-DropTable.result c.from_residual-in_err-drop_table-in-DropTable.ensures
-    (does_acts done _ _ _ _ _ t now session c.args.statement.now _ c.in-DropTable.is refl refl refl _ refl ready (λ value tells. absurd (true≢false (sym tells)))
+    (does_acts done _ _ _ _ _ t now session c.args.statement.now _ c.in-DropTable.is refl refl refl _ refl ready
     (c.in_err-drop_table-in-DropTable.ensures.turn s t tells ready.base ready.opened (subst (λ (b : Base). IsSoundImage b.image) ready.base (sound (subst GoesByInventories (sym c.in-DropTable.is) tt)))))
 
 pub returns-in_ok-drop_table-in-DropTable-clause-turn : goal.returns-in_ok-drop_table-in-DropTable-clause-turn
@@ -44,7 +44,7 @@ unfolding first_turn
 returns-in_ok-drop_table-in-DropTable-clause-turn g c now t session tells ready sound =
     let s = seen_now now in
     may_value (some_by done) some_said _ _ _ _ t now session _ [] c.in_ok-drop_table-in-DropTable.field-0 Done refl
-    (does_acts done _ _ _ _ _ t now session c.args.statement.now _ c.in-DropTable.is refl refl refl _ refl ready (λ value tells. absurd (true≢false (sym tells)))
+    (does_acts done _ _ _ _ _ t now session c.args.statement.now _ c.in-DropTable.is refl refl refl _ refl ready
     (c.in_ok-drop_table-in-DropTable.ensures.turn s t tells ready.base ready.opened (subst (λ (b : Base). IsSoundImage b.image) ready.base (sound (subst GoesByInventories (sym c.in-DropTable.is) tt)))))
 
 pub returns-in_err-insert-in-Insert-clause-turn : goal.returns-in_err-insert-in-Insert-clause-turn
@@ -52,7 +52,7 @@ unfolding first_turn
 returns-in_err-insert-in-Insert-clause-turn g c now t session tells ready sound =
     let s = seen_now now in
     may_passed (some_by done) some_said _ _ _ _ t now session _ [] _ c.from_residual-in_err-insert-in-Insert.result c.from_residual-in_err-insert-in-Insert.ensures
-    (does_acts done _ _ _ _ _ t now session c.args.statement.now _ c.in-Insert.is refl refl refl _ (ap (λ text. insert_turn s c.in-Insert.table c.in-Insert.key text) c.as_slice.ensures) ready (λ value tells. absurd (true≢false (sym tells)))
+    (does_acts done _ _ _ _ _ t now session c.args.statement.now _ c.in-Insert.is refl refl refl _ (ap (λ text. insert_turn s c.in-Insert.table c.in-Insert.key text) c.as_slice.ensures) ready
     (c.in_err-insert-in-Insert.ensures.turn s t tells ready.base ready.opened (subst (λ (b : Base). IsSoundImage b.image) ready.base (sound (subst GoesByInventories (sym c.in-Insert.is) tt)))))
 
 pub returns-in_ok-insert-in-Insert-clause-turn : goal.returns-in_ok-insert-in-Insert-clause-turn
@@ -60,7 +60,7 @@ unfolding first_turn
 returns-in_ok-insert-in-Insert-clause-turn g c now t session tells ready sound =
     let s = seen_now now in
     may_value (some_by done) some_said _ _ _ _ t now session _ [] c.in_ok-insert-in-Insert.field-0 Done refl
-    (does_acts done _ _ _ _ _ t now session c.args.statement.now _ c.in-Insert.is refl refl refl _ (ap (λ text. insert_turn s c.in-Insert.table c.in-Insert.key text) c.as_slice.ensures) ready (λ value tells. absurd (true≢false (sym tells)))
+    (does_acts done _ _ _ _ _ t now session c.args.statement.now _ c.in-Insert.is refl refl refl _ (ap (λ text. insert_turn s c.in-Insert.table c.in-Insert.key text) c.as_slice.ensures) ready
     (c.in_ok-insert-in-Insert.ensures.turn s t tells ready.base ready.opened (subst (λ (b : Base). IsSoundImage b.image) ready.base (sound (subst GoesByInventories (sym c.in-Insert.is) tt)))))
 
 pub returns-in_err-update-in-Update-clause-turn : goal.returns-in_err-update-in-Update-clause-turn
@@ -68,7 +68,7 @@ unfolding first_turn
 returns-in_err-update-in-Update-clause-turn g c now t session tells ready sound =
     let s = seen_now now in
     may_passed (some_by done) some_said _ _ _ _ t now session _ [] _ c.from_residual-in_err-update-in-Update.result c.from_residual-in_err-update-in-Update.ensures
-    (does_acts done _ _ _ _ _ t now session c.args.statement.now _ c.in-Update.is refl refl refl _ (ap (λ text. update_turn s c.in-Update.table c.in-Update.key text) c.as_slice-in-Update.ensures) ready (λ value tells. absurd (true≢false (sym tells)))
+    (does_acts done _ _ _ _ _ t now session c.args.statement.now _ c.in-Update.is refl refl refl _ (ap (λ text. update_turn s c.in-Update.table c.in-Update.key text) c.as_slice-in-Update.ensures) ready
     (c.in_err-update-in-Update.ensures.turn s t tells ready.base ready.opened (subst (λ (b : Base). IsSoundImage b.image) ready.base (sound (subst GoesByInventories (sym c.in-Update.is) tt)))))
 
 pub returns-in_ok-update-in-Update-clause-turn : goal.returns-in_ok-update-in-Update-clause-turn
@@ -76,7 +76,7 @@ unfolding first_turn
 returns-in_ok-update-in-Update-clause-turn g c now t session tells ready sound =
     let s = seen_now now in
     may_value (some_by done) some_said _ _ _ _ t now session _ [] c.in_ok-update-in-Update.field-0 Done refl
-    (does_acts done _ _ _ _ _ t now session c.args.statement.now _ c.in-Update.is refl refl refl _ (ap (λ text. update_turn s c.in-Update.table c.in-Update.key text) c.as_slice-in-Update.ensures) ready (λ value tells. absurd (true≢false (sym tells)))
+    (does_acts done _ _ _ _ _ t now session c.args.statement.now _ c.in-Update.is refl refl refl _ (ap (λ text. update_turn s c.in-Update.table c.in-Update.key text) c.as_slice-in-Update.ensures) ready
     (c.in_ok-update-in-Update.ensures.turn s t tells ready.base ready.opened (subst (λ (b : Base). IsSoundImage b.image) ready.base (sound (subst GoesByInventories (sym c.in-Update.is) tt)))))
 
 pub returns-in_err-delete-in-Delete-clause-turn : goal.returns-in_err-delete-in-Delete-clause-turn
@@ -84,7 +84,7 @@ unfolding first_turn
 returns-in_err-delete-in-Delete-clause-turn g c now t session tells ready sound =
     let s = seen_now now in
     may_passed (some_by done) some_said _ _ _ _ t now session _ [] _ c.from_residual-in_err-delete-in-Delete.result c.from_residual-in_err-delete-in-Delete.ensures
-    (does_acts done _ _ _ _ _ t now session c.args.statement.now _ c.in-Delete.is refl refl refl _ refl ready (λ value tells. absurd (true≢false (sym tells)))
+    (does_acts done _ _ _ _ _ t now session c.args.statement.now _ c.in-Delete.is refl refl refl _ refl ready
     (c.in_err-delete-in-Delete.ensures.turn s t tells ready.base ready.opened (subst (λ (b : Base). IsSoundImage b.image) ready.base (sound (subst GoesByInventories (sym c.in-Delete.is) tt)))))
 
 pub returns-in_ok-delete-in-Delete-clause-turn : goal.returns-in_ok-delete-in-Delete-clause-turn
@@ -92,7 +92,7 @@ unfolding first_turn
 returns-in_ok-delete-in-Delete-clause-turn g c now t session tells ready sound =
     let s = seen_now now in
     may_value (some_by done) some_said _ _ _ _ t now session _ [] c.in_ok-delete-in-Delete.field-0 Done refl
-    (does_acts done _ _ _ _ _ t now session c.args.statement.now _ c.in-Delete.is refl refl refl _ refl ready (λ value tells. absurd (true≢false (sym tells)))
+    (does_acts done _ _ _ _ _ t now session c.args.statement.now _ c.in-Delete.is refl refl refl _ refl ready
     (c.in_ok-delete-in-Delete.ensures.turn s t tells ready.base ready.opened (subst (λ (b : Base). IsSoundImage b.image) ready.base (sound (subst GoesByInventories (sym c.in-Delete.is) tt)))))
 
 pub returns-in_err-text-in-Get-clause-turn : goal.returns-in_err-text-in-Get-clause-turn
@@ -100,7 +100,7 @@ unfolding first_turn
 returns-in_err-text-in-Get-clause-turn g c now t session tells ready sound =
     let s = seen_now now in
     may_passed (some_by valued) some_said _ _ _ _ t now session _ [] _ c.from_residual-in_err-text-in-Get.result c.from_residual-in_err-text-in-Get.ensures
-    (does_acts valued _ _ _ _ _ t now session c.args.statement.now _ c.in-Get.is refl refl refl _ refl ready (λ value tells. c.in_err-text-in-Get.ensures.quiet.still.files)
+    (does_acts valued _ _ _ _ _ t now session c.args.statement.now _ c.in-Get.is refl refl refl _ refl ready
     (c.in_err-text-in-Get.ensures.turn s t tells ready.base ready.opened))
 
 pub returns-in_err-new-in-Get-clause-turn : goal.returns-in_err-new-in-Get-clause-turn
@@ -108,7 +108,7 @@ unfolding first_turn
 returns-in_err-new-in-Get-clause-turn g c now t session tells ready sound =
     let s = seen_now now in
     may_then_memory (some_by valued) some_said _ _ _ _ t now session _ [] _ _ c.from_residual-in_err-new-in-Get.result c.in_err-new-in-Get.ensures.only_memory c.from_residual-in_err-new-in-Get.ensures
-    (does_acts valued _ _ _ _ _ t now session c.args.statement.now _ c.in-Get.is refl refl refl _ refl ready (λ value tells. c.in_ok-text-in-Get.ensures.quiet.still.files)
+    (does_acts valued _ _ _ _ _ t now session c.args.statement.now _ c.in-Get.is refl refl refl _ refl ready
     (c.in_ok-text-in-Get.ensures.turn s t tells ready.base ready.opened))
 
 pub returns-in_ok-new-in-Get-clause-turn : goal.returns-in_ok-new-in-Get-clause-turn
@@ -117,7 +117,7 @@ returns-in_ok-new-in-Get-clause-turn g c now t session tells ready sound =
     let s = seen_now now in
     may_value (some_by valued) some_said _ _ _ _ t now session _ [] c.in_ok-text-in-Get.text (Value c.in_ok-new-in-Get.field-0)
     (ap (λ text. Some (Value text)) (sym (c.in_ok-new-in-Get.ensures.ok ∙ c.as_slice-in-Get.ensures.value)))
-    (does_acts valued _ _ _ _ _ t now session c.args.statement.now _ c.in-Get.is refl refl refl _ refl ready (λ value tells. c.in_ok-text-in-Get.ensures.quiet.still.files)
+    (does_acts valued _ _ _ _ _ t now session c.args.statement.now _ c.in-Get.is refl refl refl _ refl ready
     (c.in_ok-text-in-Get.ensures.turn s t tells ready.base ready.opened))
 
 pub returns-in_err-rows-in-Scan-clause-turn : goal.returns-in_err-rows-in-Scan-clause-turn
@@ -125,7 +125,7 @@ unfolding first_turn
 returns-in_err-rows-in-Scan-clause-turn g c now t session tells ready sound =
     let s = seen_now now in
     may_passed (some_by Rows) some_said _ _ _ _ t now session _ [] _ c.from_residual-in_err-rows-in-Scan.result c.from_residual-in_err-rows-in-Scan.ensures
-    (does_acts Rows _ _ _ _ _ t now session c.args.statement.now _ c.in-Scan.is refl refl refl _ refl ready (λ value tells. c.in_err-rows-in-Scan.ensures.quiet.still.files)
+    (does_acts Rows _ _ _ _ _ t now session c.args.statement.now _ c.in-Scan.is refl refl refl _ refl ready
     (c.in_err-rows-in-Scan.ensures.turn s t tells ready.base ready.opened))
 
 pub returns-in_ok-rows-in-Scan-clause-turn : goal.returns-in_ok-rows-in-Scan-clause-turn
@@ -133,7 +133,7 @@ unfolding first_turn
 returns-in_ok-rows-in-Scan-clause-turn g c now t session tells ready sound =
     let s = seen_now now in
     may_value (some_by Rows) some_said _ _ _ _ t now session _ [] c.in_ok-rows-in-Scan.rows (Rows c.in_ok-rows-in-Scan.rows) refl
-    (does_acts Rows _ _ _ _ _ t now session c.args.statement.now _ c.in-Scan.is refl refl refl _ refl ready (λ value tells. c.in_ok-rows-in-Scan.ensures.quiet.still.files)
+    (does_acts Rows _ _ _ _ _ t now session c.args.statement.now _ c.in-Scan.is refl refl refl _ refl ready
     (c.in_ok-rows-in-Scan.ensures.turn s t tells ready.base ready.opened))
 
 pub returns-in_err-create-in-CreateTable-clause-stays_open : goal.returns-in_err-create-in-CreateTable-clause-stays_open

@@ -71,7 +71,7 @@ returns-in_err-add_slot-clause-turn g c s t tells same is sound =
     let after = g.H.Host.world c.add_slot.new.host in
     let fault = c.in_err-add_slot.field-0.0 in
     let result = c.from_residual-in_err-add_slot.result in
-    tries_does done result w after c.args.engine.now c.add_slot.new.engine t s (λ (x : Seen). insert_turn x table key text) (no_room into) Done into.strokes same turn (said result)
+    tries_does done result w after c.args.engine.now c.add_slot.new.engine t s (λ (x : Seen). insert_turn x table key text) (no_room into) Done refl into.strokes same turn (said result)
     (tries_passed result fault (λ r. Tries r w after c.args.engine.now c.add_slot.new.engine t (no_room into) into.strokes) c.from_residual-in_err-add_slot.ensures
     (tries_after {T = Unit {0}} (Err fault) w _ after c.args.engine.now _ c.add_slot.new.engine t (no_room into) into.strokes found.same found.quiet is
     (c.in_err-add_slot.ensures.tries t (RowsFrom rows.first) tells (found.open t tells is) here refl formed room last)))
@@ -100,7 +100,7 @@ returns-clause-turn g c s t tells same is sound =
     let turn = insert_goes (seeing s t.base) table key text none (spot_of rows.table) at rows.first found.first bytes c.row_bytes-bytes.ensures ∙ key_new (seeing s t.base) (RowsFrom rows.first) key bytes new (not_short image here.least) form in
     let into = place_slot (RowsFrom rows.first) (found_pages (RowsFrom rows.first) image) bytes (drafted image) in
     let after = g.H.Host.world c.add_slot.new.host in
-    tries_does done (Ok tt) w after c.args.engine.now c.add_slot.new.engine t s (λ (x : Seen). insert_turn x table key text) (no_room into) Done into.strokes same turn (said (Ok tt))
+    tries_does done (Ok tt) w after c.args.engine.now c.add_slot.new.engine t s (λ (x : Seen). insert_turn x table key text) (no_room into) Done refl into.strokes same turn (said (Ok tt))
     (tries_after {T = Unit {0}} (Ok tt) w _ after c.args.engine.now _ c.add_slot.new.engine t (no_room into) into.strokes found.same found.quiet is
     (c.in_ok-add_slot.ensures.tries t (RowsFrom rows.first) tells (found.open t tells is) here refl formed room last))
 

@@ -66,7 +66,7 @@ returns-in_err-create_in-in-Some-clause-turn g c s t tells same is sound =
     let made = created_in image table place in
     let now = seeing s t.base in
     tries_passed c.from_residual-in_err-create_in-in-Some.result fault (λ r. Does done r w last c.args.engine.now c.create_in.new.engine t (create_turn s table)) c.from_residual-in_err-create_in-in-Some.ensures
-    (tries_does {T = Unit {0}} done (Err fault) w last c.args.engine.now c.create_in.new.engine t s (λ (x : Seen). create_turn x table) (no_room made) Done made.strokes same
+    (tries_does {T = Unit {0}} done (Err fault) w last c.args.engine.now c.create_in.new.engine t s (λ (x : Seen). create_turn x table) (no_room made) Done refl made.strokes same
     (create_at now table free new (not_short image here.least) place at (kind_stays image whole place.page page_is.1) (in_form image whole table place placed.low page_is.0)) tt
     (tries_after {T = Unit {0}} (Err fault) w mid last c.args.engine.now c.check_table.new.engine c.create_in.new.engine t (no_room made) made.strokes tests.same tests.quiet is
     (c.in_err-create_in-in-Some.ensures.tries t tells (tests.open t tells is) here page_is.1)))
@@ -91,7 +91,7 @@ returns-in_ok-create_in-in-Some-clause-turn g c s t tells same is sound =
     let page_is = place_data image (new_formed image table new) place at in
     let made = created_in image table place in
     let now = seeing s t.base in
-    tries_does {T = Unit {0}} done (Ok tt) w last c.args.engine.now c.create_in.new.engine t s (λ (x : Seen). create_turn x table) (no_room made) Done made.strokes same
+    tries_does {T = Unit {0}} done (Ok tt) w last c.args.engine.now c.create_in.new.engine t s (λ (x : Seen). create_turn x table) (no_room made) Done refl made.strokes same
     (create_at now table free new (not_short image here.least) place at (kind_stays image whole place.page page_is.1) (in_form image whole table place placed.low page_is.0)) refl
     (tries_after {T = Unit {0}} (Ok tt) w mid last c.args.engine.now c.check_table.new.engine c.create_in.new.engine t (no_room made) made.strokes tests.same tests.quiet is
     (c.in_ok-create_in-in-Some.ensures.tries t tells (tests.open t tells is) here page_is.1))
@@ -119,7 +119,7 @@ returns-in_err-create_behind-in-None-clause-turn g c s t tells same is sound =
     let made = created_behind image table in
     let now = seeing s t.base in
     tries_passed c.from_residual-in_err-create_behind-in-None.result fault (λ r. Does done r w end c.args.engine.now c.create_behind.new.engine t (create_turn s table)) c.from_residual-in_err-create_behind-in-None.ensures
-    (tries_does {T = Unit {0}} done (Err fault) w end c.args.engine.now c.create_behind.new.engine t s (λ (x : Seen). create_turn x table) (no_room made) Done made.strokes same
+    (tries_does {T = Unit {0}} done (Err fault) w end c.args.engine.now c.create_behind.new.engine t s (λ (x : Seen). create_turn x table) (no_room made) Done refl made.strokes same
     (create_last now table free new (not_short image here.least) none (behind_form image whole table named some there (last_kind Catalogue image (new_formed image table new)))) tt
     (tries_after {T = Unit {0}} (Err fault) w mid end c.args.engine.now c.check_table.new.engine c.create_behind.new.engine t (no_room made) made.strokes tests.same tests.quiet is
     (c.in_err-create_behind-in-None.ensures.tries t tells (tests.open t tells is) here (record { is = last_is; below = omega (arith, last_is, there) }))))
@@ -145,7 +145,7 @@ returns-in_ok-create_behind-in-None-clause-turn g c s t tells same is sound =
     let named : length table ≤ 240 = omega (arith, name_short table c.as_str-name.ensures.name) in
     let made = created_behind image table in
     let now = seeing s t.base in
-    tries_does {T = Unit {0}} done (Ok tt) w end c.args.engine.now c.create_behind.new.engine t s (λ (x : Seen). create_turn x table) (no_room made) Done made.strokes same
+    tries_does {T = Unit {0}} done (Ok tt) w end c.args.engine.now c.create_behind.new.engine t s (λ (x : Seen). create_turn x table) (no_room made) Done refl made.strokes same
     (create_last now table free new (not_short image here.least) none (behind_form image whole table named some there (last_kind Catalogue image (new_formed image table new)))) refl
     (tries_after {T = Unit {0}} (Ok tt) w mid end c.args.engine.now c.check_table.new.engine c.create_behind.new.engine t (no_room made) made.strokes tests.same tests.quiet is
     (c.in_ok-create_behind-in-None.ensures.tries t tells (tests.open t tells is) here (record { is = last_is; below = omega (arith, last_is, there) })))

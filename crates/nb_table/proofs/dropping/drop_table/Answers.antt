@@ -44,7 +44,7 @@ returns-in_err-drop_rows-clause-turn g c s t tells same is sound =
     let has = whole_table now table none spot (found.table t tells is) in
     let xs = (dropped t.base.image spot).strokes in
     tries_passed c.from_residual-in_err-drop_rows.result fault (λ r. Does done r w new c.args.engine.now c.drop_rows.new.engine t (drop_turn s table)) c.from_residual-in_err-drop_rows.ensures
-    (tries_does {T = Unit {0}} done (Err fault) w new c.args.engine.now c.drop_rows.new.engine t s (λ (x : Seen). drop_turn x table) None Done xs same
+    (tries_does {T = Unit {0}} done (Err fault) w new c.args.engine.now c.drop_rows.new.engine t s (λ (x : Seen). drop_turn x table) None Done refl xs same
     (drop_says now table none spot (header_of w c.args.engine.now t is scn) here has ∙ sym (unless_allowed now None (says now Done xs) refl)) tt
     (tries_after {T = Unit {0}} (Err fault) w mid new c.args.engine.now c.find_rows.new.engine c.drop_rows.new.engine t None xs found.same found.quiet is
     (c.in_err-drop_rows.ensures.tries t table tells (found.open t tells is) here has)))
@@ -63,7 +63,7 @@ returns-clause-turn g c s t tells same is sound =
     let none = found.test t tells is in
     let has = whole_table now table none spot (found.table t tells is) in
     let xs = (dropped t.base.image spot).strokes in
-    tries_does {T = Unit {0}} done (Ok tt) w new c.args.engine.now c.drop_rows.new.engine t s (λ (x : Seen). drop_turn x table) None Done xs same
+    tries_does {T = Unit {0}} done (Ok tt) w new c.args.engine.now c.drop_rows.new.engine t s (λ (x : Seen). drop_turn x table) None Done refl xs same
     (drop_says now table none spot (header_of w c.args.engine.now t is scn) here has ∙ sym (unless_allowed now None (says now Done xs) refl)) refl
     (tries_after {T = Unit {0}} (Ok tt) w mid new c.args.engine.now c.find_rows.new.engine c.drop_rows.new.engine t None xs found.same found.quiet is
     (c.in_ok-drop_rows.ensures.tries t table tells (found.open t tells is) here has))

@@ -12,7 +12,9 @@ use Rattle.nb_script.specs.Scripts.{IsAnswer, script_of}
 use Rattle.nb_session.proofs.GiftLaws.{grows_none, grows_joined}
 use Rattle.nb_gen.specs.Texts.{IsScriptText}
 use Rattle.nb_gen.proofs.GeneratedScript.{generated_text}
+use Rattle.nb_top.specs.ByTurns.{EndsEarly}
 use Rattle.nb_top.specs.Performed.{RunsTo}
+use Rattle.nb_top.proofs.ByTurnsLaws.{early_err, number_early, number_taken, number_then, run_undone}
 use Rattle.nb_top.specs.Requests.{ToGenerate, ToRun}
 use Rattle.nb_top.proofs.GeneratedRuns.{generated_unbegun, knows_script, taken_refused, writing_fails, written_runs}
 use Rattle.nb_top.proofs.GeneratedEvents.{with_script}
@@ -20,7 +22,7 @@ use Rattle.nb_top.proofs.JobRuns.{job_refused, script_number}
 use Rattle.nb_top.proofs.QuietRuns.{foretold_from, knows_quietly, no_given, quiet_gave, runs_quietly}
 use Rattle.nb_top.proofs.ScriptRuns.{runs_err, settled_value, settled_refusal}
 use Rattle.nb_top.proofs.TouchLaws.{only_err, only_refused, touches_then, leaves_only, generated_whole, generated_among}
-use Rattle.nb_session.proofs.OthersLaws.{leaves_quiet, leaves_then}
+use Rattle.nb_session.proofs.OthersLaws.{leaves_changes, leaves_quiet, leaves_then}
 use Rattle.nb_top.specs.Touched.{MayTouch}
 use Rattle.nb_top.specs.declared.telling.Telling.TheVariants.{Sparingly}
 use Rattle.nb_top.proofs.generating.run_generated.Goals as goal
@@ -33,8 +35,11 @@ returns-in_err-is_free-clause-goes g c = record {
         let old = g.H.Host.world c.args.host.now in
         let new = g.H.Host.world c.is_free.new.host in
         let name = c.args.name.now in
-        runs_err c.from_residual.result c.from_residual.ensures.0 (λ r. RunsTo r old new (Ok (ToGenerate c.args.number name)) account given)
-        (λ e. generated_unbegun old c.args.number name account given c.requires knows new e c.is_free.ensures.quiet),
+        record {
+          whole = runs_err c.from_residual.result c.from_residual.ensures.0 (λ r. RunsTo r old new (Ok (ToGenerate c.args.number name)) account given)
+              (λ e. generated_unbegun old c.args.number name account given c.requires knows new e c.is_free.ensures.quiet);
+          turns = run_undone g.H.Host.world (EndsEarly c.from_residual.result) (early_err c.from_residual.result c.from_residual.ensures.0) c.args.host.now c.is_free.new.host c.is_free.ensures.quiet account given (Ok (ToGenerate c.args.number name));
+        },
   );
   grows = λ account tells knows. let old = g.H.Host.world c.args.host.now in
       let new = g.H.Host.world c.is_free.new.host in
@@ -59,7 +64,10 @@ returns-then-not-branch-clause-goes g c = record {
         let name = c.args.name.now in
         let taken = sym (knows name c.requires) ∙ sym (c.in_ok-is_free.ensures.answer tells) ∙ c.if-not-branch.true in
         let says = subst (λ n. SaysLine c.refuse.result mid new (line_text 1 (RefusedReply (FileExists n)))) c.copied-name.ensures (c.refuse.ensures.line tells) in
-        taken_refused old c.args.number name account given c.requires knows taken c.refuse.result c.refuse.result mid new c.is_free.ensures.quiet says c.refuse.ensures.ok says.said,
+        record {
+          whole = taken_refused old c.args.number name account given c.requires knows taken c.refuse.result c.refuse.result mid new c.is_free.ensures.quiet says c.refuse.ensures.ok says.said;
+          turns = number_taken g.H.Host.world (EndsEarly c.refuse.result) c.args.number name account given c.args.host.now c.refuse.new.host taken (says.still.files ∙ c.is_free.ensures.quiet.still.files);
+        },
   );
   grows = λ account tells knows. let old = g.H.Host.world c.args.host.now in
       let mid = g.H.Host.world c.is_free.new.host in
@@ -82,7 +90,10 @@ returns-in_default-clause-goes g c = record {
     λ account given knows may told.
         let old = g.H.Host.world c.args.host.now in
         let new = g.H.Host.world c.is_free.new.host in
-        generated_unbegun old c.args.number c.args.name.now account given c.requires knows new _ c.is_free.ensures.quiet,
+        record {
+          whole = generated_unbegun old c.args.number c.args.name.now account given c.requires knows new _ c.is_free.ensures.quiet;
+          turns = run_undone g.H.Host.world _ tt c.args.host.now c.is_free.new.host c.is_free.ensures.quiet account given (Ok (ToGenerate c.args.number c.args.name.now));
+        },
   );
   grows = λ account tells knows. let old = g.H.Host.world c.args.host.now in
       let new = g.H.Host.world c.is_free.new.host in
@@ -104,8 +115,11 @@ returns-in_err-script-clause-goes g c = record {
         let old = g.H.Host.world c.args.host.now in
         let new = g.H.Host.world c.is_free.new.host in
         let name = c.args.name.now in
-        runs_err c.from_residual-in_err-script.result c.from_residual-in_err-script.ensures.0 (λ r. RunsTo r old new (Ok (ToGenerate c.args.number name)) account given)
-        (λ e. generated_unbegun old c.args.number name account given c.requires knows new e c.is_free.ensures.quiet),
+        record {
+          whole = runs_err c.from_residual-in_err-script.result c.from_residual-in_err-script.ensures.0 (λ r. RunsTo r old new (Ok (ToGenerate c.args.number name)) account given)
+              (λ e. generated_unbegun old c.args.number name account given c.requires knows new e c.is_free.ensures.quiet);
+          turns = run_undone g.H.Host.world (EndsEarly c.from_residual-in_err-script.result) (early_err c.from_residual-in_err-script.result c.from_residual-in_err-script.ensures.0) c.args.host.now c.is_free.new.host c.is_free.ensures.quiet account given (Ok (ToGenerate c.args.number name));
+        },
   );
   grows = λ account tells knows. let old = g.H.Host.world c.args.host.now in
       let new = g.H.Host.world c.is_free.new.host in
@@ -136,9 +150,14 @@ returns-in_err-write_script-clause-goes g c = record {
         let free = sym (knows name c.requires) ∙ sym (c.in_ok-is_free.ensures.answer tells) ∙ c.if-not-branch.false in
         let text = c.deref-2.ensures.value ∙ c.in-Ok.ensures.script in
         let written = subst (λ bytes. Changes asked mid (Only name) (Remade asked name (IsUnfinishedOr bytes))) text (c.write_script.ensures.left tells) in
-        runs_err c.from_residual-in_err-write_script.result c.from_residual-in_err-write_script.ensures.0 (λ r. RunsTo r old mid (Ok (ToGenerate number name)) account given)
-        (λ e. runs_quietly (Err e) old asked mid (Ok (ToGenerate number name)) account given quiet
-        (writing_fails asked number name account given c.requires (knows_quietly old asked account (Ok (ToGenerate number name)) quiet knows) free may mid written e)),
+        let ended = c.from_residual-in_err-write_script.result in
+        record {
+          whole = runs_err ended c.from_residual-in_err-write_script.ensures.0 (λ r. RunsTo r old mid (Ok (ToGenerate number name)) account given)
+              (λ e. runs_quietly (Err e) old asked mid (Ok (ToGenerate number name)) account given quiet
+              (writing_fails asked number name account given c.requires (knows_quietly old asked account (Ok (ToGenerate number name)) quiet knows) free may mid written e));
+          turns = number_early g.H.Host.world (EndsEarly ended) number name account given c.args.host.now c.write_script.new.host free (early_err ended c.from_residual-in_err-write_script.ensures.0)
+              (leaves_then old asked mid (Only name) (leaves_quiet old asked (Only name) quiet) (leaves_changes asked mid (Only name) _ written));
+        },
   );
   grows = λ account tells knows. let old = g.H.Host.world c.args.host.now in
       let mid = g.H.Host.world c.is_free.new.host in
@@ -175,11 +194,15 @@ returns-in-Ok-script-clause-goes g c = record {
         let parsed = settled_value c.in_ok-script.script plan (λ value. c.parse.result ≡ Ok value) c.in-Ok-script.is c.in_ok-script.ensures.value in
         let read = ap script_of (sym (c.deref.ensures.value ∙ c.in-Ok.ensures.script)) ∙ subst (λ answer. IsAnswer answer (script_of c.deref.result.now)) parsed c.parse.ensures.exact in
         let knows_then = knows_quietly old asked account (Ok (ToGenerate number name)) quiet knows in
-        runs_quietly c.run_script.result old asked new (Ok (ToGenerate number name)) account given quiet
-        (written_runs asked number name account given c.requires knows_then free may mid written kept c.write_script.ensures.gave new (g.met.H.Host.timely c.run_script.new.host) (g.met.H.Host.reads_left c.run_script.new.host tells)
-        (Ok plan) read c.run_script.result
-        ((c.run_script.ensures.goes.does tells).1 (with_script name (generated number) account) given (knows_script asked number name account given c.requires knows_then free mid written kept plan read) may
-        (foretold_from asked mid new given _ c.write_script.ensures.gave (foretold_from old asked new given _ (quiet_gave old asked quiet) told)))),
+        let done = (c.run_script.ensures.goes.does tells).1 (with_script name (generated number) account) given (knows_script asked number name account given c.requires knows_then free mid written kept plan read) may
+        (foretold_from asked mid new given _ c.write_script.ensures.gave (foretold_from old asked new given _ (quiet_gave old asked quiet) told)) in
+        record {
+          whole = runs_quietly c.run_script.result old asked new (Ok (ToGenerate number name)) account given quiet
+              (written_runs asked number name account given c.requires knows_then free may mid written kept c.write_script.ensures.gave new (g.met.H.Host.timely c.run_script.new.host) (g.met.H.Host.reads_left c.run_script.new.host tells)
+              (Ok plan) read c.run_script.result done.whole);
+          turns = number_then g.H.Host.world (EndsEarly c.run_script.result) number name account given c.args.host.now c.write_script.new.host c.run_script.new.host free
+              (leaves_then old asked mid (Only name) (leaves_quiet old asked (Only name) quiet) (leaves_changes asked mid (Only name) _ written)) (Ok plan) read done.turns;
+        },
   );
   grows = λ account tells knows. let old = g.H.Host.world c.args.host.now in
       let asked = g.H.Host.world c.is_free.new.host in
@@ -236,9 +259,13 @@ returns-clause-goes g c = record {
         let says = c.refuse-in-Err.ensures.line tells in
         let refused = job_refused c.refuse-in-Err.result c.refuse-in-Err.result mid new (Err refusal) refusal behind given refl says
         (script_number name (Some (generated number)) refusal read c.refuse-in-Err.result c.refuse-in-Err.ensures.ok) says.said in
-        runs_quietly c.refuse-in-Err.result old asked new (Ok (ToGenerate number name)) account given quiet
-        (written_runs asked number name account given c.requires (knows_quietly old asked account (Ok (ToGenerate number name)) quiet knows) free may mid written kept c.write_script.ensures.gave
-        new (g.met.H.Host.timely c.refuse-in-Err.new.host) (g.met.H.Host.reads_left c.refuse-in-Err.new.host tells) (Err refusal) read c.refuse-in-Err.result refused),
+        record {
+          whole = runs_quietly c.refuse-in-Err.result old asked new (Ok (ToGenerate number name)) account given quiet
+              (written_runs asked number name account given c.requires (knows_quietly old asked account (Ok (ToGenerate number name)) quiet knows) free may mid written kept c.write_script.ensures.gave
+              new (g.met.H.Host.timely c.refuse-in-Err.new.host) (g.met.H.Host.reads_left c.refuse-in-Err.new.host tells) (Err refusal) read c.refuse-in-Err.result refused);
+          turns = number_then g.H.Host.world (EndsEarly c.refuse-in-Err.result) number name account given c.args.host.now c.write_script.new.host c.refuse-in-Err.new.host free
+              (leaves_then old asked mid (Only name) (leaves_quiet old asked (Only name) quiet) (leaves_changes asked mid (Only name) _ written)) (Err refusal) read says.still.files;
+        },
   );
   grows = λ account tells knows. let old = g.H.Host.world c.args.host.now in
       let asked = g.H.Host.world c.is_free.new.host in

@@ -19,7 +19,7 @@ run_job-requires g c = record { fits = subst IsReadJob c.in-Ok.is c.requires.rea
 pub returns-in-Ok-clause-goes : goal.returns-in-Ok-clause-goes
 returns-in-Ok-clause-goes g c asked by =
     let old = g.H.Host.world c.args.host.now in
-    subst (λ a. Goes g.H.Host.tells c.run_job.result old (g.H.Host.world c.run_job.new.host) a) (sym (subst (λ r. IsAskedBy r old.files asked) c.in-Ok.is by)) c.run_job.ensures.goes
+    subst (λ a. Goes g.H.Host.world g.H.Host.tells c.run_job.result c.args.host.now c.run_job.new.host a) (sym (subst (λ r. IsAskedBy r old.files asked) c.in-Ok.is by)) c.run_job.ensures.goes
 
 pub returns-in-Ok-clause-shown : goal.returns-in-Ok-clause-shown
 returns-in-Ok-clause-shown g c asked tells by =
@@ -29,17 +29,16 @@ returns-in-Ok-clause-shown g c asked tells by =
 pub returns-in-Refused-clause-goes : goal.returns-in-Refused-clause-goes
 returns-in-Refused-clause-goes g c asked by =
     let old = g.H.Host.world c.args.host.now in
-    let new = g.H.Host.world c.refuse_words.new.host in
     let is : asked ≡ Runs (Err Usage) = subst (λ (f : Fault). IsAskedBy (Err f) old.files asked) c.in-Refused.is (subst (λ r. IsAskedBy r old.files asked) c.in-Err.is by) in
-    subst (λ a. Goes g.H.Host.tells c.refuse_words.result old new a) (sym is)
-    (goes_refused g.H.Host.tells old new (Err Usage) Usage c.refuse_words.result refl (g.met.H.Host.timely c.args.host.now) (g.met.H.Host.timely c.refuse_words.new.host) (g.met.H.Host.reads_left c.refuse_words.new.host)
+    subst (λ a. Goes g.H.Host.world g.H.Host.tells c.refuse_words.result c.args.host.now c.refuse_words.new.host a) (sym is)
+    (goes_refused g.H.Host.world g.H.Host.tells c.args.host.now c.refuse_words.new.host (Err Usage) Usage c.refuse_words.result refl (g.met.H.Host.timely c.args.host.now) (g.met.H.Host.timely c.refuse_words.new.host) (g.met.H.Host.reads_left c.refuse_words.new.host)
     c.refuse_words.ensures.gave c.refuse_words.ensures.line (λ told. usage_number c.refuse_words.result c.refuse_words.ensures.usage))
 
 pub returns-in-Memory-clause-goes : goal.returns-in-Memory-clause-goes
 returns-in-Memory-clause-goes g c asked by =
     let old = g.H.Host.world c.args.host.now in
     let is : (words : List (List ℕ)) × (asked ≡ request_asked old.files words) = subst (λ (f : Fault). IsAskedBy (Err f) old.files asked) c.in-Memory.is (subst (λ r. IsAskedBy r old.files asked) c.in-Err.is by) in
-    goes_undone g.H.Host.tells old old asked (Err MemoryStop) (subst CanBeMet (sym is.1) (can_be_asked old.files is.0)) refl (quiet_begun old (g.met.H.Host.timely c.args.host.now))
+    goes_undone g.H.Host.world g.H.Host.tells c.args.host.now c.args.host.now asked (Err MemoryStop) (subst CanBeMet (sym is.1) (can_be_asked old.files is.0)) refl (quiet_begun old (g.met.H.Host.timely c.args.host.now))
 
 pub returns-in-Refused-clause-shown : goal.returns-in-Refused-clause-shown
 returns-in-Refused-clause-shown g c asked tells by =

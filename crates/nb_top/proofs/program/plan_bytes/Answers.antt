@@ -17,21 +17,20 @@ use Rattle.nb_top.proofs.program.plan_bytes.Goals as goal
 pub returns-in_err-names-clause-goes : goal.returns-in_err-names-clause-goes
 returns-in_err-names-clause-goes g c =
     let old = g.H.Host.world c.args.host.now in
-    goes_undone g.H.Host.tells old old (to_plan c.args.keep (list_of c.args.bytes.now)) c.from_residual.result (plan_can c.args.keep (list_of c.args.bytes.now)) c.from_residual.ensures.0 (quiet_begun old (g.met.H.Host.timely c.args.host.now))
+    goes_undone g.H.Host.world g.H.Host.tells c.args.host.now c.args.host.now (to_plan c.args.keep (list_of c.args.bytes.now)) c.from_residual.result (plan_can c.args.keep (list_of c.args.bytes.now)) c.from_residual.ensures.0 (quiet_begun old (g.met.H.Host.timely c.args.host.now))
 
 pub returns-in_err-broken-in-Err-clause-goes : goal.returns-in_err-broken-in-Err-clause-goes
 returns-in_err-broken-in-Err-clause-goes g c =
     let old = g.H.Host.world c.args.host.now in
-    goes_undone g.H.Host.tells old old (to_plan c.args.keep (list_of c.args.bytes.now)) c.from_residual-in_err-broken-in-Err.result (plan_can c.args.keep (list_of c.args.bytes.now)) c.from_residual-in_err-broken-in-Err.ensures.0
+    goes_undone g.H.Host.world g.H.Host.tells c.args.host.now c.args.host.now (to_plan c.args.keep (list_of c.args.bytes.now)) c.from_residual-in_err-broken-in-Err.result (plan_can c.args.keep (list_of c.args.bytes.now)) c.from_residual-in_err-broken-in-Err.ensures.0
     (quiet_begun old (g.met.H.Host.timely c.args.host.now))
 
 pub returns-in-Ok-clause-goes : goal.returns-in-Ok-clause-goes
 returns-in-Ok-clause-goes g c =
-    let old = g.H.Host.world c.args.host.now in
     let is = settled_value c.in_ok-names.field-0 c.in-Ok.names (λ value. c.read_list.result ≡ Ok value) c.in-Ok.is c.in_ok-names.ensures.value in
     let read = subst (λ answer. Says (list_of c.args.bytes.now) answer) is c.read_list.ensures.exact in
-    subst (λ r. Goes g.H.Host.tells c.run_plan.result old (g.H.Host.world c.run_plan.new.host) (to_plan c.args.keep r)) (sym read)
-    (subst (λ names. Goes g.H.Host.tells c.run_plan.result old (g.H.Host.world c.run_plan.new.host) (to_plan c.args.keep (Ok names))) c.as_slice.ensures c.run_plan.ensures.goes)
+    subst (λ r. Goes g.H.Host.world g.H.Host.tells c.run_plan.result c.args.host.now c.run_plan.new.host (to_plan c.args.keep r)) (sym read)
+    (subst (λ names. Goes g.H.Host.world g.H.Host.tells c.run_plan.result c.args.host.now c.run_plan.new.host (to_plan c.args.keep (Ok names))) c.as_slice.ensures c.run_plan.ensures.goes)
 
 pub returns-in-Ok-clause-shown : goal.returns-in-Ok-clause-shown
 returns-in-Ok-clause-shown g c =
@@ -41,13 +40,12 @@ returns-in-Ok-clause-shown g c =
 
 pub returns-in_ok-broken-in-Err-clause-goes : goal.returns-in_ok-broken-in-Err-clause-goes
 returns-in_ok-broken-in-Err-clause-goes g c =
-    let old = g.H.Host.world c.args.host.now in
     let bytes = c.args.bytes.now in
     let refusal = c.in-Err.refusal in
     let is = settled_refusal c.in_ok-names.field-0 refusal (λ r. c.read_list.result ≡ Err (Refused r)) c.in-Err.is c.in_ok-names.ensures.refusal in
     let read = subst (λ answer. Says (list_of bytes) answer) is c.read_list.ensures.exact in
-    subst (λ r. Goes g.H.Host.tells c.refuse.result old (g.H.Host.world c.refuse.new.host) (to_plan c.args.keep r)) (sym read)
-    (goes_refused g.H.Host.tells old (g.H.Host.world c.refuse.new.host) (Err refusal) refusal c.refuse.result refl (g.met.H.Host.timely c.args.host.now) (g.met.H.Host.timely c.refuse.new.host)
+    subst (λ r. Goes g.H.Host.world g.H.Host.tells c.refuse.result c.args.host.now c.refuse.new.host (to_plan c.args.keep r)) (sym read)
+    (goes_refused g.H.Host.world g.H.Host.tells c.args.host.now c.refuse.new.host (Err refusal) refusal c.refuse.result refl (g.met.H.Host.timely c.args.host.now) (g.met.H.Host.timely c.refuse.new.host)
     (g.met.H.Host.reads_left c.refuse.new.host) c.refuse.ensures.gave c.refuse.ensures.line (λ told. list_number [] (Some bytes) refusal read c.refuse.result c.refuse.ensures.ok))
 
 pub returns-in_ok-broken-in-Err-clause-shown : goal.returns-in_ok-broken-in-Err-clause-shown

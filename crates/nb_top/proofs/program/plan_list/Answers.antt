@@ -20,23 +20,21 @@ pub returns-in_err-bytes-clause-goes : goal.returns-in_err-bytes-clause-goes
 returns-in_err-bytes-clause-goes g c =
     let old = g.H.Host.world c.args.host.now in
     let list = c.args.list.now in
-    goes_undone g.H.Host.tells old (g.H.Host.world c.read_file.new.host) (to_plan c.args.keep (names_in list (old.files list))) c.from_residual.result (plan_can c.args.keep (names_in list (old.files list)))
+    goes_undone g.H.Host.world g.H.Host.tells c.args.host.now c.read_file.new.host (to_plan c.args.keep (names_in list (old.files list))) c.from_residual.result (plan_can c.args.keep (names_in list (old.files list)))
     c.from_residual.ensures.0 c.read_file.ensures.quiet
 
 pub returns-in-Ok-clause-goes : goal.returns-in-Ok-clause-goes
 returns-in-Ok-clause-goes g c =
     let old = g.H.Host.world c.args.host.now in
-    let mid = g.H.Host.world c.read_file.new.host in
-    let new = g.H.Host.world c.plan_bytes.new.host in
     let list = c.args.list.now in
     let keep = c.args.keep in
     let file = old.files list in
     let bytes = c.in-Ok.bytes in
     let is = settled_value c.in_ok-bytes.field-0 bytes (λ value. c.read_file.result ≡ Ok value) c.in-Ok.is c.in_ok-bytes.ensures.value in
-    plan_quietly g.H.Host.tells old mid new keep (names_in list file) c.plan_bytes.result c.read_file.ensures.quiet
-    (goes_same g.H.Host.tells mid new (to_plan keep (names_in list file)) (to_plan keep (list_of bytes.items)) c.plan_bytes.result
+    plan_quietly g.H.Host.world g.H.Host.tells c.args.host.now c.read_file.new.host c.plan_bytes.new.host keep (names_in list file) c.plan_bytes.result c.read_file.ensures.quiet
+    (goes_same g.H.Host.world g.H.Host.tells c.read_file.new.host c.plan_bytes.new.host (to_plan keep (names_in list file)) (to_plan keep (list_of bytes.items)) c.plan_bytes.result
     (λ told. ap (λ f. to_plan keep (names_in list f)) (subst (λ r. IsFileRead r list file) is (c.read_file.ensures.read told)))
-    (subst (λ (b : List ℕ). Goes g.H.Host.tells c.plan_bytes.result mid new (to_plan keep (list_of b))) c.deref.ensures.value c.plan_bytes.ensures.goes))
+    (subst (λ (b : List ℕ). Goes g.H.Host.world g.H.Host.tells c.plan_bytes.result c.read_file.new.host c.plan_bytes.new.host (to_plan keep (list_of b))) c.deref.ensures.value c.plan_bytes.ensures.goes))
 
 pub returns-in-Ok-clause-shown : goal.returns-in-Ok-clause-shown
 returns-in-Ok-clause-shown g c told =
@@ -50,8 +48,6 @@ returns-in-Ok-clause-shown g c told =
 pub returns-in-Err-clause-goes : goal.returns-in-Err-clause-goes
 returns-in-Err-clause-goes g c =
     let old = g.H.Host.world c.args.host.now in
-    let mid = g.H.Host.world c.read_file.new.host in
-    let new = g.H.Host.world c.refuse.new.host in
     let list = c.args.list.now in
     let keep = c.args.keep in
     let file = old.files list in
@@ -59,9 +55,9 @@ returns-in-Err-clause-goes g c =
     let is = settled_refusal c.in_ok-bytes.field-0 refusal (λ r. c.read_file.result ≡ Err (Refused r)) c.in-Err.is c.in_ok-bytes.ensures.refusal in
     let other : (line : ℕ) → refusal ≢ BadScript line = λ line same. c.read_file.ensures.unbroken line (subst (λ (r : Refusal). c.read_file.result ≡ Err (Refused r)) same is) in
     let read : IsTrue g.H.Host.tells → names_in list file ≡ Err refusal = λ told. unread_list list file refusal other (subst (λ r. IsFileRead r list file) is (c.read_file.ensures.read told)) in
-    plan_quietly g.H.Host.tells old mid new keep (names_in list file) c.refuse.result c.read_file.ensures.quiet
-    (goes_same g.H.Host.tells mid new (to_plan keep (names_in list file)) (Runs (Err refusal)) c.refuse.result (λ told. ap (to_plan keep) (read told))
-    (goes_refused g.H.Host.tells mid new (Err refusal) refusal c.refuse.result refl (g.met.H.Host.timely c.read_file.new.host) (g.met.H.Host.timely c.refuse.new.host) (g.met.H.Host.reads_left c.refuse.new.host)
+    plan_quietly g.H.Host.world g.H.Host.tells c.args.host.now c.read_file.new.host c.refuse.new.host keep (names_in list file) c.refuse.result c.read_file.ensures.quiet
+    (goes_same g.H.Host.world g.H.Host.tells c.read_file.new.host c.refuse.new.host (to_plan keep (names_in list file)) (Runs (Err refusal)) c.refuse.result (λ told. ap (to_plan keep) (read told))
+    (goes_refused g.H.Host.world g.H.Host.tells c.read_file.new.host c.refuse.new.host (Err refusal) refusal c.refuse.result refl (g.met.H.Host.timely c.read_file.new.host) (g.met.H.Host.timely c.refuse.new.host) (g.met.H.Host.reads_left c.refuse.new.host)
     c.refuse.ensures.gave c.refuse.ensures.line (λ told. list_number list file refusal (read told) c.refuse.result c.refuse.ensures.ok)))
 
 pub returns-in-Err-clause-shown : goal.returns-in-Err-clause-shown

@@ -15,28 +15,26 @@ pub returns-in_err-script-clause-goes : goal.returns-in_err-script-clause-goes
 returns-in_err-script-clause-goes g c =
     let old = g.H.Host.world c.args.host.now in
     let bytes = c.args.bytes.now in
-    goes_undone g.H.Host.tells old old (Runs (to_run (script_of bytes))) c.from_residual.result (spelled_can bytes (script_of bytes) refl) c.from_residual.ensures.0 (quiet_begun old (g.met.H.Host.timely c.args.host.now))
+    goes_undone g.H.Host.world g.H.Host.tells c.args.host.now c.args.host.now (Runs (to_run (script_of bytes))) c.from_residual.result (spelled_can bytes (script_of bytes) refl) c.from_residual.ensures.0 (quiet_begun old (g.met.H.Host.timely c.args.host.now))
 
 pub returns-in_err-broken-in-Err-clause-goes : goal.returns-in_err-broken-in-Err-clause-goes
 returns-in_err-broken-in-Err-clause-goes g c =
     let old = g.H.Host.world c.args.host.now in
     let bytes = c.args.bytes.now in
-    goes_undone g.H.Host.tells old old (Runs (to_run (script_of bytes))) c.from_residual-in_err-broken-in-Err.result (spelled_can bytes (script_of bytes) refl) c.from_residual-in_err-broken-in-Err.ensures.0
+    goes_undone g.H.Host.world g.H.Host.tells c.args.host.now c.args.host.now (Runs (to_run (script_of bytes))) c.from_residual-in_err-broken-in-Err.result (spelled_can bytes (script_of bytes) refl) c.from_residual-in_err-broken-in-Err.ensures.0
     (quiet_begun old (g.met.H.Host.timely c.args.host.now))
 
 pub returns-in-Ok-clause-goes : goal.returns-in-Ok-clause-goes
 returns-in-Ok-clause-goes g c =
-    let old = g.H.Host.world c.args.host.now in
     let is = settled_value c.in_ok-script.field-0 c.in-Ok.script (λ value. c.parse.result ≡ Ok value) c.in-Ok.is c.in_ok-script.ensures.value in
     let read = subst (λ answer. IsAnswer answer (script_of c.args.bytes.now)) is c.parse.ensures.exact in
-    subst (λ s. Goes g.H.Host.tells c.run_script.result old (g.H.Host.world c.run_script.new.host) (Runs (to_run s))) (sym read) c.run_script.ensures.goes
+    subst (λ s. Goes g.H.Host.world g.H.Host.tells c.run_script.result c.args.host.now c.run_script.new.host (Runs (to_run s))) (sym read) c.run_script.ensures.goes
 
 pub returns-in_ok-broken-in-Err-clause-goes : goal.returns-in_ok-broken-in-Err-clause-goes
 returns-in_ok-broken-in-Err-clause-goes g c =
-    let old = g.H.Host.world c.args.host.now in
     let bytes = c.args.bytes.now in
     let refusal = c.in-Err.refusal in
     let is = settled_refusal c.in_ok-script.field-0 refusal (λ r. c.parse.result ≡ Err (Refused r)) c.in-Err.is c.in_ok-script.ensures.refusal in
     let read = subst (λ answer. IsAnswer answer (script_of bytes)) is c.parse.ensures.exact in
-    goes_refused g.H.Host.tells old (g.H.Host.world c.refuse.new.host) (to_run (script_of bytes)) refusal c.refuse.result (ap to_run read) (g.met.H.Host.timely c.args.host.now) (g.met.H.Host.timely c.refuse.new.host)
+    goes_refused g.H.Host.world g.H.Host.tells c.args.host.now c.refuse.new.host (to_run (script_of bytes)) refusal c.refuse.result (ap to_run read) (g.met.H.Host.timely c.args.host.now) (g.met.H.Host.timely c.refuse.new.host)
     (g.met.H.Host.reads_left c.refuse.new.host) c.refuse.ensures.gave c.refuse.ensures.line (λ told. script_number [] (Some bytes) refusal read c.refuse.result c.refuse.ensures.ok)

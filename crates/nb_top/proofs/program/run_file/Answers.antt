@@ -19,22 +19,20 @@ pub returns-in_err-bytes-clause-goes : goal.returns-in_err-bytes-clause-goes
 returns-in_err-bytes-clause-goes g c =
     let old = g.H.Host.world c.args.host.now in
     let name = c.args.name.now in
-    goes_undone g.H.Host.tells old (g.H.Host.world c.read_file.new.host) (Runs (to_run (script_in name (old.files name)))) c.from_residual.result (script_can old.files name (script_in name (old.files name)) refl)
+    goes_undone g.H.Host.world g.H.Host.tells c.args.host.now c.read_file.new.host (Runs (to_run (script_in name (old.files name)))) c.from_residual.result (script_can old.files name (script_in name (old.files name)) refl)
     c.from_residual.ensures.0 c.read_file.ensures.quiet
 
 pub returns-in-Ok-clause-goes : goal.returns-in-Ok-clause-goes
 returns-in-Ok-clause-goes g c =
     let old = g.H.Host.world c.args.host.now in
-    let mid = g.H.Host.world c.read_file.new.host in
-    let new = g.H.Host.world c.run_bytes.new.host in
     let name = c.args.name.now in
     let file = old.files name in
     let bytes = c.in-Ok.bytes in
     let is = settled_value c.in_ok-bytes.field-0 bytes (λ value. c.read_file.result ≡ Ok value) c.in-Ok.is c.in_ok-bytes.ensures.value in
-    goes_quietly g.H.Host.tells old mid new (to_run (script_in name file)) c.run_bytes.result c.read_file.ensures.quiet
-    (goes_same g.H.Host.tells mid new (Runs (to_run (script_in name file))) (Runs (to_run (script_of bytes.items))) c.run_bytes.result
+    goes_quietly g.H.Host.world g.H.Host.tells c.args.host.now c.read_file.new.host c.run_bytes.new.host (to_run (script_in name file)) c.run_bytes.result c.read_file.ensures.quiet
+    (goes_same g.H.Host.world g.H.Host.tells c.read_file.new.host c.run_bytes.new.host (Runs (to_run (script_in name file))) (Runs (to_run (script_of bytes.items))) c.run_bytes.result
     (λ told. ap (λ f. Runs (to_run (script_in name f))) (subst (λ r. IsFileRead r name file) is (c.read_file.ensures.read told)))
-    (subst (λ (b : List ℕ). Goes g.H.Host.tells c.run_bytes.result mid new (Runs (to_run (script_of b)))) c.deref.ensures.value c.run_bytes.ensures.goes))
+    (subst (λ (b : List ℕ). Goes g.H.Host.world g.H.Host.tells c.run_bytes.result c.read_file.new.host c.run_bytes.new.host (Runs (to_run (script_of b)))) c.deref.ensures.value c.run_bytes.ensures.goes))
 
 pub returns-in-Ok-clause-shown : goal.returns-in-Ok-clause-shown
 returns-in-Ok-clause-shown g c told =
@@ -48,16 +46,14 @@ returns-in-Ok-clause-shown g c told =
 pub returns-in-Err-clause-goes : goal.returns-in-Err-clause-goes
 returns-in-Err-clause-goes g c =
     let old = g.H.Host.world c.args.host.now in
-    let mid = g.H.Host.world c.read_file.new.host in
-    let new = g.H.Host.world c.refuse.new.host in
     let name = c.args.name.now in
     let file = old.files name in
     let refusal = c.in-Err.refusal in
     let is = settled_refusal c.in_ok-bytes.field-0 refusal (λ r. c.read_file.result ≡ Err (Refused r)) c.in-Err.is c.in_ok-bytes.ensures.refusal in
     let read : IsTrue g.H.Host.tells → script_in name file ≡ Err refusal = λ told. subst (λ r. IsFileRead r name file) is (c.read_file.ensures.read told) in
-    goes_quietly g.H.Host.tells old mid new (to_run (script_in name file)) c.refuse.result c.read_file.ensures.quiet
-    (goes_same g.H.Host.tells mid new (Runs (to_run (script_in name file))) (Runs (Err refusal)) c.refuse.result (λ told. ap (λ s. Runs (to_run s)) (read told))
-    (goes_refused g.H.Host.tells mid new (Err refusal) refusal c.refuse.result refl (g.met.H.Host.timely c.read_file.new.host) (g.met.H.Host.timely c.refuse.new.host) (g.met.H.Host.reads_left c.refuse.new.host)
+    goes_quietly g.H.Host.world g.H.Host.tells c.args.host.now c.read_file.new.host c.refuse.new.host (to_run (script_in name file)) c.refuse.result c.read_file.ensures.quiet
+    (goes_same g.H.Host.world g.H.Host.tells c.read_file.new.host c.refuse.new.host (Runs (to_run (script_in name file))) (Runs (Err refusal)) c.refuse.result (λ told. ap (λ s. Runs (to_run s)) (read told))
+    (goes_refused g.H.Host.world g.H.Host.tells c.read_file.new.host c.refuse.new.host (Err refusal) refusal c.refuse.result refl (g.met.H.Host.timely c.read_file.new.host) (g.met.H.Host.timely c.refuse.new.host) (g.met.H.Host.reads_left c.refuse.new.host)
     c.refuse.ensures.gave c.refuse.ensures.line (λ told. script_number name file refusal (read told) c.refuse.result c.refuse.ensures.ok)))
 
 pub returns-in-Err-clause-shown : goal.returns-in-Err-clause-shown

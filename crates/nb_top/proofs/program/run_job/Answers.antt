@@ -39,8 +39,7 @@ run_turn-requires-in-Fold g c = record { deed = (ToFold c.in-Fold.out c.in-Fold.
 pub returns-in-Run-clause-goes : goal.returns-in-Run-clause-goes
 returns-in-Run-clause-goes g c =
     let old = g.H.Host.world c.args.host.now in
-    let new = g.H.Host.world c.run_file.new.host in
-    subst (λ job. Goes g.H.Host.tells c.run_file.result old new (request_of old.files job)) (sym c.in-Run.is)
+    subst (λ job. Goes g.H.Host.world g.H.Host.tells c.run_file.result c.args.host.now c.run_file.new.host (request_of old.files job)) (sym c.in-Run.is)
     c.run_file.ensures.goes
 
 pub returns-in-Run-clause-shown : goal.returns-in-Run-clause-shown
@@ -51,8 +50,7 @@ returns-in-Run-clause-shown g c tells =
 pub returns-in-Lock-clause-goes : goal.returns-in-Lock-clause-goes
 returns-in-Lock-clause-goes g c =
     let old = g.H.Host.world c.args.host.now in
-    let new = g.H.Host.world c.run_asking-in-Lock.new.host in
-    subst (λ job. Goes g.H.Host.tells c.run_asking-in-Lock.result old new (request_of old.files job)) (sym c.in-Lock.is)
+    subst (λ job. Goes g.H.Host.world g.H.Host.tells c.run_asking-in-Lock.result c.args.host.now c.run_asking-in-Lock.new.host (request_of old.files job)) (sym c.in-Lock.is)
     c.run_asking-in-Lock.ensures.goes
 
 pub returns-in-Lock-clause-shown : goal.returns-in-Lock-clause-shown
@@ -64,8 +62,7 @@ returns-in-Lock-clause-shown g c tells =
 pub returns-in-Unlock-clause-goes : goal.returns-in-Unlock-clause-goes
 returns-in-Unlock-clause-goes g c =
     let old = g.H.Host.world c.args.host.now in
-    let new = g.H.Host.world c.run_asking-in-Unlock.new.host in
-    subst (λ job. Goes g.H.Host.tells c.run_asking-in-Unlock.result old new (request_of old.files job)) (sym c.in-Unlock.is)
+    subst (λ job. Goes g.H.Host.world g.H.Host.tells c.run_asking-in-Unlock.result c.args.host.now c.run_asking-in-Unlock.new.host (request_of old.files job)) (sym c.in-Unlock.is)
     c.run_asking-in-Unlock.ensures.goes
 
 pub returns-in-Unlock-clause-shown : goal.returns-in-Unlock-clause-shown
@@ -77,8 +74,7 @@ returns-in-Unlock-clause-shown g c tells =
 pub returns-in-LockWithSize-clause-goes : goal.returns-in-LockWithSize-clause-goes
 returns-in-LockWithSize-clause-goes g c =
     let old = g.H.Host.world c.args.host.now in
-    let new = g.H.Host.world c.run_asking-in-LockWithSize.new.host in
-    subst (λ job. Goes g.H.Host.tells c.run_asking-in-LockWithSize.result old new (request_of old.files job)) (sym c.in-LockWithSize.is)
+    subst (λ job. Goes g.H.Host.world g.H.Host.tells c.run_asking-in-LockWithSize.result c.args.host.now c.run_asking-in-LockWithSize.new.host (request_of old.files job)) (sym c.in-LockWithSize.is)
     c.run_asking-in-LockWithSize.ensures.goes
 
 pub returns-in-LockWithSize-clause-shown : goal.returns-in-LockWithSize-clause-shown
@@ -90,8 +86,7 @@ returns-in-LockWithSize-clause-shown g c tells =
 pub returns-in-Stat-clause-goes : goal.returns-in-Stat-clause-goes
 returns-in-Stat-clause-goes g c =
     let old = g.H.Host.world c.args.host.now in
-    let new = g.H.Host.world c.run_stat.new.host in
-    subst (λ job. Goes g.H.Host.tells c.run_stat.result old new (request_of old.files job)) (sym c.in-Stat.is)
+    subst (λ job. Goes g.H.Host.world g.H.Host.tells c.run_stat.result c.args.host.now c.run_stat.new.host (request_of old.files job)) (sym c.in-Stat.is)
     c.run_stat.ensures.goes
 
 pub returns-in-Stat-clause-shown : goal.returns-in-Stat-clause-shown
@@ -103,8 +98,7 @@ returns-in-Stat-clause-shown g c tells =
 pub returns-in-Gen-clause-goes : goal.returns-in-Gen-clause-goes
 returns-in-Gen-clause-goes g c =
     let old = g.H.Host.world c.args.host.now in
-    let new = g.H.Host.world c.run_generated.new.host in
-    subst (λ job. Goes g.H.Host.tells c.run_generated.result old new (request_of old.files job)) (sym c.in-Gen.is)
+    subst (λ job. Goes g.H.Host.world g.H.Host.tells c.run_generated.result c.args.host.now c.run_generated.new.host (request_of old.files job)) (sym c.in-Gen.is)
     c.run_generated.ensures.goes
 
 pub returns-in-Gen-clause-shown : goal.returns-in-Gen-clause-shown
@@ -116,9 +110,8 @@ returns-in-Gen-clause-shown g c tells =
 pub returns-in-Backup-clause-goes : goal.returns-in-Backup-clause-goes
 returns-in-Backup-clause-goes g c =
     let old = g.H.Host.world c.args.host.now in
-    let new = g.H.Host.world c.run_asking.new.host in
-    subst (λ job. Goes g.H.Host.tells c.run_asking.result old new (request_of old.files job)) (sym c.in-Backup.is)
-    (subst (λ name. Goes g.H.Host.tells c.run_asking.result old new (Runs (Ok (ToRun (plan_of c.in-Backup.db (Backup c.in-Backup.level name ∷ [])) Quietly)))) c.copied-name.ensures c.run_asking.ensures.goes)
+    subst (λ job. Goes g.H.Host.world g.H.Host.tells c.run_asking.result c.args.host.now c.run_asking.new.host (request_of old.files job)) (sym c.in-Backup.is)
+    (subst (λ name. Goes g.H.Host.world g.H.Host.tells c.run_asking.result c.args.host.now c.run_asking.new.host (Runs (Ok (ToRun (plan_of c.in-Backup.db (Backup c.in-Backup.level name ∷ [])) Quietly)))) c.copied-name.ensures c.run_asking.ensures.goes)
 
 pub returns-in-Backup-clause-shown : goal.returns-in-Backup-clause-shown
 returns-in-Backup-clause-shown g c tells =
@@ -129,9 +122,8 @@ returns-in-Backup-clause-shown g c tells =
 pub returns-in-BackupSince-clause-goes : goal.returns-in-BackupSince-clause-goes
 returns-in-BackupSince-clause-goes g c =
     let old = g.H.Host.world c.args.host.now in
-    let new = g.H.Host.world c.run_asking-in-BackupSince.new.host in
-    subst (λ job. Goes g.H.Host.tells c.run_asking-in-BackupSince.result old new (request_of old.files job)) (sym c.in-BackupSince.is)
-    (subst (λ name. Goes g.H.Host.tells c.run_asking-in-BackupSince.result old new (Runs (Ok (ToRun (plan_of c.in-BackupSince.db (BackupOf c.in-BackupSince.guid name ∷ [])) Quietly)))) c.copied-name-in-BackupSince.ensures c.run_asking-in-BackupSince.ensures.goes)
+    subst (λ job. Goes g.H.Host.world g.H.Host.tells c.run_asking-in-BackupSince.result c.args.host.now c.run_asking-in-BackupSince.new.host (request_of old.files job)) (sym c.in-BackupSince.is)
+    (subst (λ name. Goes g.H.Host.world g.H.Host.tells c.run_asking-in-BackupSince.result c.args.host.now c.run_asking-in-BackupSince.new.host (Runs (Ok (ToRun (plan_of c.in-BackupSince.db (BackupOf c.in-BackupSince.guid name ∷ [])) Quietly)))) c.copied-name-in-BackupSince.ensures c.run_asking-in-BackupSince.ensures.goes)
 
 pub returns-in-BackupSince-clause-shown : goal.returns-in-BackupSince-clause-shown
 returns-in-BackupSince-clause-shown g c tells =
@@ -142,8 +134,7 @@ returns-in-BackupSince-clause-shown g c tells =
 pub returns-in-Restore-clause-goes : goal.returns-in-Restore-clause-goes
 returns-in-Restore-clause-goes g c =
     let old = g.H.Host.world c.args.host.now in
-    let new = g.H.Host.world c.run_turn.new.host in
-    subst (λ job. Goes g.H.Host.tells c.run_turn.result old new (request_of old.files job)) (sym c.in-Restore.is)
+    subst (λ job. Goes g.H.Host.world g.H.Host.tells c.run_turn.result c.args.host.now c.run_turn.new.host (request_of old.files job)) (sym c.in-Restore.is)
     (c.run_turn.ensures.goes (ToRestore c.in-Restore.db c.in-Restore.files) (ap deed_of c.in-Restore.is))
 
 pub returns-in-Restore-clause-shown : goal.returns-in-Restore-clause-shown
@@ -155,8 +146,7 @@ returns-in-Restore-clause-shown g c tells =
 pub returns-in-Fixup-clause-goes : goal.returns-in-Fixup-clause-goes
 returns-in-Fixup-clause-goes g c =
     let old = g.H.Host.world c.args.host.now in
-    let new = g.H.Host.world c.run_turn-in-Fixup.new.host in
-    subst (λ job. Goes g.H.Host.tells c.run_turn-in-Fixup.result old new (request_of old.files job)) (sym c.in-Fixup.is)
+    subst (λ job. Goes g.H.Host.world g.H.Host.tells c.run_turn-in-Fixup.result c.args.host.now c.run_turn-in-Fixup.new.host (request_of old.files job)) (sym c.in-Fixup.is)
     (c.run_turn-in-Fixup.ensures.goes (ToFix c.in-Fixup.db) (ap deed_of c.in-Fixup.is))
 
 pub returns-in-Fixup-clause-shown : goal.returns-in-Fixup-clause-shown
@@ -168,8 +158,7 @@ returns-in-Fixup-clause-shown g c tells =
 pub returns-in-Apply-clause-goes : goal.returns-in-Apply-clause-goes
 returns-in-Apply-clause-goes g c =
     let old = g.H.Host.world c.args.host.now in
-    let new = g.H.Host.world c.run_turn-in-Apply.new.host in
-    subst (λ job. Goes g.H.Host.tells c.run_turn-in-Apply.result old new (request_of old.files job)) (sym c.in-Apply.is)
+    subst (λ job. Goes g.H.Host.world g.H.Host.tells c.run_turn-in-Apply.result c.args.host.now c.run_turn-in-Apply.new.host (request_of old.files job)) (sym c.in-Apply.is)
     (c.run_turn-in-Apply.ensures.goes (ToMerge c.in-Apply.db c.in-Apply.file) (ap deed_of c.in-Apply.is))
 
 pub returns-in-Apply-clause-shown : goal.returns-in-Apply-clause-shown
@@ -181,8 +170,7 @@ returns-in-Apply-clause-shown g c tells =
 pub returns-in-Fold-clause-goes : goal.returns-in-Fold-clause-goes
 returns-in-Fold-clause-goes g c =
     let old = g.H.Host.world c.args.host.now in
-    let new = g.H.Host.world c.run_turn-in-Fold.new.host in
-    subst (λ job. Goes g.H.Host.tells c.run_turn-in-Fold.result old new (request_of old.files job)) (sym c.in-Fold.is)
+    subst (λ job. Goes g.H.Host.world g.H.Host.tells c.run_turn-in-Fold.result c.args.host.now c.run_turn-in-Fold.new.host (request_of old.files job)) (sym c.in-Fold.is)
     (c.run_turn-in-Fold.ensures.goes (ToFold c.in-Fold.out c.in-Fold.files) (ap deed_of c.in-Fold.is))
 
 pub returns-in-Fold-clause-shown : goal.returns-in-Fold-clause-shown
@@ -194,8 +182,7 @@ returns-in-Fold-clause-shown g c tells =
 pub returns-in-Plan-clause-goes : goal.returns-in-Plan-clause-goes
 returns-in-Plan-clause-goes g c =
     let old = g.H.Host.world c.args.host.now in
-    let new = g.H.Host.world c.plan_list.new.host in
-    subst (λ job. Goes g.H.Host.tells c.plan_list.result old new (request_of old.files job)) (sym c.in-Plan.is)
+    subst (λ job. Goes g.H.Host.world g.H.Host.tells c.plan_list.result c.args.host.now c.plan_list.new.host (request_of old.files job)) (sym c.in-Plan.is)
     c.plan_list.ensures.goes
 
 pub returns-in-Plan-clause-shown : goal.returns-in-Plan-clause-shown

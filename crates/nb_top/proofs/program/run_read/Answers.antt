@@ -5,17 +5,17 @@ use Rattle.nb_top.proofs.program.run_read.Goals as goal
 pub returns-in-Ok-clause-runs : goal.returns-in-Ok-clause-runs
 returns-in-Ok-clause-runs g c asked by =
     let old = g.H.Host.world c.args.host.now in
-    run_ended g.H.Host.tells old (g.H.Host.world c.do_job.new.host) asked (read_can old.files c.args.job.now asked c.requires.read by) (g.met.H.Host.reads_left c.args.host.now) (g.met.H.Host.timely c.do_job.new.host)
+    run_ended g.H.Host.world g.H.Host.tells c.args.host.now c.do_job.new.host asked (read_can old.files c.args.job.now asked c.requires.read by) (g.met.H.Host.reads_left c.args.host.now) (g.met.H.Host.timely c.do_job.new.host)
     (g.met.H.Host.reads_left c.do_job.new.host) c.in-Ok.status (c.in-Ok.ensures.goes asked by)
 
 pub returns-in-Err-Device-clause-runs : goal.returns-in-Err-Device-clause-runs
 returns-in-Err-Device-clause-runs g c asked by =
     let old = g.H.Host.world c.args.host.now in
-    run_device g.H.Host.tells old (g.H.Host.world c.do_job.new.host) asked (read_can old.files c.args.job.now asked c.requires.read by) (g.met.H.Host.reads_left c.args.host.now) (g.met.H.Host.timely c.do_job.new.host)
+    run_device g.H.Host.world g.H.Host.tells c.args.host.now c.do_job.new.host asked (read_can old.files c.args.job.now asked c.requires.read by) (g.met.H.Host.reads_left c.args.host.now) (g.met.H.Host.timely c.do_job.new.host)
     (g.met.H.Host.reads_left c.do_job.new.host) _ (c.in-Err-Device.ensures.goes asked by)
 
 pub returns-in-Err-Memory-clause-runs : goal.returns-in-Err-Memory-clause-runs
 returns-in-Err-Memory-clause-runs g c asked by =
     let old = g.H.Host.world c.args.host.now in
-    run_memory g.H.Host.tells old (g.H.Host.world c.do_job.new.host) asked (read_can old.files c.args.job.now asked c.requires.read by) (g.met.H.Host.reads_left c.args.host.now) (g.met.H.Host.timely c.do_job.new.host)
+    run_memory g.H.Host.world g.H.Host.tells c.args.host.now c.do_job.new.host asked (read_can old.files c.args.job.now asked c.requires.read by) (g.met.H.Host.reads_left c.args.host.now) (g.met.H.Host.timely c.do_job.new.host)
     (g.met.H.Host.reads_left c.do_job.new.host) _ (c.in-Err-Memory.ensures.goes asked by)

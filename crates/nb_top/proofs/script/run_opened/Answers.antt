@@ -1,13 +1,17 @@
-use Rattle.std.proofs.Common.{[], ap, ◌∙◌}
+use Rattle.std.proofs.Common.{[], ap, refl, ◌∙◌}
+use Rattle.std.specs.Prelude.{Bool, Err, IsErr}
 use Rattle.nb_model.specs.Steps.{after_steps}
 use Rattle.nb_model.specs.Trail.{settled}
 use Rattle.nb_session.proofs.GiftLaws.{grows_none, grows_joined}
-use Rattle.nb_top.specs.Performed.{PlaysOpened, first_event, opened_reply, told_first}
+use Rattle.nb_top.specs.ByTurns.{RunsOpened}
+use Rattle.nb_top.specs.Performed.{first_event, opened_reply, told_first, told_later}
+use Rattle.nb_top.proofs.ByTurnsLaws.{reply_said_by, reply_unsaid_by}
 use Rattle.nb_top.proofs.OpenedSaid.{opened_err, reply_unsaid, reply_said_then, ready_still}
 use Rattle.nb_top.proofs.QuietRuns.{foretold_from}
 use Rattle.nb_top.proofs.ToldLaws.{told_first_made, told_first_steps, told_output, told_status}
 use Rattle.nb_top.proofs.TouchLaws.{stays_unsaid, stays_said, still_said}
 use Rattle.nb_session.specs.StillOpen.{script_merges}
+use Rattle.nb_session.specs.declared.stop.Stop.{Stop}
 use Rattle.nb_top.proofs.script.run_opened.Goals as goal
 
 pub returns-in_err-say_opened-clause-plays : goal.returns-in_err-say_opened-clause-plays
@@ -21,9 +25,12 @@ returns-in_err-say_opened-clause-plays g c tells = (
       let telling = c.args.telling in
       let pages = held.files.count in
       let done = first_event plan.first_session strokes (opened_reply plan.first held.files.count held.files.state) in
-      opened_err c.from_residual.result (λ r. PlaysOpened r old new held held start (told_first telling done) telling pages now plan) c.from_residual.ensures.0
-      (reply_unsaid old new new held held start now plan c.requires.askable ready todo making (told_first telling done) telling pages (told_first_made telling done) _ (told_output plan.first_session strokes plan.first held.files.count held.files.state telling)
-      (ap (after_steps (settled start)) (told_first_steps telling done) ∙ trail) c.say_opened.result (c.say_opened.ensures.line tells)),
+      opened_err c.from_residual.result (λ r. RunsOpened g.H.Host.world r c.args.host.now c.say_opened.new.host held held start (told_first telling done) telling pages now plan) c.from_residual.ensures.0
+      (λ e. record {
+        whole = reply_unsaid old new new held held start now plan c.requires.askable ready todo making (told_first telling done) telling pages (told_first_made telling done) _ (told_output plan.first_session strokes plan.first held.files.count held.files.state telling)
+            (ap (after_steps (settled start)) (told_first_steps telling done) ∙ trail) c.say_opened.result (c.say_opened.ensures.line tells) e;
+        turns = reply_unsaid_by g.H.Host.world g.met.H.Host.timely (λ h. g.met.H.Host.reads_left h tells) (told_later telling pages) now plan.schedule c.say_opened.result _ (IsErr {T = Bool} {E = Stop} (Err e)) refl c.args.host.now c.say_opened.new.host (c.say_opened.ensures.line tells);
+      }),
 )
 
 pub returns-in_err-say_opened-clause-grows : goal.returns-in_err-say_opened-clause-grows
@@ -43,10 +50,12 @@ returns-clause-plays g c tells = (
       let done = first_event plan.first_session strokes (opened_reply plan.first held.files.count held.files.state) in
       let says = c.say_opened.ensures.line tells in
       let said = (c.in_ok-say_opened.ensures.line tells).said in
-      reply_said_then old mid new held c.take_told.new.engine start now plan c.requires.askable ready todo making (told_first telling done) telling pages (told_first_made telling done) _ (told_output plan.first_session strokes plan.first held.files.count held.files.state telling)
-      (ap (after_steps (settled start)) (told_first_steps telling done) ∙ trail) c.say_opened.result says (told_status plan.first_session strokes plan.first held.files.count held.files.state telling) said c.take_told.result
-      ((c.take_told.ensures.plays tells).1 now _ (ready_still old mid held now says.still ready) todo making
-      (foretold_from old mid new now.given _ c.say_opened.ensures.gave told)),
+      let taken = (c.take_told.ensures.plays tells).1 now _ (ready_still old mid held now says.still ready) todo making (foretold_from old mid new now.given _ c.say_opened.ensures.gave told) in
+      record {
+        whole = reply_said_then old mid new held c.take_told.new.engine start now plan c.requires.askable ready todo making (told_first telling done) telling pages (told_first_made telling done) _ (told_output plan.first_session strokes plan.first held.files.count held.files.state telling)
+            (ap (after_steps (settled start)) (told_first_steps telling done) ∙ trail) c.say_opened.result says (told_status plan.first_session strokes plan.first held.files.count held.files.state telling) said c.take_told.result taken.whole;
+        turns = reply_said_by g.H.Host.world g.met.H.Host.timely (λ h. g.met.H.Host.reads_left h tells) (told_later telling pages) now plan.schedule c.say_opened.result _ _ c.args.host.now c.say_opened.new.host c.take_told.new.host says taken.turns;
+      },
 )
 
 pub returns-clause-grows : goal.returns-clause-grows

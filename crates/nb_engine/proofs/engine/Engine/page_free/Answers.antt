@@ -48,7 +48,7 @@ returns-in_err-mark-clause-turn g c s t tells same is =
     let result = c.from_residual-in_err-mark.result in
     let tries = tries_passed result fault (λ r. Tries r old new c.args.self.now c.mark.new.store t (mark_cause image c.args.number) (mark_strokes image c.args.number 1)) c.from_residual-in_err-mark.ensures
     (tries_after {T = Unit {0}} (Err fault) _ _ _ _ _ _ t _ _ (raw.same ∙ ap but_pages c.self.view_is) raw.quiet is (c.in_err-mark.ensures.tries t tells still)) in
-    tries_does done result old new _ _ t s (λ (x : Seen). free_turn x c.args.number) _ Done _ same (free_is (seeing s t.base) c.args.number (raw.reads t tells here).test free) (if_err result fault _ c.from_residual-in_err-mark.ensures) tries
+    tries_does done result old new _ _ t s (λ (x : Seen). free_turn x c.args.number) _ Done refl _ same (free_is (seeing s t.base) c.args.number (raw.reads t tells here).test free) (if_err result fault _ c.from_residual-in_err-mark.ensures) tries
 
 pub returns-clause-turn : goal.returns-clause-turn
 returns-clause-turn g c s t tells same is =
@@ -59,4 +59,4 @@ returns-clause-turn g c s t tells same is =
     let still = raw.open t tells here in
     let free : read_only image ≡ None = open_cause image (sym still.agrees.read_only ∙ sym c.is_read_only.ensures ∙ c.if-is_read_only.false) in
     let tries = tries_after {T = Unit {0}} (Ok tt) _ _ _ _ _ _ t _ _ (raw.same ∙ ap but_pages c.self.view_is) raw.quiet is (c.in_ok-mark.ensures.tries t tells still) in
-    tries_does done (Ok tt) old _ _ _ t s (λ (x : Seen). free_turn x c.args.number) _ Done _ same (free_is (seeing s t.base) c.args.number (raw.reads t tells here).test free) refl tries
+    tries_does done (Ok tt) old _ _ _ t s (λ (x : Seen). free_turn x c.args.number) _ Done refl _ same (free_is (seeing s t.base) c.args.number (raw.reads t tells here).test free) refl tries

@@ -56,7 +56,7 @@ returns-in_err-raise_entry-clause-turn g c s t tells same is =
     let tries = tries_passed result fault (λ r. Tries r old new c.args.self.now c.raise_entry.new.store t (entry_cause image p) both) c.from_residual-in_err-raise_entry.ensures
     (tries_front (Unit {0}) (Unit {0}) fault _ _ _ _ t _ (raise_strokes image p) (raw_stroke image p text ∷ [])
     (tries_after {T = Unit {0}} (Err fault) _ _ _ _ _ _ t _ _ (raw.same ∙ ap but_pages c.self.view_is) raw.quiet is (c.in_err-raise_entry.ensures.tries t tells still))) in
-    tries_does done result old new _ _ t s (λ (x : Seen). write_turn x p text) _ Done both same turn (if_err result fault _ c.from_residual-in_err-raise_entry.ensures) tries
+    tries_does done result old new _ _ t s (λ (x : Seen). write_turn x p text) _ Done refl both same turn (if_err result fault _ c.from_residual-in_err-raise_entry.ensures) tries
 
 pub returns-in_err-write_raw-clause-turn : goal.returns-in_err-write_raw-clause-turn
 returns-in_err-write_raw-clause-turn g c s t tells same is =
@@ -81,7 +81,7 @@ returns-in_err-write_raw-clause-turn g c s t tells same is =
     let tries = tries_passed result fault (λ r. Tries r old new c.args.self.now c.write_raw.new.store t (entry_cause image p) both) c.from_residual-in_err-write_raw.ensures
     (then_page old mid _ _ t p of_raw.plain some first {T = Unit {0}} (Err fault) new _ c.deref_mut-2.result.now (λ (x : Image). raw_stroke x p text) of_raw.low read (put_stroke-after image _ p 8 (text_payload text))
     c.in_err-write_raw.ensures.not_refused (λ u opened low is. c.in_err-write_raw.ensures.makes u tells opened low is)) in
-    tries_does done result old new _ _ t s (λ (x : Seen). write_turn x p text) _ Done both same turn (if_err result fault _ c.from_residual-in_err-write_raw.ensures) tries
+    tries_does done result old new _ _ t s (λ (x : Seen). write_turn x p text) _ Done refl both same turn (if_err result fault _ c.from_residual-in_err-write_raw.ensures) tries
 
 pub returns-clause-turn : goal.returns-clause-turn
 returns-clause-turn g c s t tells same is =
@@ -102,4 +102,4 @@ returns-clause-turn g c s t tells same is =
     let read : c.deref_mut-2.result.now ≡ page_at image p = vec_whole _ c.take_raw.new.page _ _ c.deref_mut-2.ensures.value (omega (arith, c.take_raw.auto.page, c.deref_mut.ensures.len)) ∙ reads.page in
     let tries = then_page old mid _ _ t p of_raw.plain some first {T = Unit {0}} (Ok tt) new _ c.deref_mut-2.result.now (λ (x : Image). raw_stroke x p text) of_raw.low read (put_stroke-after image _ p 8 (text_payload text))
     tt (λ u opened low is. c.in_ok-write_raw.ensures.makes u tells opened low is) in
-    tries_does done (Ok tt) old new _ _ t s (λ (x : Seen). write_turn x p text) _ Done _ same turn refl tries
+    tries_does done (Ok tt) old new _ _ t s (λ (x : Seen). write_turn x p text) _ Done refl _ same turn refl tries

@@ -26,7 +26,7 @@ returns-then-eq-clause-turn g c s t tells same is =
     let state = c.state-state.ensures.value ∙ here.files.agrees.state in
     let says : OnOpen (not_state 0) c.state-state.result case.WrongState = subst (OnOpen (not_state 0) c.state-state.result) (same_true the_type (search rules) c.case_of.result case.WrongState (sym c.eq.ensures ∙ c.if-eq.true)) c.case_of.ensures in
     let other = says t.base.image (sym state) ∙ ap (λ (n : ℕ). Some (WrongState n)) (sym c.from.ensures) in
-    tries_does done _ first first _ _ t s (λ (x : Seen). access_turn x c.args.closed) _ Done _ same (access_is (seeing s t.base) c.args.closed) tt
+    tries_does done _ first first _ _ t s (λ (x : Seen). access_turn x c.args.closed) _ Done refl _ same (access_is (seeing s t.base) c.args.closed) tt
     (tries_failed (Unit {0}) _ first first _ _ t (not_state 0 t.base.image) _ other refl (quiet_begun first (g.met.H.Host.timely c.args.host.now)) is is)
 
 pub returns-in_err-put_flag-clause-turn : goal.returns-in_err-put_flag-clause-turn
@@ -42,7 +42,7 @@ returns-in_err-put_flag-clause-turn g c s t tells same is =
     let xs = byte_strokes 65 (flag c.args.closed) t.base.image in
     let made = subst (λ (n : ℕ). Tries {T = Unit {0}} (Err fault) old new c.self.inside.store c.put_flag.new.store t None (byte_strokes n (flag c.args.closed) t.base.image)) (ap (λ (place : ℕ × ℕ). place.0) c.place-at.ensures) (c.in_err-put_flag.ensures.tries t tells here) in
     let tries = subst (λ (k : Cause). Tries {T = Unit {0}} (Err fault) old new c.self.inside.store c.put_flag.new.store t k xs) free made in
-    tries_does done result old new _ _ t s (λ (x : Seen). access_turn x c.args.closed) _ Done _ same (access_is (seeing s t.base) c.args.closed) (if_err result fault _ c.from_residual.ensures)
+    tries_does done result old new _ _ t s (λ (x : Seen). access_turn x c.args.closed) _ Done refl _ same (access_is (seeing s t.base) c.args.closed) (if_err result fault _ c.from_residual.ensures)
     (tries_passed result fault (λ r. Tries r old new c.args.self.now c.put_flag.new.store t (not_state 0 t.base.image) xs) c.from_residual.ensures
     (subst (λ (h : Held). Tries {T = Unit {0}} (Err fault) old new h c.put_flag.new.store t (not_state 0 t.base.image) xs) c.self.view_is tries))
 
@@ -57,5 +57,5 @@ returns-clause-turn g c s t tells same is =
     let xs = byte_strokes 65 (flag c.args.closed) t.base.image in
     let made = subst (λ (n : ℕ). Tries {T = Unit {0}} (Ok tt) old new c.self.inside.store c.put_flag.new.store t None (byte_strokes n (flag c.args.closed) t.base.image)) (ap (λ (place : ℕ × ℕ). place.0) c.place-at.ensures) (c.in_ok-put_flag.ensures.tries t tells here) in
     let tries = subst (λ (k : Cause). Tries {T = Unit {0}} (Ok tt) old new c.self.inside.store c.put_flag.new.store t k xs) free made in
-    tries_does done (Ok tt) old new _ _ t s (λ (x : Seen). access_turn x c.args.closed) _ Done _ same (access_is (seeing s t.base) c.args.closed) refl
+    tries_does done (Ok tt) old new _ _ t s (λ (x : Seen). access_turn x c.args.closed) _ Done refl _ same (access_is (seeing s t.base) c.args.closed) refl
     (subst (λ (h : Held). Tries {T = Unit {0}} (Ok tt) old new h c.put_flag.new.store t (not_state 0 t.base.image) xs) c.self.view_is tries)

@@ -20,7 +20,7 @@ returns-then-is_read_only-clause-turn g c s t tells same is =
     let first = g.H.Host.world c.args.host.now in
     let here = subst (λ (h : Held). IsOpen first h t) (sym c.self.view_is) is in
     let closed : is_read_only t.base.image ≡ true = sym here.agrees.read_only ∙ sym c.is_read_only.ensures ∙ c.if-is_read_only.true in
-    tries_does done _ first first _ _ t s (λ (x : Seen). forced_turn x c.args.on) _ Done _ same (forced_is (seeing s t.base) c.args.on) tt
+    tries_does done _ first first _ _ t s (λ (x : Seen). forced_turn x c.args.on) _ Done refl _ same (forced_is (seeing s t.base) c.args.on) tt
     (tries_failed (Unit {0}) _ first first _ _ t (read_only t.base.image) _ (closed_cause t.base.image closed) refl (quiet_begun first (g.met.H.Host.timely c.args.host.now)) is is)
 
 pub returns-in_err-put_flag-clause-turn : goal.returns-in_err-put_flag-clause-turn
@@ -34,7 +34,7 @@ returns-in_err-put_flag-clause-turn g c s t tells same is =
     let xs = byte_strokes 64 (flag c.args.on) t.base.image in
     let made = subst (λ (n : ℕ). Tries {T = Unit {0}} (Err fault) old new c.self.inside.store c.put_flag.new.store t None (byte_strokes n (flag c.args.on) t.base.image)) (ap (λ (place : ℕ × ℕ). place.0) c.place-at.ensures) (c.in_err-put_flag.ensures.tries t tells here) in
     let tries = subst (λ (k : Cause). Tries {T = Unit {0}} (Err fault) old new c.self.inside.store c.put_flag.new.store t k xs) free made in
-    tries_does done result old new _ _ t s (λ (x : Seen). forced_turn x c.args.on) _ Done _ same (forced_is (seeing s t.base) c.args.on) (if_err result fault _ c.from_residual.ensures)
+    tries_does done result old new _ _ t s (λ (x : Seen). forced_turn x c.args.on) _ Done refl _ same (forced_is (seeing s t.base) c.args.on) (if_err result fault _ c.from_residual.ensures)
     (tries_passed result fault (λ r. Tries r old new c.args.self.now c.put_flag.new.store t (read_only t.base.image) xs) c.from_residual.ensures
     (subst (λ (h : Held). Tries {T = Unit {0}} (Err fault) old new h c.put_flag.new.store t (read_only t.base.image) xs) c.self.view_is tries))
 
@@ -47,5 +47,5 @@ returns-clause-turn g c s t tells same is =
     let xs = byte_strokes 64 (flag c.args.on) t.base.image in
     let made = subst (λ (n : ℕ). Tries {T = Unit {0}} (Ok tt) old new c.self.inside.store c.put_flag.new.store t None (byte_strokes n (flag c.args.on) t.base.image)) (ap (λ (place : ℕ × ℕ). place.0) c.place-at.ensures) (c.in_ok-put_flag.ensures.tries t tells here) in
     let tries = subst (λ (k : Cause). Tries {T = Unit {0}} (Ok tt) old new c.self.inside.store c.put_flag.new.store t k xs) free made in
-    tries_does done (Ok tt) old new _ _ t s (λ (x : Seen). forced_turn x c.args.on) _ Done _ same (forced_is (seeing s t.base) c.args.on) refl
+    tries_does done (Ok tt) old new _ _ t s (λ (x : Seen). forced_turn x c.args.on) _ Done refl _ same (forced_is (seeing s t.base) c.args.on) refl
     (subst (λ (h : Held). Tries {T = Unit {0}} (Ok tt) old new h c.put_flag.new.store t (read_only t.base.image) xs) c.self.view_is tries)

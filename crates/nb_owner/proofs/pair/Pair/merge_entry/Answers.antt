@@ -1,5 +1,7 @@
 use Rattle.std.proofs.Common.{[], ap, sym, subst, ◌∙◌}
+use Rattle.std.specs.Prelude.{slice_index, OnOk}
 use Rattle.nb_change.proofs.ResultLaws.{on_ok_then}
+use Rattle.nb_base.specs.Merging.{PutsPage}
 use Rattle.nb_base.specs.Open.{AreMerged}
 use Rattle.nb_base.specs.Takes.{Strikes}
 use Rattle.nb_base.proofs.FirmLaws.{strikes_left}
@@ -9,12 +11,12 @@ use Rattle.nb_owner.proofs.WaitLaws.{files_open, open_settled}
 use Rattle.nb_owner.proofs.pair.Pair.merge_entry.Goals as goal
 
 pub returns-clause-takes : goal.returns-clause-takes
-returns-clause-takes g c t tells given full =
+returns-clause-takes g c t tells given =
     let old = g.H.Host.world c.args.host.now in
     let new = g.H.Host.world c.merge_entry.new.host in
     let is = subst (λ (h : Held). IsOpen old h t) (sym c.self.view_is) given in
     let none = c.self.invariant.2 (ap (λ (h : Held). h.files.state) c.self.view_is ∙ c.requires.merge) in
-    let takes = c.merge_entry.ensures.takes t tells (files_open old (the_view c.self.inside) t none is) full in
+    let takes = c.merge_entry.ensures.takes t tells (files_open old (the_view c.self.inside) t none is) in
     let now : Held = record { files = c.merge_entry.new.self; pages = c.self.inside.cache.pages; cap = c.self.inside.cache.cap } in
     record {
       left = subst (λ (h : Held). Strikes old new h.files.name t []) c.self.view_is (strikes_left old new c.self.inside.files.name t [] takes.left);
@@ -22,8 +24,13 @@ returns-clause-takes g c t tells given full =
     }
 
 pub returns-clause-merged : goal.returns-clause-merged
-returns-clause-merged g c t tells given full merged =
+returns-clause-merged g c t tells given merged =
     let old = g.H.Host.world c.args.host.now in
     let is = subst (λ (h : Held). IsOpen old h t) (sym c.self.view_is) given in
     let none = c.self.invariant.2 (ap (λ (h : Held). h.files.state) c.self.view_is ∙ c.requires.merge) in
-    c.merge_entry.ensures.merged t tells (files_open old (the_view c.self.inside) t none is) full (subst (λ (h : Held). AreMerged old h.files c.args.k) (sym c.self.view_is) merged)
+    c.merge_entry.ensures.merged t tells (files_open old (the_view c.self.inside) t none is) (subst (λ (h : Held). AreMerged old h.files c.args.k) (sym c.self.view_is) merged)
+
+pub returns-clause-put : goal.returns-clause-put
+returns-clause-put g c tells =
+    subst (λ (h : Held). OnOk c.merge_entry.result (PutsPage (g.H.Host.world c.args.host.now).files (g.H.Host.world c.merge_entry.new.host).files h.files.name h.files.page_size (slice_index h.files.entries c.args.k))) c.self.view_is
+    (c.merge_entry.ensures.put tells)

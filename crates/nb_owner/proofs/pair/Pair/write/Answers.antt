@@ -46,7 +46,7 @@ returns-then-may_wait-clause-takes g c t tells is fits forced =
       left = subst (λ host. Strikes w (g.H.Host.world host) name t (page c.args.number c.args.page.now ∷ [])) (sym c.hold.ensures.no_call)
           (begun w (OfFiles name) (Reached after_stroke (StandsIn name) t (page c.args.number c.args.page.now ∷ [])) (g.met.H.Host.timely c.args.host.now) (λ files all. inl (is.left files all)));
       done = subst (λ host. IsOpen (g.H.Host.world host) c.hold.new.self (after_stroke (page c.args.number c.args.page.now) t)) (sym c.hold.ensures.no_call)
-          (held_open w c.args.self.now t is c.may_wait.ensures.valid c.args.number c.args.page.now parts.2 parts.3 c.requires.most c.requires.some parts.1 (sym forced ∙ parts.0) parts.4 c.hold.new.self ok.held ok.cap (λ normal. (ok.normal normal).1) ok.drafts);
+          (held_open w c.args.self.now t is c.may_wait.ensures.valid c.args.number c.args.page.now parts.2 parts.3 c.requires.most c.requires.size c.requires.some parts.1 (sym forced ∙ parts.0) parts.4 c.hold.new.self ok.held ok.cap (λ normal. (ok.normal normal).1) ok.drafts);
     }
 
 pub returns-then-may_wait-clause-merged : goal.returns-then-may_wait-clause-merged
@@ -136,6 +136,18 @@ returns-in_err-write_through-clause-on_memory g c t tells is memory =
 pub returns-in_err-write_through-clause-stays : goal.returns-in_err-write_through-clause-stays
 returns-in_err-write_through-clause-stays g c merges memory =
     let idle = c.write_out.ensures.outside merges in
+    let same = c.in_err-write_through.ensures.on_memory (sym (passed_on c.from_residual-in_err-write_through.result _ c.from_residual-in_err-write_through.ensures) ∙ memory) in
+    (same.0 ∙ idle.1, same.1 ∙ idle.2)
+
+pub returns-in_err-write_through-clause-forced : goal.returns-in_err-write_through-clause-forced
+returns-in_err-write_through-clause-forced g c t tells is forced memory =
+    let idle = c.write_out.ensures.at_forced t tells is forced in
+    let same = c.in_err-write_through.ensures.on_memory (sym (passed_on c.from_residual-in_err-write_through.result _ c.from_residual-in_err-write_through.ensures) ∙ memory) in
+    (same.0 ∙ idle.1, same.1 ∙ idle.2)
+
+pub returns-in_err-write_through-clause-idle : goal.returns-in_err-write_through-clause-idle
+returns-in_err-write_through-clause-idle g c none no_drafts memory =
+    let idle = c.write_out.ensures.idle none no_drafts in
     let same = c.in_err-write_through.ensures.on_memory (sym (passed_on c.from_residual-in_err-write_through.result _ c.from_residual-in_err-write_through.ensures) ∙ memory) in
     (same.0 ∙ idle.1, same.1 ∙ idle.2)
 

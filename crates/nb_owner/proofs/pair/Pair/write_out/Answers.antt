@@ -1,11 +1,13 @@
 use Rattle.std.proofs.Common.{◌≡◌, ℕ, [], refl, sym, ◌∙◌}
-use Rattle.std.specs.Prelude.{None, Some, Result, Err, IsOk}
+use Rattle.std.specs.Prelude.{None, Some, Result, Err, IsOk, true}
+use Rattle.std.proofs.lemmas.Bool.{true≢false}
 use Rattle.nb_host.specs.World.{World}
+use Rattle.nb_model.specs.Image.{is_forced}
 use Rattle.nb_model.specs.Trail.{Trail}
 use Rattle.nb_base.proofs.WriteLaws.{not_done}
 use Rattle.nb_owner.specs.Open.{Held, IsOpen}
 use Rattle.nb_owner.proofs.RankLaws.{none_found}
-use Rattle.nb_owner.proofs.WaitLaws.{none_drafted, settled_none}
+use Rattle.nb_owner.proofs.WaitLaws.{none_drafted, settled_none, forced_none}
 use Rattle.nb_owner.proofs.pair.Pair.write_out.Goals as goal
 
 none_some : {r : ℕ} → None ≡ Some r → ⊥
@@ -49,4 +51,22 @@ returns-in_err-enter_rest-in-None-clause-at_settled g c t tells is none =
 pub returns-in_ok-enter_rest-in-None-clause-at_settled : goal.returns-in_ok-enter_rest-in-None-clause-at_settled
 returns-in_ok-enter_rest-in-None-clause-at_settled g c t tells is none =
     let idle = c.enter_rest.ensures.idle (no_drafts (g.H.Host.world c.args.host.now) c.args.self.now t is none) in
+    (refl, idle.1, idle.2)
+
+pub returns-in_err-put_all-in-Some-clause-at_forced : goal.returns-in_err-put_all-in-Some-clause-at_forced
+returns-in_err-put_all-in-Some-clause-at_forced g c t tells is forced = absurd (true≢false (sym forced ∙ (is.waits.each c.in-Some.field-0 c.in-Some.ensures.next.0 c.in-Some.ensures.next.1).loose))
+
+pub returns-in_ok-put_all-in-Some-clause-at_forced : goal.returns-in_ok-put_all-in-Some-clause-at_forced
+returns-in_ok-put_all-in-Some-clause-at_forced g c t tells is forced = absurd (true≢false (sym forced ∙ (is.waits.each c.in-Some.field-0 c.in-Some.ensures.next.0 c.in-Some.ensures.next.1).loose))
+
+no_drafts_forced : (w : World) (held : Held) (t : Trail) → IsOpen w held t → is_forced t.base.image ≡ true → held.files.drafted ≡ 0
+no_drafts_forced w held t is forced = (none_drafted held.pages held.files.drafted is.sees t (forced_none w held t is forced) is.waits).0
+
+pub returns-in_err-enter_rest-in-None-clause-at_forced : goal.returns-in_err-enter_rest-in-None-clause-at_forced
+returns-in_err-enter_rest-in-None-clause-at_forced g c t tells is forced =
+    absurd (ok_err c.enter_rest.result _ c.in_err-enter_rest-in-None.was (c.enter_rest.ensures.idle (no_drafts_forced (g.H.Host.world c.args.host.now) c.args.self.now t is forced)).0)
+
+pub returns-in_ok-enter_rest-in-None-clause-at_forced : goal.returns-in_ok-enter_rest-in-None-clause-at_forced
+returns-in_ok-enter_rest-in-None-clause-at_forced g c t tells is forced =
+    let idle = c.enter_rest.ensures.idle (no_drafts_forced (g.H.Host.world c.args.host.now) c.args.self.now t is forced) in
     (refl, idle.1, idle.2)

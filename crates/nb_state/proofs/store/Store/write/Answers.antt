@@ -4,7 +4,8 @@ use Rattle.nb_host.specs.World.{World}
 use Rattle.nb_model.specs.Strokes.{page}
 use Rattle.nb_base.specs.Takes.{Strikes}
 use Rattle.nb_base.specs.Touches.{WritesIn}
-use Rattle.nb_state.specs.Open.{Held, IsOpen, name_of}
+use Rattle.nb_state.specs.Open.{Held, IsOpen, NoPageWaits, name_of}
+use Rattle.nb_state.specs.contracts.store.Store.{the_view}
 use Rattle.nb_state.specs.Does.{Goes, Makes}
 use Rattle.nb_state.proofs.AgreeLaws.{page_whole, open_written, goes_files, goes_written}
 use Rattle.nb_change.proofs.ResultLaws.{passed_on}
@@ -63,6 +64,20 @@ returns-in_err-write-clause-on_memory g c t tells given memory =
       subst (λ (h : Held). Strikes old new (name_of h) t []) c.self.view_is on_memory.0,
       open_wanting old new _ c.write.new.self t is wrote.state on_memory.1 (λ two. let same = wrote.stays two wants in (same.0, ap (λ host. g.H.Host.world host) same.1)),
     )
+
+pub returns-in_err-write-clause-idle : goal.returns-in_err-write-clause-idle
+returns-in_err-write-clause-idle g c none memory =
+    let wants = sym (passed_on c.from_residual.result c.in_err-write.field-0.0 c.from_residual.ensures) ∙ memory in
+    let idle = subst (λ (h : Held). NoPageWaits h) (sym c.self.view_is) none in
+    let same = c.in_err-write.ensures.idle idle.0 idle.1 wants in
+    (ap (λ (p : Rattle.nb_owner.specs.Open.Held). record (the_view c.self.inside) { files = p.files; pages = p.pages; cap = p.cap }) same.0 ∙ c.self.view_is, same.1)
+
+pub returns-in_err-write-clause-forced : goal.returns-in_err-write-clause-forced
+returns-in_err-write-clause-forced g c t tells given forced memory =
+    let is = subst (λ (h : Held). IsOpen (g.H.Host.world c.args.host.now) h t) (sym c.self.view_is) given in
+    let wants = sym (passed_on c.from_residual.result c.in_err-write.field-0.0 c.from_residual.ensures) ∙ memory in
+    let same = c.in_err-write.ensures.forced t tells is.files (sym given.agrees.forced ∙ forced) wants in
+    (ap (λ (p : Rattle.nb_owner.specs.Open.Held). record (the_view c.self.inside) { files = p.files; pages = p.pages; cap = p.cap }) same.0 ∙ c.self.view_is, same.1)
 
 pub returns-in_err-write-clause-touches : goal.returns-in_err-write-clause-touches
 returns-in_err-write-clause-touches g c t tells given =

@@ -1,0 +1,55 @@
+use Rattle.std.proofs.Common.{[], ◌∷◌, length, refl, ap, sym, subst, ◌∙◌}
+use Rattle.nb_model.specs.Strokes.{finish}
+use Rattle.nb_base.specs.Open.{AreMerged}
+use Rattle.nb_base.specs.Takes.{Strikes}
+use Rattle.nb_base.proofs.FirmLaws.{strikes_left}
+use Rattle.nb_base.proofs.WriteLaws.{not_done}
+use Rattle.nb_cache.specs.Held.{NoneWaits}
+use Rattle.nb_owner.specs.Open.{Held, Pages, IsOpen}
+use Rattle.nb_owner.specs.contracts.pair.Pair.{the_view}
+use Rattle.nb_owner.proofs.RankLaws.{none_found}
+use Rattle.nb_owner.proofs.OpenLaws.{none_waits_dropped, gone_behind, valid_gone}
+use Rattle.nb_owner.proofs.WaitLaws.{files_open}
+use Rattle.nb_owner.proofs.pair.Pair.finish_files.Goals as goal
+
+pub returns-in_err-finish-clause-takes : goal.returns-in_err-finish-clause-takes
+returns-in_err-finish-clause-takes g c t tells given merged =
+    let old = g.H.Host.world c.args.host.now in
+    let new = g.H.Host.world c.finish.new.host in
+    let is = subst (λ (h : Held). IsOpen old h t) (sym c.self.view_is) given in
+    let none = c.self.invariant.2 (ap (λ (h : Held). h.files.state) c.self.view_is ∙ c.requires.merge) in
+    record {
+      left = subst (λ (h : Held). Strikes old new h.files.name t (finish ∷ [])) c.self.view_is
+          (strikes_left old new c.self.inside.files.name t (finish ∷ []) (c.finish.ensures.takes t tells (files_open old (the_view c.self.inside) t none is) (subst (λ (h : Held). AreMerged old h.files (length h.files.entries)) (sym c.self.view_is) merged)).left);
+      done = not_done c.from_residual.result _ c.from_residual.ensures.0;
+    }
+
+pub drop_page-requires : goal.drop_page-requires
+drop_page-requires g c = none_found c.self.inside.cache.pages (c.self.invariant.2 (ap (λ (h : Held). h.files.state) c.self.view_is ∙ c.requires.merge)) 0
+
+pub invariant_of-self-2 : goal.invariant_of-self-2
+invariant_of-self-2 g c =
+    let none = c.self.invariant.2 (ap (λ (h : Held). h.files.state) c.self.view_is ∙ c.requires.merge) in (
+      valid_gone c.self.inside.cache c.drop_page.new.self c.self.inside.files.page_size c.finish.new.self.page_size c.self.invariant.0 c.finish.ensures.page_size c.drop_page.ensures,
+      c.self.invariant.1 ∙ sym c.finish.ensures.page_size,
+      (λ stalled. subst (λ (ps : Pages). NoneWaits ps) (sym (gone_behind c.self.inside.cache c.drop_page.new.self c.self.inside.files.page_size c.self.inside.files.page_size c.self.invariant.0 refl c.drop_page.ensures))
+          (none_waits_dropped c.self.inside.cache.pages c.self.invariant.0.once none)),
+    )
+
+pub returns-clause-takes : goal.returns-clause-takes
+returns-clause-takes g c t tells given merged =
+    let old = g.H.Host.world c.args.host.now in
+    let new = g.H.Host.world c.finish.new.host in
+    let is = subst (λ (h : Held). IsOpen old h t) (sym c.self.view_is) given in
+    let none = c.self.invariant.2 (ap (λ (h : Held). h.files.state) c.self.view_is ∙ c.requires.merge) in
+    let takes = c.in_ok-finish.ensures.takes t tells (files_open old (the_view c.self.inside) t none is) (subst (λ (h : Held). AreMerged old h.files (length h.files.entries)) (sym c.self.view_is) merged) in
+    record {
+      left = subst (λ (h : Held). Strikes old new h.files.name t (finish ∷ [])) c.self.view_is (strikes_left old new c.self.inside.files.name t (finish ∷ []) takes.left);
+      done = takes.done;
+    }
+
+pub returns-clause-none : goal.returns-clause-none
+returns-clause-none g c =
+    let none = c.self.invariant.2 (ap (λ (h : Held). h.files.state) c.self.view_is ∙ c.requires.merge) in
+    subst (λ (ps : Pages). NoneWaits ps) (sym (gone_behind c.self.inside.cache c.drop_page.new.self c.self.inside.files.page_size c.self.inside.files.page_size c.self.invariant.0 refl c.drop_page.ensures))
+    (none_waits_dropped c.self.inside.cache.pages c.self.invariant.0.once none)

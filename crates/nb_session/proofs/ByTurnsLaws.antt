@@ -1,0 +1,106 @@
+-- What turns taken one by one leave of the files.
+use Rattle.std.proofs.Common.{◌≡◌, inl, inr, ℕ, List, [], ◌∷◌, sym, ap, subst, ◌∙◌}
+use Rattle.std.specs.Prelude.{Bool, false, Result, Ok, Err}
+use Rattle.nb_host.specs.World.{World}
+use Rattle.nb_host.specs.Crash.{LeavesAll}
+use Rattle.nb_host.specs.Moments.{IsTimely}
+use Rattle.nb_change.proofs.MomentLaws.{weaker}
+use Rattle.nb_model.specs.Making.{MadeFile}
+use Rattle.nb_model.specs.Run.{Now, Played, one_turn, play}
+use Rattle.nb_model.specs.Steps.{steps_of, after_steps}
+use Rattle.nb_model.specs.Trail.{Trail}
+use Rattle.nb_base.specs.Open.{OfFiles}
+use Rattle.nb_state.specs.Open.{Held, name_of}
+use Rattle.nb_session.specs.declared.stop.Stop.{Stop}
+use Rattle.nb_session.specs.declared.told.Told.{Told}
+use Rattle.nb_session.specs.Acts.{Touched}
+use Rattle.nb_session.specs.ByTurns.{ByTurns, OfLast, StillInLast, GoesByTurns}
+use Rattle.nb_session.specs.InTurn.{InTurn, EndsBy}
+use Rattle.nb_session.specs.Others.{LeavesOthers}
+use Rattle.nb_session.specs.Steps.{touching_by}
+use Rattle.nb_session.specs.Stops.{Plays}
+use Rattle.nb_session.specs.Todo.{PlaysInTurn}
+use Rattle.nb_session.specs.Told.{told_events, told_turns}
+use Rattle.nb_session.proofs.InTurnLaws.{play_idle}
+use Rattle.nb_session.proofs.OthersLaws.{leaves_among}
+use Rattle.nb_session.proofs.PlayLaws.{no_file}
+
+-- Turns leave alone what they may not touch.
+plays_leave : (result : Result Bool Stop) (old new : World) (before after : Held) (t : Trail) (now : Now) (p : Played) (made : List MadeFile) → IsTimely new → LeavesAll new new.files → Plays result old new before after t now p made
+    → LeavesOthers old new (Touched (name_of before) made)
+plays_leave result old new before after t now p made timely reads plays =
+    let here = plays.stops.each new.files new.said (timely.counts_now old.moment new.files plays.stops.later reads) in
+    record {
+      moments = weaker old new _ _ plays.stops (λ files said left. record { added = record { part = left.out.part; is = left.out.is }; others = left.others });
+      others = plays.others;
+      others_read = plays.others_read;
+      added = record { part = here.out.part; is = here.out.is };
+    }
+
+-- no turn touches but the database's two files
+none_touched : (name m : List ℕ) → Touched name [] m → OfFiles name m
+none_touched name m (inl own) = own
+none_touched name m (inr there) = absurd (no_file m there.0 there.1)
+
+module _ {H : Type 0} (world : H → World) (timely : (h : H) → IsTimely (world h)) (reads : (h : H) → LeavesAll (world h) (world h).files) (how : Told) where
+  -- the database's name stays
+  named_then : (order : List ℕ) (old new : H) (before after : Held) (t : Trail) (now : Now) → name_of before ≡ now.name → InTurn world how order old new before after t now → name_of after ≡ (play order now).1.name
+  unfolding play
+  named_then [] old new before after t now named same = ap (λ (h : Held). name_of h) same.1 ∙ named
+  named_then (x ∷ order) old new before after t now named (inl idle) = named_then order old new before after t now named idle.1 ∙ ap (λ (p : Played). p.1.name) (sym (play_idle x order now idle.0))
+  named_then (x ∷ order) old new before after t now named (inr taken) =
+      named_then order taken.0 new taken.1 after (after_steps t (steps_of (one_turn x now).0)) (one_turn x now).1 taken.2.plays.done.ready.named taken.3
+
+  turns_by : (order : List ℕ) (old new : H) (before after : Held) (t : Trail) (now : Now) → name_of before ≡ now.name → InTurn world how order old new before after t now → ByTurns world (told_events how) order old new now
+  turns_by [] old new before after t now named same = same.0
+  turns_by (x ∷ order) old new before after t now named (inl idle) = inl (idle.0, turns_by order old new before after t now named idle.1)
+  turns_by (x ∷ order) old new before after t now named (inr taken) = inr (
+    taken.0,
+    record {
+      said = taken.2.plays.done.said;
+      leaves = subst (λ (n : List ℕ). LeavesOthers (world old) (world taken.0) (Touched n (touching_by x now))) named
+          (plays_leave (Ok taken.2.refused) (world old) (world taken.0) before taken.1 t now (told_turns how (one_turn x now)) (touching_by x now) (timely taken.0) (reads taken.0) taken.2.plays);
+      unchanged = taken.2.unchanged;
+    },
+    turns_by order taken.0 new taken.1 after (after_steps t (steps_of (one_turn x now).0)) (one_turn x now).1 taken.2.plays.done.ready.named taken.3,
+  )
+
+  -- what waits is written out
+  out_leaves : (result : Result Bool Stop) (old new : H) (before after : Held) (t : Trail) (now : Now) → name_of before ≡ now.name → Plays result (world old) (world new) before after t now ([], now) []
+      → LeavesOthers (world old) (world new) (OfFiles now.name)
+  out_leaves result old new before after t now named plays =
+      subst (λ (n : List ℕ). LeavesOthers (world old) (world new) (OfFiles n)) named
+      (leaves_among (world old) (world new) (Touched (name_of before) []) (OfFiles (name_of before)) (none_touched (name_of before))
+      (plays_leave result (world old) (world new) before after t now ([], now) [] (timely new) (reads new) plays))
+
+  -- the last thing that is done
+  last_leaves : (result : Result Bool Stop) (rest : List ℕ) (old new : H) (before after : Held) (t : Trail) (now : Now) → name_of before ≡ now.name → EndsBy result how rest (world old) (world new) before after t now
+      → LeavesOthers (world old) (world new) (OfLast rest now)
+  last_leaves (Ok refused) [] old new before after t now named plays = out_leaves (Ok false) old new before after t now named plays
+  last_leaves (Ok refused) (x ∷ rest) old new before after t now named plays = absurd plays
+  last_leaves (Err stop) [] old new before after t now named plays = out_leaves (Err stop) old new before after t now named plays
+  last_leaves (Err stop) (x ∷ rest) old new before after t now named ends =
+      subst (λ (n : List ℕ). LeavesOthers (world old) (world new) (Touched n (touching_by x now))) named
+      (plays_leave (Err stop) (world old) (world new) before after t now (told_turns how (one_turn x now)) (touching_by x now) (timely new) (reads new) ends.0)
+
+  last_still : (result : Result Bool Stop) (rest : List ℕ) (old new : World) (before after : Held) (t : Trail) (now : Now) → EndsBy result how rest old new before after t now → StillInLast rest now old new
+  last_still (Ok refused) [] old new before after t now plays = tt
+  last_still (Ok refused) (x ∷ rest) old new before after t now plays = absurd plays
+  last_still (Err stop) [] old new before after t now plays = tt
+  last_still (Err stop) (x ∷ rest) old new before after t now ends = ends.1
+
+  -- all turns
+  pub goes_by : (result : Result Bool Stop) (old new : H) (before after : Held) (t : Trail) (now : Now) (schedule : List ℕ) → name_of before ≡ now.name → PlaysInTurn world result old new before after t how now schedule
+      → GoesByTurns world (told_events how) old new now schedule
+  goes_by result old new before after t now schedule named plays =
+      let runs = plays.in_turn in
+      record {
+        how_often = plays.whole.how_often;
+        front = runs.front;
+        rest = runs.rest;
+        is = runs.is;
+        mid = runs.mid;
+        taken = turns_by runs.front old runs.mid before runs.between t now named runs.taken;
+        last = last_leaves result runs.rest runs.mid new runs.between after (after_steps t (steps_of (play runs.front now).0)) (play runs.front now).1 (named_then runs.front old runs.mid before runs.between t now named runs.taken) runs.last;
+        still = last_still result runs.rest (world runs.mid) (world new) runs.between after (after_steps t (steps_of (play runs.front now).0)) (play runs.front now).1 runs.last;
+      }

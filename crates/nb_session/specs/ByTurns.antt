@@ -1,0 +1,52 @@
+-- The turns of a run one by one, by what they say and what they leave of the files.
+use Rattle.std.specs.Prelude.{◌≡◌, ◌⊎◌, ℕ, List, [], ◌∷◌, ◌++◌, true}
+use Rattle.std.specs.List.{list_all}
+use Rattle.nb_host.specs.World.{World}
+use Rattle.nb_change.specs.Changes.{Names}
+use Rattle.nb_model.specs.Output.{output}
+use Rattle.nb_model.specs.Run.{Event, Now, one_turn, play, rounds}
+use Rattle.nb_base.specs.Open.{OfFiles}
+use Rattle.nb_session.specs.Acts.{Touched}
+use Rattle.nb_session.specs.InTurn.{HasNone}
+use Rattle.nb_session.specs.Others.{LeavesOthers}
+use Rattle.nb_session.specs.Replies.{only_told}
+use Rattle.nb_session.specs.Steps.{touching_by}
+
+-- the files that the next turn of a session may touch: the database's two, and those that it may make
+abbrev pub OfTurn : (session : ℕ) → Now → Names
+OfTurn session now = Touched now.name (touching_by session now)
+
+-- A turn was taken to its end, and what is told of it said. It left every other file alone, and where it only told something all files read as before it,
+-- byte for byte.
+pub record LeavesTurn (old new : World) (told : List Event → List Event) (session : ℕ) (now : Now) : Type 0 where
+  pub said : new.said ≡ old.said ++ output (told (one_turn session now).0)
+  pub leaves : LeavesOthers old new (OfTurn session now)
+  pub unchanged : list_all only_told (one_turn session now).0 ≡ true → new.files ≡ old.files
+
+-- Turns were taken in this order, each from the host at which the one before it ended. A session that has none does nothing.
+abbrev pub ByTurns : {H : Type 0} → (world : H → World) → (told : List Event → List Event) → (order : List ℕ) → (old new : H) → Now → Type 0
+ByTurns world told [] old new now = new ≡ old
+ByTurns {H} world told (session ∷ order) old new now =
+    (HasNone session now × ByTurns world told order old new now)
+    ⊎ ((mid : H) × LeavesTurn (world old) (world mid) told session now × ByTurns world told order mid new (one_turn session now).1)
+
+-- the files that the last thing done may touch, where these numbers are left: the database's two, or those of the turn that ended early
+abbrev pub OfLast : (rest : List ℕ) → Now → Names
+OfLast [] now = OfFiles now.name
+OfLast (session ∷ rest) now = OfTurn session now
+
+-- where the turn that ended early was only to tell something, all files read as before it, byte for byte
+abbrev pub StillInLast : (rest : List ℕ) → Now → (old new : World) → Type 0
+StillInLast [] now old new = Unit {0}
+StillInLast (session ∷ rest) now old new = list_all only_told (one_turn session now).0 ≡ true → new.files ≡ old.files
+
+-- The turns of a schedule and then of rounds, to the end of all or up to one that ended early. Behind them what waits was written out, or not all of it.
+pub record GoesByTurns {H : Type 0} (world : H → World) (told : List Event → List Event) (old new : H) (now : Now) (schedule : List ℕ) : Type 0 where
+  pub how_often : ℕ
+  pub front : List ℕ
+  pub rest : List ℕ
+  pub is : schedule ++ rounds how_often ≡ front ++ rest
+  pub mid : H
+  pub taken : ByTurns world told front old mid now
+  pub last : LeavesOthers (world mid) (world new) (OfLast rest (play front now).1)
+  pub still : StillInLast rest (play front now).1 (world mid) (world new)

@@ -1,0 +1,162 @@
+-- Files keep names that a host may give them.
+use Rattle.std.proofs.Common.{◌≡◌, ◌⊎◌, inl, inr, ℕ, ◌+◌, ◌-◌, suc, List, [], ◌∷◌, ◌++◌, length, get_or, refl, sym, ap, subst, ◌∙◌, arith, length-append, true, false}
+use Rattle.std.specs.Prelude.{Bool, ◌&&◌, Option, None, Some, Result, Ok, Err, not, nat_le, nat_lt}
+use Rattle.std.specs.List.{AllByRecursion, list_all}
+use Rattle.std.proofs.lemmas.Bool.{and_from, and_parts, le-leb, leb-true, lt-ltb, true≢false}
+use Rattle.nb_host.specs.Files.{Files}
+use Rattle.nb_host.specs.Names.{delta_suffix, is_delta, is_name, is_name_byte}
+use Rattle.nb_host.specs.World.{World}
+use Rattle.nb_host.specs.Crash.{Leaves}
+use Rattle.nb_host.specs.Moments.{AtEachMoment}
+use Rattle.nb_host.specs.declared.refusals.Refusal.{Refusal}
+use Rattle.nb_host.specs.declared.refusals.Refusal.TheVariants.{Usage}
+use Rattle.nb_change.specs.Changes.{Names, Other}
+use Rattle.nb_change.proofs.MomentLaws.{left_before, weaker}
+use Rattle.nb_model.specs.declared.job.Job.{Job}
+use Rattle.nb_model.specs.declared.job.Job.TheVariants.{Run, Stat, Gen, Backup, BackupSince, Restore, Apply, Lock, LockWithSize, Unlock, Fixup, Fold, Plan as PlanOf}
+use Rattle.nb_model.specs.declared.statement.Statement.{Statement}
+use Rattle.nb_model.specs.declared.statement.Statement.TheVariants.{Backup as BackupTo, BackupSince as BackupOf, CopyTo}
+use Rattle.nb_model.specs.Generated.{generated}
+use Rattle.nb_model.specs.Owner.{delta_name}
+use Rattle.nb_model.specs.Words.{is_database, is_file, job_of}
+use Rattle.nb_base.specs.Open.{OfFiles}
+use Rattle.nb_catalog.specs.Turns.{names_in}
+use Rattle.nb_gen.specs.Texts.{generated_first}
+use Rattle.nb_script.specs.Asked.{IsAskable, IsFurther}
+use Rattle.nb_script.specs.Fits.{FitsFirst}
+use Rattle.nb_script.specs.Scripts.{Plan, script_of}
+use Rattle.nb_script.proofs.AskedLemmas.{answer_is_askable}
+use Rattle.nb_session.specs.MadeNames.{AnyAsks, AnySessionAsks, Asks, ScriptMakes}
+use Rattle.nb_session.specs.Others.{LeavesOthers}
+use Rattle.nb_top.specs.Performed.{target_named}
+use Rattle.nb_top.specs.Requests.{Asked, FitsJob, Runs, request_asked, request_of, script_in, to_plan, to_run}
+use Rattle.nb_top.specs.Touched.{OfAsked, OfTarget, ReadMakes}
+use Rattle.nb_top.specs.Worlds.{HaveNames, LeaveNames, StartsFrom}
+use Rattle.nb_top.proofs.FirstReady.{base_name, named_further}
+use Rattle.nb_top.proofs.RequestLaws.{askable_in, backup_askable, begin_askable, end_askable, fits_words, since_askable, stat_askable}
+use Rattle.nb_top.proofs.ScriptRuns.{creates, first_opens, opens}
+
+-- ---- the name of a database's difference file
+
+all_append : (xs ys : List ℕ) → list_all is_name_byte xs ≡ true → list_all is_name_byte ys ≡ true → list_all is_name_byte (xs ++ ys) ≡ true
+all_append [] ys all more = more
+all_append (x ∷ xs) ys all more = let both = and_parts (is_name_byte x) (list_all is_name_byte xs) all in and_from (is_name_byte x) (list_all is_name_byte (xs ++ ys)) both.0 (all_append xs ys both.1 more)
+
+delta_is_name : (name : List ℕ) → is_name name ≡ true → nat_le (length name) 94 ≡ true → is_name (delta_name name) ≡ true
+delta_is_name name named few =
+    let parts = and_parts (nat_lt 0 (length name) && nat_le (length name) 100) (list_all is_name_byte name) named in
+    let long : length (delta_name name) ≡ length name + 6 = length-append name delta_suffix in
+    and_from (nat_lt 0 (length (delta_name name)) && nat_le (length (delta_name name)) 100) (list_all is_name_byte (delta_name name))
+    (and_from (nat_lt 0 (length (delta_name name))) (nat_le (length (delta_name name)) 100) (lt-ltb 0 (length (delta_name name)) (omega (arith, long))) (le-leb (length (delta_name name)) 100 (omega (arith, long, leb-true (length name) 94 few))))
+    (all_append name delta_suffix parts.1 refl)
+
+-- ---- the names of a script
+
+asks_named : (statement : Statement) → IsFurther statement → (m : List ℕ) → Asks statement m → is_name m ≡ true
+asks_named (BackupTo level name) further m same = ap is_name same ∙ named_further (BackupTo level name) further
+asks_named (BackupOf guid name) further m same = ap is_name same ∙ named_further (BackupOf guid name) further
+asks_named (CopyTo name) further m same = ap is_name same ∙ named_further (CopyTo name) further
+asks_named other further m asks = absurd asks
+
+any_named : (statements : List Statement) → AllByRecursion IsFurther statements → (m : List ℕ) → AnyAsks statements m → is_name m ≡ true
+any_named [] all m asks = absurd asks
+any_named (statement ∷ statements) all m (inl asks) = asks_named statement all.0 m asks
+any_named (statement ∷ statements) all m (inr asks) = any_named statements all.1 m asks
+
+in_session : (sessions : List (List Statement)) (m : List ℕ) → AnySessionAsks sessions m → (place : ℕ) × AnyAsks (get_or sessions place []) m
+in_session [] m asks = absurd asks
+in_session (statements ∷ others) m (inl asks) = (0, asks)
+in_session (statements ∷ others) m (inr asks) = let later = in_session others m asks in (suc later.0, later.1)
+
+own_named : (name m : List ℕ) → is_name name ≡ true → nat_le (length name) 94 ≡ true → OfFiles name m → is_name m ≡ true
+own_named name m named few (inl same) = ap is_name same ∙ named
+own_named name m named few (inr delta) = ap is_name delta ∙ delta_is_name name named few
+
+module _ (plan : Plan) (askable : IsAskable plan) where
+  makes_named : (m : List ℕ) → ScriptMakes plan m → is_name m ≡ true
+  makes_named m asks =
+      let there = in_session plan.sessions m asks in
+      let same : there.0 + 1 - 1 ≡ there.0 = omega arith in
+      any_named (get_or plan.sessions there.0 []) (subst (λ (k : ℕ). AllByRecursion IsFurther (get_or plan.sessions k [])) same (askable.further (there.0 + 1))) m there.1
+
+  target_is_named : (m : List ℕ) → OfTarget (target_named plan.first) m → is_name m ≡ true
+  target_is_named m own = elim (first_opens plan.first askable.first) [
+    | creates name size raw cache is ↦
+        let fits = base_name name (subst FitsFirst is askable.first.fits).0 in
+        own_named name m fits.named fits.short (subst (λ (s : Statement). OfTarget (target_named s) m) is own)
+    | opens name cache is ↦
+        let fits = base_name name (subst FitsFirst is askable.first.fits).0 in
+        own_named name m fits.named fits.short (subst (λ (s : Statement). OfTarget (target_named s) m) is own)
+  ]
+
+  plan_named : (m : List ℕ) → OfTarget (target_named plan.first) m ⊎ ScriptMakes plan m → is_name m ≡ true
+  plan_named m (inl own) = target_is_named m own
+  plan_named m (inr makes) = makes_named m makes
+
+-- ---- the names of a job
+
+file_named : (name : List ℕ) → is_file name ≡ true → is_name name ≡ true
+file_named name is = (and_parts (is_name name) (not (is_delta name)) is).0
+
+database_named : (name : List ℕ) → is_database name ≡ true → is_name name ≡ true
+database_named name is = file_named name (and_parts (is_file name) (nat_le (length name) 94) is).0
+
+read_named : (read : Result Plan Refusal) (bytes : List ℕ) → script_of bytes ≡ read → (m : List ℕ) → ReadMakes read m → is_name m ≡ true
+read_named (Ok plan) bytes is m makes = makes_named plan (answer_is_askable bytes (Ok plan) is) m makes
+read_named (Err refusal) bytes is m makes = absurd makes
+
+module _ (files : Files) where
+  script_named : (name : List ℕ) (read : Result Plan Refusal) → script_in name (files name) ≡ read → (m : List ℕ) → OfAsked files (Runs (to_run read)) m → is_name m ≡ true
+  script_named name (Ok plan) is m own = plan_named plan (askable_in name (files name) plan is) m own
+  script_named name (Err refusal) is m own = absurd own
+
+  listed_named : (keep : ℕ) (names : Result (List (List ℕ)) Refusal) (m : List ℕ) → OfAsked files (to_plan keep names) m → is_name m ≡ true
+  listed_named keep (Ok names) m own = absurd own
+  listed_named keep (Err refusal) m own = absurd own
+
+  number_named : (number : ℕ) (name m : List ℕ) → is_file name ≡ true → OfTarget (target_named generated_first) m ⊎ ((m ≡ name) ⊎ ReadMakes (script_of (generated number)) m) → is_name m ≡ true
+  number_named number name m fits (inl (inl same)) = ap is_name same
+  number_named number name m fits (inl (inr delta)) = ap is_name delta
+  number_named number name m fits (inr (inl same)) = ap is_name same ∙ file_named name fits
+  number_named number name m fits (inr (inr makes)) = read_named (script_of (generated number)) (generated number) refl m makes
+
+  job_named : (job : Job) → FitsJob job → (m : List ℕ) → OfAsked files (request_of files job) m → is_name m ≡ true
+  job_named (Run name) fits m own = script_named name (script_in name (files name)) refl m own
+  job_named (Backup level db file) fits m own = plan_named _ (backup_askable level db file fits) m own
+  job_named (BackupSince guid db file) fits m own = plan_named _ (since_askable guid db file fits) m own
+  job_named (Stat db) fits m own = plan_named _ (stat_askable db fits) m own
+  job_named (Lock db) fits m own = plan_named _ (begin_askable db fits) m own
+  job_named (LockWithSize db) fits m own = plan_named _ (begin_askable db fits) m own
+  job_named (Unlock db) fits m own = plan_named _ (end_askable db fits) m own
+  job_named (Gen number name) fits m own = number_named number name m fits own
+  job_named (Restore db names) fits m own = ap is_name own ∙ database_named db fits.0
+  job_named (Fixup db) fits m own = ap is_name own ∙ database_named db fits
+  job_named (Apply db file) fits m own = ap is_name own ∙ database_named db fits.0
+  job_named (Fold out names) fits m own = ap is_name own ∙ file_named out fits.0
+  job_named (PlanOf keep list) fits m own = listed_named keep (names_in list (files list)) m own
+
+  pub asked_named : (words : List (List ℕ)) (m : List ℕ) → OfAsked files (request_asked files words) m → is_name m ≡ true
+  asked_named words m = by (job_of words) refl
+    where
+      by : (job : Option Job) → job_of words ≡ job → OfAsked files (elim job as (λ z. Asked) [ None ↦ Runs (Err Usage) | Some k ↦ request_of files k ]) m → is_name m ≡ true
+      by None is own = absurd own
+      by (Some job) is own = job_named job (fits_words words job is) m own
+
+-- Where only files of such names are touched, all files have such names.
+module _ (old new : World) (names : Names) (named : (m : List ℕ) → names m → is_name m ≡ true) (leaves : LeavesOthers old new names) (before : LeaveNames old) where
+  named_or : (m : List ℕ) → (Other names m → is_name m ≡ true) → is_name m ≡ true
+  named_or m off = by (is_name m) refl
+    where
+      by : (is : Bool) → is_name m ≡ is → is_name m ≡ true
+      by true is = is
+      by false is = off (λ own. true≢false (sym (named m own) ∙ is))
+
+  pub names_then : LeaveNames new
+  names_then name bytes left = named_or name (λ off. before name bytes (left_before old new _ leaves.others name (Some bytes) off left))
+
+  pub names_at : AtEachMoment old new (λ files said. HaveNames files)
+  names_at = weaker old new _ _ leaves.moments (λ files said left name bytes there. named_or name (λ off. before name bytes (subst (Leaves old name) there (left.others name off))))
+
+-- a host that starts from such files leaves such names
+pub names_from : (w : World) (files : Files) → HaveNames files → StartsFrom w files → LeaveNames w
+names_from w files names starts name bytes left = names name bytes (sym (starts.only name (Some bytes) left))
