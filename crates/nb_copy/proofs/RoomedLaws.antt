@@ -24,11 +24,17 @@ use Rattle.nb_model.proofs.PutSound.{IsPlain, needs_image, header_whole, plain_p
 use Rattle.nb_model.proofs.SoundLaws.{all_at, header_kind}
 use Rattle.nb_base.specs.Takes.{after_strokes}
 use Rattle.nb_state.proofs.MakesLaws.{after_base}
-use Rattle.nb_engine.specs.Room.{no_rows, new_link, linked_payload}
-use Rattle.nb_engine.proofs.GrowLaws.{whole, new_long, no_rows_short}
+use Rattle.nb_engine.specs.Make.{new_of}
+use Rattle.nb_engine.specs.Room.{no_rows, linked_payload}
+use Rattle.nb_engine.proofs.GrowLaws.{new_longer, no_rows_short}
 use Rattle.nb_engine.proofs.NewLaws.{told}
 use Rattle.nb_engine.proofs.WalkLaws.{IsData, last_data}
+use Rattle.nb_copy.proofs.NewWhole.{whole}
 use Rattle.nb_copy.proofs.FirstLaws.{Starts, starts_itself, first_is, put_begins, new_begins}
+
+-- the new page of the history, and its number
+abbrev new_link : Image → Draft × ℕ
+new_link image = new_of 5 (λ p. no_rows) image
 
 -- the room, by the first free slot
 abbrev taken_at : Image → Spot → Draft
@@ -109,7 +115,7 @@ module _ (image : Image) (h : HasHeader image) (is : IsSoundImage image) (linked
   y_size = ap image_size y_starts.is
 
   y_long : length image ≤ length y
-  y_long = new_long 5 (told no_rows) refl (λ p. no_rows_short) (length image + 4) image
+  y_long = new_longer 5 (told no_rows) image
 
   abbrev payload : List ℕ
   payload = linked_payload y last (new_link image).1

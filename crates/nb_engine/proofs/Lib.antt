@@ -17,7 +17,14 @@ pub mod FullLaws
 pub mod WhereLaws
 pub mod NewLaws
 pub mod NewTurn
+pub mod BehindLaws
 pub mod NeedReads
+pub mod PassLaws
+pub mod WayLaws
+pub mod RoomsLaws
+pub mod NotedLaws
+pub mod RestLaws
+pub mod ReadyLaws
 pub mod NameLaws
 pub mod SlotLaws
 pub mod WalkLaws
@@ -28,7 +35,6 @@ pub mod RoomLaws
 pub mod KeepLaws
 pub mod DataLaws
 pub mod ContentLaws
-pub mod SecondLaws
 pub mod SearchReads
 pub mod NewReads
 pub mod StaysLaws

@@ -1,29 +1,34 @@
 // Data pages, of which chains are made, are read, written and given back.
-ghost use Rattle.std.specs.Prelude.{◌≡◌, ◌≢◌, ◌+◌, ◌<◌, ◌≤◌, ◌++◌, IsTrue, IfErr, OnOk, None, length, take, drop};
+ghost use Rattle.std.specs.Prelude.{◌≡◌, ◌≢◌, ◌+◌, ◌<◌, ◌≤◌, ◌++◌, IsTrue, IfErr, IfOk, OnOk, None, length, take, drop};
 ghost use Rattle.nb_fields.specs.Places.{is_page_size};
 ghost use Rattle.nb_host.specs.declared.faults.Fault.TheVariants.{Memory};
 ghost use Rattle.nb_change.specs.Counts.{CountsDevice};
 ghost use Rattle.nb_page.specs.Quiet.{Quiet};
-ghost use Rattle.nb_model.specs.Causes.{not_kind};
+ghost use Rattle.nb_model.specs.Causes.{not_kind, lowest_broken};
 ghost use Rattle.nb_model.specs.Forms.{drafted, give_page};
 ghost use Rattle.nb_model.specs.Sound.{IsSoundImage};
 ghost use Rattle.nb_model.specs.Trail.{Trail};
 ghost use Rattle.nb_base.specs.Takes.{IsNoRefusal};
 ghost use Rattle.nb_state.specs.Open.{IsOpen, but_pages};
-ghost use Rattle.nb_state.specs.Does.{Goes};
+ghost use Rattle.nb_state.specs.Does.{Tested, Goes};
+ghost use Rattle.nb_engine.specs.Behind.{entry_broken, give_broken};
+ghost use Rattle.nb_engine.specs.Find.{need_cause};
 ghost use Rattle.nb_engine.specs.Data.{not_data, put_data, data_cause};
 ghost use Rattle.nb_engine.specs.Mark.{mark_cause};
 ghost use Rattle.nb_engine.specs.Put.{Reads};
 ghost use Rattle.nb_engine.specs.Tries.{Tries};
 
 use crate::Engine;
+use crate::behind::{find_lacking, lower_page};
 use crate::make::put_page;
 use crate::mark::mark;
 use crate::pages::ScnPage;
 use crate::reads::take_system;
+use crate::way::is_there;
 use nb_fields::PageKind;
 use nb_fields::layouts::data;
 use nb_host::{Fault, Host, Refusal};
+use nb_pip::{covers, place_of};
 use nb_state::Store;
 
 /// Where the payload of a page begins.
@@ -154,5 +159,68 @@ impl Engine {
             &mut self.scn_page,
         )?;
         Ok(())
+    }
+
+    /// The SCN page that writing page `number` changes, where that isn't of its kind. It changes nothing but which pages are in memory, and
+    /// refuses nothing.
+    pub fn data_ready<H: Host>(
+        &mut self,
+        host: &mut H,
+        number: u32,
+    ) -> Result<Option<u32>, Fault>
+        requires low { 0 < number }
+        requires high { number < 1048576 }
+        ensures test { Tested result None }
+        ensures value { (t : Trail) → IsTrue H.tells → IsOpen (H.world host.old) self.old t → IfOk result (λ lacking. need_cause lacking ≡ lowest_broken (entry_broken t.base.image number)) }
+        ensures open { (t : Trail) → IsTrue H.tells → IsOpen (H.world host.old) self.old t → IsOpen (H.world host.new) self.new t }
+        ensures same { but_pages self.new ≡ but_pages self.old }
+        ensures quiet { Quiet (H.world host.old) (H.world host.new) }
+        ensures cause { CountsDevice result (H.faults host.old) (H.faults host.new) }
+    {
+        find_lacking(
+            &mut self.store,
+            host,
+            number,
+            &mut self.map,
+            &mut self.scn_page,
+        )
+    }
+
+    /// The lowest page that isn't of its kind, of those that giving page `number` back changes: its inventory page, and the SCN page of that. It
+    /// changes nothing but which pages are in memory, and refuses nothing.
+    pub fn free_ready<H: Host>(
+        &mut self,
+        host: &mut H,
+        number: u32,
+    ) -> Result<Option<u32>, Fault>
+        requires high { number < 1048576 }
+        ensures test { Tested result None }
+        ensures value { (t : Trail) → IsTrue H.tells → IsOpen (H.world host.old) self.old t → IfOk result (λ lacking. need_cause lacking ≡ lowest_broken (give_broken t.base.image number)) }
+        ensures open { (t : Trail) → IsTrue H.tells → IsOpen (H.world host.old) self.old t → IsOpen (H.world host.new) self.new t }
+        ensures same { but_pages self.new ≡ but_pages self.old }
+        ensures quiet { Quiet (H.world host.old) (H.world host.new) }
+        ensures cause { CountsDevice result (H.faults host.old) (H.faults host.new) }
+    {
+        let page_size = self.store.page_size();
+        let (k, _) = covers(page_size, number);
+        let place = place_of(page_size, k);
+        let lacking = find_lacking(
+            &mut self.store,
+            host,
+            place,
+            &mut self.map,
+            &mut self.scn_page,
+        )?;
+        let there = is_there(
+            &mut self.store,
+            host,
+            place,
+            &mut self.map,
+            &mut self.scn_page,
+        )?;
+        if there {
+            return Ok(lacking);
+        }
+        Ok(Some(lower_page(lacking, place)))
     }
 }

@@ -7,7 +7,8 @@ ghost use Rattle.nb_model.specs.Causes.{broken_at};
 ghost use Rattle.nb_model.specs.Backups.{room_in};
 ghost use Rattle.nb_model.specs.Chains.{History, pages_of, found_pages, backup_spot, level_in, guid_in, put_slot, backup_slot};
 ghost use Rattle.nb_model.specs.Forms.{drafted};
-ghost use Rattle.nb_model.specs.Sound.{IsSoundImage};
+ghost use Rattle.nb_model.specs.Image.{image_size};
+ghost use Rattle.nb_model.specs.Sound.{IsSoundImage, IsOfSize};
 ghost use Rattle.nb_model.specs.Trail.{Trail};
 ghost use Rattle.nb_state.specs.Open.{IsOpen, but_pages};
 ghost use Rattle.nb_base.specs.Takes.{IsNoRefusal};
@@ -70,14 +71,15 @@ impl Engine {
     /// Makes sure that the history has a free slot, and answers the first. Where there is none a new page is made, and the last page of the
     /// history is linked to it behind that.
     ///
-    /// The refusals are `NotDatabase` of the first page of the history that breaks the form, `NotDatabase` of an inventory page that isn't
-    /// of its kind or of the page of the slot, where that is free, `Full` and `ScnExhausted`, in this order. All is tested before the first
-    /// write. Where the inventories agree with the pages, a refused call changes nothing.
+    /// The refusals are `NotDatabase` of the first page of the history that breaks the form, `NotDatabase` of the lowest page that isn't of its
+    /// kind, `Full` and `ScnExhausted`, in this order. For a free slot these pages are the inventory page and the SCN page of its page, and that
+    /// page itself, where it is free; for a new page those that it needs, the SCN page of the last page, and that page itself, where the search
+    /// for the new page makes a system page of it. All is tested before the first write: a refused call changes nothing.
     pub fn history_room<H: Host>(&mut self, host: &mut H) -> Result<Room, Fault>
-        ensures makes { (t : Trail) → IsTrue H.tells → IsOpen (H.world host.old) self.old t → IsSoundImage t.base.image
+        ensures makes { (t : Trail) → IsTrue H.tells → IsOpen (H.world host.old) self.old t → IsOfSize (image_size t.base.image) t.base.image
             → Tries result (H.world host.old) (H.world host.new) self.old self.new t (room_cause t.base.image) (room_in t.base.image).draft.strokes }
-        ensures room { (t : Trail) → IsTrue H.tells → IsOpen (H.world host.old) self.old t → IsSoundImage t.base.image → IfOk result (IsRoomIn t.base.image) }
-        ensures below { (t : Trail) → IsTrue H.tells → IsOpen (H.world host.old) self.old t → IsSoundImage t.base.image → IfOk result (λ room. room.page < length (room_in t.base.image).draft.image) }
+        ensures room { (t : Trail) → IsTrue H.tells → IsOpen (H.world host.old) self.old t → IsOfSize (image_size t.base.image) t.base.image → IfOk result (IsRoomIn t.base.image) }
+        ensures below { (t : Trail) → IsTrue H.tells → IsOpen (H.world host.old) self.old t → IsOfSize (image_size t.base.image) t.base.image → IfOk result (λ room. room.page < length (room_in t.base.image).draft.image) }
 
         // Whatever is in the database: it makes some strokes and is open behind them, so only its two files are touched.
         ensures some { (t : Trail) → IsTrue H.tells → IsOpen (H.world host.old) self.old t → MakesSome result (H.world host.old) (H.world host.new) self.old self.new t }

@@ -9,13 +9,14 @@ ghost use Rattle.nb_page.specs.Quiet.{Quiet};
 ghost use Rattle.nb_model.specs.Image.{Image, image_size, image_scn};
 ghost use Rattle.nb_model.specs.Trail.{Trail};
 ghost use Rattle.nb_model.specs.Forms.{drafted, old_page, put, is_kind, system_kind, system_payload, take_page, lowest_free};
-ghost use Rattle.nb_model.specs.Causes.{no_room};
+ghost use Rattle.nb_model.proofs.StepLaws.{IsShaped};
+ghost use Rattle.nb_model.proofs.SearchLaws.{draft_cause};
 ghost use Rattle.nb_state.specs.Open.{IsOpen, but_pages};
 ghost use Rattle.nb_state.specs.Does.{Goes};
 ghost use Rattle.nb_engine.specs.Tries.{Tries};
 ghost use Rattle.nb_engine.specs.Put.{entry_cause};
 ghost use Rattle.nb_engine.specs.Find.{HoldsMap};
-ghost use Rattle.nb_engine.specs.Make.{IsWell, IsOnward, MakesWhere, page_strokes, system_strokes, system_cause, content, new_of, round, behind};
+ghost use Rattle.nb_engine.specs.Make.{IsSupplied, GoesOn, IsOnward, MakesWhere, page_strokes, system_strokes, system_cause, content, new_of, round};
 
 use crate::find::{MOST_PAGES, hold_map, is_system_place, next_free};
 use crate::mark::{mark, put_map};
@@ -235,7 +236,7 @@ fn take_place<H: Host>(
     requires low { 5 ≤ place }
     requires high { place < 1048576 }
     ensures makes { (t : Trail) → IsTrue H.tells → IsOpen (H.world host.old) store.old t → place ≤ length t.base.image → is_system_place (image_size t.base.image) place ≡ true
-        → MakesWhere (IsWell t.base.image) (λ value image. place < length image) result (H.world host.old) (H.world host.new) store.old store.new t (round t.base.image place).strokes }
+        → MakesWhere (IsSupplied t.base.image place) (λ value image. place < length image) result (H.world host.old) (H.world host.new) store.old store.new t (round t.base.image place).strokes }
     ensures goes { Goes store.old store.new }
     ensures map_room { length map.new ≡ length map.old }
     ensures scn_room { length scn_page.new ≡ length scn_page.old }
@@ -269,7 +270,7 @@ fn take_new<H: Host>(
     requires short { length payload.now ≤ 1008 }
     requires owner { own ≡ true → 8 ≤ length payload.now }
     ensures makes { (t : Trail) → IsTrue H.tells → IsOpen (H.world host.old) store.old t → number ≤ length t.base.image → is_system_place (image_size t.base.image) number ≡ false → HoldsMap t.base.image number map.old
-        → MakesWhere (IsWell t.base.image) (λ value image. number < length image) result (H.world host.old) (H.world host.new) store.old store.new t (take_page number (put number (code_of kind) (content own payload.now number) (drafted t.base.image))).strokes }
+        → MakesWhere (IsSupplied t.base.image number) (λ value image. number < length image) result (H.world host.old) (H.world host.new) store.old store.new t (take_page number (put number (code_of kind) (content own payload.now number) (drafted t.base.image))).strokes }
     ensures goes { Goes store.old store.new }
     ensures map_room { length map.new ≡ length map.old }
     ensures scn_room { length scn_page.new ≡ length scn_page.old }
@@ -300,7 +301,7 @@ fn pass_place<H: Host>(
     requires low { 5 ≤ place }
     requires high { place < 1048576 }
     ensures makes { (t : Trail) → IsTrue H.tells → IsOpen (H.world host.old) store.old t → place ≤ length t.base.image → is_system_place (image_size t.base.image) place ≡ true
-        → MakesWhere (IsWell t.base.image × (behind t.base.image place < 1048576)) (λ next image. IsOnward image place next map.new) result (H.world host.old) (H.world host.new) store.old store.new t (round t.base.image place).strokes }
+        → MakesWhere (IsSupplied t.base.image place × GoesOn t.base.image place) (λ next image. IsOnward image place next map.new) result (H.world host.old) (H.world host.new) store.old store.new t (round t.base.image place).strokes }
     ensures later { IfOk result (λ next. place < next) }
     ensures most { IfOk result (λ next. next < 1048576) }
     ensures goes { Goes store.old store.new }
@@ -341,9 +342,9 @@ pub(crate) fn make_new<H: Host>(
     requires short { length payload.now ≤ 1008 }
     requires owner { own ≡ true → 8 ≤ length payload.now }
     ensures makes { (t : Trail) → IsTrue H.tells → IsOpen (H.world host.old) store.old t → first ≡ lowest_free t.base.image → first ≤ length t.base.image → HoldsMap t.base.image first map.old
-        → MakesWhere (IsWell t.base.image × (no_room (new_of (code_of kind) (content own payload.now) t.base.image).0 ≡ None)) (λ number image. number < length image) result (H.world host.old) (H.world host.new) store.old store.new t (new_of (code_of kind) (content own payload.now) t.base.image).0.strokes }
+        → MakesWhere (IsShaped t.base.image × (draft_cause (new_of (code_of kind) (content own payload.now) t.base.image).0 ≡ None)) (λ number image. number < length image) result (H.world host.old) (H.world host.new) store.old store.new t (new_of (code_of kind) (content own payload.now) t.base.image).0.strokes }
     ensures value { (t : Trail) → IsTrue H.tells → IsOpen (H.world host.old) store.old t → first ≡ lowest_free t.base.image → first ≤ length t.base.image → HoldsMap t.base.image first map.old
-        → IsWell t.base.image → no_room (new_of (code_of kind) (content own payload.now) t.base.image).0 ≡ None → IfOk result (λ number. number ≡ (new_of (code_of kind) (content own payload.now) t.base.image).1) }
+        → IsShaped t.base.image → draft_cause (new_of (code_of kind) (content own payload.now) t.base.image).0 ≡ None → IfOk result (λ number. number ≡ (new_of (code_of kind) (content own payload.now) t.base.image).1) }
     ensures least { IfOk result (λ number. 5 ≤ number) }
     ensures most { IfOk result (λ number. number < 1048576) }
     ensures goes { Goes store.old store.new }
@@ -353,6 +354,8 @@ pub(crate) fn make_new<H: Host>(
     ensures cause { CountsDevice result (H.faults host.old) (H.faults host.new) }
 {
     let page_size = store.page_size();
+    // Contracts ask for its range.
+    let _count = store.count();
     let mut place = first;
     while is_system_place(page_size, place) {
         place = pass_place(store, host, place, page, map, scn_page)?;

@@ -66,7 +66,7 @@ returns-in_err-page-in-PageNew-clause-turn g c now t session tells ready sound =
     let s = seen_now now in
     may_passed (some_by page_made) some_said _ _ _ _ t now session _ [] _ c.from_residual-in_err-page-in-PageNew.result c.from_residual-in_err-page-in-PageNew.ensures
     (does_acts page_made _ _ _ _ _ t now session c.args.statement.now _ c.in-PageNew.is refl refl refl _ refl ready (λ value tells. absurd (true≢false (sym tells)))
-    (c.in_err-page-in-PageNew.ensures.turn s t tells ready.base ready.opened (subst (λ (b : Base). IsSoundImage b.image) ready.base (sound (subst GoesByInventories (sym c.in-PageNew.is) tt)))))
+    (c.in_err-page-in-PageNew.ensures.turn s t tells ready.base ready.opened (subst (λ (b : Base). IsSoundImage b.image) ready.base (sound (subst GoesByInventories (sym c.in-PageNew.is) tt))).sizes))
 
 pub returns-in_ok-page-in-PageNew-clause-turn : goal.returns-in_ok-page-in-PageNew-clause-turn
 unfolding first_turn
@@ -74,7 +74,7 @@ returns-in_ok-page-in-PageNew-clause-turn g c now t session tells ready sound =
     let s = seen_now now in
     may_value (some_by page_made) some_said _ _ _ _ t now session _ [] c.in_ok-page-in-PageNew.page (PageMade c.in_ok-page-in-PageNew.page) refl
     (does_acts page_made _ _ _ _ _ t now session c.args.statement.now _ c.in-PageNew.is refl refl refl _ refl ready (λ value tells. absurd (true≢false (sym tells)))
-    (c.in_ok-page-in-PageNew.ensures.turn s t tells ready.base ready.opened (subst (λ (b : Base). IsSoundImage b.image) ready.base (sound (subst GoesByInventories (sym c.in-PageNew.is) tt)))))
+    (c.in_ok-page-in-PageNew.ensures.turn s t tells ready.base ready.opened (subst (λ (b : Base). IsSoundImage b.image) ready.base (sound (subst GoesByInventories (sym c.in-PageNew.is) tt))).sizes))
 
 pub returns-in_err-page_free-in-Free-clause-turn : goal.returns-in_err-page_free-in-Free-clause-turn
 unfolding first_turn

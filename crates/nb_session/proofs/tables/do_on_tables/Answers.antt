@@ -21,7 +21,7 @@ returns-in_err-create-in-CreateTable-clause-turn g c now t session tells ready s
     let s = seen_now now in
     may_passed (some_by done) some_said _ _ _ _ t now session _ [] _ c.from_residual.result c.from_residual.ensures
     (does_acts done _ _ _ _ _ t now session c.args.statement.now _ c.in-CreateTable.is refl refl refl _ refl ready (λ value tells. absurd (true≢false (sym tells)))
-    (c.in_err-create-in-CreateTable.ensures.turn s t tells ready.base ready.opened (subst (λ (b : Base). IsSoundImage b.image) ready.base (sound (subst GoesByInventories (sym c.in-CreateTable.is) tt)))))
+    (c.in_err-create-in-CreateTable.ensures.turn s t tells ready.base ready.opened (subst (λ (b : Base). IsSoundImage b.image) ready.base (sound (subst GoesByInventories (sym c.in-CreateTable.is) tt))).sizes))
 
 pub returns-in_ok-create-in-CreateTable-clause-turn : goal.returns-in_ok-create-in-CreateTable-clause-turn
 unfolding first_turn
@@ -29,7 +29,7 @@ returns-in_ok-create-in-CreateTable-clause-turn g c now t session tells ready so
     let s = seen_now now in
     may_value (some_by done) some_said _ _ _ _ t now session _ [] c.in_ok-create-in-CreateTable.field-0 Done refl
     (does_acts done _ _ _ _ _ t now session c.args.statement.now _ c.in-CreateTable.is refl refl refl _ refl ready (λ value tells. absurd (true≢false (sym tells)))
-    (c.in_ok-create-in-CreateTable.ensures.turn s t tells ready.base ready.opened (subst (λ (b : Base). IsSoundImage b.image) ready.base (sound (subst GoesByInventories (sym c.in-CreateTable.is) tt)))))
+    (c.in_ok-create-in-CreateTable.ensures.turn s t tells ready.base ready.opened (subst (λ (b : Base). IsSoundImage b.image) ready.base (sound (subst GoesByInventories (sym c.in-CreateTable.is) tt))).sizes))
 
 pub returns-in_err-drop_table-in-DropTable-clause-turn : goal.returns-in_err-drop_table-in-DropTable-clause-turn
 unfolding first_turn
@@ -37,7 +37,7 @@ returns-in_err-drop_table-in-DropTable-clause-turn g c now t session tells ready
     let s = seen_now now in
     may_passed (some_by done) some_said _ _ _ _ t now session _ [] _ c.from_residual-in_err-drop_table-in-DropTable.result c.from_residual-in_err-drop_table-in-DropTable.ensures
     (does_acts done _ _ _ _ _ t now session c.args.statement.now _ c.in-DropTable.is refl refl refl _ refl ready (λ value tells. absurd (true≢false (sym tells)))
-    (c.in_err-drop_table-in-DropTable.ensures.turn s t tells ready.base ready.opened (subst (λ (b : Base). IsSoundImage b.image) ready.base (sound (subst GoesByInventories (sym c.in-DropTable.is) tt)))))
+    (c.in_err-drop_table-in-DropTable.ensures.turn s t tells ready.base ready.opened (subst (λ (b : Base). IsSoundImage b.image) ready.base (sound (subst GoesByInventories (sym c.in-DropTable.is) tt))).least (subst (λ (b : Base). IsSoundImage b.image) ready.base (sound (subst GoesByInventories (sym c.in-DropTable.is) tt))).sizes))
 
 pub returns-in_ok-drop_table-in-DropTable-clause-turn : goal.returns-in_ok-drop_table-in-DropTable-clause-turn
 unfolding first_turn
@@ -45,7 +45,7 @@ returns-in_ok-drop_table-in-DropTable-clause-turn g c now t session tells ready 
     let s = seen_now now in
     may_value (some_by done) some_said _ _ _ _ t now session _ [] c.in_ok-drop_table-in-DropTable.field-0 Done refl
     (does_acts done _ _ _ _ _ t now session c.args.statement.now _ c.in-DropTable.is refl refl refl _ refl ready (λ value tells. absurd (true≢false (sym tells)))
-    (c.in_ok-drop_table-in-DropTable.ensures.turn s t tells ready.base ready.opened (subst (λ (b : Base). IsSoundImage b.image) ready.base (sound (subst GoesByInventories (sym c.in-DropTable.is) tt)))))
+    (c.in_ok-drop_table-in-DropTable.ensures.turn s t tells ready.base ready.opened (subst (λ (b : Base). IsSoundImage b.image) ready.base (sound (subst GoesByInventories (sym c.in-DropTable.is) tt))).least (subst (λ (b : Base). IsSoundImage b.image) ready.base (sound (subst GoesByInventories (sym c.in-DropTable.is) tt))).sizes))
 
 pub returns-in_err-insert-in-Insert-clause-turn : goal.returns-in_err-insert-in-Insert-clause-turn
 unfolding first_turn
@@ -53,7 +53,7 @@ returns-in_err-insert-in-Insert-clause-turn g c now t session tells ready sound 
     let s = seen_now now in
     may_passed (some_by done) some_said _ _ _ _ t now session _ [] _ c.from_residual-in_err-insert-in-Insert.result c.from_residual-in_err-insert-in-Insert.ensures
     (does_acts done _ _ _ _ _ t now session c.args.statement.now _ c.in-Insert.is refl refl refl _ (ap (λ text. insert_turn s c.in-Insert.table c.in-Insert.key text) c.as_slice.ensures) ready (λ value tells. absurd (true≢false (sym tells)))
-    (c.in_err-insert-in-Insert.ensures.turn s t tells ready.base ready.opened (subst (λ (b : Base). IsSoundImage b.image) ready.base (sound (subst GoesByInventories (sym c.in-Insert.is) tt)))))
+    (c.in_err-insert-in-Insert.ensures.turn s t tells ready.base ready.opened (subst (λ (b : Base). IsSoundImage b.image) ready.base (sound (subst GoesByInventories (sym c.in-Insert.is) tt))).sizes))
 
 pub returns-in_ok-insert-in-Insert-clause-turn : goal.returns-in_ok-insert-in-Insert-clause-turn
 unfolding first_turn
@@ -61,7 +61,7 @@ returns-in_ok-insert-in-Insert-clause-turn g c now t session tells ready sound =
     let s = seen_now now in
     may_value (some_by done) some_said _ _ _ _ t now session _ [] c.in_ok-insert-in-Insert.field-0 Done refl
     (does_acts done _ _ _ _ _ t now session c.args.statement.now _ c.in-Insert.is refl refl refl _ (ap (λ text. insert_turn s c.in-Insert.table c.in-Insert.key text) c.as_slice.ensures) ready (λ value tells. absurd (true≢false (sym tells)))
-    (c.in_ok-insert-in-Insert.ensures.turn s t tells ready.base ready.opened (subst (λ (b : Base). IsSoundImage b.image) ready.base (sound (subst GoesByInventories (sym c.in-Insert.is) tt)))))
+    (c.in_ok-insert-in-Insert.ensures.turn s t tells ready.base ready.opened (subst (λ (b : Base). IsSoundImage b.image) ready.base (sound (subst GoesByInventories (sym c.in-Insert.is) tt))).sizes))
 
 pub returns-in_err-update-in-Update-clause-turn : goal.returns-in_err-update-in-Update-clause-turn
 unfolding first_turn
@@ -69,7 +69,7 @@ returns-in_err-update-in-Update-clause-turn g c now t session tells ready sound 
     let s = seen_now now in
     may_passed (some_by done) some_said _ _ _ _ t now session _ [] _ c.from_residual-in_err-update-in-Update.result c.from_residual-in_err-update-in-Update.ensures
     (does_acts done _ _ _ _ _ t now session c.args.statement.now _ c.in-Update.is refl refl refl _ (ap (λ text. update_turn s c.in-Update.table c.in-Update.key text) c.as_slice-in-Update.ensures) ready (λ value tells. absurd (true≢false (sym tells)))
-    (c.in_err-update-in-Update.ensures.turn s t tells ready.base ready.opened (subst (λ (b : Base). IsSoundImage b.image) ready.base (sound (subst GoesByInventories (sym c.in-Update.is) tt)))))
+    (c.in_err-update-in-Update.ensures.turn s t tells ready.base ready.opened))
 
 pub returns-in_ok-update-in-Update-clause-turn : goal.returns-in_ok-update-in-Update-clause-turn
 unfolding first_turn
@@ -77,7 +77,7 @@ returns-in_ok-update-in-Update-clause-turn g c now t session tells ready sound =
     let s = seen_now now in
     may_value (some_by done) some_said _ _ _ _ t now session _ [] c.in_ok-update-in-Update.field-0 Done refl
     (does_acts done _ _ _ _ _ t now session c.args.statement.now _ c.in-Update.is refl refl refl _ (ap (λ text. update_turn s c.in-Update.table c.in-Update.key text) c.as_slice-in-Update.ensures) ready (λ value tells. absurd (true≢false (sym tells)))
-    (c.in_ok-update-in-Update.ensures.turn s t tells ready.base ready.opened (subst (λ (b : Base). IsSoundImage b.image) ready.base (sound (subst GoesByInventories (sym c.in-Update.is) tt)))))
+    (c.in_ok-update-in-Update.ensures.turn s t tells ready.base ready.opened))
 
 pub returns-in_err-delete-in-Delete-clause-turn : goal.returns-in_err-delete-in-Delete-clause-turn
 unfolding first_turn
@@ -85,7 +85,7 @@ returns-in_err-delete-in-Delete-clause-turn g c now t session tells ready sound 
     let s = seen_now now in
     may_passed (some_by done) some_said _ _ _ _ t now session _ [] _ c.from_residual-in_err-delete-in-Delete.result c.from_residual-in_err-delete-in-Delete.ensures
     (does_acts done _ _ _ _ _ t now session c.args.statement.now _ c.in-Delete.is refl refl refl _ refl ready (λ value tells. absurd (true≢false (sym tells)))
-    (c.in_err-delete-in-Delete.ensures.turn s t tells ready.base ready.opened (subst (λ (b : Base). IsSoundImage b.image) ready.base (sound (subst GoesByInventories (sym c.in-Delete.is) tt)))))
+    (c.in_err-delete-in-Delete.ensures.turn s t tells ready.base ready.opened))
 
 pub returns-in_ok-delete-in-Delete-clause-turn : goal.returns-in_ok-delete-in-Delete-clause-turn
 unfolding first_turn
@@ -93,7 +93,7 @@ returns-in_ok-delete-in-Delete-clause-turn g c now t session tells ready sound =
     let s = seen_now now in
     may_value (some_by done) some_said _ _ _ _ t now session _ [] c.in_ok-delete-in-Delete.field-0 Done refl
     (does_acts done _ _ _ _ _ t now session c.args.statement.now _ c.in-Delete.is refl refl refl _ refl ready (λ value tells. absurd (true≢false (sym tells)))
-    (c.in_ok-delete-in-Delete.ensures.turn s t tells ready.base ready.opened (subst (λ (b : Base). IsSoundImage b.image) ready.base (sound (subst GoesByInventories (sym c.in-Delete.is) tt)))))
+    (c.in_ok-delete-in-Delete.ensures.turn s t tells ready.base ready.opened))
 
 pub returns-in_err-text-in-Get-clause-turn : goal.returns-in_err-text-in-Get-clause-turn
 unfolding first_turn
