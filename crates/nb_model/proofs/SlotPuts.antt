@@ -32,21 +32,6 @@ held_at P [] x here all = absurd (omega (arith, here.1))
 held_at P (y ∷ xs) x (zero, low, is) all = subst P is all.0
 held_at P (y ∷ xs) x (suc k, low, is) all = held_at P xs x (k, omega (arith, low), is) all.1
 
-pub each_held : (ps : List ℕ) → AllByRecursion (Contains ps) ps
-each_held ps = from ps (λ q at. at)
-  where
-    from : (qs : List ℕ) → ((q : ℕ) → Contains qs q → Contains ps q) → AllByRecursion (Contains ps) qs
-    from [] among = tt
-    from (q ∷ qs) among = (among q (0, omega arith, refl), from qs (λ r at. among r (later r at)))
-      where
-        later : (r : ℕ) → Contains qs r → Contains (q ∷ qs) r
-        later r (k, low, is) = (suc k, omega (arith, low), is)
-
--- a spot of a chain that is found stands on a page of it
-pub found_there : (c : Chain) (x : Image) (test : Spot → Bool) (s : Spot) → first_such test (spots c x) ≡ Some s → IsSpotOn (Contains (found_pages c x)) x s
-unfolding spots
-found_there c x test s found = first_passes test (IsSpotOn (Contains (found_pages c x)) x) (spots_of x (found_pages c x)) s found (all_on (Contains (found_pages c x)) x (found_pages c x) (each_held (found_pages c x)))
-
 -- Where the entry of a page is raised no page that is held changes.
 pub raised_keeps : (x : Image) (h : IsWhole x) (p : ℕ) (at : IsPlace x p) → KeepsEach x (raised p (drafted x)).image
 raised_keeps x h p at q bytes held =
