@@ -79,15 +79,15 @@ filter_rest test (suc n) a (p ∷ ps) qs e = by (test a) refl
     is f t same = ap (first_by f n a) same
 
     by : (t : Bool) → test a ≡ t → filter (without test (p ∷ ps)) (range_with_len a (suc n)) ≡ qs
-    by true yes =
-        let first : a ∷ filter test (range_with_len (a + 1) n) ≡ p ∷ (ps ++ qs) = sym (is test true yes) ∙ e in
+    by true holds =
+        let first : a ∷ filter test (range_with_len (a + 1) n) ≡ p ∷ (ps ++ qs) = sym (is test true holds) ∙ e in
         let here : a ≡ p = head_same a p _ _ first in
-        let gone : without test (p ∷ ps) a ≡ false = ap (λ (u : Bool). u && not (is_among a (p ∷ ps))) yes ∙ ap (λ (m : ℕ). true && not (is_among a (m ∷ ps))) (sym here) ∙ ap (λ (u : Bool). true && not u) (among_first a ps) in
+        let gone : without test (p ∷ ps) a ≡ false = ap (λ (u : Bool). u && not (is_among a (p ∷ ps))) holds ∙ ap (λ (m : ℕ). true && not (is_among a (m ∷ ps))) (sym here) ∙ ap (λ (u : Bool). true && not u) (among_first a ps) in
         is (without test (p ∷ ps)) false gone
         ∙ filter_same (without test (p ∷ ps)) (without test ps) n (a + 1) (λ q low high. ap (λ (u : Bool). test q && not u) (among_rest q p ps (λ same. omega (arith, low, here, same))))
         ∙ filter_rest test n (a + 1) ps qs (tail_same a p _ _ first)
-    by false no =
-        is (without test (p ∷ ps)) false (and_left (test a) _ no) ∙ filter_rest test n (a + 1) (p ∷ ps) qs (sym (is test false no) ∙ e)
+    by false fails =
+        is (without test (p ∷ ps)) false (and_left (test a) _ fails) ∙ filter_rest test n (a + 1) (p ∷ ps) qs (sym (is test false fails) ∙ e)
 
 -- The image y is x with these pages given back.
 pub record IsBack (x : Image) (ps : List ℕ) (y : Image) : Type 0 where
@@ -153,8 +153,8 @@ module _ (x : Image) (sound : IsSoundImage x) (ps : List ℕ) (y : Image) (back 
   }
     where
       front_off : (a b : Bool) → (a || b) ≡ false → a ≡ false
-      front_off false b no = refl
-      front_off true b no = absurd (true≢false no)
+      front_off false b fails = refl
+      front_off true b fails = absurd (true≢false fails)
 
       checked : check_cause y ≡ None
       unfolding first_cause
@@ -162,9 +162,9 @@ module _ (x : Image) (sound : IsSoundImage x) (ps : List ℕ) (y : Image) (back 
           ∙ ap (λ (c : Cause). first_cause (None ∷ c ∷ [])) (chains_cause_same x y back.alike sound.sound back.whole.sound.sound ∙ (no_first _ _ (no_first _ _ none).1).0)
 
 -- One page more is given back.
-module _ (x : Image) (header : HasHeader x) (sound : IsSoundImage x) (ps : List ℕ) (p : ℕ) (y : Image) (back : IsBack x ps y) (low : p < length x) (yes : is_leaked x p ≡ true) where
+module _ (x : Image) (header : HasHeader x) (sound : IsSoundImage x) (ps : List ℕ) (p : ℕ) (y : Image) (back : IsBack x ps y) (low : p < length x) (holds : is_leaked x p ≡ true) where
   two : 2 ≤ p
-  two = leaked_two x header sound p low yes
+  two = leaked_two x header sound p low holds
 
   low_y : p < length y
   low_y = (let same = back.alike.same in omega (arith, low, same))

@@ -38,7 +38,7 @@ passed : (image : Image) (f : Fact) (fs : List Fact) (r : Option (ℕ × ℕ)) �
 passed image f fs r none rest = broken_is image f fs None (none_lowest image f none) ∙ rest
 
 named : (image : Image) (f : Fact) (fs : List Fact) (p : ℕ) → breaks image f p ≡ true → p < covered image → ((q : ℕ) → q < p → breaks image f q ≡ false) → first_broken image (f ∷ fs) ≡ Some (number_of f, p)
-named image f fs p yes below before = broken_is image f fs (Some p) (first_found (covered image) 0 (breaks image f) p (omega arith) (omega (arith, below)) yes (λ q low high. before q high))
+named image f fs p holds below before = broken_is image f fs (Some p) (first_found (covered image) 0 (breaks image f) p (omega arith) (omega (arith, below)) holds (λ q low high. before q high))
 
 none_parts : (image : Image) (f : Fact) (fs : List Fact) → first_broken image (f ∷ fs) ≡ None → BreaksNone image f × (first_broken image fs ≡ None)
 none_parts image f fs none = by (lowest image f) refl
@@ -161,15 +161,15 @@ entry_covers size p n valid below = by (p / entries_in size) refl
 -- a page that breaks a fact has a bit or an entry
 pub breaks_below : (image : Image) → IsTrue (is_page_size (image_size image)) → (f : Fact) (p : ℕ) → breaks image f p ≡ true → p < covered image
 unfolding breaks
-breaks_below image valid BlankPage p yes = (let low = ltb-true p (length image) (and_parts _ _ yes).0 in omega (arith, low))
-breaks_below image valid SystemPlace p yes = (let low = ltb-true p (length image) (and_parts _ _ yes).0 in omega (arith, low))
-breaks_below image valid TakenPast p yes = inventory_covers (image_size image) p (length image) valid (ltb-true _ _ (and_parts _ _ (and_parts _ _ yes).1).0)
-breaks_below image valid LateStamp p yes = (let low = ltb-true p (length image) (and_parts _ _ yes).0 in omega (arith, low))
-breaks_below image valid WrongEntry p yes = elim (or_cases _ _ (and_parts _ _ yes).1) [
+breaks_below image valid BlankPage p holds = (let low = ltb-true p (length image) (and_parts _ _ holds).0 in omega (arith, low))
+breaks_below image valid SystemPlace p holds = (let low = ltb-true p (length image) (and_parts _ _ holds).0 in omega (arith, low))
+breaks_below image valid TakenPast p holds = inventory_covers (image_size image) p (length image) valid (ltb-true _ _ (and_parts _ _ (and_parts _ _ holds).1).0)
+breaks_below image valid LateStamp p holds = (let low = ltb-true p (length image) (and_parts _ _ holds).0 in omega (arith, low))
+breaks_below image valid WrongEntry p holds = elim (or_cases _ _ (and_parts _ _ holds).1) [
   | inl low ↦ (let below = ltb-true p (length image) (and_parts _ _ low).0 in omega (arith, below))
   | inr late ↦
       (let near = entry_covers (image_size image) p (length image) valid (ltb-true _ _ (and_parts _ _ late).0) in
       let few : entries_in (image_size image) ≤ bits_in (image_size image) = omega arith in
       omega (arith, near, few))
 ]
-breaks_below image valid HeaderStamp p yes = (let none = eqb-true p 0 (and_parts _ _ yes).0 in let least = bits-least (image_size image) valid in omega (arith, none, least))
+breaks_below image valid HeaderStamp p holds = (let none = eqb-true p 0 (and_parts _ _ holds).0 in let least = bits-least (image_size image) valid in omega (arith, none, least))

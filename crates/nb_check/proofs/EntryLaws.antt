@@ -77,7 +77,7 @@ module _ (size : ℕ) (valid : IsTrue (is_page_size size)) where
   -- such a page is no SCN page itself
   pub plain_past : (p n : ℕ) → n ≤ p → 2 < n → p / each ≡ (n - 1) / each → is_scn_place size p ≡ false
   unfolding is_scn_place
-  plain_past p n past more same = false_from_ne_true _ (λ yes. elim (or_cases _ _ yes) [
+  plain_past p n past more same = false_from_ne_true _ (λ holds. elim (or_cases _ _ holds) [
     | inl two ↦ (let at : p ≡ 2 = eqb-true _ _ two in absurd (omega (arith, at, past, more)))
     | inr both ↦
         (let none : p % each ≡ 0 = eqb-true _ _ (and_parts _ _ both).1 in

@@ -29,7 +29,7 @@ module _ (image : Image) (p : ℕ) where
   -- it breaks this one, and none before it
   pub lowest_is : (fact : Fact) → breaks image fact p ≡ true → (1 < number_of fact → breaks image BlankPage p ≡ false) → (2 < number_of fact → breaks image SystemPlace p ≡ false) → (3 < number_of fact → breaks image TakenPast p ≡ false)
       → (4 < number_of fact → breaks image LateStamp p ≡ false) → (5 < number_of fact → breaks image WrongEntry p ≡ false) → IsLowestAt image p (Some fact)
-  lowest_is fact yes one two three four five = (yes, before)
+  lowest_is fact holds one two three four five = (holds, before)
     where
       before : (f : Fact) → number_of f < number_of fact → breaks image f p ≡ false
       before BlankPage less = one less

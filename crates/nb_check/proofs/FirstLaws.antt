@@ -35,10 +35,10 @@ first_all (suc left) p test none =
 
 -- this one passes, and none before it
 pub first_found : (left p : ℕ) (test : ℕ → Bool) (q : ℕ) → p ≤ q → q < p + left → test q ≡ true → ((r : ℕ) → p ≤ r → r < q → test r ≡ false) → first_from left p test ≡ Some q
-first_found zero p test q low high yes before = absurd (omega (arith, low, high))
-first_found (suc left) p test q low high yes before = elim (cases_lt p q) [
-  | inl less ↦ first_is left p test false (before p (omega arith) less) ∙ first_found left (p + 1) test q (omega (arith, less)) (omega (arith, high)) yes (λ r from to. before r (omega (arith, from)) to)
+first_found zero p test q low high holds before = absurd (omega (arith, low, high))
+first_found (suc left) p test q low high holds before = elim (cases_lt p q) [
+  | inl less ↦ first_is left p test false (before p (omega arith) less) ∙ first_found left (p + 1) test q (omega (arith, less)) (omega (arith, high)) holds (λ r from to. before r (omega (arith, from)) to)
   | inr other ↦
       (let same : p ≡ q = omega (arith, low, other) in
-      first_is left p test true (subst (λ (n : ℕ). test n ≡ true) (sym same) yes) ∙ ap Some same)
+      first_is left p test true (subst (λ (n : ℕ). test n ≡ true) (sym same) holds) ∙ ap Some same)
 ]

@@ -61,8 +61,8 @@ leaked_none image n far = let none : length image - n ≡ 0 = omega (arith, far)
 -- A leaked page of a sound image is at no system place.
 pub leaked_plain : (image : Image) → IsSoundImage image → (p : ℕ) → p < length image → is_leaked image p ≡ true → is_system_place (image_size image) p ≡ false
 unfolding is_system_place
-leaked_plain image sound p low yes = elim (cases_Bool (is_inventory_place (image_size image) p || is_scn_place (image_size image) p)) [
-  | inr no ↦ no
+leaked_plain image sound p low holds = elim (cases_Bool (is_inventory_place (image_size image) p || is_scn_place (image_size image) p)) [
+  | inr fails ↦ fails
   | inl place ↦ absurd (elim (or_cases _ _ place) [
     | inl at ↦ (let two = sound.sound.system.inventories p low at in omega (arith, five, two))
     | inr at ↦ (let ten = sound.sound.system.scn_pages p low at in omega (arith, five, ten))
@@ -70,21 +70,21 @@ leaked_plain image sound p low yes = elim (cases_Bool (is_inventory_place (image
 ]
   where
     five : kind_of (page_at image p) ≡ 5
-    five = eqb-true _ _ (and_parts _ _ (and_parts _ _ yes).0).1
+    five = eqb-true _ _ (and_parts _ _ (and_parts _ _ holds).0).1
 
 -- It is behind the header and the first inventory page.
 pub leaked_two : (image : Image) → HasHeader image → IsSoundImage image → (p : ℕ) → p < length image → is_leaked image p ≡ true → 2 ≤ p
-leaked_two image header sound p low yes = by p refl
+leaked_two image header sound p low holds = by p refl
   where
     five : kind_of (page_at image p) ≡ 5
-    five = eqb-true _ _ (and_parts _ _ (and_parts _ _ yes).0).1
+    five = eqb-true _ _ (and_parts _ _ (and_parts _ _ holds).0).1
 
     by : (q : ℕ) → p ≡ q → 2 ≤ p
     by zero e =
         let one = header_kind (first_page image) header.header in
         let same : kind_of (page_at image p) ≡ kind_of (first_page image) = ap (λ (n : ℕ). kind_of (page_at image n)) e in
         omega (arith, one, same, five)
-    by (suc zero) e = absurd (true≢false (sym (ap (is_system_place (image_size image)) e ∙ refl) ∙ leaked_plain image sound p low yes))
+    by (suc zero) e = absurd (true≢false (sym (ap (is_system_place (image_size image)) e ∙ refl) ∙ leaked_plain image sound p low holds))
     by (suc (suc q)) e = omega (arith, e)
 
 pub given_first : (p : ℕ) (ps : List ℕ) (z : Image) → (all_given (p ∷ ps) (drafted z)).strokes ≡ (give_page p (drafted z)).strokes ++ (all_given ps (drafted (give_page p (drafted z)).image)).strokes
@@ -133,29 +133,29 @@ module _ (old mid : World) (a b : Held) (t : Trail) (number : ℕ) (low : number
 
   -- a page that isn't leaked
   pub giving_passed : is_leaked x number ≡ false → IsGiving old mid a b t (number + 1)
-  giving_passed no = record {
+  giving_passed fails = record {
     made = g.made;
     makes = g.makes;
     whole = g.whole;
     size = g.size;
     longer = g.longer;
     strokes = g.strokes ∙ ap (λ (ps : List ℕ). g.made ++ (all_given ps (drafted z)).strokes)
-        (leaked_step x number low ∙ ap (λ (t : Bool). cond t (number ∷ leaked_from x (number + 1)) (leaked_from x (number + 1))) no);
+        (leaked_step x number low ∙ ap (λ (t : Bool). cond t (number ∷ leaked_from x (number + 1)) (leaked_from x (number + 1))) fails);
   }
 
-  module _ (yes : is_leaked x number ≡ true) (sound : IsSoundImage x) where
+  module _ (holds : is_leaked x number ≡ true) (sound : IsSoundImage x) where
     abbrev d : Draft
     d = give_page number (drafted z)
 
     plain : is_system_place (image_size x) number ≡ false
-    plain = leaked_plain x sound number low yes
+    plain = leaked_plain x sound number low holds
 
     pub giving_below : number < length z
     giving_below = (let longer = g.longer in omega (arith, low, longer))
 
     step : (all_given (leaked x) (drafted x)).strokes ≡ g.made ++ (d.strokes ++ (all_given (leaked_from x (number + 1)) (drafted d.image)).strokes)
     step = g.strokes ∙ ap (λ (ps : List ℕ). g.made ++ (all_given ps (drafted z)).strokes)
-        (leaked_step x number low ∙ ap (λ (t : Bool). cond t (number ∷ leaked_from x (number + 1)) (leaked_from x (number + 1))) yes)
+        (leaked_step x number low ∙ ap (λ (t : Bool). cond t (number ∷ leaked_from x (number + 1)) (leaked_from x (number + 1))) holds)
         ∙ ap (λ (ss : List Stroke). g.made ++ ss) (given_first number (leaked_from x (number + 1)) z)
 
     -- the call failed
@@ -169,7 +169,7 @@ module _ (old mid : World) (a b : Held) (t : Trail) (number : ℕ) (low : number
 
     module _ (header : HasHeader x) where
       two : 2 ≤ number
-      two = leaked_two x header sound number low yes
+      two = leaked_two x header sound number low holds
 
       whole_then : IsWhole d.image
       whole_then =

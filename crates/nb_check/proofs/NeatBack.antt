@@ -23,8 +23,8 @@ use Rattle.nb_check.proofs.SameLaws.{AreAlike, pages_same, spots_same, chains_sa
 
 -- each of a list is among them
 among_behind : (q : ℕ) (xs ys : List ℕ) → is_among q ys ≡ true → is_among q (xs ++ ys) ≡ true
-among_behind q [] ys yes = yes
-among_behind q (x ∷ xs) ys yes = or_true (nat_eq q x) (among_behind q xs ys yes)
+among_behind q [] ys holds = holds
+among_behind q (x ∷ xs) ys holds = or_true (nat_eq q x) (among_behind q xs ys holds)
   where
     or_true : (t : Bool) → is_among q (xs ++ ys) ≡ true → (t || is_among q (xs ++ ys)) ≡ true
     or_true true rest = refl
@@ -40,13 +40,13 @@ all_among xs (y ∷ ys) = (
 -- a page that is reached isn't leaked
 reached_off : (x : Image) (p : ℕ) → p < length x → is_among p (reached x) ≡ true → is_among p (leaked x) ≡ false
 reached_off x p low at = elim (cases_Bool (is_among p (leaked x))) [
-  | inl yes ↦ absurd (no_both (is_among p (reached x)) at (and_parts _ _ (sym (leaked_each x p low) ∙ yes)).1)
-  | inr no ↦ no
+  | inl holds ↦ absurd (no_both (is_among p (reached x)) at (and_parts _ _ (sym (leaked_each x p low) ∙ holds)).1)
+  | inr fails ↦ fails
 ]
   where
     no_both : (t : Bool) → t ≡ true → not t ≡ true → ⊥
-    no_both true yes no = true≢false (sym no)
-    no_both false yes no = true≢false (sym yes)
+    no_both true holds fails = true≢false (sym fails)
+    no_both false holds fails = true≢false (sym holds)
 
 module _ (x : Image) (header : HasHeader x) (sound : IsSoundImage x) (neat : IsNeat x) (ps qs : List ℕ) (are : leaked x ≡ ps ++ qs) (y : Image) (back : IsBack x ps y) where
   same_chains : chains y ≡ chains x
@@ -64,8 +64,8 @@ module _ (x : Image) (header : HasHeader x) (sound : IsSoundImage x) (neat : IsN
       back.bits p low ∙ ap (λ (t : Bool). t || is_among p ps) taken ∙ front_off (is_among p ps) (is_among p qs) (sym (list_any-append (nat_eq p) ps qs) ∙ ap (is_among p) (sym are) ∙ reached_off x p low at)
     where
       front_off : (a b : Bool) → (a || b) ≡ false → a ≡ false
-      front_off false b no = refl
-      front_off true b no = absurd (true≢false no)
+      front_off false b fails = refl
+      front_off true b fails = absurd (true≢false fails)
 
   abbrev Stays : ℕ → Type 0
   Stays p = (p < length x) × (is_free_page x p ≡ false)

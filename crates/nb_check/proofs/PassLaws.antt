@@ -114,12 +114,12 @@ module _ (size p : ℕ) (valid : IsTrue (is_page_size size)) where
 
   place_is : is_inventory_place size p ≡ true → (p ≡ 1) ⊎ ((p + 1) % bits ≡ 0)
   unfolding is_inventory_place
-  place_is yes = elim (or_cases _ _ yes) [ inl e ↦ inl (eqb-true _ _ e) | inr e ↦ inr (eqb-true _ _ e) ]
+  place_is holds = elim (or_cases _ _ holds) [ inl e ↦ inl (eqb-true _ _ e) | inr e ↦ inr (eqb-true _ _ e) ]
 
   pub map_kept : is_inventory_place size p ≡ false → inventory_place size ((p + 1) / bits) ≡ inventory_place size (p / bits)
-  map_kept no = elim (groups bits p many) [
+  map_kept fails = elim (groups bits p many) [
     | inl low ↦ ap (inventory_place size) (same_group bits p many low).0
-    | inr last ↦ absurd (true≢false (sym (no_place (next_group bits p many last).1) ∙ no))
+    | inr last ↦ absurd (true≢false (sym (no_place (next_group bits p many last).1) ∙ fails))
   ]
 
   first_map : p ≡ 1 → inventory_place size ((p + 1) / bits) ≡ p
@@ -130,7 +130,7 @@ module _ (size p : ℕ) (valid : IsTrue (is_page_size size)) where
       ap (inventory_place size) two ∙ sym e
 
   pub map_made : is_inventory_place size p ≡ true → inventory_place size ((p + 1) / bits) ≡ p
-  map_made yes = elim (place_is yes) [
+  map_made holds = elim (place_is holds) [
     | inl one ↦ first_map one
     | inr none ↦ elim (groups bits p many) [
       | inl low ↦ absurd (let other = (same_group bits p many low).1 in omega (arith, none, other))
@@ -156,7 +156,7 @@ module _ (size p : ℕ) (valid : IsTrue (is_page_size size)) where
 
   pub entry_made : is_scn_place size p ≡ true → scn_place size (p / each) ≡ p
   unfolding is_scn_place
-  entry_made yes = elim (or_cases _ _ yes) [
+  entry_made holds = elim (or_cases _ _ holds) [
     | inl e ↦
         (let two : p ≡ 2 = eqb-true _ _ e in
         let least = entries-least size valid in
@@ -170,8 +170,8 @@ module _ (size p : ℕ) (valid : IsTrue (is_page_size size)) where
 
 pub entry_kept : (size p : ℕ) → IsTrue (is_page_size size) → is_scn_place size p ≡ false → scn_place size (p / entries_in size) ≡ scn_place size ((p - 1) / entries_in size)
 unfolding is_scn_place
-entry_kept size zero valid no = refl
-entry_kept size (suc n) valid no =
+entry_kept size zero valid fails = refl
+entry_kept size (suc n) valid fails =
     let w : ℕ = entries_in size in
     let some : 1 < w = (let least = entries-least size valid in omega (arith, least)) in
     let next : suc n ≡ n + 1 = omega arith in
@@ -179,21 +179,21 @@ entry_kept size (suc n) valid no =
     elim (groups w n some) [
       | inl low ↦ ap (λ (m : ℕ). scn_place size (m / w)) next ∙ ap (scn_place size) (same_group w n some low).0 ∙ ap (λ (m : ℕ). scn_place size (m / w)) (sym before)
       | inr last ↦
-          absurd (true≢false (sym (and_from _ _ (lt_yes 0 (suc n) (omega arith)) (eq_yes _ _ (ap (λ (m : ℕ). m % w) next ∙ (next_group w n some last).1))) ∙ (or_parts _ _ no).1))
+          absurd (true≢false (sym (and_from _ _ (lt_yes 0 (suc n) (omega arith)) (eq_yes _ _ (ap (λ (m : ℕ). m % w) next ∙ (next_group w n some last).1))) ∙ (or_parts _ _ fails).1))
     ]
 
 -- so the pages that are kept are those of the next page
 pub map_next : (image : Image) (p : ℕ) (map : Page) → IsTrue (is_page_size (image_size image)) → is_inventory_place (image_size image) p ≡ false → IsMapOf image p map → IsMapOf image (p + 1) map
-map_next image p map valid no is more = is more ∙ ap (page_at image) (sym (map_kept (image_size image) p valid no))
+map_next image p map valid fails is more = is more ∙ ap (page_at image) (sym (map_kept (image_size image) p valid fails))
 
 pub map_here : (image : Image) (p : ℕ) (map : Page) → IsTrue (is_page_size (image_size image)) → is_inventory_place (image_size image) p ≡ true → map ≡ page_at image p → IsMapOf image (p + 1) map
-map_here image p map valid yes is more = is ∙ ap (page_at image) (sym (map_made (image_size image) p valid yes))
+map_here image p map valid holds is more = is ∙ ap (page_at image) (sym (map_made (image_size image) p valid holds))
 
 pub entries_next : (image : Image) (p : ℕ) (entries : Page) → IsTrue (is_page_size (image_size image)) → is_scn_place (image_size image) p ≡ false → HasEntryOf image (p - 1) entries → HasEntryOf image p entries
-entries_next image p entries valid no is more = is more ∙ ap (page_at image) (sym (entry_kept (image_size image) p valid no))
+entries_next image p entries valid fails is more = is more ∙ ap (page_at image) (sym (entry_kept (image_size image) p valid fails))
 
 pub entries_here : (image : Image) (p : ℕ) (entries : Page) → IsTrue (is_page_size (image_size image)) → is_scn_place (image_size image) p ≡ true → entries ≡ page_at image p → HasEntryOf image p entries
-entries_here image p entries valid yes is more = is ∙ ap (page_at image) (sym (entry_made (image_size image) p valid yes))
+entries_here image p entries valid holds is more = is ∙ ap (page_at image) (sym (entry_made (image_size image) p valid holds))
 
 -- Each page took one read at most, page 0 two.
 pub page_read : (old loop new number : ℕ) → (0 < number → new ≤ loop + 1) → new ≤ loop + 2 → loop ≤ old + number + min number 1 → new ≤ old + (number + 1) + min (number + 1) 1

@@ -38,16 +38,16 @@ module _ (test : ℕ → Bool) where
       ap (filter test) (range_split n 1 0) ∙ filter-append test (range_with_len 0 n) (range_with_len (0 + n) 1) ∙ ap (λ (m : ℕ). up_to n ++ one m (test m)) here
 
   pub one_more : (n : ℕ) → test n ≡ true → up_to (n + 1) ≡ up_to n ++ n ∷ []
-  one_more n yes = up_to_more n ∙ ap (λ (t : Bool). up_to n ++ one n t) yes
+  one_more n holds = up_to_more n ∙ ap (λ (t : Bool). up_to n ++ one n t) holds
 
   pub none_more : (n : ℕ) → test n ≡ false → up_to (n + 1) ≡ up_to n
-  none_more n no = up_to_more n ∙ ap (λ (t : Bool). up_to n ++ one n t) no ∙ append-nil (up_to n)
+  none_more n fails = up_to_more n ∙ ap (λ (t : Bool). up_to n ++ one n t) fails ∙ append-nil (up_to n)
 
   pub counted : (n : ℕ) → test n ≡ true → length (up_to (n + 1)) ≡ length (up_to n) + 1
-  counted n yes = ap length (one_more n yes) ∙ length-append (up_to n) (n ∷ [])
+  counted n holds = ap length (one_more n holds) ∙ length-append (up_to n) (n ∷ [])
 
   pub passed : (n : ℕ) → test n ≡ false → length (up_to (n + 1)) ≡ length (up_to n)
-  passed n no = ap length (none_more n no)
+  passed n fails = ap length (none_more n fails)
 
   front_get : (fs rs : List ℕ) (x : ℕ) → get_or (fs ++ x ∷ rs) (length fs) 0 ≡ x
   front_get [] rs x = refl
@@ -55,13 +55,13 @@ module _ (test : ℕ → Bool) where
 
   -- a number that passes stands behind those that are lower
   pub listed : (room n : ℕ) → n < room → test n ≡ true → get_or (up_to room) (length (up_to n)) 0 ≡ n
-  listed room n low yes =
+  listed room n low holds =
       let parts : room ≡ n + suc (room - n - 1) = omega (arith, low) in
       let here : 0 + n ≡ n = omega arith in
       let all : up_to room ≡ up_to n ++ (n ∷ filter test (range_with_len (n + 1) (room - n - 1))) =
           ap up_to parts ∙ ap (filter test) (range_split n (suc (room - n - 1)) 0) ∙ filter-append test (range_with_len 0 n) (range_with_len (0 + n) (suc (room - n - 1)))
           ∙ ap (λ (m : ℕ). up_to n ++ filter test (range_with_len m (suc (room - n - 1)))) here
-          ∙ ap (λ (t : Bool). up_to n ++ cond t (n ∷ filter test (range_with_len (n + 1) (room - n - 1))) (filter test (range_with_len (n + 1) (room - n - 1)))) yes in
+          ∙ ap (λ (t : Bool). up_to n ++ cond t (n ∷ filter test (range_with_len (n + 1) (room - n - 1))) (filter test (range_with_len (n + 1) (room - n - 1)))) holds in
       ap (λ (xs : List ℕ). get_or xs (length (up_to n)) 0) all ∙ front_get (up_to n) (filter test (range_with_len (n + 1) (room - n - 1))) n
 
 -- a page is among those of the set where the set has it

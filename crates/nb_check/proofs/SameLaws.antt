@@ -59,12 +59,12 @@ module _ (x y : Image) (alike : AreAlike x y) (sx : SoundInventory x) (sy : Soun
   -- a page of a chain is the same
   pub page_same : (chain : Chain) (p : ℕ) → is_in_chain chain x p ≡ true → page_at y p ≡ page_at x p
   page_same chain p is = elim (cases_Bool (is_system_place (image_size x) p)) [
-    | inl place ↦ (let no = system_out chain x sx p place in absurd (no_both (is_in_chain chain x p) is no))
+    | inl place ↦ (let fails = system_out chain x sx p place in absurd (no_both (is_in_chain chain x p) is fails))
     | inr plain ↦ alike.pages p plain
   ]
     where
       no_both : (t : Bool) → t ≡ true → t ≡ false → ⊥
-      no_both t yes no = cc
+      no_both t holds fails = cc
 
   -- what a walk does at a page
   abbrev go_by : (p next : ℕ) → Result (List ℕ) ℕ → Bool → Result (List ℕ) ℕ

@@ -25,8 +25,8 @@ use Rattle.nb_check.proofs.BreakLaws.{breaks_below, none_unsound, unsound_none}
 
 -- one half of a test
 other_half : (a b : Bool) → (a && b) ≡ false → a ≡ true → b ≡ false
-other_half true b no yes = no
-other_half false b no yes = absurd (true≢false (sym yes))
+other_half true b fails holds = fails
+other_half false b fails holds = absurd (true≢false (sym holds))
 
 not_no : (a : Bool) → not a ≡ false → a ≡ true
 not_no true e = refl
@@ -42,8 +42,8 @@ le_yes a b low = elim (cases_Bool (nat_le a b)) [
 module _ (image : Image) (valid : IsTrue (is_page_size (image_size image))) (none : unsound image ≡ None) where
   none_at : (f : Fact) (p : ℕ) → breaks image f p ≡ false
   none_at f p = elim (cases_Bool (breaks image f p)) [
-    | inl yes ↦ none_unsound image none f p (breaks_below image valid f p yes)
-    | inr no ↦ no
+    | inl holds ↦ none_unsound image none f p (breaks_below image valid f p holds)
+    | inr fails ↦ fails
   ]
 
   blank : (p : ℕ) → p < length image → is_zeros (page_at image p) ≡ false
@@ -100,14 +100,14 @@ module _ (image : Image) (valid : IsTrue (is_page_size (image_size image))) (non
 module _ (image : Image) (sound : SoundInventory image) where
   no_blank : (p : ℕ) → breaks image BlankPage p ≡ true → ⊥
   unfolding breaks
-  no_blank p yes =
-      let parts = and_parts _ _ yes in
+  no_blank p holds =
+      let parts = and_parts _ _ holds in
       true≢false (sym parts.1 ∙ all_at (λ page. is_zeros page ≡ false) image sound.no_zeros p (ltb-true _ _ parts.0))
 
   no_place : (p : ℕ) → breaks image SystemPlace p ≡ true → ⊥
   unfolding breaks
-  no_place p yes =
-      let parts = and_parts _ _ yes in
+  no_place p holds =
+      let parts = and_parts _ _ holds in
       let low : p < length image = ltb-true _ _ parts.0 in
       elim (or_cases _ _ parts.1) [
         | inl w ↦ (let both = and_parts _ _ w in true≢false (sym both.1 ∙ ap not (eq_yes _ _ (sound.system.inventories p low both.0))))
@@ -116,8 +116,8 @@ module _ (image : Image) (sound : SoundInventory image) where
 
   no_taken : (p : ℕ) → breaks image TakenPast p ≡ true → ⊥
   unfolding breaks
-  no_taken p yes =
-      let parts = and_parts _ _ yes in
+  no_taken p holds =
+      let parts = and_parts _ _ holds in
       let both = and_parts _ _ parts.1 in
       let high = leb-true _ _ parts.0 in
       let low = sound.bits p (ltb-true _ _ both.0) (elim (cases_Bool (is_free_page image p)) [ inl e ↦ absurd (true≢false (sym both.1 ∙ ap not e)) | inr e ↦ e ]) in
@@ -125,16 +125,16 @@ module _ (image : Image) (sound : SoundInventory image) where
 
   no_late : (p : ℕ) → breaks image LateStamp p ≡ true → ⊥
   unfolding breaks
-  no_late p yes =
-      let parts = and_parts _ _ yes in
+  no_late p holds =
+      let parts = and_parts _ _ holds in
       let low = sound.stamps.no_later p (ltb-true _ _ parts.0) in
       let high = ltb-true _ _ parts.1 in
       omega (arith, high, low)
 
   no_entry : (p : ℕ) → breaks image WrongEntry p ≡ true → ⊥
   unfolding breaks
-  no_entry p yes =
-      let parts = and_parts _ _ yes in
+  no_entry p holds =
+      let parts = and_parts _ _ holds in
       elim (or_cases _ _ parts.1) [
         | inl w ↦
             (let both = and_parts _ _ w in
@@ -152,7 +152,7 @@ module _ (image : Image) (sound : SoundInventory image) where
 
   no_head : (p : ℕ) → breaks image HeaderStamp p ≡ true → ⊥
   unfolding breaks
-  no_head p yes = true≢false (sym (and_parts _ _ yes).1 ∙ ap not (eq_yes _ _ sound.stamps.head))
+  no_head p holds = true≢false (sym (and_parts _ _ holds).1 ∙ ap not (eq_yes _ _ sound.stamps.head))
 
   never : (f : Fact) (p : ℕ) → breaks image f p ≡ true → ⊥
   never BlankPage = no_blank

@@ -1,5 +1,5 @@
 -- A slot of a chain that is found stands on a page of it.
-use Rattle.std.proofs.Common.{◌≡◌, ℕ, suc, ◌+◌, ◌<◌, List, [], ◌∷◌, refl, arith}
+use Rattle.std.proofs.Common.{◌≡◌, ℕ, suc, List, [], ◌∷◌, refl, arith}
 use Rattle.std.specs.Prelude.{Bool, Some, Contains}
 use Rattle.std.specs.List.{AllByRecursion}
 use Rattle.nb_model.specs.Chains.{Chain, Spot, found_pages, first_such, spots_of, spots}

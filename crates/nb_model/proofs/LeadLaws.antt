@@ -1,13 +1,13 @@
 -- The links of the history lead to a page: where the history is of the form, the page is one of it. Strokes that write no page of the history
 -- leave that so, also where they break it.
-use Rattle.std.proofs.Common.{◌≡◌, ◌≢◌, ◌⊎◌, inl, inr, ℕ, zero, suc, ◌+◌, ◌<◌, ◌≤◌, List, [], ◌∷◌, length, refl, sym, ap, subst, ◌∙◌, arith}
-use Rattle.std.specs.Prelude.{Bool, true, false, ◌&&◌, ◌==◌, nat_lt, Contains, Result, Ok, Err, None}
+use Rattle.std.proofs.Common.{◌≡◌, ◌≢◌, ◌⊎◌, inl, inr, ℕ, zero, suc, ◌<◌, ◌≤◌, List, [], ◌∷◌, length, refl, sym, ap, subst, ◌∙◌, arith}
+use Rattle.std.specs.Prelude.{true, false, ◌==◌, nat_lt, Contains, Ok, None}
 use Rattle.std.proofs.lemmas.Bool.{true≢false, cases_lt, and_from, and_parts, eq-eqb, false_from_ne_true, ltb-true}
 use Rattle.std.proofs.lemmas.Bool.Decides.{eqb_tells}
 use Rattle.nb_fields.specs.Page.{kind_of}
 use Rattle.nb_model.specs.Account.{Base}
 use Rattle.nb_model.specs.Causes.{broken_at}
-use Rattle.nb_model.specs.Chains.{History, first_of, owner_of, owner_in, next_in, is_slot, slots_in, is_in_chain, walk, pages_of, found_pages, last_of}
+use Rattle.nb_model.specs.Chains.{History, first_of, owner_in, next_in, is_in_chain, walk, pages_of, found_pages, last_of}
 use Rattle.nb_model.specs.Image.{Page, Image, page_at, with_page}
 use Rattle.nb_model.specs.Stands.{is_history_page}
 use Rattle.nb_model.specs.Strokes.{Stroke, page, on_base, base_after, merged_page}

@@ -1,21 +1,20 @@
 -- Leaked pages are given back: the strokes fit, each at its point, and a page that the history leads to stays taken.
 use Rattle.std.proofs.Common.{◌≡◌, ◌≢◌, inl, inr, ℕ, zero, suc, ◌+◌, ◌<◌, ◌≤◌, List, [], ◌∷◌, ◌++◌, length, refl, sym, ap, subst, ◌∙◌, arith}
-use Rattle.std.specs.Prelude.{Bool, true, false, cond, ◌&&◌, ◌||◌, ◌==◌, not, nat_eq, Contains, Some, None}
-use Rattle.std.specs.List.{AllByRecursion, filter, list_any, range_with_len}
+use Rattle.std.specs.Prelude.{Bool, true, false, cond, ◌||◌, ◌==◌, not, nat_eq, Contains, Some, None}
+use Rattle.std.specs.List.{AllByRecursion, filter, range_with_len}
 use Rattle.std.proofs.lemmas.List.Elements.{Contains-append_left, Contains-append_right}
-use Rattle.std.proofs.lemmas.Bool.{and_parts, cases_Bool, true≢false, eqb-true, or_cases, not_from_false}
+use Rattle.std.proofs.lemmas.Bool.{and_parts, cases_Bool, true≢false, eqb-true, or_cases}
 use Rattle.nb_fields.specs.Page.{kind_of}
 use Rattle.nb_fields.specs.Places.{is_inventory_place, is_scn_place, is_system_place}
 use Rattle.nb_model.specs.Account.{Base}
-use Rattle.nb_host.specs.declared.refusals.Refusal.{Refusal}
 use Rattle.nb_model.specs.declared.reply.Reply.TheVariants.{Freed, Refused}
 use Rattle.nb_model.specs.Causes.{Cause, broken_at}
-use Rattle.nb_model.specs.Chains.{Chain, Catalogue, History, pages_of, found_pages}
-use Rattle.nb_model.specs.Checks.{chains_cause, check_cause, reclaim_cause, reclaimed, reclaim_turn}
-use Rattle.nb_model.specs.Forms.{Draft, drafted, give_page}
+use Rattle.nb_model.specs.Chains.{Catalogue, History, pages_of, found_pages}
+use Rattle.nb_model.specs.Checks.{reclaim_cause, reclaimed, reclaim_turn}
+use Rattle.nb_model.specs.Forms.{Draft, drafted, give_page, is_free_page}
 use Rattle.nb_model.specs.Image.{Page, Image, page_at, first_page, image_size}
-use Rattle.nb_model.specs.Leaks.{is_among, is_leaked, leaked, reached}
-use Rattle.nb_model.specs.Outcomes.{Seen, Outcome, says}
+use Rattle.nb_model.specs.Leaks.{is_among, is_taken_data, is_leaked, leaked, reached}
+use Rattle.nb_model.specs.Outcomes.{Seen, Outcome, says, unless}
 use Rattle.nb_model.specs.Rows.{used, table_chains, chains, pages_of_all}
 use Rattle.nb_model.specs.Sound.{HasHeader, IsSoundImage}
 use Rattle.nb_model.specs.Strokes.{Stroke, base_after}
@@ -27,7 +26,7 @@ use Rattle.nb_model.proofs.HeldLaws.{IsHeld, held_bit}
 use Rattle.nb_model.proofs.LeadLaws.{LeadsTo, leads_found}
 use Rattle.nb_model.proofs.NoRows.{HasNoRows, no_rows}
 use Rattle.nb_model.proofs.PutSound.{no_first, header_whole}
-use Rattle.nb_model.proofs.ReadLaws.{eq_no}
+use Rattle.nb_model.proofs.ReadLaws.{eq_yes}
 use Rattle.nb_model.proofs.SoundLaws.{header_kind}
 use Rattle.nb_model.proofs.StrokeLaws.{base_after-append}
 use Rattle.nb_model.proofs.TableDrafts.{bit_inventory, bit_longer}
@@ -69,7 +68,7 @@ given_fits (p ∷ ps) b h all =
     let then : Base = base_after b d.strokes in
     let same : then.image ≡ d.image = fits.is.is in
     let rest : AreFitting HasNoRows then (all_given ps (drafted then.image)).strokes =
-        given_fits ps then (subst IsWhole (sym same) fits.whole) (longer_givable b.image then.image ps (subst (λ (x : Image). length b.image ≤ length x) (sym same) (one_longer b h p all.0)) all.1) in
+    given_fits ps then (subst IsWhole (sym same) fits.whole) (longer_givable b.image then.image ps (subst (λ (x : Image). length b.image ≤ length x) (sym same) (one_longer b h p all.0)) all.1) in
     subst (AreFitting HasNoRows b) (sym (given_first p ps b.image))
     (fitting_append HasNoRows d.strokes (all_given ps (drafted d.image)).strokes b fits.each (subst (λ (x : Image). AreFitting HasNoRows then (all_given ps (drafted x)).strokes) same rest))
 
@@ -84,16 +83,21 @@ given_holds q bytes (p ∷ ps) b h all off held =
     let same : then.image ≡ d.image = fits.is.is in
     let here : IsHeld q bytes then.image = subst (IsHeld q bytes) (sym same) (held_bit q bytes b.image h 1 p (omega arith) all.0.two all.0.below off.0 held) in
     let rest : IsHeld q bytes (base_after then (all_given ps (drafted then.image)).strokes).image =
-        given_holds q bytes ps then (subst IsWhole (sym same) fits.whole) (longer_givable b.image then.image ps (subst (λ (x : Image). length b.image ≤ length x) (sym same) (one_longer b h p all.0)) all.1) off.1 here in
+    given_holds q bytes ps then (subst IsWhole (sym same) fits.whole) (longer_givable b.image then.image ps (subst (λ (x : Image). length b.image ≤ length x) (sym same) (one_longer b h p all.0)) all.1) off.1 here in
     subst (λ (ss : List Stroke). IsHeld q bytes (base_after b ss).image) (sym (given_first p ps b.image))
     (subst (λ (c : Base). IsHeld q bytes c.image) (sym (base_after-append b d.strokes (all_given ps (drafted d.image)).strokes))
     (subst (λ (x : Image). IsHeld q bytes (base_after then (all_given ps (drafted x)).strokes).image) same rest))
 
+leaked_kind : (image : Image) (p : ℕ) → is_leaked image p ≡ true → kind_of (page_at image p) ≡ 5
+leaked_kind image p holds =
+    eqb-true (kind_of (page_at image p)) 5
+    (and_parts (not (is_free_page image p)) (kind_of (page_at image p) == 5) (and_parts (is_taken_data image p) (not (is_among p (reached image))) holds).0).1
+
 -- A leaked page of a sound image is at no system place, and behind the first two.
 pub leaked_plain : (image : Image) → IsSoundImage image → (p : ℕ) → p < length image → is_leaked image p ≡ true → is_system_place (image_size image) p ≡ false
 unfolding is_system_place
-leaked_plain image sound p low yes = elim (cases_Bool (is_inventory_place (image_size image) p || is_scn_place (image_size image) p)) [
-  | inr no ↦ no
+leaked_plain image sound p low holds = elim (cases_Bool (is_inventory_place (image_size image) p || is_scn_place (image_size image) p)) [
+  | inr fails ↦ fails
   | inl place ↦ absurd (elim (or_cases _ _ place) [
     | inl at ↦ (let two = sound.sound.system.inventories p low at in omega (arith, five, two))
     | inr at ↦ (let ten = sound.sound.system.scn_pages p low at in omega (arith, five, ten))
@@ -101,26 +105,27 @@ leaked_plain image sound p low yes = elim (cases_Bool (is_inventory_place (image
 ]
   where
     five : kind_of (page_at image p) ≡ 5
-    five = eqb-true _ _ (and_parts _ _ (and_parts _ _ yes).0).1
+    five = leaked_kind image p holds
 
 pub leaked_two : (image : Image) → HasHeader image → IsSoundImage image → (p : ℕ) → p < length image → is_leaked image p ≡ true → 2 ≤ p
-leaked_two image header sound p low yes = by p refl
+unfolding is_system_place is_inventory_place
+leaked_two image header sound p low holds = by p refl
   where
     five : kind_of (page_at image p) ≡ 5
-    five = eqb-true _ _ (and_parts _ _ (and_parts _ _ yes).0).1
+    five = leaked_kind image p holds
 
     by : (q : ℕ) → p ≡ q → 2 ≤ p
     by zero e =
         let one = header_kind (first_page image) header.header in
         let same : kind_of (page_at image p) ≡ kind_of (first_page image) = ap (λ (n : ℕ). kind_of (page_at image n)) e in
         omega (arith, one, same, five)
-    by (suc zero) e = absurd (true≢false (sym (ap (is_system_place (image_size image)) e ∙ refl) ∙ leaked_plain image sound p low yes))
+    by (suc zero) e = absurd (true≢false (sym (ap (is_system_place (image_size image)) e) ∙ leaked_plain image sound p low holds))
     by (suc (suc q)) e = omega (arith, e)
 
 -- What holds of each page of a range that passes a test.
 all_filtered : (test : ℕ → Bool) (P : ℕ → Type 0) (n a : ℕ) → ((p : ℕ) → a ≤ p → p < a + n → test p ≡ true → P p) → AllByRecursion P (filter test (range_with_len a n))
 all_filtered test P zero a each = tt
-all_filtered test P (suc n) a each = by (test a) refl (all_filtered test P n (a + 1) (λ p low high yes. each p (omega (arith, low)) (omega (arith, high)) yes))
+all_filtered test P (suc n) a each = by (test a) refl (all_filtered test P n (a + 1) (λ p low high holds. each p (omega (arith, low)) (omega (arith, high)) holds))
   where
     by : (t : Bool) → test a ≡ t → AllByRecursion P (filter test (range_with_len (a + 1) n)) → AllByRecursion P (cond t (a ∷ filter test (range_with_len (a + 1) n)) (filter test (range_with_len (a + 1) n)))
     by true e rest = (each a (omega arith) (omega arith) e, rest)
@@ -128,23 +133,17 @@ all_filtered test P (suc n) a each = by (test a) refl (all_filtered test P n (a 
 
 pub all_leaked : (image : Image) (P : ℕ → Type 0) → ((p : ℕ) → p < length image → is_leaked image p ≡ true → P p) → AllByRecursion P (leaked image)
 unfolding leaked
-all_leaked image P each = all_filtered (is_leaked image) P (length image) 0 (λ p low high yes. each p (omega (arith, high)) yes)
+all_leaked image P each = all_filtered (is_leaked image) P (length image) 0 (λ p low high holds. each p (omega (arith, high)) holds)
 
 -- a page of a list is among them
 among_at : (q : ℕ) (ps : List ℕ) → Contains ps q → is_among q ps ≡ true
 among_at q [] at = absurd (omega (arith, at.1))
-among_at q (p ∷ ps) (zero, low, is) = ap (λ (t : Bool). t || is_among q ps) (same is)
-  where
-    same : p ≡ q → nat_eq q p ≡ true
-    same e = subst (λ (n : ℕ). nat_eq q n ≡ true) (sym e) (self q)
-
-    self : (n : ℕ) → nat_eq n n ≡ true
-    self n = elim (cases_Bool (nat_eq n n)) [ | inl yes ↦ yes | inr no ↦ absurd (omega (arith, no)) ]
+among_at q (p ∷ ps) (zero, low, is) = ap (λ (t : Bool). t || is_among q ps) (eq_yes q p (sym is))
 among_at q (p ∷ ps) (suc k, low, is) = either (nat_eq q p) (among_at q ps (k, omega (arith, low), is))
   where
     either : (t : Bool) → is_among q ps ≡ true → (t || is_among q ps) ≡ true
-    either true yes = refl
-    either false yes = yes
+    either true holds = refl
+    either false holds = holds
 
 -- the pages of the history are reached
 history_reached : (image : Image) (q : ℕ) → Contains (found_pages History image) q → is_among q (reached image) ≡ true
@@ -161,11 +160,15 @@ module _ (s : Seen) (header : HasHeader s.base.image) (is : IsSoundImage s.base.
   whole = header_whole image header is
 
   givable : AllByRecursion (IsGivable image) (leaked image)
-  givable = all_leaked image (IsGivable image) (λ p low yes. record { two = leaked_two image header is p low yes; below = low })
+  givable = all_leaked image (IsGivable image) (λ p low holds. record { two = leaked_two image header is p low holds; below = low })
 
   pub reclaim_fits : AreFitting HasNoRows s.base (reclaim_turn s).strokes
   unfolding reclaim_turn unless
-  reclaim_fits = elim (reclaim_cause image) [ None ↦ given_fits (leaked image) s.base whole givable | Some r ↦ tt ]
+  reclaim_fits = by (reclaim_cause image)
+    where
+      by : (c : Cause) → AreFitting HasNoRows s.base (elim c as (λ z. Outcome) [ Some refusal ↦ says s (Refused refusal) [] | None ↦ says s (Freed (length (leaked image))) (reclaimed image).strokes ]).strokes
+      by None = given_fits (leaked image) s.base whole givable
+      by (Some r) = tt
 
   -- the history is of the form where it isn't refused
   history_formed : reclaim_cause image ≡ None → broken_at (pages_of History image) ≡ None
@@ -176,14 +179,14 @@ module _ (s : Seen) (header : HasHeader s.base.image) (is : IsSoundImage s.base.
       (no_first _ _ (no_first _ _ formed.0).1).0
 
   off_history : (q : ℕ) → Contains (found_pages History image) q → AllByRecursion (λ (p : ℕ). q ≢ p) (leaked image)
-  off_history q at = all_leaked image (λ (p : ℕ). q ≢ p) (λ p low yes e.
-      absurd (true≢false (sym (history_reached image q at) ∙ ap (λ (n : ℕ). is_among n (reached image)) e ∙ not_from (and_parts _ _ yes).1)))
+  off_history q at = all_leaked image (λ (p : ℕ). q ≢ p) (λ p low holds e.
+      absurd (true≢false (sym (history_reached image q at) ∙ ap (λ (n : ℕ). is_among n (reached image)) e ∙ not_from (and_parts _ _ holds).1)))
     where
       not_from : {t : Bool} → not t ≡ true → t ≡ false
-      not_from {t} e = elim (cases_Bool t) [ | inl yes ↦ absurd (true≢false (sym e ∙ ap not yes)) | inr no ↦ no ]
+      not_from {t} e = elim (cases_Bool t) [ inl holds ↦ absurd (true≢false (sym e ∙ ap not holds)) | inr fails ↦ fails ]
 
   pub reclaim_holds : (q : ℕ) (bytes : Page) → LeadsTo image q → IsHeld q bytes image → IsHeld q bytes (base_after s.base (reclaim_turn s).strokes).image
-  unfolding reclaim_turn unless
+  unfolding reclaim_turn unless base_after
   reclaim_holds q bytes leads held = by (reclaim_cause image) refl
     where
       by : (c : Cause) → reclaim_cause image ≡ c → IsHeld q bytes (base_after s.base (elim c as (λ z. Outcome) [ Some refusal ↦ says s (Refused refusal) [] | None ↦ says s (Freed (length (leaked image))) (reclaimed image).strokes ]).strokes).image

@@ -1,12 +1,12 @@
 -- A slot of a chain is written in a neat image: the chain's slots are as before but for that one, and no other chain changes.
 use Rattle.std.proofs.Common.{◌≡◌, ◌≢◌, ℕ, zero, suc, ◌+◌, ◌*◌, ◌/◌, ◌≤◌, List, [], ◌∷◌, map, length, drop, refl, sym, ap, subst, ◌∙◌, arith}
-use Rattle.std.specs.Prelude.{Bool, true, Some, Ok, Contains}
+use Rattle.std.specs.Prelude.{Bool, true, Ok, Contains}
 use Rattle.std.specs.List.{AllByRecursion, list_all}
 use Rattle.std.proofs.lemmas.Bool.{and_parts, and_from}
 use Rattle.nb_fields.specs.Bytes.{with_part}
 use Rattle.nb_fields.specs.Page.{stamped}
 use Rattle.nb_fields.specs.Places.{bits_in, entries_in, is_scn_place}
-use Rattle.nb_model.specs.Chains.{Chain, History, Slot, Spot, is_slot, next_in, slots_in, first_such, pages_of, found_pages, spots_of, spots, put_slot}
+use Rattle.nb_model.specs.Chains.{Chain, History, Slot, Spot, is_slot, next_in, slots_in, pages_of, found_pages, spots, put_slot}
 use Rattle.nb_model.specs.Forms.{drafted, raised, inventory_of, scn_page_of}
 use Rattle.nb_model.specs.Image.{Page, Image, page_at, image_size, image_scn}
 use Rattle.nb_model.specs.Rows.{chains, IsNeat}
@@ -19,11 +19,11 @@ use Rattle.nb_model.proofs.HeldRoom.{held_here}
 use Rattle.nb_model.proofs.NeatLaws.{all_go, ChangesChain}
 use Rattle.nb_model.proofs.NewSound.{stamped_kind, places_apart}
 use Rattle.nb_model.proofs.PutSound.{IsPlace, IsPlain, Raises, header_whole}
-use Rattle.nb_model.proofs.RoomLaws.{chain_plain, first_passes, old_there}
+use Rattle.nb_model.proofs.RoomLaws.{chain_plain, old_there}
 use Rattle.nb_model.proofs.RoundLaws.{no_place, bit_by, raises, put_here, put_longer}
 use Rattle.nb_model.proofs.SlotLaws.{IsSlotWritten, slot_is_written, written_owner, written_next, rows_written}
 use Rattle.nb_model.proofs.SoundLaws.{all_at, inventory_there, scn_page_there}
-use Rattle.nb_model.proofs.SpotLaws.{IsSpotOn, all_on, spot_within}
+use Rattle.nb_model.proofs.SpotLaws.{IsSpotOn, spot_within}
 use Rattle.nb_model.proofs.SpotWrites.{put_at, spots_written}
 
 -- what holds of each holds of one of them

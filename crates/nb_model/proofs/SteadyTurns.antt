@@ -24,7 +24,6 @@ use Rattle.nb_model.specs.Well.{is_on_pages}
 use Rattle.nb_model.specs.WellTrail.{IsWellTrail}
 use Rattle.nb_model.proofs.BackupWell.{IsLedTo, IsRecorded, StartsWell, made_base, recorded_on, recorded_settled, start_well, close_well}
 use Rattle.nb_model.proofs.GoingLaws.{next_sixteen, one_runs, name_short, then_base, own_todo, other_todo, one_cases, going_turn, named_turn}
-use Rattle.nb_model.proofs.HeldLaws.{IsHeld}
 use Rattle.nb_model.proofs.HeldTurns.{statement_holds}
 use Rattle.nb_model.proofs.LeadLaws.{strokes_lead}
 use Rattle.nb_model.proofs.PagesFit.{pages_fit}
