@@ -9,7 +9,6 @@ use Rattle.std.proofs.lemmas.List.Folds.{list_any-append}
 use Rattle.nb_fields.specs.Page.{kind_of}
 use Rattle.nb_fields.specs.Places.{is_page_size, is_inventory_place, is_scn_place, is_system_place}
 use Rattle.nb_model.specs.Account.{Base}
-use Rattle.nb_model.specs.Causes.{Cause, first_cause}
 use Rattle.nb_model.specs.Chains.{History, spots}
 use Rattle.nb_model.specs.Forms.{Draft, drafted, give_page, is_free_page}
 use Rattle.nb_model.specs.Image.{Page, Image, page_at, image_size}
@@ -20,17 +19,19 @@ use Rattle.nb_model.specs.Tables.{all_given}
 use Rattle.nb_model.proofs.Along.{Along, along_append, along_front, along_end}
 use Rattle.nb_model.proofs.DraftLaws.{IsOf, drafted_is, drafts_are, set_bit_keeps}
 use Rattle.nb_model.proofs.FitLaws.{IsWhole}
-use Rattle.nb_model.proofs.PutSound.{no_first, header_whole}
+use Rattle.nb_model.proofs.LeakTurns.{leaked_plain, leaked_two, given_first}
+use Rattle.nb_model.proofs.PutSound.{header_whole}
 use Rattle.nb_model.proofs.ReadLaws.{eq_no, eq_yes}
 use Rattle.nb_model.proofs.StrokeLaws.{base_after-append}
 use Rattle.nb_model.specs.Facts.{unsound}
 use Rattle.nb_check.specs.Laws.{KeepsPages, Reclaims}
 use Rattle.nb_model.specs.Leaks.{is_among, is_taken_data, is_leaked, leaked, reached}
-use Rattle.nb_model.specs.Checks.{unsound_by, chains_cause, check_cause, reclaimed}
+use Rattle.nb_model.specs.Checks.{unsound_by, check_cause, reclaimed}
 use Rattle.nb_check.proofs.GiveLaws.{given, between, given_size, given_length, given_plain, given_fits, free_then, other_then, between_whole, between_size, between_length, between_plain, between_bit, give_along}
-use Rattle.nb_check.proofs.LeakLaws.{leaked_plain, leaked_two, given_first, given_none}
+use Rattle.nb_check.proofs.LeakLaws.{given_none}
 use Rattle.nb_check.proofs.SameLaws.{AreAlike, reached_same, chains_cause_same, rows_same, spots_same}
-use Rattle.nb_check.proofs.SoundLaws.{facts_sound}
+use Rattle.nb_check.proofs.CauseLaws.{check_free}
+use Rattle.nb_check.proofs.SoundLaws.{facts_sound, check_parts}
 
 -- A list that a test leaves of a range, without a front of it.
 filter_same : (f g : ℕ → Bool) (n a : ℕ) → ((q : ℕ) → a ≤ q → q < a + n → f q ≡ g q) → filter f (range_with_len a n) ≡ filter g (range_with_len a n)
@@ -144,7 +145,7 @@ module _ (x : Image) (sound : IsSoundImage x) (ps : List ℕ) (y : Image) (back 
   pub back_keeps : (qs : List ℕ) → leaked x ≡ ps ++ qs → check_cause x ≡ None → KeepsPages x y
   back_keeps qs e none = record {
     sound = back.whole.sound;
-    checked = checked;
+    checked = check_free y (ap unsound_by (facts_sound y back.whole.sound.sound)) (chains_cause_same x y back.alike sound.sound back.whole.sound.sound ∙ (check_parts x none).1);
     same = back.alike.same;
     pages = λ p low plain. back.alike.pages p plain;
     rows = λ table. rows_same x y back.alike sound.sound back.whole.sound.sound table;
@@ -155,11 +156,6 @@ module _ (x : Image) (sound : IsSoundImage x) (ps : List ℕ) (y : Image) (back 
       front_off : (a b : Bool) → (a || b) ≡ false → a ≡ false
       front_off false b fails = refl
       front_off true b fails = absurd (true≢false fails)
-
-      checked : check_cause y ≡ None
-      unfolding first_cause
-      checked = ap (λ (c : Cause). first_cause (c ∷ chains_cause y (chains y) ∷ [])) (ap unsound_by (facts_sound y back.whole.sound.sound))
-          ∙ ap (λ (c : Cause). first_cause (None ∷ c ∷ [])) (chains_cause_same x y back.alike sound.sound back.whole.sound.sound ∙ (no_first _ _ (no_first _ _ none).1).0)
 
 -- One page more is given back.
 module _ (x : Image) (header : HasHeader x) (sound : IsSoundImage x) (ps : List ℕ) (p : ℕ) (y : Image) (back : IsBack x ps y) (low : p < length x) (holds : is_leaked x p ≡ true) where

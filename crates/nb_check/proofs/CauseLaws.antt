@@ -2,8 +2,7 @@
 use Rattle.std.proofs.Common.{◌≡◌, ℕ, List, [], ◌∷◌, length, refl, ap, ◌∙◌}
 use Rattle.std.specs.Prelude.{Option, Some, None}
 use Rattle.nb_host.specs.declared.refusals.Refusal.{Refusal}
-use Rattle.nb_model.specs.declared.reply.Reply.{Reply}
-use Rattle.nb_model.specs.declared.reply.Reply.TheVariants.{Refused}
+use Rattle.nb_model.specs.declared.reply.Reply.TheVariants.{Leaked, Freed, Refused}
 use Rattle.nb_model.specs.Causes.{Cause, first_cause, read_only}
 use Rattle.nb_model.specs.Image.{Image}
 use Rattle.nb_model.specs.Outcomes.{Seen, Outcome, says, unless}
@@ -54,20 +53,19 @@ free : (s : Seen) (o : Outcome) (c : Cause) → c ≡ None → unless s c o ≡ 
 unfolding unless
 free s o c e = ap (by_cause s o) e
 
-module _ (reply : List ℕ → Reply) (s : Seen) where
-  pub check_refused : (r : Refusal) → check_cause s.base.image ≡ Some r → check_turn reply s ≡ says s (Refused r) []
+module _ (s : Seen) where
+  pub check_refused : (r : Refusal) → check_cause s.base.image ≡ Some r → check_turn s ≡ says s (Refused r) []
   unfolding check_turn
   check_refused r e = guarded s _ (check_cause s.base.image) r e
 
-  pub check_says : check_cause s.base.image ≡ None → check_turn reply s ≡ says s (reply (leaked s.base.image)) []
+  pub check_says : check_cause s.base.image ≡ None → check_turn s ≡ says s (Leaked (leaked s.base.image)) []
   unfolding check_turn
   check_says e = free s _ (check_cause s.base.image) e
 
-module _ (reply : ℕ → Reply) (s : Seen) where
-  pub reclaim_refused : (r : Refusal) → reclaim_cause s.base.image ≡ Some r → reclaim_turn reply s ≡ says s (Refused r) []
+  pub reclaim_refused : (r : Refusal) → reclaim_cause s.base.image ≡ Some r → reclaim_turn s ≡ says s (Refused r) []
   unfolding reclaim_turn
   reclaim_refused r e = guarded s _ (reclaim_cause s.base.image) r e
 
-  pub reclaim_says : reclaim_cause s.base.image ≡ None → reclaim_turn reply s ≡ says s (reply (length (leaked s.base.image))) (reclaimed s.base.image).strokes
+  pub reclaim_says : reclaim_cause s.base.image ≡ None → reclaim_turn s ≡ says s (Freed (length (leaked s.base.image))) (reclaimed s.base.image).strokes
   unfolding reclaim_turn
   reclaim_says e = free s _ (reclaim_cause s.base.image) e

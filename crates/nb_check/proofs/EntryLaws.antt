@@ -52,7 +52,7 @@ module _ (size : ℕ) (valid : IsTrue (is_page_size size)) where
   quotient : (k r : ℕ) → r < each → (k * each + r) / each ≡ k
   quotient k r low = div-mul-add k each r low
 
-  same_below : (p n : ℕ) → n ≤ p → 2 < n → scn_place size (p / each) < n → p / each ≡ (n - 1) / each
+  pub same_below : (p n : ℕ) → n ≤ p → 2 < n → scn_place size (p / each) < n → p / each ≡ (n - 1) / each
   same_below p n past more low = by (p / each) (parts p) low
     where
       by : (k : ℕ) → k * each + p % each ≡ p → scn_place size k < n → k ≡ (n - 1) / each

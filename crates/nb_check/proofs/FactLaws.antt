@@ -107,6 +107,7 @@ not_false e = cc
 
 pub used_is : (image : Image) (size p : ℕ) (map : Page) → size ≡ image_size image → map ≡ page_at image (inventory_of image p) → length map ≡ size → p % bits_in size < bits_in size
     → (used : Bool) → (IsTrue used ↔ (get_or (bits map) (p % bits_in size) 0 ≡ 0)) → used ≡ not (is_free_page image p)
+unfolding is_free_page
 used_is image size p map same page long inside used is = by used is
   where
     bit : ℕ
@@ -116,7 +117,6 @@ used_is image size p map same page long inside used is = by used is
     read_is = get_or-bits map (p % bits_in size) 0 (subst (λ (s : ℕ). p % bits_in size < bits_in s) (sym long) inside)
 
     free_is : is_free_page image p ≡ (get_or (bits map) (p % bits_in size) 0 == 1)
-    unfolding is_free_page
     free_is =
         ap (λ (m : Page). bit_of m (bit_number image p) == 1) (sym page) ∙ ap (λ (s : ℕ). bit_of map (p % bits_in s) == 1) (sym same) ∙ ap (λ (n : ℕ). n == 1) (sym read_is)
 

@@ -22,6 +22,7 @@ use Rattle.nb_model.specs.Trail.{Trail, after_stroke}
 use Rattle.nb_model.proofs.DraftLaws.{IsOf, drafted_is, drafts_are, set_bit_keeps}
 use Rattle.nb_model.proofs.DropTurns.{join_given}
 use Rattle.nb_model.proofs.FitLaws.{IsWhole, Fits, fits_first}
+use Rattle.nb_model.proofs.LeakTurns.{leaked_plain, leaked_two, given_first}
 use Rattle.nb_model.proofs.BitSound.{bit_put}
 use Rattle.nb_model.proofs.PutSound.{header_whole}
 use Rattle.nb_model.proofs.RoundLaws.{AnyPage}
@@ -57,39 +58,6 @@ leaked_step image n low =
 
 pub leaked_none : (image : Image) (n : ℕ) → length image ≤ n → leaked_from image n ≡ []
 leaked_none image n far = let none : length image - n ≡ 0 = omega (arith, far) in ap (λ (m : ℕ). filter (is_leaked image) (range_with_len n m)) none
-
--- A leaked page of a sound image is at no system place.
-pub leaked_plain : (image : Image) → IsSoundImage image → (p : ℕ) → p < length image → is_leaked image p ≡ true → is_system_place (image_size image) p ≡ false
-unfolding is_system_place
-leaked_plain image sound p low holds = elim (cases_Bool (is_inventory_place (image_size image) p || is_scn_place (image_size image) p)) [
-  | inr fails ↦ fails
-  | inl place ↦ absurd (elim (or_cases _ _ place) [
-    | inl at ↦ (let two = sound.sound.system.inventories p low at in omega (arith, five, two))
-    | inr at ↦ (let ten = sound.sound.system.scn_pages p low at in omega (arith, five, ten))
-  ])
-]
-  where
-    five : kind_of (page_at image p) ≡ 5
-    five = eqb-true _ _ (and_parts _ _ (and_parts _ _ holds).0).1
-
--- It is behind the header and the first inventory page.
-pub leaked_two : (image : Image) → HasHeader image → IsSoundImage image → (p : ℕ) → p < length image → is_leaked image p ≡ true → 2 ≤ p
-leaked_two image header sound p low holds = by p refl
-  where
-    five : kind_of (page_at image p) ≡ 5
-    five = eqb-true _ _ (and_parts _ _ (and_parts _ _ holds).0).1
-
-    by : (q : ℕ) → p ≡ q → 2 ≤ p
-    by zero e =
-        let one = header_kind (first_page image) header.header in
-        let same : kind_of (page_at image p) ≡ kind_of (first_page image) = ap (λ (n : ℕ). kind_of (page_at image n)) e in
-        omega (arith, one, same, five)
-    by (suc zero) e = absurd (true≢false (sym (ap (is_system_place (image_size image)) e ∙ refl) ∙ leaked_plain image sound p low holds))
-    by (suc (suc q)) e = omega (arith, e)
-
-pub given_first : (p : ℕ) (ps : List ℕ) (z : Image) → (all_given (p ∷ ps) (drafted z)).strokes ≡ (give_page p (drafted z)).strokes ++ (all_given ps (drafted (give_page p (drafted z)).image)).strokes
-unfolding all_given
-given_first p ps z = ap (λ (d : Draft). d.strokes) (join_given ps (give_page p (drafted z)))
 
 pub given_none : (z : Image) → (all_given [] (drafted z)).strokes ≡ []
 unfolding all_given

@@ -59,9 +59,9 @@ module _ (test : ℕ → Bool) where
       let parts : room ≡ n + suc (room - n - 1) = omega (arith, low) in
       let here : 0 + n ≡ n = omega arith in
       let all : up_to room ≡ up_to n ++ (n ∷ filter test (range_with_len (n + 1) (room - n - 1))) =
-          ap up_to parts ∙ ap (filter test) (range_split n (suc (room - n - 1)) 0) ∙ filter-append test (range_with_len 0 n) (range_with_len (0 + n) (suc (room - n - 1)))
-          ∙ ap (λ (m : ℕ). up_to n ++ filter test (range_with_len m (suc (room - n - 1)))) here
-          ∙ ap (λ (t : Bool). up_to n ++ cond t (n ∷ filter test (range_with_len (n + 1) (room - n - 1))) (filter test (range_with_len (n + 1) (room - n - 1)))) holds in
+      ap up_to parts ∙ ap (filter test) (range_split n (suc (room - n - 1)) 0) ∙ filter-append test (range_with_len 0 n) (range_with_len (0 + n) (suc (room - n - 1)))
+      ∙ ap (λ (m : ℕ). up_to n ++ filter test (range_with_len m (suc (room - n - 1)))) here
+      ∙ ap (λ (t : Bool). up_to n ++ cond t (n ∷ filter test (range_with_len (n + 1) (room - n - 1))) (filter test (range_with_len (n + 1) (room - n - 1)))) holds in
       ap (λ (xs : List ℕ). get_or xs (length (up_to n)) 0) all ∙ front_get (up_to n) (filter test (range_with_len (n + 1) (room - n - 1))) n
 
 -- a page is among those of the set where the set has it

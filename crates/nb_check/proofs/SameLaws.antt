@@ -102,15 +102,13 @@ module _ (x y : Image) (alike : AreAlike x y) (sx : SoundInventory x) (sy : Soun
 
   -- the slots of a chain, of the form or not
   pub spots_same : (chain : Chain) → spots chain y ≡ spots chain x
-  unfolding spots
+  unfolding spots spots_of found_pages
   spots_same chain = ap (spots_of y) (found_same chain) ∙ by (pages_of chain x) refl
     where
       none_found : (p : ℕ) → pages_of chain x ≡ Err p → found_pages chain x ≡ []
-      unfolding found_pages
       none_found p e = ap (λ (r : Result (List ℕ) ℕ). elim r as (λ z. List ℕ) [ Ok ps ↦ ps | Err q ↦ [] ]) e
 
       by : (r : Result (List ℕ) ℕ) → pages_of chain x ≡ r → spots_of y (found_pages chain x) ≡ spots_of x (found_pages chain x)
-      unfolding spots_of
       by (Ok ps) e = spots_each chain (found_pages chain x) (pages_found chain x (ap broken_at e)).each
       by (Err p) e = ap (spots_of y) (none_found p e) ∙ sym (ap (spots_of x) (none_found p e))
 
@@ -142,7 +140,6 @@ module _ (x y : Image) (alike : AreAlike x y) (sx : SoundInventory x) (sy : Soun
       ap (λ (o : Option Spot). elim o as (λ z. RowMap) [ None ↦ [] | Some spot ↦ rows_in (spots (RowsFrom (first_in spot.bytes)) y) ]) spot_same ∙ by (table_spot table x)
     where
       spot_same : table_spot table y ≡ table_spot table x
-      unfolding table_spot
       spot_same = ap (λ (ss : List Spot). first_such _ ss) (spots_same Catalogue)
 
       by : (o : Option Spot) → elim o as (λ z. RowMap) [ None ↦ [] | Some spot ↦ rows_in (spots (RowsFrom (first_in spot.bytes)) y) ] ≡ elim o as (λ z. RowMap) [ None ↦ [] | Some spot ↦ rows_in (spots (RowsFrom (first_in spot.bytes)) x) ]

@@ -173,10 +173,14 @@ unsound_part (Some b) e = absurd (some_none (Unsound b.0 b.1) e)
 pub check_parts : (image : Image) → check_cause image ≡ None → (unsound image ≡ None) × (chains_cause image (chains image) ≡ None)
 check_parts image none = (let first = no_first _ _ none in (unsound_part (unsound image) first.0, (no_first _ _ first.1).0))
 
-pub sound_whole : (image : Image) → IsTrue (is_page_size (image_size image)) → check_cause image ≡ None → IsOfSize (image_size image) image → length image ≤ 1048576 → IsSoundImage image
+-- the chain of the history makes a database that long
+pub check_long : (image : Image) → check_cause image ≡ None → 5 ≤ length image
 unfolding chains
-sound_whole image valid none sizes most =
+check_long image none =
     let parts = check_parts image none in
     let history : broken_at (pages_of History image) ≡ None = (no_first _ _ (no_first _ _ parts.1).1).0 in
     let there : 4 < length image = (in_chain History image 4 (first_found History image history)).0 in
-    record { sound = sound_facts image valid parts.0; least = omega (arith, there); most = most; sizes = sizes }
+    omega (arith, there)
+
+pub sound_whole : (image : Image) → IsTrue (is_page_size (image_size image)) → check_cause image ≡ None → IsOfSize (image_size image) image → length image ≤ 1048576 → IsSoundImage image
+sound_whole image valid none sizes most = record { sound = sound_facts image valid (check_parts image none).0; least = check_long image none; most = most; sizes = sizes }

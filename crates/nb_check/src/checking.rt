@@ -18,10 +18,10 @@ ghost use Rattle.nb_check.specs.Passes.{HoldsTaken, AreSized};
 ghost use Rattle.nb_check.specs.Sets.{room_of};
 ghost use Rattle.nb_model.specs.Checks.{check_cause, check_turn, reclaim_turn, reclaimed, unsound_by};
 
-use crate::{LARGEST_PAGE, Report};
 use crate::pass::{Found, pass};
 use crate::set::PageSet;
 use crate::walk::leave_out_reached;
+use crate::{LARGEST_PAGE, Report};
 use nb_engine::Engine;
 use nb_host::{Fault, Host, Refusal};
 use std::alloc::Global;

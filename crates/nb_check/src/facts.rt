@@ -122,12 +122,7 @@ fn has_late_entry(extent: Extent, number: u32, entries: &[u8]) -> bool
 
 /// The lowest fact that page `number`, one at or past the end, breaks. `map` is the page inventory page with its bit, and `entries` the
 /// last SCN page below the length.
-pub(crate) fn fact_past(
-    extent: Extent,
-    number: u32,
-    map: &[u8],
-    entries: &[u8],
-) -> Option<Fact>
+pub(crate) fn fact_past(extent: Extent, number: u32, map: &[u8], entries: &[u8]) -> Option<Fact>
     requires size { IsTrue (is_page_size (length map.now)) }
     requires entries { length entries.now ≡ length map.now }
     requires some { 1 < extent.count }

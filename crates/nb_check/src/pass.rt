@@ -28,14 +28,7 @@ pub(crate) struct Found {
 }
 
 /// Looks at page `number`, one below the length, with its inventory pages of both kinds.
-fn look_at(
-    found: &mut Found,
-    extent: Extent,
-    number: u32,
-    page: &[u8],
-    map: &[u8],
-    entries: &[u8],
-)
+fn look_at(found: &mut Found, extent: Extent, number: u32, page: &[u8], map: &[u8], entries: &[u8])
     requires size { IsTrue (is_page_size (length page.now)) }
     requires map { length map.now ≡ length page.now }
     requires entries { length entries.now ≡ length page.now }

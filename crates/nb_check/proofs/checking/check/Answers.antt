@@ -1,7 +1,7 @@
 use Rattle.std.proofs.Common.{◌≡◌, ℕ, ◌+◌, ◌≤◌, List, length, sym, ap, ◌∙◌, arith}
 use Rattle.std.specs.Prelude.{Ok, Err, Some, None}
 use Rattle.nb_page.proofs.QuietLemmas.{quiet_joined}
-use Rattle.nb_model.specs.declared.reply.Reply.{Reply}
+use Rattle.nb_model.specs.declared.reply.Reply.TheVariants.{Leaked}
 use Rattle.nb_model.specs.Causes.{Cause}
 use Rattle.nb_model.specs.Outcomes.{Seen, says}
 use Rattle.nb_model.specs.Rows.{chains}
@@ -12,31 +12,34 @@ use Rattle.nb_model.specs.Leaks.{leaked}
 use Rattle.nb_model.specs.Checks.{unsound_by, chains_cause, check_cause, check_turn}
 use Rattle.nb_check.proofs.CauseLaws.{unsound_fails, chain_fails, check_free, check_refused, check_says}
 use Rattle.nb_check.proofs.ReportLaws.{leaked_pages}
-use Rattle.nb_check.proofs.SoundLaws.{sound_whole}
+use Rattle.nb_check.proofs.SoundLaws.{check_long, sound_whole}
 use Rattle.nb_check.proofs.checking.check.Goals as goal
 
 pub returns-in_err-rest-clause-turn : goal.returns-in_err-rest-clause-turn
-returns-in_err-rest-clause-turn g c reply s t tells same is =
+returns-in_err-rest-clause-turn g c s t tells same is =
     let found = c.in_err-rest.ensures in
-    tested_does (List ℕ) (List ℕ) reply _ _ _ _ _ _ t s (check_turn reply) (unsound_by (unsound t.base.image)) c.from_residual.ensures same found.same found.quiet is (found.open t tells is) (found.test t tells is)
-    (λ r e. check_refused reply (seeing s t.base) r (unsound_fails t.base.image r e))
+    tested_does (List ℕ) (List ℕ) Leaked _ _ _ _ _ _ t s check_turn (unsound_by (unsound t.base.image)) c.from_residual.ensures same found.same found.quiet is (found.open t tells is) (found.test t tells is)
+    (λ r e. check_refused (seeing s t.base) r (unsound_fails t.base.image r e))
 
 pub returns-in_err-leave_out_reached-clause-turn : goal.returns-in_err-leave_out_reached-clause-turn
-returns-in_err-leave_out_reached-clause-turn g c reply s t tells same is =
+returns-in_err-leave_out_reached-clause-turn g c s t tells same is =
     let found = c.in_ok-rest.ensures in
     let left = c.in_err-leave_out_reached.ensures in
     let still = found.open t tells is in
-    tested_does (Unit {0}) (List ℕ) reply _ _ _ _ _ _ t s (check_turn reply) (chains_cause t.base.image (chains t.base.image)) c.from_residual-in_err-leave_out_reached.ensures same (left.same ∙ found.same) (quiet_joined _ _ _ found.quiet left.quiet) is (left.open t tells still)
-    (left.test t tells still) (λ r e. check_refused reply (seeing s t.base) r (chain_fails t.base.image (found.test t tells is) r e))
+    tested_does (Unit {0}) (List ℕ) Leaked _ _ _ _ _ _ t s check_turn (chains_cause t.base.image (chains t.base.image)) c.from_residual-in_err-leave_out_reached.ensures same (left.same ∙ found.same) (quiet_joined _ _ _ found.quiet left.quiet) is (left.open t tells still)
+    (left.test t tells still) (λ r e. check_refused (seeing s t.base) r (chain_fails t.base.image (found.test t tells is) r e))
 
 pub returns-clause-turn : goal.returns-clause-turn
-returns-clause-turn g c reply s t tells same is =
+returns-clause-turn g c s t tells same is =
     let found = c.in_ok-rest.ensures in
     let left = c.in_ok-leave_out_reached.ensures in
     let still = found.open t tells is in
-    let pages : c.of.result ≡ leaked t.base.image = ? in
-    valued_does reply _ _ _ _ _ t s (check_turn reply) same (left.same ∙ found.same) (quiet_joined _ _ _ found.quiet left.quiet) is (left.open t tells still)
-    (check_says reply (seeing s t.base) (check_free t.base.image (found.test t tells is) (left.test t tells still)) ∙ ap (λ (ps : List ℕ). says (seeing s t.base) (reply ps) []) (sym pages))
+    let free = check_free t.base.image (found.test t tells is) (left.test t tells still) in
+    let pages : c.of.result ≡ leaked t.base.image =
+        c.of.ensures
+        ∙ leaked_pages t.base.image c.in_ok-rest.rest c.leave_out_reached.new.rest (found.taken t tells is (check_long t.base.image free)) (left.rest t tells still) (omega (arith, found.set_room, left.room, is.files.agrees.count)) in
+    valued_does Leaked _ _ _ _ _ t s check_turn same (left.same ∙ found.same) (quiet_joined _ _ _ found.quiet left.quiet) is (left.open t tells still)
+    (check_says (seeing s t.base) free ∙ ap (λ (ps : List ℕ). says (seeing s t.base) (Leaked ps) []) (sym pages))
 
 pub returns-in_err-rest-clause-test : goal.returns-in_err-rest-clause-test
 returns-in_err-rest-clause-test g c t tells is =
