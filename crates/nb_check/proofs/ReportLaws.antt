@@ -24,6 +24,15 @@ range_split (suc n) m a =
     let same : a + 1 + n ≡ a + suc n = omega arith in
     ap (range_with_len a) more ∙ ap (λ (xs : List ℕ). a ∷ xs) (range_split n m (a + 1)) ∙ ap (λ (b : ℕ). a ∷ (range_with_len (a + 1) n ++ range_with_len b m)) same
 
+-- no more pass than there are
+pub filtered_most : (test : ℕ → Bool) (n a : ℕ) → length (filter test (range_with_len a n)) ≤ n
+filtered_most test zero a = omega arith
+filtered_most test (suc n) a = by (test a)
+  where
+    by : (t : Bool) → length (cond t (a ∷ filter test (range_with_len (a + 1) n)) (filter test (range_with_len (a + 1) n))) ≤ suc n
+    by true = let rest = filtered_most test n (a + 1) in omega (arith, rest)
+    by false = let rest = filtered_most test n (a + 1) in omega (arith, rest)
+
 module _ (test : ℕ → Bool) where
   abbrev up_to : ℕ → List ℕ
   up_to n = filter test (range_with_len 0 n)

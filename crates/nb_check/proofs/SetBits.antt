@@ -1,11 +1,11 @@
 -- A set of pages of which one byte is changed at one bit.
-use Rattle.std.proofs.Common.{◌≡◌, ◌≢◌, inl, inr, ℕ, ◌+◌, ◌*◌, ◌/◌, ◌%◌, ◌<◌, ◌≤◌, List, [], ◌∷◌, length, get_or, refl, sym, ap, ◌∙◌, arith}
+use Rattle.std.proofs.Common.{◌≡◌, ◌≢◌, inl, inr, ℕ, ◌+◌, ◌*◌, ◌/◌, ◌%◌, ◌<◌, ◌≤◌, List, [], ◌∷◌, length, get_or, replicate, refl, sym, ap, ◌∙◌, arith}
 use Rattle.std.specs.Prelude.{Bool, true, false, ◌&&◌, ◌||◌, ◌==◌, not, nat_eq}
 use Rattle.std.specs.Int.{bit_at}
 use Rattle.std.proofs.Math.ListN.{set}
-use Rattle.std.proofs.lemmas.Bool.{cases_eq}
+use Rattle.std.proofs.lemmas.Bool.{cases_eq, cases_lt}
 use Rattle.std.proofs.lemmas.Grind.{get_or-set_at}
-use Rattle.std.proofs.lemmas.List.{get_or-set_same, get_or-set_other, get_or_past}
+use Rattle.std.proofs.lemmas.List.{get_or-set_same, get_or-set_other, get_or_past, get_or-replicate, length-replicate}
 use Rattle.std.proofs.lemmas.Nat.Bits.{bit_at-zero}
 use Rattle.nb_pip.proofs.BitLemmas.{SetsBit}
 use Rattle.nb_model.proofs.ReadLaws.{eq_no, eq_yes}
@@ -36,6 +36,17 @@ module _ (pages : List ℕ) (page byte v : ℕ) (low : page / 8 < length pages) 
         ∙ sets.others (p % 8) (omega arith) (λ e. other (omega (arith, e, same))) ∙ ap (λ (i : ℕ). bit_at (get_or pages i 0) (p % 8)) (sym same)
     | inr apart ↦ ap (λ (b : ℕ). bit_at b (p % 8)) (get_or-set_other pages (page / 8) (p / 8) byte 0 apart)
   ])
+
+-- zeros have no page
+pub none_has : (n p : ℕ) → has (replicate n 0) p ≡ false
+unfolding has
+none_has n p = ap (λ (b : ℕ). bit_at b (p % 8) == 1) zero ∙ ap (λ (v : ℕ). v == 1) (bit_at-zero (p % 8))
+  where
+    zero : get_or (replicate n 0) (p / 8) 0 ≡ 0
+    zero = elim (cases_lt (p / 8) n) [
+      | inl low ↦ get_or-replicate n (p / 8) 0 0 low
+      | inr high ↦ get_or_past (replicate n 0) (p / 8) 0 (omega (arith, high, length-replicate {A = ℕ} n 0))
+    ]
 
 -- the bit becomes 1
 pub inserted : (pages : List ℕ) (page byte : ℕ) → page / 8 < length pages → SetsBit (get_or pages (page / 8) 0) byte (page % 8) 1 → (p : ℕ) → has (set pages (page / 8) byte) p ≡ (nat_eq p page || has pages p)

@@ -42,6 +42,39 @@ fn count_of(pages: &PageSet) -> u32
     count
 }
 
+/// The page of a set at place `i`, from 0.
+fn page_of(pages: &PageSet, i: usize) -> u32
+    requires { i < length (pages_in pages.now) }
+    ensures { result ≡ slice_index (pages_in pages.now) i }
+{
+    let mut left = i;
+    for page in 0..pages.room() {
+        if !pages.has(page) {
+            continue;
+        }
+        if left == 0 {
+            return page;
+        }
+        left -= 1;
+    }
+    0
+}
+
+/// The pages of a set, as a list of numbers.
+fn list_of(alloc: Global, pages: &PageSet) -> Result<PageList, Fault>
+    ensures ok { IfOk result (λ list. list ≡ pages_in pages.now) }
+    ensures only_memory { IfErr result (λ fault. fault ≡ Memory) }
+{
+    let mut list = PageList::new(alloc);
+    for page in 0..pages.room() {
+        if !pages.has(page) {
+            continue;
+        }
+        list.push(page)?;
+    }
+    Ok(list)
+}
+
 impl Report {
     /// The report of these pages.
     pub(crate) fn of(pages: PageSet) -> Report
@@ -77,17 +110,7 @@ impl Report {
         requires { i < length self.now }
         ensures { result ≡ slice_index self.now i }
     {
-        let mut left = i;
-        for page in 0..self.pages.room() {
-            if !self.pages.has(page) {
-                continue;
-            }
-            if left == 0 {
-                return page;
-            }
-            left -= 1;
-        }
-        0
+        page_of(&self.pages, i)
     }
 
     /// All of them, as a list of numbers.
@@ -95,14 +118,7 @@ impl Report {
         ensures ok { IfOk result (λ pages. pages ≡ self.now) }
         ensures only_memory { IfErr result (λ fault. fault ≡ Memory) }
     {
-        let mut pages = PageList::new(alloc);
-        for page in 0..self.pages.room() {
-            if !self.pages.has(page) {
-                continue;
-            }
-            pages.push(page)?;
-        }
-        Ok(pages)
+        list_of(alloc, &self.pages)
     }
 
     /// Whether page `number` is leaked.

@@ -7,6 +7,36 @@ use nb_host::Fault;
 use std::alloc::Global;
 use std::marker::Model;
 
+/// Whether the bit of a page is 1. Behind the last byte none is.
+fn has_bit(bytes: &[u8], page: u32) -> bool
+    ensures { result ≡ has bytes.now page }
+{
+    let at = (page / 8) as usize;
+    if at >= bytes.len() {
+        return false;
+    }
+    (bytes[at] >> (page % 8)) & 1 == 1
+}
+
+/// The bit of a page becomes 1.
+fn set_bit(bytes: &mut [u8], page: u32)
+    requires { page < room_of bytes.old }
+    ensures { (p : ℕ) → has bytes.new p ≡ (nat_eq p page || has bytes.old p) }
+{
+    bytes[(page / 8) as usize] |= 1 << (page % 8);
+}
+
+/// The bit of a page becomes 0, where there is one.
+fn clear_bit(bytes: &mut [u8], page: u32)
+    ensures { IsWithout bytes.old (page ∷ []) bytes.new }
+{
+    let at = (page / 8) as usize;
+    if at >= bytes.len() {
+        return;
+    }
+    bytes[at] &= !(1 << (page % 8));
+}
+
 /// A set of pages, one bit for each page. Contracts see its bytes, and by `has` which pages it has.
 #[derive(Drop)]
 pub(crate) struct PageSet {
@@ -48,10 +78,7 @@ impl PageSet {
     pub(crate) fn has(&self, page: u32) -> bool
         ensures { result ≡ has self.now page }
     {
-        match self.bytes.get((page / 8) as usize) {
-            Some(byte) => (*byte >> (page % 8)) & 1 == 1,
-            None => false,
-        }
+        has_bit(self.bytes.as_slice(), page)
     }
 
     /// Puts that page into the set.
@@ -60,7 +87,7 @@ impl PageSet {
         ensures pages { (p : ℕ) → has self.new p ≡ (nat_eq p page || has self.old p) }
         ensures room { length self.new ≡ length self.old }
     {
-        self.bytes[(page / 8) as usize] |= 1 << (page % 8);
+        set_bit(self.bytes.as_mut_slice(), page);
     }
 
     /// Takes that page out of the set.
@@ -68,9 +95,6 @@ impl PageSet {
         ensures pages { IsWithout self.old (page ∷ []) self.new }
         ensures room { length self.new ≡ length self.old }
     {
-        let at = (page / 8) as usize;
-        if at < self.bytes.len() {
-            self.bytes[at] &= !(1 << (page % 8));
-        }
+        clear_bit(self.bytes.as_mut_slice(), page);
     }
 }

@@ -36,8 +36,8 @@ returns-clause-turn g c s t tells same is =
     let still = found.open t tells is in
     let free = check_free t.base.image (found.test t tells is) (left.test t tells still) in
     let pages : c.of.result ≡ leaked t.base.image =
-        c.of.ensures
-        ∙ leaked_pages t.base.image c.in_ok-rest.rest c.leave_out_reached.new.rest (found.taken t tells is (check_long t.base.image free)) (left.rest t tells still) (omega (arith, found.set_room, left.room, is.files.agrees.count)) in
+    c.of.ensures
+    ∙ leaked_pages t.base.image c.in_ok-rest.rest c.leave_out_reached.new.rest (found.taken t tells is (check_long t.base.image free)) (left.rest t tells still) (omega (arith, found.set_room, left.room, is.files.agrees.count)) in
     valued_does Leaked _ _ _ _ _ t s check_turn same (left.same ∙ found.same) (quiet_joined _ _ _ found.quiet left.quiet) is (left.open t tells still)
     (check_says (seeing s t.base) free ∙ ap (λ (ps : List ℕ). says (seeing s t.base) (Leaked ps) []) (sym pages))
 

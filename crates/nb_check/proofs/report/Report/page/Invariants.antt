@@ -1,7 +1,0 @@
-use Rattle.std.proofs.Common.{◌≡◌, ◌+◌, length}
-use Rattle.std.specs.List.{filter, range_with_len}
-use Rattle.nb_check.specs.Sets.{has}
-use Rattle.nb_check.proofs.report.Report.page.Given as goal
-
-abbrev pub invariant-loop-page : goal.invariant-loop-page
-invariant-loop-page l = l.left + length (filter (has l.self.pages) (range_with_len 0 l.page)) ≡ l.fn.i
