@@ -1,16 +1,17 @@
 -- Which facts an image breaks, and the first of them.
 use Rattle.std.proofs.Common.{◌≡◌, inl, inr, ℕ, zero, suc, ◌+◌, ◌-◌, ◌*◌, ◌/◌, ◌<◌, ◌≤◌, List, [], ◌∷◌, length, refl, sym, ap, ◌∙◌, arith}
 use Rattle.std.specs.Prelude.{IsTrue, Bool, true, false, Option, Some, None, ◌&&◌, ◌||◌, ◌==◌, not, nat_lt, nat_le}
+use Rattle.std.specs.List.{AllByRecursion}
 use Rattle.std.proofs.Math.Nat.{lt-div-mul-add}
 use Rattle.std.proofs.lemmas.Bool.{and_parts, or_cases, ltb-true, eqb-true}
 use Rattle.nb_fields.specs.Places.{is_page_size, bits_in, entries_in, inventory_place, scn_place}
 use Rattle.nb_fields.proofs.PlaceLemmas.{entries-least, bits-least}
 use Rattle.nb_model.specs.Image.{Image, image_size}
-use Rattle.nb_model.specs.Forms.{inventory_of, scn_page_of}
+use Rattle.nb_model.specs.Forms.{inventory_of, has_entry, is_free_page}
 use Rattle.nb_model.specs.declared.fact.Fact.{Fact}
 use Rattle.nb_model.specs.declared.fact.Fact.TheVariants.{BlankPage, SystemPlace, TakenPast, LateStamp, WrongEntry, HeaderStamp}
 use Rattle.nb_check.specs.declared.facts.Broken.{Broken}
-use Rattle.nb_model.specs.Facts.{breaks, number_of, facts, first_from, first_broken, covered, unsound}
+use Rattle.nb_model.specs.Facts.{breaks, number_of, facts, first_from, first_broken, covered, unsound, is_entry_low, is_entry_late}
 use Rattle.nb_check.specs.Passes.{IsBefore, IsFirstBelow}
 use Rattle.nb_check.proofs.FirstLaws.{first_none, first_all, first_found, some_none}
 
@@ -62,24 +63,24 @@ unsound_none image none =
     (passed image WrongEntry _ None (none WrongEntry)
     (passed image HeaderStamp _ None (none HeaderStamp) (none_left image))))))
 
+none_each : (image : Image) (fs : List Fact) → first_broken image fs ≡ None → AllByRecursion (BreaksNone image) fs
+none_each image [] none = tt
+none_each image (f ∷ fs) none = let parts = none_parts image f fs none in (parts.0, none_each image fs parts.1)
+
 pub none_unsound : (image : Image) → unsound image ≡ None → (f : Fact) → BreaksNone image f
 unfolding unsound
 none_unsound image none f = of f
   where
-    one = none_parts image BlankPage (SystemPlace ∷ TakenPast ∷ LateStamp ∷ WrongEntry ∷ HeaderStamp ∷ []) none
-    two = none_parts image SystemPlace (TakenPast ∷ LateStamp ∷ WrongEntry ∷ HeaderStamp ∷ []) one.1
-    three = none_parts image TakenPast (LateStamp ∷ WrongEntry ∷ HeaderStamp ∷ []) two.1
-    four = none_parts image LateStamp (WrongEntry ∷ HeaderStamp ∷ []) three.1
-    five = none_parts image WrongEntry (HeaderStamp ∷ []) four.1
-    six = none_parts image HeaderStamp [] five.1
+    all : AllByRecursion (BreaksNone image) facts
+    all = none_each image facts none
 
     of : (g : Fact) → BreaksNone image g
-    of BlankPage = one.0
-    of SystemPlace = two.0
-    of TakenPast = three.0
-    of LateStamp = four.0
-    of WrongEntry = five.0
-    of HeaderStamp = six.0
+    of BlankPage = all.0
+    of SystemPlace = all.1.0
+    of TakenPast = all.1.1.0
+    of LateStamp = all.1.1.1.0
+    of WrongEntry = all.1.1.1.1.0
+    of HeaderStamp = all.1.1.1.1.1.0
 
 -- the first that all pages break is why it isn't sound
 module _ (image : Image) (broken : Broken) (first : IsFirstBelow image (covered image) (Some broken)) where
@@ -163,9 +164,11 @@ pub breaks_below : (image : Image) → IsTrue (is_page_size (image_size image)) 
 unfolding breaks
 breaks_below image valid BlankPage p holds = (let low = ltb-true p (length image) (and_parts _ _ holds).0 in omega (arith, low))
 breaks_below image valid SystemPlace p holds = (let low = ltb-true p (length image) (and_parts _ _ holds).0 in omega (arith, low))
-breaks_below image valid TakenPast p holds = inventory_covers (image_size image) p (length image) valid (ltb-true _ _ (and_parts _ _ (and_parts _ _ holds).1).0)
+breaks_below image valid TakenPast p holds =
+    let parts = and_parts (nat_le (length image) p) (nat_lt (inventory_of image p) (length image) && not (is_free_page image p)) holds in
+    inventory_covers (image_size image) p (length image) valid (ltb-true (inventory_of image p) (length image) (and_parts (nat_lt (inventory_of image p) (length image)) (not (is_free_page image p)) parts.1).0)
 breaks_below image valid LateStamp p holds = (let low = ltb-true p (length image) (and_parts _ _ holds).0 in omega (arith, low))
-breaks_below image valid WrongEntry p holds = elim (or_cases _ _ (and_parts _ _ holds).1) [
+breaks_below image valid WrongEntry p holds = elim (or_cases (is_entry_low image p) (is_entry_late image p) (and_parts (has_entry image p) (is_entry_low image p || is_entry_late image p) holds).1) [
   | inl low ↦ (let below = ltb-true p (length image) (and_parts _ _ low).0 in omega (arith, below))
   | inr late ↦
       (let near = entry_covers (image_size image) p (length image) valid (ltb-true _ _ (and_parts _ _ late).0) in

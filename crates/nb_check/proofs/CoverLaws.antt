@@ -2,18 +2,19 @@
 use Rattle.std.proofs.Common.{◌≡◌, inl, inr, ℕ, zero, suc, ◌+◌, ◌-◌, ◌*◌, ◌/◌, ◌%◌, ◌<◌, ◌≤◌, length, refl, sym, ap, subst, ◌∙◌, arith, add-mul, mul-le-mul_right, suc-mul}
 use Rattle.std.specs.Prelude.{IsTrue, Bool, true, false, Option, Some, None, ◌&&◌, ◌||◌, ◌==◌, nat_le, nat_lt}
 use Rattle.std.proofs.Math.Nat.{mod-lt, mul_assoc}
-use Rattle.std.proofs.lemmas.Nat.{div-add-mod'}
+use Rattle.std.proofs.lemmas.Nat.{div-add-mod', div-mul-add}
 use Rattle.std.proofs.lemmas.Bool.{and_left, cases_lt}
 use Rattle.nb_fields.specs.Places.{is_page_size, bits_in, entries_in, inventory_place, scn_place}
 use Rattle.nb_fields.proofs.PlaceLemmas.{entries-least, bits-least}
-use Rattle.nb_model.specs.Image.{Image, image_size}
+use Rattle.nb_model.specs.Image.{Page, Image, page_at, image_size}
 use Rattle.nb_model.specs.Forms.{inventory_of, scn_page_of, is_free_page}
 use Rattle.nb_model.proofs.ReadLaws.{eq_no, lt_no, le_no}
 use Rattle.nb_model.specs.declared.fact.Fact.{Fact}
 use Rattle.nb_model.specs.declared.fact.Fact.TheVariants.{BlankPage, SystemPlace, TakenPast, LateStamp, WrongEntry, HeaderStamp}
 use Rattle.nb_check.specs.declared.facts.Broken.{Broken}
+use Rattle.nb_check.specs.declared.facts.Extent.{Extent}
 use Rattle.nb_model.specs.Facts.{breaks, covered}
-use Rattle.nb_check.specs.Passes.{IsFirstBelow}
+use Rattle.nb_check.specs.Passes.{IsFirstBelow, IsOf, IsMapOf}
 use Rattle.nb_check.proofs.EntryLaws.{same_below, place_few, wrong_far}
 use Rattle.nb_check.proofs.FactLaws.{blank_past, place_past, late_past, header_past}
 
@@ -67,6 +68,24 @@ module _ (image : Image) (valid : IsTrue (is_page_size (image_size image))) wher
 
   pub group_within : group_end ≤ covered image
   group_within = (let is = length_parts in let end = group_is in omega (arith, is, end))
+
+  -- a page in it has its bit where the page behind the last one has it
+  same_bits : (p : ℕ) → n ≤ p → p < group_end → p / bits ≡ n / bits
+  same_bits p past near =
+      let is = length_parts in
+      let end = group_is in
+      let here : p ≡ (n / bits) * bits + (p - (n / bits) * bits) = omega (arith, is, past) in
+      ap (λ (m : ℕ). m / bits) here ∙ div-mul-add (n / bits) bits (p - (n / bits) * bits) (omega (arith, is, end, past, near))
+
+  pub map_same : (p : ℕ) → n ≤ p → p < group_end → inventory_of image p ≡ inventory_of image n
+  map_same p past near = ap (inventory_place (image_size image)) (same_bits p past near)
+
+  pub map_near : (p : ℕ) → 1 < n → n ≤ p → p < group_end → inventory_of image p < n
+  map_near p more past near = subst (λ (i : ℕ). i < n) (sym (map_same p past near)) (by (n / bits) length_parts)
+    where
+      by : (k : ℕ) → k * bits + n % bits ≡ n → inventory_place (image_size image) k < n
+      by zero is = more
+      by (suc k) is = omega (arith, is, more)
 
   -- its inventory page stands behind the end
   map_far : (p : ℕ) → group_end ≤ p → n ≤ inventory_of image p
@@ -134,3 +153,35 @@ module _ (image : Image) (valid : IsTrue (is_page_size (image_size image))) wher
   none_few some few LateStamp p high = late_past image p some high
   none_few some few WrongEntry p high = wrong_far image p high (place_few (image_size image) valid (p / each) n (omega (arith, few)))
   none_few some few HeaderStamp p high = header_past image p some high
+
+-- The same, by what a pass knows of the image.
+module _ (image : Image) (size : ℕ) (extent : Extent) (valid : IsTrue (is_page_size size)) (of : IsOf image size extent) where
+  pub valid_of : IsTrue (is_page_size (image_size image))
+  valid_of = subst (λ (s : ℕ). IsTrue (is_page_size s)) of.size valid
+
+  pub ends_of : (extent.count / bits_in size + 1) * bits_in size ≡ group_end image valid_of
+  ends_of =
+      ap (λ (s : ℕ). (extent.count / bits_in s + 1) * bits_in s) of.size
+      ∙ ap (λ (m : ℕ). (m / bits_in (image_size image) + 1) * bits_in (image_size image)) of.count
+
+  module _ (p : ℕ) (past : extent.count ≤ p) (covered_by : p < (extent.count / bits_in size + 1) * bits_in size) where
+    behind : length image ≤ p
+    behind = omega (arith, past, of.count)
+
+    inside : p < group_end image valid_of
+    inside = omega (arith, covered_by, ends_of)
+
+    pub near_of : 1 < extent.count → inventory_of image p < length image
+    near_of some = map_near image valid_of p (omega (arith, some, of.count)) behind inside
+
+    pub map_on : (map : Page) → IsMapOf image extent.count map → IsMapOf image p map
+    map_on map is more = is more ∙ ap (λ (m : ℕ). page_at image (inventory_of image m)) of.count ∙ ap (page_at image) (sym (map_same image valid_of p behind inside))
+
+-- the end of the group of a number
+pub group_most : (m w : ℕ) → 0 < w → (m < (m / w + 1) * w) × ((m / w + 1) * w ≤ m + w)
+group_most m w some =
+    let here : (m / w) * w + m % w ≡ m = div-add-mod' m w in
+    let rest : m % w < w = mod-lt m {m = w} some in
+    let one : 1 * w ≡ w = omega arith in
+    let end : (m / w + 1) * w ≡ (m / w) * w + 1 * w = add-mul (m / w) 1 w in
+    (omega (arith, here, rest, one, end), omega (arith, here, one, end))

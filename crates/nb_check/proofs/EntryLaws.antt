@@ -16,7 +16,7 @@ use Rattle.nb_model.proofs.ReadLaws.{eq_no, eq_yes, lt_yes, lt_no, le_no}
 use Rattle.nb_model.specs.declared.fact.Fact.TheVariants.{WrongEntry}
 use Rattle.nb_model.specs.Facts.{breaks}
 
-le_yes : (a b : ℕ) → a ≤ b → nat_le a b ≡ true
+pub le_yes : (a b : ℕ) → a ≤ b → nat_le a b ≡ true
 le_yes a b low = elim (cases_lt b a) [ inl less ↦ absurd (omega (arith, less, low)) | inr other ↦ by (nat_le a b) refl ]
   where
     by : (t : Bool) → nat_le a b ≡ t → nat_le a b ≡ true

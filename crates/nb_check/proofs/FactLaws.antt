@@ -11,11 +11,13 @@ use Rattle.nb_pip.specs.Bits.{bits}
 use Rattle.nb_pip.proofs.BitLemmas.{get_or-bits}
 use Rattle.nb_model.specs.Image.{Page, Image, page_at, first_page, image_size, image_scn}
 use Rattle.nb_model.specs.Forms.{inventory_of, bit_number, is_free_page}
+use Rattle.nb_page.specs.Head.{head_in}
 use Rattle.nb_model.proofs.ReadLaws.{eq_no, eq_yes, lt_yes, lt_no, le_no}
 use Rattle.nb_model.specs.declared.fact.Fact.{Fact}
 use Rattle.nb_model.specs.declared.fact.Fact.TheVariants.{BlankPage, SystemPlace, TakenPast, LateStamp, WrongEntry, HeaderStamp}
 use Rattle.nb_model.specs.Facts.{breaks, number_of}
 use Rattle.nb_check.specs.Passes.{IsLowestAt}
+use Rattle.nb_check.proofs.EntryLaws.{le_yes}
 
 no_higher : (fact : Fact) → 6 < number_of fact → ⊥
 no_higher BlankPage less = omega (arith, less)
@@ -80,6 +82,43 @@ module _ (image : Image) (p : ℕ) where
     unfolding breaks
     header_here = refl
 
+    -- and so the lowest that it breaks
+    abbrev is_late : Bool
+    is_late = nat_lt (image_scn image) (stamp_of (page_at image p))
+
+    pub lowest_blank : is_zeros (page_at image p) ≡ true → IsLowestAt image p (Some BlankPage)
+    lowest_blank e = lowest_is BlankPage (blank_here ∙ e) (λ less. absurd (omega (arith, less))) (λ less. absurd (omega (arith, less))) (λ less. absurd (omega (arith, less))) (λ less. absurd (omega (arith, less))) (λ less. absurd (omega (arith, less)))
+
+    module _ (some : is_zeros (page_at image p) ≡ false) where
+      pub lowest_place : other_kind ≡ true → IsLowestAt image p (Some SystemPlace)
+      lowest_place e =
+          lowest_is SystemPlace (place_here ∙ e) (λ less. blank_here ∙ some) (λ less. absurd (omega (arith, less))) (λ less. absurd (omega (arith, less))) (λ less. absurd (omega (arith, less))) (λ less. absurd (omega (arith, less)))
+
+      module _ (placed : other_kind ≡ false) where
+        pub lowest_late : is_late ≡ true → IsLowestAt image p (Some LateStamp)
+        lowest_late e = lowest_is LateStamp (late_here ∙ e) (λ less. blank_here ∙ some) (λ less. place_here ∙ placed) (λ less. past_here) (λ less. absurd (omega (arith, less))) (λ less. absurd (omega (arith, less)))
+
+        module _ (early : is_late ≡ false) where
+          pub lowest_entry : breaks image WrongEntry p ≡ true → IsLowestAt image p (Some WrongEntry)
+          lowest_entry e = lowest_is WrongEntry e (λ less. blank_here ∙ some) (λ less. place_here ∙ placed) (λ less. past_here) (λ less. late_here ∙ early) (λ less. absurd (omega (arith, less)))
+
+          module _ (entered : breaks image WrongEntry p ≡ false) where
+            pub lowest_header : breaks image HeaderStamp p ≡ true → IsLowestAt image p (Some HeaderStamp)
+            lowest_header e = lowest_is HeaderStamp e (λ less. blank_here ∙ some) (λ less. place_here ∙ placed) (λ less. past_here) (λ less. late_here ∙ early) (λ less. entered)
+
+            pub lowest_none : breaks image HeaderStamp p ≡ false → IsLowestAt image p None
+            lowest_none e = lowest_not (blank_here ∙ some) (place_here ∙ placed) past_here (late_here ∙ early) entered e
+
+  -- the header is tested on page 0 alone
+  pub header_only : (p ≡ 0 → ⊥) → breaks image HeaderStamp p ≡ false
+  unfolding breaks
+  header_only other = and_left _ _ (eq_no p 0 other)
+
+  pub header_test : p ≡ 0 → breaks image HeaderStamp p ≡ not (stamp_of (page_at image p) == image_scn image)
+  unfolding breaks
+  header_test e =
+      ap (λ (t : Bool). t && not (stamp_of (first_page image) == image_scn image)) (eq_yes p 0 e) ∙ ap (λ (q : ℕ). not (stamp_of (page_at image q) == image_scn image)) (sym e)
+
   -- and of one at or past the end
   module _ (some : 0 < length image) (past : length image ≤ p) where
     beyond : nat_lt p (length image) ≡ false
@@ -100,6 +139,30 @@ module _ (image : Image) (p : ℕ) where
     pub header_past : breaks image HeaderStamp p ≡ false
     unfolding breaks
     header_past = and_left _ _ (eq_no p 0 (λ e. omega (arith, e, some, past)))
+
+    taken_there : inventory_of image p < length image → breaks image TakenPast p ≡ not (is_free_page image p)
+    unfolding breaks
+    taken_there there =
+        ap (λ (t : Bool). t && (nat_lt (inventory_of image p) (length image) && not (is_free_page image p))) (le_yes (length image) p past)
+        ∙ ap (λ (t : Bool). t && not (is_free_page image p)) (lt_yes (inventory_of image p) (length image) there)
+
+    pub lowest_taken : inventory_of image p < length image → not (is_free_page image p) ≡ true → IsLowestAt image p (Some TakenPast)
+    lowest_taken there e = lowest_is TakenPast (taken_there there ∙ e) (λ less. blank_past) (λ less. place_past) (λ less. absurd (omega (arith, less))) (λ less. absurd (omega (arith, less))) (λ less. absurd (omega (arith, less)))
+
+    pub lowest_entry_past : inventory_of image p < length image → not (is_free_page image p) ≡ false → breaks image WrongEntry p ≡ true → IsLowestAt image p (Some WrongEntry)
+    lowest_entry_past there free e = lowest_is WrongEntry e (λ less. blank_past) (λ less. place_past) (λ less. taken_there there ∙ free) (λ less. late_past) (λ less. absurd (omega (arith, less)))
+
+    pub lowest_none_past : inventory_of image p < length image → not (is_free_page image p) ≡ false → breaks image WrongEntry p ≡ false → IsLowestAt image p None
+    lowest_none_past there free e = lowest_not blank_past place_past (taken_there there ∙ free) late_past e header_past
+
+-- what the head of a page holds
+pub kind_in : (page : Page) → (head_in page).kind ≡ kind_of page
+unfolding head_in
+kind_in page = refl
+
+pub stamp_in : (page : Page) → (head_in page).scn ≡ stamp_of page
+unfolding head_in
+stamp_in page = refl
 
 -- whether page p is used, by its bit
 not_false : IsTrue false → ⊥

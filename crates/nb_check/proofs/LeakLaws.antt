@@ -72,6 +72,10 @@ pub record IsGiving (old now : World) (a b : Held) (t : Trail) (number : ℕ) : 
   pub longer : length t.base.image ≤ length (after_strokes t made).base.image
   pub strokes : (all_given (leaked t.base.image) (drafted t.base.image)).strokes ≡ made ++ (all_given (leaked_from t.base.image number) (drafted (after_strokes t made).base.image)).strokes
 
+-- a database that is open has a header
+pub open_header : (w : World) (a : Held) (t : Trail) → IsOpen w a t → HasHeader t.base.image
+open_header w a t is = record { header = is.files.agrees.header; scn = (let agrees = is.agrees.scn in let four = is.agrees.four in omega (arith, agrees, four)) }
+
 -- none was given back yet
 pub giving_begun : (w : World) (a : Held) (t : Trail) → Quiet w w → IsOpen w a t → HasHeader t.base.image → IsSoundImage t.base.image → IsGiving w w a a t 0
 giving_begun w a t quiet is header sound = record {
@@ -136,12 +140,12 @@ module _ (old mid : World) (a b : Held) (t : Trail) (number : ℕ) (low : number
         (makes_front (Unit {0}) (Unit {0}) fault mid new b c u d.strokes (all_given (leaked_from x (number + 1)) (drafted d.image)).strokes sure makes)))
 
     module _ (header : HasHeader x) where
-      two : 2 ≤ number
-      two = leaked_two x header sound number low holds
+      pub giving_two : 2 ≤ number
+      giving_two = leaked_two x header sound number low holds
 
       whole_then : IsWhole d.image
       whole_then =
-          (bit_put AnyPage (λ bytes e. tt) (λ bytes e. tt) (base_of z) 1 number (drafted z) (omega arith) (fits_first AnyPage (base_of z) g.whole) giving_below (bit_inventory z g.whole 1 number two giving_below)).fits.whole
+          (bit_put AnyPage (λ bytes e. tt) (λ bytes e. tt) (base_of z) 1 number (drafted z) (omega arith) (fits_first AnyPage (base_of z) g.whole) giving_below (bit_inventory z g.whole 1 number giving_two giving_below)).fits.whole
 
       image_then : (after_strokes t (g.made ++ d.strokes)).base.image ≡ d.image
       image_then =
@@ -154,8 +158,8 @@ module _ (old mid : World) (a b : Held) (t : Trail) (number : ℕ) (low : number
         made = g.made ++ d.strokes;
         makes = makes_then tt (Ok tt) old mid new a b c t g.made d.strokes g.makes makes;
         whole = subst IsWhole (sym image_then) whole_then;
-        size = ap image_size image_then ∙ bit_size z g.whole 1 number two giving_below ∙ g.size;
-        longer = (let longer = g.longer in let more = bit_longer z g.whole 1 number two giving_below in omega (arith, longer, more, ap length image_then));
+        size = ap image_size image_then ∙ bit_size z g.whole 1 number giving_two giving_below ∙ g.size;
+        longer = (let longer = g.longer in let more = bit_longer z g.whole 1 number giving_two giving_below in omega (arith, longer, more, ap length image_then));
         strokes = step ∙ sym (append_assoc g.made d.strokes (all_given (leaked_from x (number + 1)) (drafted d.image)).strokes)
             ∙ ap (λ (y : Image). (g.made ++ d.strokes) ++ (all_given (leaked_from x (number + 1)) (drafted y)).strokes) (sym image_then);
       }

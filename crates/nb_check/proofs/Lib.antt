@@ -19,3 +19,4 @@ mod EntryLaws
 mod CoverLaws
 mod CauseLaws
 mod TriesLaws
+pub mod TakenLaws

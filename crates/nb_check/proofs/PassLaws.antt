@@ -1,12 +1,13 @@
 -- A pass goes on by one page.
-use Rattle.std.proofs.Common.{◌≡◌, inl, inr, ℕ, zero, suc, ◌+◌, ◌-◌, ◌*◌, ◌/◌, ◌%◌, ◌<◌, ◌≤◌, length, refl, sym, ap, subst, ◌∙◌, arith}
+use Rattle.std.proofs.Common.{◌≡◌, inl, inr, ℕ, zero, suc, ◌+◌, ◌-◌, ◌*◌, ◌/◌, ◌%◌, ◌<◌, ◌≤◌, [], ◌∷◌, length, refl, sym, ap, subst, ◌∙◌, arith}
 use Rattle.std.specs.Prelude.{IsTrue, Bool, true, false, Option, Some, None, ◌⊎◌, ◌&&◌, ◌||◌, ◌==◌, nat_lt, min}
 use Rattle.std.proofs.Math.Nat.{mod-lt}
 use Rattle.std.proofs.lemmas.Nat.{div-mul-add, mod-mul-add, div-add-mod'}
 use Rattle.std.proofs.lemmas.Bool.{and_parts, or_cases, or_parts, or_left, or_right, and_from, true≢false, cases_lt, ltb-true, eqb-true}
 use Rattle.nb_fields.specs.Places.{is_page_size, bits_in, entries_in, inventory_place, scn_place, is_inventory_place, is_scn_place}
 use Rattle.nb_fields.proofs.PlaceLemmas.{entries-least, bits-least}
-use Rattle.nb_model.specs.Image.{Page, Image, page_at, image_size}
+use Rattle.nb_fields.specs.Header.{is_header}
+use Rattle.nb_model.specs.Image.{Page, Image, page_at, first_page, image_size}
 use Rattle.nb_model.proofs.ReadLaws.{eq_yes, lt_yes}
 use Rattle.nb_model.specs.declared.fact.Fact.{Fact}
 use Rattle.nb_check.specs.declared.facts.Broken.{Broken}
@@ -194,6 +195,33 @@ entries_next image p entries valid fails is more = is more ∙ ap (page_at image
 
 pub entries_here : (image : Image) (p : ℕ) (entries : Page) → IsTrue (is_page_size (image_size image)) → is_scn_place (image_size image) p ≡ true → entries ≡ page_at image p → HasEntryOf image p entries
 entries_here image p entries valid holds is more = is ∙ ap (page_at image) (sym (entry_made (image_size image) p valid holds))
+
+-- one of the pages is wanted, and kept
+pub entries_kept : (image : Image) (p : ℕ) (page old new : Page) (wanted : Bool) → IsTrue (is_page_size (image_size image)) → wanted ≡ is_scn_place (image_size image) p → (wanted ≡ true → new ≡ page) → (wanted ≡ false → new ≡ old) → page ≡ page_at image p
+    → HasEntryOf image (p - 1) old → HasEntryOf image p new
+entries_kept image p page old new true valid is here there at has = entries_here image p new valid (sym is) (here refl ∙ at)
+entries_kept image p page old new false valid is here there at has = subst (HasEntryOf image p) (sym (there refl)) (entries_next image p old valid (sym is) has)
+
+pub map_kept_on : (image : Image) (p : ℕ) (page old new : Page) (wanted : Bool) → IsTrue (is_page_size (image_size image)) → wanted ≡ is_inventory_place (image_size image) p → (wanted ≡ true → new ≡ page) → (wanted ≡ false → new ≡ old) → page ≡ page_at image p
+    → IsMapOf image p old → IsMapOf image (p + 1) new
+map_kept_on image p page old new true valid is here there at has = map_here image p new valid (sym is) (here refl ∙ at)
+map_kept_on image p page old new false valid is here there at has = subst (IsMapOf image (p + 1)) (sym (there refl)) (map_next image p old valid (sym is) has)
+
+-- the first of both kinds
+zero_group : (w : ℕ) → 0 < w → 0 / w ≡ 0
+zero_group w some = let zeros : 0 ≡ 0 * w + 0 = omega arith in ap (λ (m : ℕ). m / w) zeros ∙ div-mul-add 0 w 0 some
+
+pub first_map_is : (size : ℕ) → IsTrue (is_page_size size) → inventory_place size (0 / bits_in size) ≡ 1
+first_map_is size valid = ap (inventory_place size) (zero_group (bits_in size) (let least = bits-least size valid in omega (arith, least)))
+
+pub first_entries_are : (size : ℕ) → IsTrue (is_page_size size) → scn_place size (0 / entries_in size) ≡ 2
+first_entries_are size valid = ap (scn_place size) (zero_group (entries_in size) (let least = entries-least size valid in omega (arith, least)))
+
+-- an image with a header has pages
+pub some_pages : (image : Image) → is_header (first_page image) ≡ true → 0 < length image
+unfolding is_header
+some_pages [] e = absurd (true≢false (sym e))
+some_pages (page ∷ pages) e = omega arith
 
 -- Each page took one read at most, page 0 two.
 pub page_read : (old loop new number : ℕ) → (0 < number → new ≤ loop + 1) → new ≤ loop + 2 → loop ≤ old + number + min number 1 → new ≤ old + (number + 1) + min (number + 1) 1

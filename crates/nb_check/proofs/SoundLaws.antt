@@ -1,6 +1,6 @@
 -- Inventories are sound exactly where no fact is broken.
 use Rattle.std.proofs.Common.{◌≡◌, inl, inr, ℕ, ◌+◌, ◌<◌, ◌≤◌, List, length, refl, sym, ap, ◌∙◌, arith}
-use Rattle.std.specs.Prelude.{IsTrue, Bool, true, false, Option, Some, None, ◌&&◌, ◌||◌, ◌==◌, not, nat_lt, nat_le}
+use Rattle.std.specs.Prelude.{IsTrue, IsSome, Bool, true, false, Option, Some, None, ◌&&◌, ◌||◌, ◌==◌, not, nat_lt, nat_le}
 use Rattle.std.proofs.lemmas.Bool.{and_parts, and_from, or_parts, or_left, or_right, or_cases, cases_Bool, cases_lt, false_from_ne_true, true≢false, ltb-true, ltb-false, leb-true, leb-false, eqb-true, not_from_false}
 use Rattle.nb_fields.specs.Bytes.{is_zeros}
 use Rattle.nb_fields.specs.Page.{kind_of, stamp_of}
@@ -17,6 +17,7 @@ use Rattle.nb_model.specs.Rows.{chains}
 use Rattle.nb_model.proofs.PutSound.{no_first}
 use Rattle.nb_model.proofs.RoomLaws.{in_chain, first_found}
 use Rattle.nb_model.specs.Checks.{unsound_by, chains_cause, check_cause}
+use Rattle.nb_check.proofs.EntryLaws.{le_yes}
 use Rattle.nb_check.proofs.FirstLaws.{some_none}
 use Rattle.nb_model.specs.declared.fact.Fact.{Fact}
 use Rattle.nb_model.specs.declared.fact.Fact.TheVariants.{BlankPage, SystemPlace, TakenPast, LateStamp, WrongEntry, HeaderStamp}
@@ -31,12 +32,6 @@ other_half false b fails holds = absurd (true≢false (sym holds))
 not_no : (a : Bool) → not a ≡ false → a ≡ true
 not_no true e = refl
 not_no false e = absurd (true≢false e)
-
-le_yes : (a b : ℕ) → a ≤ b → nat_le a b ≡ true
-le_yes a b low = elim (cases_Bool (nat_le a b)) [
-  | inl e ↦ e
-  | inr e ↦ (let high = leb-false a b e in absurd (omega (arith, low, high)))
-]
 
 -- where no fact is broken
 module _ (image : Image) (valid : IsTrue (is_page_size (image_size image))) (none : unsound image ≡ None) where
@@ -169,6 +164,10 @@ module _ (image : Image) (sound : SoundInventory image) where
 unsound_part : (o : Option (ℕ × ℕ)) → unsound_by o ≡ None → o ≡ None
 unsound_part None e = refl
 unsound_part (Some b) e = absurd (some_none (Unsound b.0 b.1) e)
+
+pub no_unsound : (o : Option (ℕ × ℕ)) → unsound_by o ≡ None → IsSome o → ⊥
+no_unsound None e some = some
+no_unsound (Some b) e some = some_none (Unsound b.0 b.1) e
 
 pub check_parts : (image : Image) → check_cause image ≡ None → (unsound image ≡ None) × (chains_cause image (chains image) ≡ None)
 check_parts image none = (let first = no_first _ _ none in (unsound_part (unsound image) first.0, (no_first _ _ first.1).0))

@@ -1,8 +1,9 @@
 -- A walk over a chain: slot by slot on a page, and page by page along the links. What came of it on the way, P says of the pages so far.
-use Rattle.std.proofs.Common.{◌≡◌, ◌≢◌, ℕ, suc, ◌+◌, ◌-◌, ◌*◌, ◌/◌, ◌<◌, ◌≤◌, List, [], ◌∷◌, ◌++◌, length, refl, sym, ap, subst, ◌∙◌, arith, append_assoc, length-append}
+use Rattle.std.proofs.Common.{◌≡◌, ◌≢◌, inl, inr, ℕ, suc, ◌+◌, ◌-◌, ◌*◌, ◌/◌, ◌<◌, ◌≤◌, List, [], ◌∷◌, ◌++◌, length, refl, sym, ap, subst, ◌∙◌, arith, append_assoc, length-append}
 use Rattle.std.specs.Prelude.{Bool, true, false, not, ◌&&◌, ◌||◌, ◌==◌, nat_lt, slice_index, Some, None, Result, Ok, Err}
 use Rattle.std.specs.List.{list_all}
 use Rattle.std.proofs.lemmas.Bool.{and_parts}
+use Rattle.std.proofs.lemmas.Bool.Decides.{eqb_tells}
 use Rattle.nb_fields.specs.Bytes.{part}
 use Rattle.nb_fields.specs.Page.{kind_of}
 use Rattle.nb_host.specs.declared.refusals.Refusal.{Refusal}
@@ -217,6 +218,29 @@ module _ (chain : Chain) (image : Image) (P : List ℕ → Type 0) (all number :
   walks_broken r some =
       let both = not_linked_is chain image number r some in
       ap broken_at (so.are ∙ ap (behind so.seen) (walk_broken chain image left number both.0) ∙ behind_err so.seen number) ∙ both.1
+
+  -- where the chain is of the form, these pages are its first ones, and this one is the next
+  module _ (none : not_linked chain image number ≡ None) (formed : broken_at (pages_of chain image) ≡ None) where
+    found_is : (ps : List ℕ) → pages_of chain image ≡ Ok ps → found_pages chain image ≡ ps
+    unfolding found_pages
+    found_is ps e = ap (λ (r : Result (List ℕ) ℕ). elim r as (λ z. List ℕ) [ Ok qs ↦ qs | Err q ↦ [] ]) e
+
+    none_broken : (q : ℕ) → None ≡ Some (NotDatabase q) → ⊥
+    none_broken q e = cc
+
+    pub walks_split : (rest : List ℕ) × (found_pages chain image ≡ so.seen ++ (number ∷ rest))
+    walks_split = elim (eqb_tells (next_in (page_at image number)) 0) [
+      | inl w ↦ ([], found_is (so.seen ++ (number ∷ [])) (so.are ∙ ap (behind so.seen) (walk_ended chain image left number (is_linked chain image number none) w.1) ∙ behind_ok so.seen (number ∷ [])))
+      | inr w ↦ by w.1 (walk left chain image (next_in (page_at image number))) refl
+    ]
+      where
+        by : next_in (page_at image number) ≢ 0 → (r : Result (List ℕ) ℕ) → walk left chain image (next_in (page_at image number)) ≡ r → (rest : List ℕ) × (found_pages chain image ≡ so.seen ++ (number ∷ rest))
+        by on_to (Ok qs) e = (
+          qs,
+          found_is (so.seen ++ (number ∷ qs)) (so.are ∙ ap (behind so.seen) (walk_on chain image left number (is_linked chain image number none) on_to ∙ ap (linked number) e) ∙ behind_ok so.seen (number ∷ qs)),
+        )
+        by on_to (Err q) e =
+            absurd (none_broken q (sym formed ∙ ap broken_at (so.are ∙ ap (behind so.seen) (walk_on chain image left number (is_linked chain image number none) on_to ∙ ap (linked number) e) ∙ behind_err so.seen q)))
 
   module _ (none : not_linked chain image number ≡ None) (Q : List ℕ → Type 0) (one : (ps : List ℕ) → P ps → Q (ps ++ number ∷ [])) where
     abbrev more : List ℕ

@@ -2,9 +2,8 @@
 ghost use Rattle.std.specs.Prelude.{◌≡◌, ◌+◌, ◌-◌, ◌*◌, ◌/◌, ◌<◌, ◌≤◌, ℕ, ◌&&◌, ◌||◌, ◌==◌, not, IsTrue, length};
 ghost use Rattle.nb_fields.specs.Page.{stamp_of};
 ghost use Rattle.nb_fields.specs.Places.{is_page_size, is_inventory_place, is_scn_place, bits_in};
-ghost use Rattle.nb_model.specs.Forms.{has_entry};
 ghost use Rattle.nb_model.specs.Image.{Image, page_at};
-ghost use Rattle.nb_model.specs.Facts.{breaks, number_of, is_entry_low, is_entry_late};
+ghost use Rattle.nb_model.specs.Facts.{breaks};
 ghost use Rattle.nb_check.specs.Passes.{IsOf, IsLowestAt, IsFirstBelow, IsMapOf, HasEntryOf};
 ghost use Rattle.nb_model.specs.declared.fact.Fact.TheVariants.{WrongEntry};
 
@@ -47,14 +46,30 @@ pub(crate) fn first_of(broken: Option<Broken>, fact: Option<Fact>, page: u32) ->
     }
 }
 
+/// Whether a page at a place of its own has another kind than is wanted there.
+fn is_other(place: bool, kind: u8, wanted: u8) -> bool
+    ensures { result ≡ (place && not (kind == wanted)) }
+{
+    place && kind != wanted
+}
+
 /// Whether a system page has to stand at page `number` and that kind is another.
 fn lacks_system(size: u32, number: u32, kind: u8) -> bool
     requires size { IsTrue (is_page_size size) }
     requires number { number < 1048576 }
     ensures { result ≡ ((is_inventory_place size number && not (kind == 2)) || (is_scn_place size number && not (kind == 10))) }
 {
-    (is_inventory_place(size, number) && kind != PageKind::Inventory.code())
-        || (is_scn_place(size, number) && kind != PageKind::ScnInventory.code())
+    let map = is_other(
+        is_inventory_place(size, number),
+        kind,
+        PageKind::Inventory.code(),
+    );
+    let entries = is_other(
+        is_scn_place(size, number),
+        kind,
+        PageKind::ScnInventory.code(),
+    );
+    map || entries
 }
 
 /// Whether page `number`, one below the length with that stamp, has an SCN entry that is below it or above the current SCN, or that
@@ -63,11 +78,13 @@ fn has_wrong_entry(extent: Extent, number: u32, stamp: u32, entries: &[u8]) -> b
     requires size { IsTrue (is_page_size (length entries.now)) }
     requires below { number < extent.count }
     requires most { extent.count ≤ 1048576 }
-    ensures { (image : Image) → IsOf image (length entries.now) extent → stamp ≡ stamp_of (page_at image number) → HasEntryOf image number entries.now
-        → result ≡ (has_entry image number && (is_entry_low image number || is_entry_late image number)) }
+    ensures { (image : Image) → IsOf image (length entries.now) extent → stamp ≡ stamp_of (page_at image number) → HasEntryOf image number entries.now → result ≡ breaks image WrongEntry number }
 {
     let size = entries.len() as u32;
-    if number == 0 || is_scn_place(size, number) {
+    if number == 0 {
+        return false;
+    }
+    if is_scn_place(size, number) {
         return false;
     }
     // A database of two pages has no SCN page.
@@ -76,7 +93,10 @@ fn has_wrong_entry(extent: Extent, number: u32, stamp: u32, entries: &[u8]) -> b
     }
     let (_, index) = nb_scn::covers(size, number);
     let entry = nb_scn::entry(entries, index);
-    entry < stamp || entry > extent.scn
+    if entry < stamp {
+        return true;
+    }
+    entry > extent.scn
 }
 
 /// The lowest fact that page `number`, one below the length, breaks. Its SCN entry is looked for in `entries`, its SCN page.
@@ -100,7 +120,10 @@ pub(crate) fn fact_at(extent: Extent, number: u32, page: &[u8], entries: &[u8]) 
     if has_wrong_entry(extent, number, head.scn, entries) {
         return Some(Fact::WrongEntry);
     }
-    if number == 0 && head.scn != extent.scn {
+    if number > 0 {
+        return None;
+    }
+    if head.scn != extent.scn {
         return Some(Fact::HeaderStamp);
     }
     None
@@ -115,9 +138,14 @@ fn has_late_entry(extent: Extent, number: u32, entries: &[u8]) -> bool
     ensures { (image : Image) → IsOf image (length entries.now) extent → HasEntryOf image (extent.count - 1) entries.now → result ≡ breaks image WrongEntry number }
 {
     let each = entries_in(entries.len() as u32);
-    extent.count > 2
-        && number / each == (extent.count - 1) / each
-        && nb_scn::entry(entries, number % each) > extent.scn
+    // A database of two pages has no SCN page.
+    if extent.count <= 2 {
+        return false;
+    }
+    if number / each != (extent.count - 1) / each {
+        return false;
+    }
+    nb_scn::entry(entries, number % each) > extent.scn
 }
 
 /// The lowest fact that page `number`, one at or past the end, breaks. `map` is the page inventory page with its bit, and `entries` the

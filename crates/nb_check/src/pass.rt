@@ -44,7 +44,10 @@ fn look_at(found: &mut Found, extent: Extent, number: u32, page: &[u8], map: &[u
     let fact = fact_at(extent, number, page, entries);
     found.broken = first_of(found.broken, fact, number);
     let bit = number % bits_in(page.len() as u32);
-    if read_head(page).kind != PageKind::Data.code() || !is_used(map, bit) {
+    if read_head(page).kind != PageKind::Data.code() {
+        return;
+    }
+    if !is_used(map, bit) {
         return;
     }
     found.taken.insert(number);
@@ -90,6 +93,8 @@ fn read_first<H: Host>(
     ensures once { IsTrue H.tells → (H.world host.new).reads ≤ (H.world host.old).reads + 2 }
     ensures cause { CountsFault result (H.faults host.old) (H.faults host.new) }
 {
+    // Inventory pages are counted by the size of a page, which is one of six.
+    let _size = engine.page_size();
     read_there(host, engine, 1, map)?;
     read_there(host, engine, 2, entries)?;
     Ok(())

@@ -6,6 +6,7 @@ use Rattle.nb_model.specs.declared.reply.Reply.TheVariants.{Freed}
 use Rattle.nb_model.specs.Causes.{read_only, when}
 use Rattle.nb_model.specs.Image.{is_read_only}
 use Rattle.nb_model.specs.Outcomes.{Seen, says}
+use Rattle.nb_state.proofs.MakesLaws.{goes_on, goes_nowhere}
 use Rattle.nb_engine.proofs.CauseLaws.{unless_allowed}
 use Rattle.nb_engine.proofs.DoesLaws.{seeing, refused_does, tested_does, tries_passed, tries_after, tries_does}
 use Rattle.nb_state.specs.Does.{Does}
@@ -64,3 +65,12 @@ returns-clause-turn g c s t tells same is =
     (tries_value tt c.count.result w new c.args.engine.now c.give_back.new.engine t None xs
     (tries_after {T = Unit {0}} (Ok tt) w mid new c.args.engine.now c.check.new.engine c.give_back.new.engine t None xs found.same found.quiet is
     (c.in_ok-give_back.ensures.tries t tells (found.open t tells is) (found.sound t tells is) (found.leaked t tells is))))
+
+pub returns-then-is_read_only-clause-goes : goal.returns-then-is_read_only-clause-goes
+returns-then-is_read_only-clause-goes g c = goes_nowhere _ _ refl
+
+pub returns-in_err-give_back-clause-goes : goal.returns-in_err-give_back-clause-goes
+returns-in_err-give_back-clause-goes g c = goes_on _ _ _ c.in_ok-report.ensures.goes c.in_err-give_back.ensures.goes
+
+pub returns-clause-goes : goal.returns-clause-goes
+returns-clause-goes g c = goes_on _ _ _ c.in_ok-report.ensures.goes c.in_ok-give_back.ensures.goes

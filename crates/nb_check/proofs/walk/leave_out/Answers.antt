@@ -2,6 +2,7 @@ use Rattle.std.proofs.Common.{◌≡◌, ℕ, List, [], ◌∷◌, refl, ap, ◌
 use Rattle.nb_page.proofs.QuietLemmas.{quiet_begun, quiet_joined}
 use Rattle.nb_model.specs.Causes.{broken_at}
 use Rattle.nb_model.specs.Chains.{next_in, pages_of}
+use Rattle.nb_state.specs.Open.{Held}
 use Rattle.nb_engine.proofs.DoesLaws.{tested_on}
 use Rattle.nb_check.specs.Sets.{IsWithout}
 use Rattle.nb_check.specs.Walks.{chain_by, not_linked}
@@ -22,6 +23,9 @@ loop-left-init g c = record {
   once = λ tells. omega arith;
   cause = refl;
 }
+
+pub take_page-requires : goal.take_page-requires
+take_page-requires g c = omega (arith, c.loop-left.invariant.sized, c.requires.size, ap (λ (h : Held). h.files.page_size) c.loop-left.invariant.same)
 
 pub returns-in_err-next-clause-test : goal.returns-in_err-next-clause-test
 returns-in_err-next-clause-test g c t tells is =
