@@ -5,10 +5,11 @@ use Rattle.std.specs.List.{AllByRecursion, list_all}
 use Rattle.std.proofs.lemmas.Bool.{and_left, or_cases, cases_Bool, cases_lt}
 use Rattle.nb_fields.specs.Page.{kind_of}
 use Rattle.nb_fields.specs.Places.{is_inventory_place, is_scn_place, is_system_place}
+use Rattle.nb_host.specs.Names.{same_name}
 use Rattle.nb_model.specs.Image.{Page, Image, page_at, image_size}
 use Rattle.nb_model.specs.Sound.{SoundInventory}
 use Rattle.nb_model.specs.Causes.{Cause, first_cause, broken_at}
-use Rattle.nb_model.specs.Chains.{Chain, Catalogue, History, RowsFrom, Spot, owner_of, owner_in, first_of, first_in, is_slot, slots_in, is_in_chain, next_in, linked, walk, pages_of, found_pages, spots_on, spots_of, spots, table_spot, first_such}
+use Rattle.nb_model.specs.Chains.{Chain, Catalogue, History, RowsFrom, Spot, owner_of, owner_in, first_of, first_in, is_slot, is_used, table_of, slots_in, is_in_chain, next_in, linked, walk, pages_of, found_pages, spots_on, spots_of, spots, table_spot, first_such}
 use Rattle.nb_model.specs.Rows.{RowMap, rows, rows_in, used, table_chains, chains, pages_of_all}
 use Rattle.nb_model.proofs.ReadLaws.{eq_no, lt_no}
 use Rattle.nb_model.proofs.RoomLaws.{pages_found}
@@ -140,7 +141,7 @@ module _ (x y : Image) (alike : AreAlike x y) (sx : SoundInventory x) (sy : Soun
       ap (λ (o : Option Spot). elim o as (λ z. RowMap) [ None ↦ [] | Some spot ↦ rows_in (spots (RowsFrom (first_in spot.bytes)) y) ]) spot_same ∙ by (table_spot table x)
     where
       spot_same : table_spot table y ≡ table_spot table x
-      spot_same = ap (λ (ss : List Spot). first_such _ ss) (spots_same Catalogue)
+      spot_same = ap (first_such (λ (s : Spot). is_used s.bytes && same_name (table_of s.bytes) table)) (spots_same Catalogue)
 
       by : (o : Option Spot) → elim o as (λ z. RowMap) [ None ↦ [] | Some spot ↦ rows_in (spots (RowsFrom (first_in spot.bytes)) y) ] ≡ elim o as (λ z. RowMap) [ None ↦ [] | Some spot ↦ rows_in (spots (RowsFrom (first_in spot.bytes)) x) ]
       by None = refl

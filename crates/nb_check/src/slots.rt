@@ -76,16 +76,33 @@ fn is_file_name(bytes: &[u8]) -> bool
     }
 }
 
+/// The name in the slot of a table.
+fn table_name(slot: &[u8]) -> &[u8]
+    requires size { length slot.now ≡ 256 }
+    requires fits { length_in slot.now ≤ 30 }
+    ensures { result.now ≡ table_of slot.now }
+{
+    let length = catalogue::NameLength::get(slot) as usize;
+    &slot[catalogue::NAME_AT..catalogue::NAME_AT + length]
+}
+
+/// The name of the file in the slot of a backup.
+fn file_name(slot: &[u8]) -> &[u8]
+    requires size { length slot.now ≡ 256 }
+    requires fits { length_in slot.now ≤ 100 }
+    ensures { result.now ≡ file_in slot.now }
+{
+    let length = history::NameLength::get(slot) as usize;
+    &slot[history::NAME_AT..history::NAME_AT + length]
+}
+
 /// Whether what the slot of a table holds is of the form: a name of a table.
 pub(crate) fn is_table(slot: &[u8]) -> bool
     requires { length slot.now ≡ 256 }
     ensures { result ≡ (nat_le (length_in slot.now) 30 && is_table_name (table_of slot.now)) }
 {
-    let length = catalogue::NameLength::get(slot) as usize;
-    if length > catalogue::MOST_NAME {
-        return false;
-    }
-    is_table_name(&slot[catalogue::NAME_AT..catalogue::NAME_AT + length])
+    catalogue::NameLength::get(slot) <= catalogue::MOST_NAME as u64
+        && is_table_name(table_name(slot))
 }
 
 /// Whether what the slot of a backup holds is of the form: a name of a file.
@@ -93,11 +110,7 @@ pub(crate) fn is_backup(slot: &[u8]) -> bool
     requires { length slot.now ≡ 256 }
     ensures { result ≡ (nat_le (length_in slot.now) 100 && is_name (file_in slot.now)) }
 {
-    let length = history::NameLength::get(slot) as usize;
-    if length > history::MOST_NAME {
-        return false;
-    }
-    is_file_name(&slot[history::NAME_AT..history::NAME_AT + length])
+    history::NameLength::get(slot) <= history::MOST_NAME as u64 && is_file_name(file_name(slot))
 }
 
 /// Whether what the slot of a row holds is of the form: its text is no longer than texts are.
