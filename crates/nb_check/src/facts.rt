@@ -91,7 +91,7 @@ fn has_wrong_entry(extent: Extent, number: u32, stamp: u32, entries: &[u8]) -> b
     if extent.count <= 2 {
         return true;
     }
-    let (_, index) = nb_scn::covers(size, number);
+    let (_k, index) = nb_scn::covers(size, number);
     let entry = nb_scn::entry(entries, index);
     if entry < stamp {
         return true;

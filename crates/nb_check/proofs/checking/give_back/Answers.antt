@@ -50,10 +50,10 @@ returns-in_err-data_free-clause-tries g c t tells is sound reported =
     let giving = l.invariant.giving t tells is sound reported in
     let leaks = tells_leaked t.base.image c.args.report.now l.number c.has.result reported c.has.ensures low ∙ c.if-not-has.false in
     let z : Image = (after_strokes t giving.made).base.image in
-    let sure = c.in_err-data_free.ensures.sure _ tells giving.makes.opened giving.whole.sound (giving_two (g.H.Host.world c.args.host.now) (g.H.Host.world l.host) c.args.engine.now l.engine t l.number low giving leaks sound (open_header _ _ t is)) (giving_below w (g.H.Host.world l.host) c.args.engine.now l.engine t l.number low giving leaks sound) in
+    let sure = c.in_err-data_free.ensures.sure (after_strokes t giving.made) tells giving.makes.opened giving.whole.sound (giving_two (g.H.Host.world c.args.host.now) (g.H.Host.world l.host) c.args.engine.now l.engine t l.number low giving leaks sound (open_header _ _ t is)) (giving_below w (g.H.Host.world l.host) c.args.engine.now l.engine t l.number low giving leaks sound) in
     tries_passed c.from_residual.result fault (λ r. Tries r w new c.args.engine.now c.data_free.new.self t None (reclaimed t.base.image).strokes) c.from_residual.ensures
     (giving_failed w (g.H.Host.world l.host) c.args.engine.now l.engine t l.number low giving leaks sound fault new c.data_free.new.self sure
-    (made_anyway fault (g.H.Host.world l.host) new l.engine c.data_free.new.self (after_strokes t giving.made) (mark_cause z l.number) (give_page l.number (drafted z)).strokes sure (c.in_err-data_free.ensures.tries _ tells giving.makes.opened).makes))
+    (made_anyway fault (g.H.Host.world l.host) new l.engine c.data_free.new.self (after_strokes t giving.made) (mark_cause z l.number) (give_page l.number (drafted z)).strokes sure (c.in_err-data_free.ensures.tries (after_strokes t giving.made) tells giving.makes.opened).makes))
 
 pub loop-number-preserved : goal.loop-number-preserved
 loop-number-preserved g c =
@@ -67,7 +67,7 @@ loop-number-preserved g c =
           let giving = l.invariant.giving t tells is sound reported in
           let leaks = tells_leaked t.base.image c.args.report.now l.number c.has.result reported c.has.ensures low ∙ c.if-not-has.false in
           let z : Image = (after_strokes t giving.made).base.image in
-          let tries = c.in_ok-data_free.ensures.tries _ tells giving.makes.opened in
+          let tries = c.in_ok-data_free.ensures.tries (after_strokes t giving.made) tells giving.makes.opened in
           giving_onward w mid c.args.engine.now l.engine t l.number low giving leaks sound (open_header _ _ t is) new c.data_free.new.self
           (subst (λ (ss : List Stroke). Makes {T = Unit {0}} (Ok tt) mid new l.engine c.data_free.new.self (after_strokes t giving.made) ss) (unless_none (mark_cause z l.number) (give_page l.number (drafted z)).strokes tries.test) tries.makes);
       goes = goes_on _ _ _ l.invariant.goes c.in_ok-data_free.ensures.goes;
