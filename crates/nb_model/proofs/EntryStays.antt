@@ -1,27 +1,24 @@
 -- A page of the SCN inventory stays one through every turn on pages, whatever else stands in the image: so a page that has its SCN entry goes on having
 -- it.
-use Rattle.std.proofs.Common.{◌≡◌, ◌≢◌, inl, inr, ℕ, zero, suc, ◌+◌, ◌/◌, ◌<◌, ◌≤◌, List, [], ◌∷◌, ◌++◌, length, refl, sym, ap, subst, ◌∙◌, arith}
-use Rattle.std.specs.Prelude.{Bool, true, false, IsTrue, ◌==◌, ◌&&◌, ◌||◌, nat_lt, Option, Some, None}
+use Rattle.std.proofs.Common.{◌≡◌, ◌≢◌, inl, inr, ℕ, zero, suc, ◌/◌, ◌≤◌, List, [], ◌∷◌, refl, sym, ap, subst, ◌∙◌, arith}
+use Rattle.std.specs.Prelude.{Bool, true, false, IsTrue, ◌==◌, nat_lt, Option, Some, None}
 use Rattle.std.specs.List.{AllByRecursion}
-use Rattle.std.proofs.lemmas.Bool.{true≢false, eqb-true, eq-eqb, lt-ltb, ltb-true, and_parts, and_from, or_right, false_from_ne_true}
+use Rattle.std.proofs.lemmas.Bool.{true≢false, false_from_ne_true}
 use Rattle.std.proofs.lemmas.Bool.Decides.{eqb_tells}
 use Rattle.nb_fields.specs.Page.{kind_of}
-use Rattle.nb_fields.specs.Places.{is_page_size, bits_in, entries_in, scn_place, is_inventory_place, is_scn_place, is_system_place}
+use Rattle.nb_fields.specs.Places.{is_page_size, bits_in, entries_in, is_inventory_place, is_scn_place, is_system_place}
 use Rattle.nb_host.specs.declared.refusals.Refusal.{Refusal}
-use Rattle.nb_model.specs.declared.reply.Reply.{Reply}
 use Rattle.nb_model.specs.declared.statement.Statement.{Statement}
 use Rattle.nb_model.specs.declared.statement.Statement.TheVariants.{CreateDb, OpenDb, PageNew, Write, Read, Free, CreateTable, DropTable, Insert, Update, Delete, Get, Scan, Forced, Access, Sync, ShowHeader, ShowPages, ShowImage, ShowCache}
-use Rattle.nb_model.specs.Account.{Base}
 use Rattle.nb_model.specs.Backups.{pages_turn}
-use Rattle.nb_model.specs.Causes.{Cause, first_cause, broken_at, not_raw}
+use Rattle.nb_model.specs.Causes.{broken_at, not_raw}
 use Rattle.nb_model.specs.Chains.{Chain, Catalogue, Slot, Spot, spots, spots_of, found_pages, pages_of, is_in_chain, first_such, last_of, free_spot, table_spot, row_spot, put_slot, grown, place_at, place_slot}
-use Rattle.nb_model.specs.Forms.{Draft, drafted, wrote, written, old_page, needs, is_kind, has_entry, scn_entry, scn_page_of, inventory_of, entry_written, entry_raised, raised, put, set_bit, give_page, take_page, lowest_free, first_not, needed_at, system_kind, system_page, no_page, new_within}
-use Rattle.nb_model.specs.Going.{HasItsEntry}
+use Rattle.nb_model.specs.Forms.{HasItsEntry, Draft, drafted, wrote, written, old_page, needs, is_kind, has_entry, scn_entry, scn_page_of, inventory_of, entry_written, entry_raised, raised, put, set_bit, give_page, take_page, lowest_free, first_not, needed_at, system_kind, system_page, no_page, new_within}
 use Rattle.nb_model.specs.Image.{Page, Image, page_at, first_page, image_size, image_scn, with_page}
-use Rattle.nb_model.specs.Outcomes.{Seen, Outcome, unless, says}
+use Rattle.nb_model.specs.Outcomes.{Seen, Outcome}
 use Rattle.nb_model.specs.Pages.{new_turn, write_turn, read_turn, free_turn, forced_turn, access_turn, byte_strokes, header_turn, image_turn, cache_turn}
 use Rattle.nb_model.specs.Sound.{HasHeader}
-use Rattle.nb_model.specs.Strokes.{Stroke, page, merged_page, on_base, base_after}
+use Rattle.nb_model.specs.Strokes.{merged_page, on_base, base_after}
 use Rattle.nb_model.specs.Tables.{all_given}
 use Rattle.nb_model.specs.Turns.{first_turn}
 use Rattle.nb_model.specs.Well.{is_on_pages}
@@ -32,21 +29,11 @@ use Rattle.nb_model.proofs.PagesOnly.{pages_stay, pages_only, low_stays, with_pa
 use Rattle.nb_model.proofs.PutSound.{no_first, needs_image, raw_facts}
 use Rattle.nb_model.proofs.RoomLaws.{in_chain, pages_found, last_of_all, first_passes}
 use Rattle.nb_model.proofs.SoundLaws.{inventory_there, scn_page_there, scn_page_behind}
-use Rattle.nb_model.proofs.SpotLaws.{IsSpotOn, all_on, free_on}
+use Rattle.nb_model.proofs.SpotLaws.{IsSpotOn, all_on}
+use Rattle.nb_model.proofs.StepLaws.{kind_parts, kind_from, scn_page_moves}
 use Rattle.nb_model.proofs.StrokeLaws.{with_page_same, whole_page}
 use Rattle.nb_model.proofs.TableCases.{MayPut, created, dropped, inserted, row_written, create_either, drop_either, insert_either, update_either, delete_either, get_either, scan_either, changes_either, chain_at}
 use Rattle.nb_model.proofs.TurnCases.{refused, unless_either}
-
--- a page of that kind, and back
-pub kind_parts : (x : Image) (kind p : ℕ) → is_kind x kind p ≡ true → (p < length x) × (kind_of (page_at x p) ≡ kind)
-unfolding is_kind
-kind_parts x kind p is =
-    let parts = and_parts (nat_lt p (length x)) (kind_of (page_at x p) == kind) is in
-    (ltb-true p (length x) parts.0, eqb-true (kind_of (page_at x p)) kind parts.1)
-
-pub kind_from : (x : Image) (kind p : ℕ) → p < length x → kind_of (page_at x p) ≡ kind → is_kind x kind p ≡ true
-unfolding is_kind
-kind_from x kind p low is = and_from (nat_lt p (length x)) (kind_of (page_at x p) == kind) (lt-ltb p (length x) low) (eq-eqb (kind_of (page_at x p)) kind is)
 
 -- Of pages of n bytes, page q is one of the SCN inventory.
 module _ (n q : ℕ) (place : is_scn_place n q ≡ true) where
@@ -269,13 +256,6 @@ module _ (n q : ℕ) (place : is_scn_place n q ≡ true) where
     statement_stays (Scan table) on session = scan_either After s denied table (λ spot has. none_after)
     statement_stays other on session = absurd (true≢false (sym on))
 
--- A page has its entry where it had it, and the SCN page stayed.
-pub entry_from : (old new : Image) (p : ℕ) → image_size new ≡ image_size old → (is_kind old 10 (scn_page_of old p) ≡ true → is_kind new 10 (scn_page_of old p) ≡ true) → HasItsEntry old p → HasItsEntry new p
-unfolding has_entry
-entry_from old new p size stays is has =
-    let before : is_kind old 10 (scn_page_of old p) ≡ true = is (subst (λ (n : ℕ). (elim (p == 0 || is_scn_place n p) as (λ z. Bool) [ true ↦ false | false ↦ true ]) ≡ true) size has) in
-    ap (λ (n : ℕ). is_kind new 10 (scn_place n (p / entries_in n))) size ∙ stays before
-
 -- the place of an SCN page
 pub scn_there : (image : Image) (p : ℕ) → HasHeader image → is_scn_place (image_size image) (scn_page_of image p) ≡ true
 scn_there image p h = scn_page_there (image_size image) (p / entries_in (image_size image)) (header-size (first_page image) h.header)
@@ -284,6 +264,6 @@ scn_there image p h = scn_page_there (image_size image) (p / entries_in (image_s
 pub entry_stays : (s : Seen) (session : ℕ) (statement : Statement) → is_on_pages statement ≡ true → HasHeader s.base.image → (p : ℕ) → HasItsEntry s.base.image p → HasItsEntry (base_after s.base (first_turn s session statement).strokes).image p
 entry_stays s session statement on header p is =
     let old : Image = s.base.image in
-    entry_from old (base_after s.base (first_turn s session statement).strokes).image p
+    scn_page_moves old (base_after s.base (first_turn s session statement).strokes).image p
     (pages_stay (first_turn s session statement).strokes s.base (pages_only statement on s session) header).stays.size
     (λ kind. (statement_stays (image_size old) (scn_page_of old p) (scn_there old p header) s (record { header = header; size = refl; kind = kind }) statement on session).kind) is

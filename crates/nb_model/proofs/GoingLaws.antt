@@ -9,13 +9,14 @@ use Rattle.std.proofs.lemmas.List.{get_or_past, get_or-set_same, get_or-set_othe
 use Rattle.nb_fields.specs.Header.{is_header, scn_of, guid_of}
 use Rattle.nb_host.specs.Names.{is_name}
 use Rattle.nb_host.specs.declared.refusals.Refusal.{Refusal}
+use Rattle.nb_model.specs.Forms.{HasItsEntry}
 use Rattle.nb_model.specs.declared.reply.Reply.{Reply}
 use Rattle.nb_model.specs.declared.statement.Statement.{Statement}
 use Rattle.nb_model.specs.Account.{Base, Account, Ask}
 use Rattle.nb_model.specs.Backups.{room_in, close_backup, close_copy}
 use Rattle.nb_model.specs.Causes.{is_free_entry, runs_other, broken_at, not_of_form, short_for}
 use Rattle.nb_model.specs.Chains.{History, pages_of, spots, free_spot}
-use Rattle.nb_model.specs.Going.{AreBeginnings, AreMerging, IsNamed, AreNamed, HasItsEntry, HasRoom, Runs, goes_by_entries, IsAt, waits, backs_up, copies, ends as ending, merges, IsGoing, IsMaking}
+use Rattle.nb_model.specs.Going.{AreBeginnings, AreMerging, IsNamed, AreNamed, HasRoom, Runs, goes_by_entries, IsAt, waits, backs_up, copies, ends as ending, merges, IsGoing, IsMaking}
 use Rattle.nb_model.specs.Image.{Page, Image, first_page, image_size, image_state, image_scn, image_guid, trimmed}
 use Rattle.nb_model.specs.Outcomes.{Turn, Begins, Copies, ClosesBackup, ClosesCopy, Ends, Merges, Finishes, Backing, Seen, Outcome, Given, next_guid, passes}
 use Rattle.nb_model.specs.Pages.{ends_by, end_strokes}

@@ -1,5 +1,5 @@
 -- The room for a row of the history is below the length, and has its SCN entry, whatever else stands in the image.
-use Rattle.std.proofs.Common.{◌≡◌, ◌≢◌, inl, inr, ℕ, zero, suc, ◌+◌, ◌/◌, ◌<◌, ◌≤◌, List, [], ◌∷◌, ◌++◌, length, drop, refl, sym, ap, subst, ◌∙◌, arith}
+use Rattle.std.proofs.Common.{◌≡◌, inl, inr, ℕ, zero, suc, ◌+◌, ◌/◌, ◌<◌, ◌≤◌, List, [], ◌∷◌, ◌++◌, length, drop, refl, sym, ap, subst, ◌∙◌, arith}
 use Rattle.std.specs.Prelude.{Bool, true, false, ◌==◌, ◌&&◌, nat_lt, Option, Some, None}
 use Rattle.std.proofs.lemmas.Bool.{true≢false, lt-ltb}
 use Rattle.std.proofs.lemmas.Bool.Decides.{leb_tells}
@@ -11,20 +11,20 @@ use Rattle.nb_model.specs.Account.{Ask, Base}
 use Rattle.nb_model.specs.Backups.{Room, needs_taken, room_in}
 use Rattle.nb_model.specs.Causes.{broken_at, not_of_form, lowest_broken, too_short, short_for}
 use Rattle.nb_model.specs.Chains.{History, Spot, pages_of, found_pages, spots, free_spot, last_of, grown}
-use Rattle.nb_model.specs.Forms.{Draft, Need, drafted, written, wrote, needs, is_kind, other_kind, wants, has_entry, scn_entry, scn_page_of, inventory_of, is_free_page, entry_written, entry_raised, raised, put, set_bit, take_page, lowest_free, first_not, maps_from, entry_page, is_kept, needed_at, system_kind, system_page, no_page, new_page, new_within}
-use Rattle.nb_model.specs.Going.{HasItsEntry}
-use Rattle.nb_model.specs.Image.{Page, Image, page_at, first_page, image_size, image_scn, with_page}
+use Rattle.nb_model.specs.Forms.{HasItsEntry, Draft, Need, drafted, written, wrote, needs, is_kind, other_kind, has_entry, scn_entry, scn_page_of, inventory_of, is_free_page, entry_written, entry_raised, raised, put, take_page, lowest_free, first_not, maps_from, entry_page, is_kept, needed_at, system_kind, system_page, no_page, new_page, new_within}
+use Rattle.nb_model.specs.Image.{Page, Image, page_at, image_size, image_scn}
 use Rattle.nb_model.specs.Sound.{HasHeader}
 use Rattle.nb_model.specs.Strokes.{begin, on_base, base_after, merged_page, with_control}
 use Rattle.nb_model.proofs.ControlMay.{may_begin}
 use Rattle.nb_model.proofs.ControlSound.{control_rest, control_long, size_then}
 use Rattle.nb_model.proofs.DraftLaws.{IsKept, IsOf, either, drafts_are, drafted_is, needs_keeps, raised_keeps, grown_keeps, put_keeps, set_bit_keeps, system_keeps, new_keeps}
-use Rattle.nb_model.proofs.EntryStays.{kind_parts, kind_from, HasScn, put_has, bit_has, plain_apart, entry_from, scn_there}
+use Rattle.nb_model.proofs.EntryStays.{HasScn, put_has, bit_has, plain_apart, scn_there}
 use Rattle.nb_model.proofs.NeedLaws.{first_append, both_none, none_ready}
 use Rattle.nb_model.proofs.NewSound.{lowest_between}
 use Rattle.nb_model.proofs.PagesOnly.{with_page_longer, size_kept, header_kept}
 use Rattle.nb_model.proofs.PutSound.{not_when, needs_image}
 use Rattle.nb_model.proofs.RoomLaws.{in_chain, free_is_spot, put_full}
+use Rattle.nb_model.proofs.StepLaws.{kind_parts, kind_from, scn_page_moves}
 use Rattle.nb_model.proofs.SoundLaws.{scn_page_behind, with_page_length}
 
 -- A place for a row, whatever else stands in the image.
@@ -164,10 +164,10 @@ last_there d p kind payload header low plain has =
     let q : ℕ = scn_page_of image p in
     let place : is_scn_place n q ≡ true = scn_there image p header in
     let stays : is_kind image 10 q ≡ true → HasScn n q place (take_page p e).image = λ kind_is.
-        bit_has n q place 0 p e (put_has n q place p kind payload d (λ same. absurd (plain_apart n q place p plain same)) (record { header = header; size = refl; kind = kind_is })) in
+    bit_has n q place 0 p e (put_has n q place p kind payload d (λ same. absurd (plain_apart n q place p plain same)) (record { header = header; size = refl; kind = kind_is })) in
     record {
       below = omega (arith, high, placed);
-      entry = entry_from image (take_page p e).image p longer.size_is (λ kind_is. (stays kind_is).kind) has;
+      entry = scn_page_moves image (take_page p e).image p longer.size_is (λ kind_is. (stays kind_is).kind) has;
     }
 
 new_there : (tries kind : ℕ) (payload : ℕ → List ℕ) (n : ℕ) (d : Draft) → LongDraft 5 n d → IsMet (new_within tries kind payload d)
@@ -232,9 +232,9 @@ module _ (image : Image) (header : HasHeader image) (unbroken : broken_at (pages
       let place : is_scn_place (image_size x) q ≡ true = scn_there x p x_long.header in
       let five : kind_of (page_at x last) ≡ 5 = (kind_parts x 5 last (other_met x 5 last parts.0)).1 in
       let stays : is_kind x 10 q ≡ true → HasScn (image_size x) q place d.image = λ kind_is.
-          put_has (image_size x) q place last 5 link made.0 (λ same. absurd (let ten = ap (λ (i : ℕ). kind_of (page_at x i)) same ∙ (kind_parts x 10 q kind_is).1 in omega (arith, five, ten)))
-          (record { header = x_long.header; size = refl; kind = kind_is }) in
-      record { below = omega (arith, high, below); entry = entry_from x d.image p longer.size_is (λ kind_is. (stays kind_is).kind) new.entry }
+      put_has (image_size x) q place last 5 link made.0 (λ same. absurd (let ten = ap (λ (i : ℕ). kind_of (page_at x i)) same ∙ (kind_parts x 10 q kind_is).1 in omega (arith, five, ten)))
+      (record { header = x_long.header; size = refl; kind = kind_is }) in
+      record { below = omega (arith, high, below); entry = scn_page_moves x d.image p longer.size_is (λ kind_is. (stays kind_is).kind) new.entry }
     where
       made : Draft × ℕ
       made = new_page 5 (λ q. data_payload 0 1 []) (drafted image)
@@ -313,7 +313,7 @@ begun_there b guid ask p header sixteen scn there =
     let some = scn_page_behind (image_size old) q (scn_there old p header) in
     record {
       below = omega (arith, below, long);
-      entry = entry_from old new p (size_then 1 (image_scn old + 1) guid old header (may_begin old header guid sixteen scn))
+      entry = scn_page_moves old new p (size_then 1 (image_scn old + 1) guid old header (may_begin old header guid sixteen scn))
           (λ kind_is. let parts = kind_parts old 10 q kind_is in
           kind_from new 10 q (omega (arith, parts.0, long)) (ap kind_of (control_rest 1 (image_scn old + 1) guid old q (omega (arith, some))) ∙ parts.1))
           there.entry;

@@ -9,7 +9,7 @@ use Rattle.nb_model.specs.declared.statement.Statement.TheVariants.{Backup, Back
 use Rattle.nb_model.specs.Image.{Image, first_page, image_size, image_state}
 use Rattle.nb_model.specs.TableNames.{is_table_name}
 use Rattle.nb_model.specs.Causes.{is_free_entry}
-use Rattle.nb_model.specs.Forms.{is_kind, has_entry, scn_page_of}
+use Rattle.nb_model.specs.Forms.{HasItsEntry}
 use Rattle.nb_model.specs.Outcomes.{Turn, Begins, Copies, ClosesBackup, ClosesCopy, Ends, Merges, Finishes, Backing}
 use Rattle.nb_model.specs.Run.{Now, base_now}
 use Rattle.nb_model.specs.Sound.{HasHeader, IsSoundImage}
@@ -55,10 +55,6 @@ IsNamed (Finishes reply) = Unit {0}
 -- so of each turn that is to come
 abbrev pub AreNamed : Now → Type 0
 AreNamed now = (place : ℕ) → AllByRecursion IsNamed (slice_index_or now.todo place [])
-
--- the SCN page that has the entry of page p is there, if it has one
-abbrev pub HasItsEntry : Image → ℕ → Type 0
-HasItsEntry image p = has_entry image p ≡ true → is_kind image 10 (scn_page_of image p) ≡ true
 
 -- The page is no system page, and the slot is within it.
 pub record IsPlainRoom (image : Image) (page slot : ℕ) : Type 0 where
