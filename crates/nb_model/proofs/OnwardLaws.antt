@@ -38,9 +38,8 @@ pub record IsOnTheWay (old now : Image) (from made fresh : ℕ) : Type 0 where
   pub read : 5 < from → is_kind now 2 (inventory_of now (from - 1)) ≡ true
 
 -- at the start
-pub way_begins : (x : Image) → IsShaped x → IsOnTheWay x x 5 0 0
-way_begins x h =
-    let least = h.least in
+pub way_begins : (x : Image) → IsShaped x → 5 ≤ length x → IsOnTheWay x x 5 0 0
+way_begins x h least =
     let bits_least = bits-least (image_size x) h.size in
     let small : 5 < bits_in (image_size x) = omega (arith, bits_least) in
     let none : 5 / bits_in (image_size x) ≡ 0 = div-eq_of_lt small in

@@ -62,7 +62,7 @@ module _ (old now : Image) (from made fresh : ℕ) (way : IsOnTheWay old now fro
       }
 
   pub next_is : lowest_free now ≡ next_place old from fresh
-  next_is = lowest_one now 5 (length now) (lowest_free now) (next_place old from fresh) (lowest_is now way.shaped.least) (next_lowest (inventory_of old from == fresh) refl)
+  next_is = lowest_one now 5 (length now) (lowest_free now) (next_place old from fresh) (lowest_is now (let five = way.five in let long = way.long in omega (arith, five, long))) (next_lowest (inventory_of old from == fresh) refl)
 
   -- an entry's SCN page is of its kind in both, or in neither
   pub entry_same : (q : ℕ) → made ≤ q → first_not now (entry_page now q) ≡ first_not old (entry_on old made q)

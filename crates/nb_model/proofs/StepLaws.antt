@@ -26,10 +26,10 @@ use Rattle.nb_model.proofs.NewSound.{places_apart, inventory_before, stamped_kin
 use Rattle.nb_model.proofs.FreshSound.{inventory_length, scn_length}
 use Rattle.nb_model.proofs.BitLaws.{bit_else, bit_here, with_bit_length, bit_behind, one_bit}
 
--- long enough for a new page, of whole pages
+-- long enough for the first page of the SCN inventory, of whole pages
 pub record IsShaped (x : Image) : Type 0 where
   pub size : IsTrue (is_page_size (image_size x))
-  pub least : 5 ≤ length x
+  pub least : 3 ≤ length x
   pub sizes : IsOfSize (image_size x) x
 
 -- y is x with page p written, of that kind
