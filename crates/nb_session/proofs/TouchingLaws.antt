@@ -132,7 +132,7 @@ none_starts session x now place asks runs =
     (λ ask from may. absurd (omega (arith, may.may.normal, runs.state)))
 
 -- So a session touches nothing.
-pub none_touching : (session : ℕ) (now : Now) → IsGoing now → (place : ℕ) → Runs now place 1 → session - 1 ≢ place → touching_by session now ≡ []
+pub none_touching : {sound : Bool} (session : ℕ) (now : Now) → IsGoing sound now → (place : ℕ) → Runs now place 1 → session - 1 ≢ place → touching_by session now ≡ []
 none_touching session now going place runs off =
     ap (λ (files : List MadeFile). files ++ making_by session now) (by (slice_index_or now.todo (session - 1) []) (going.each (session - 1))) ∙ none_making session now going place runs off
   where
@@ -145,7 +145,7 @@ none_touching session now going place runs off =
     beginning (Begins (BackupSince guid name) ∷ ts) all = none_starts session (BackupSince guid name) now place tt runs
     beginning (other ∷ ts) all = refl
 
-    by : (ts : List Turn) → IsAt now (session - 1) ts → begun_first session ts now ≡ []
+    by : (ts : List Turn) → IsAt sound now (session - 1) ts → begun_first session ts now ≡ []
     by ts (waits all) = beginning ts all
     by ts (backs_up left b behind e all its room free) = absurd (alone 1 its)
     by ts (copies left name behind e all its free) = absurd (alone 1 its)

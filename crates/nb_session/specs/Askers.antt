@@ -36,16 +36,6 @@ IsOnTables (Get table key) = Unit {0}
 IsOnTables (Scan table) = Unit {0}
 IsOnTables other = ⊥
 
--- The statement goes by the inventories: it makes a page, or changes a table. What it does is known where they agree with the pages.
-abbrev pub GoesByInventories : Statement → Type 0
-GoesByInventories PageNew = Unit {0}
-GoesByInventories (CreateTable table) = Unit {0}
-GoesByInventories (DropTable table) = Unit {0}
-GoesByInventories (Insert table key text) = Unit {0}
-GoesByInventories (Update table key text) = Unit {0}
-GoesByInventories (Delete table key) = Unit {0}
-GoesByInventories other = ⊥
-
 -- the statement asks for a backup
 abbrev pub IsBackup : Statement → Type 0
 IsBackup (BackupTo level name) = Unit {0}

@@ -70,9 +70,8 @@ pub record IsBehind (w : World) (held : Held) (session : ℕ) (turn : Turn) (tai
   pub next : (outcome session turn now).next ++ tail ≡ task_todo task
   pub goes : TaskGoes session w held (base_after (base_now now) (outcome session turn now).strokes).frozen task
 
--- A turn was taken, and what is told of it said, where the outside gave what it may give. Where it only tells something, no file has changed, however
--- it ended. `tail` is
--- what its statement has to do behind it, and `more` what its session has behind that.
+-- A turn was taken, and what is told of it said, where the outside gave what it may give. Where it only tells something, no file has changed,
+-- however it ended. `tail` is what its statement has to do behind it, and `more` what its session has behind that.
 pub record Turns {T : Type 0} (told : Told) (refused : T → Bool) (task : T → Option Task) (result : Result T Fault) (old new : World) (before after : Held) (t : Trail) (now : Now) (session : ℕ) (turn : Turn) (tail more : List Turn) : Type 0 where
   pub grows : Grows old new
   pub plays : Foretells now.given (shown_by turn before) old new

@@ -16,17 +16,15 @@ pub returns-in_err-reply-clause-turn : goal.returns-in_err-reply-clause-turn
 returns-in_err-reply-clause-turn g c now t more tells ready makes here =
     let old = g.H.Host.world c.args.host.now in
     let mid = g.H.Host.world c.do_statement.new.host in
-    let sound = subst (λ (b : Base). IsSoundImage b.image) (sym ready.base) makes.going.sound in
     turns_failed c.args.told some_said _ (λ (refused : Bool). refused) (λ (refused : Bool). None) old mid mid _ _ t now c.args.session _ [] more [] (begins_touch c.args.session c.args.statement.now now (one_turn_plain c.args.statement.now c.requires.single)) makes here
-    (c.do_statement.ensures.turn now t c.args.session tells ready (λ by. sound)) (λ acts. marks_none old mid _) c.from_residual.result c.from_residual.ensures.0
+    (c.do_statement.ensures.turn now t c.args.session tells ready) (λ acts. marks_none old mid _) c.from_residual.result c.from_residual.ensures.0
 
 pub returns-in_err-tell-clause-turn : goal.returns-in_err-tell-clause-turn
 returns-in_err-tell-clause-turn g c now t more tells ready makes here =
     let old = g.H.Host.world c.args.host.now in
     let mid = g.H.Host.world c.do_statement.new.host in
-    let sound = subst (λ (b : Base). IsSoundImage b.image) (sym ready.base) makes.going.sound in
     turns_unsaid c.args.told some_said _ (λ (refused : Bool). refused) (λ (refused : Bool). None) old mid (g.H.Host.world c.tell.new.host) _ _ t now c.args.session _ [] more [] (begins_touch c.args.session c.args.statement.now now (one_turn_plain c.args.statement.now c.requires.single)) makes here
-    (c.do_statement.ensures.turn now t c.args.session tells ready (λ by. sound)) (λ acts. marks_none old mid _)
+    (c.do_statement.ensures.turn now t c.args.session tells ready) (λ acts. marks_none old mid _)
     c.in_ok-reply.ensures.ended c.in_ok-reply.reply c.in_ok-reply.ensures.said c.tell.result (c.tell.ensures.line tells) ready
     c.from_residual-in_err-tell.result c.from_residual-in_err-tell.ensures.0
 
@@ -35,9 +33,8 @@ returns-clause-turn g c now t more tells ready makes here =
     let old = g.H.Host.world c.args.host.now in
     let mid = g.H.Host.world c.do_statement.new.host in
     let new = g.H.Host.world c.tell.new.host in
-    let sound = subst (λ (b : Base). IsSoundImage b.image) (sym ready.base) makes.going.sound in
     turns_said c.args.told some_said _ (λ (refused : Bool). refused) (λ (refused : Bool). None) old mid new _ _ t now c.args.session _ [] more [] (begins_touch c.args.session c.args.statement.now now (one_turn_plain c.args.statement.now c.requires.single)) makes here
-    (c.do_statement.ensures.turn now t c.args.session tells ready (λ by. sound)) (λ acts. marks_none old mid _)
+    (c.do_statement.ensures.turn now t c.args.session tells ready) (λ acts. marks_none old mid _)
     c.in_ok-reply.ensures.ended c.in_ok-reply.reply c.in_ok-reply.ensures.said c.tell.result (c.tell.ensures.line tells) ready
     c.is_refusal-refused.result (c.in_ok-tell.ensures.line tells).said
     (λ is. subst (λ (b : Bool). status_after c.in_ok-reply.reply ≡ (if b then 1 else 0)) (sym c.is_refusal-refused.ensures) (status_told c.args.session c.args.statement.now now c.in_ok-reply.reply is))

@@ -42,7 +42,7 @@ returns-in-Ok-More-clause-turn g c how now t more tells ready makes here goes =
     let asked = c.in-Ok-More.ensures.asks t tells ready.opened may.stalled goes.0 may.below may.apart in
     let turns = λ (given : Given) (most : GaveTimeAtMost old mid (next_time given)).
     subst (λ (p : Progress). BackupTurn (Ok p) old mid a b copier later t (next_time given) (close_backup (seen_with now given) copier.backing).strokes) c.in-Ok-More.field-0-is
-    (c.in-Ok-More.ensures.turn (seen_with now given) t tells ready.base ready.opened may.stalled may.sound goes.0 may.below may.apart most) in
+    (c.in-Ok-More.ensures.turn (seen_with now given) t tells ready.base ready.opened may.stalled may.entry goes.0 may.below may.apart most) in
     let counts = subst (λ (p : Progress). BackupCounts (Ok p) copier later) c.in-Ok-More.field-0-is c.in-Ok-More.ensures.counts in
     turns_quiet how (λ progress. None) (Ok More) left_refused (left_task _) old mid mid a b t now session (copy_first rest (ClosesBackup copier.backing)) (copy_rest rest (ClosesBackup copier.backing)) more _ (backup_files old mid a b t now session copier later ready goes.0 goes.1 c.in-Ok-More.ensures.goes) makes here
     (turn_acts old mid a b t now session copier later ready goes.0 goes.1 c.in-Ok-More.ensures.goes (g.met.H.Host.reads_left c.args.host.now tells copier.backing.name) (Ok More) turns asked.0 asked.1 counts)
@@ -64,7 +64,7 @@ returns-in-Ok-Finished-clause-turn g c how now t more tells ready makes here goe
     let asked = c.in-Ok-Finished.ensures.asks t tells ready.opened may.stalled goes.0 may.below may.apart in
     let turns = λ (given : Given) (most : GaveTimeAtMost old mid (next_time given)).
     subst (λ (p : Progress). BackupTurn (Ok p) old mid a b copier later t (next_time given) (close_backup (seen_with now given) copier.backing).strokes) c.in-Ok-Finished.field-0-is
-    (c.in-Ok-Finished.ensures.turn (seen_with now given) t tells ready.base ready.opened may.stalled may.sound goes.0 may.below may.apart most) in
+    (c.in-Ok-Finished.ensures.turn (seen_with now given) t tells ready.base ready.opened may.stalled may.entry goes.0 may.below may.apart most) in
     let counts = subst (λ (p : Progress). BackupCounts (Ok p) copier later) c.in-Ok-Finished.field-0-is c.in-Ok-Finished.ensures.counts in
     let says : Level c.level.result c.scn.result c.written.result c.guid.result ≡ Level later.backing.ask.level later.backing.scn (file_written later.file) later.backing.guid = rw (c.level.ensures.value, c.scn.ensures, c.written.ensures, c.guid.ensures) refl in
     turns_quiet how (λ progress. None) (Ok Finished) left_refused (left_task _) old mid mid a b t now session (copy_first rest (ClosesBackup copier.backing)) (copy_rest rest (ClosesBackup copier.backing)) more _ (backup_files old mid a b t now session copier later ready goes.0 goes.1 c.in-Ok-Finished.ensures.goes) makes here
@@ -87,7 +87,7 @@ returns-in_err-say_refused-in-Err-Refused-clause-turn g c how now t more tells r
     let asked = c.in-Err-Refused.ensures.asks t tells ready.opened may.stalled goes.0 may.below may.apart in
     let turns = λ (given : Given) (most : GaveTimeAtMost old mid (next_time given)).
     subst (λ (f : Fault). BackupTurn (Err f) old mid a b copier later t (next_time given) (close_backup (seen_with now given) copier.backing).strokes) c.in-Err-Refused.field-0-is
-    (c.in-Err-Refused.ensures.turn (seen_with now given) t tells ready.base ready.opened may.stalled may.sound goes.0 may.below may.apart most) in
+    (c.in-Err-Refused.ensures.turn (seen_with now given) t tells ready.base ready.opened may.stalled may.entry goes.0 may.below may.apart most) in
     turns_never how left_refused (left_task _) _ old (g.H.Host.world c.say_refused.new.host) a c.stop_running.new.engine t now session (copy_first rest (ClosesBackup copier.backing)) (copy_rest rest (ClosesBackup copier.backing)) more
     (turn_sure old mid a b t now session copier later ready goes.0 goes.1 c.in-Err-Refused.ensures.goes (g.met.H.Host.reads_left c.args.host.now tells copier.backing.name) (Err (Refused c.in-Err-Refused.refusal)) turns asked.0 asked.1)
 
@@ -105,7 +105,7 @@ returns-in_ok-say_refused-in-Err-Refused-clause-turn g c how now t more tells re
     let asked = c.in-Err-Refused.ensures.asks t tells ready.opened may.stalled goes.0 may.below may.apart in
     let turns = λ (given : Given) (most : GaveTimeAtMost old mid (next_time given)).
     subst (λ (f : Fault). BackupTurn (Err f) old mid a b copier later t (next_time given) (close_backup (seen_with now given) copier.backing).strokes) c.in-Err-Refused.field-0-is
-    (c.in-Err-Refused.ensures.turn (seen_with now given) t tells ready.base ready.opened may.stalled may.sound goes.0 may.below may.apart most) in
+    (c.in-Err-Refused.ensures.turn (seen_with now given) t tells ready.base ready.opened may.stalled may.entry goes.0 may.below may.apart most) in
     turns_never how left_refused (left_task _) _ old (g.H.Host.world c.say_refused.new.host) a c.stop_running.new.engine t now session (copy_first rest (ClosesBackup copier.backing)) (copy_rest rest (ClosesBackup copier.backing)) more
     (turn_sure old mid a b t now session copier later ready goes.0 goes.1 c.in-Err-Refused.ensures.goes (g.met.H.Host.reads_left c.args.host.now tells copier.backing.name) (Err (Refused c.in-Err-Refused.refusal)) turns asked.0 asked.1)
 
@@ -123,7 +123,7 @@ returns-in-Err-Device-clause-turn g c how now t more tells ready makes here goes
     let asked = c.in-Err-Device.ensures.asks t tells ready.opened may.stalled goes.0 may.below may.apart in
     let turns = λ (given : Given) (most : GaveTimeAtMost old mid (next_time given)).
     subst (λ (f : Fault). BackupTurn (Err f) old mid a b copier later t (next_time given) (close_backup (seen_with now given) copier.backing).strokes) c.in-Err-Device.field-0-is
-    (c.in-Err-Device.ensures.turn (seen_with now given) t tells ready.base ready.opened may.stalled may.sound goes.0 may.below may.apart most) in
+    (c.in-Err-Device.ensures.turn (seen_with now given) t tells ready.base ready.opened may.stalled may.entry goes.0 may.below may.apart most) in
     turns_failed how (λ progress. None) (Err Device) left_refused (left_task _) old mid mid a b t now session (copy_first rest (ClosesBackup copier.backing)) (copy_rest rest (ClosesBackup copier.backing)) more _ (backup_files old mid a b t now session copier later ready goes.0 goes.1 c.in-Err-Device.ensures.goes) makes here
     (turn_acts old mid a b t now session copier later ready goes.0 goes.1 c.in-Err-Device.ensures.goes (g.met.H.Host.reads_left c.args.host.now tells copier.backing.name) (Err Device) turns asked.0 asked.1 tt)
     (marks_made (λ progress. None) (Err Device) old mid a b t now session (copy_first rest (ClosesBackup copier.backing)) _ (apart_one a copier.backing.name _ goes.1) (g.met.H.Host.reads_left c.turn.new.host tells))
@@ -143,7 +143,7 @@ returns-in-Err-Memory-clause-turn g c how now t more tells ready makes here goes
     let asked = c.in-Err-Memory.ensures.asks t tells ready.opened may.stalled goes.0 may.below may.apart in
     let turns = λ (given : Given) (most : GaveTimeAtMost old mid (next_time given)).
     subst (λ (f : Fault). BackupTurn (Err f) old mid a b copier later t (next_time given) (close_backup (seen_with now given) copier.backing).strokes) c.in-Err-Memory.field-0-is
-    (c.in-Err-Memory.ensures.turn (seen_with now given) t tells ready.base ready.opened may.stalled may.sound goes.0 may.below may.apart most) in
+    (c.in-Err-Memory.ensures.turn (seen_with now given) t tells ready.base ready.opened may.stalled may.entry goes.0 may.below may.apart most) in
     turns_failed how (λ progress. None) (Err Memory) left_refused (left_task _) old mid mid a b t now session (copy_first rest (ClosesBackup copier.backing)) (copy_rest rest (ClosesBackup copier.backing)) more _ (backup_files old mid a b t now session copier later ready goes.0 goes.1 c.in-Err-Memory.ensures.goes) makes here
     (turn_acts old mid a b t now session copier later ready goes.0 goes.1 c.in-Err-Memory.ensures.goes (g.met.H.Host.reads_left c.args.host.now tells copier.backing.name) (Err Memory) turns asked.0 asked.1 tt)
     (marks_made (λ progress. None) (Err Memory) old mid a b t now session (copy_first rest (ClosesBackup copier.backing)) _ (apart_one a copier.backing.name _ goes.1) (g.met.H.Host.reads_left c.turn.new.host tells))
