@@ -131,12 +131,12 @@ stays_ends result old new a b t scn s session others is_ended =
     (end_strokes_are s session (λ (xs : List Stroke). IsOpen new b (after_strokes t xs) → StaysWhole t.base.image (after_strokes t xs).base.image) (λ is. whole_same t.base.image) (ends_whole new b t)) is_ended.opened)
     is_ended.name
 
-pub stays_merges : (result : Result Progress Fault) (old new : World) (a b : Held) (t : Trail) (others : Names) → IfErr result IsNoRefusal → HasNoZeros t.base.image → Merges result old new a b t → StaysOpen result old new a b t others
-stays_merges (Ok More) old new a b t others sure full merges = stays_struck (Ok More) old new a b t others t (finish ∷ []) merges.left merges.on.3 (whole_same t.base.image) merges.name
-stays_merges (Ok Finished) old new a b t others sure full merges = stays_struck (Ok Finished) old new a b t others (after_strokes t (finish ∷ [])) (finish ∷ []) merges.left merges.on.2 (finish_whole new b t full merges.on.2) merges.name
-stays_merges (Err (Refused refusal)) old new a b t others sure full merges = absurd sure
-stays_merges (Err Device) old new a b t others sure full merges = stays_struck (Err Device) old new a b t others t (finish ∷ []) merges.left tt tt merges.name
-stays_merges (Err Memory) old new a b t others sure full merges = stays_struck (Err Memory) old new a b t others t (finish ∷ []) merges.left tt tt merges.name
+pub stays_merges : (result : Result Progress Fault) (old new : World) (a b : Held) (t : Trail) (others : Names) → IfErr result IsNoRefusal → Merges result old new a b t → StaysOpen result old new a b t others
+stays_merges (Ok More) old new a b t others sure merges = stays_struck (Ok More) old new a b t others t (finish ∷ []) merges.left merges.on.3 (whole_same t.base.image) merges.name
+stays_merges (Ok Finished) old new a b t others sure merges = stays_struck (Ok Finished) old new a b t others (after_strokes t (finish ∷ [])) (finish ∷ []) merges.left merges.on.2 (record { no_zeros = λ full. (finish_whole new b t full merges.on.2).no_zeros full }) merges.name
+stays_merges (Err (Refused refusal)) old new a b t others sure merges = absurd sure
+stays_merges (Err Device) old new a b t others sure merges = stays_struck (Err Device) old new a b t others t (finish ∷ []) merges.left tt tt merges.name
+stays_merges (Err Memory) old new a b t others sure merges = stays_struck (Err Memory) old new a b t others t (finish ∷ []) merges.left tt tt merges.name
 
 module _ (old new : World) (a b : Held) where
   -- more files are allowed for

@@ -41,28 +41,28 @@ returns-clause-turn g c now t more tells ready makes here =
     (λ told. single_behind new _ c.args.session c.args.statement.now now (one_single c.args.statement.now c.requires.single))
 
 pub returns-in_err-reply-clause-stays_open : goal.returns-in_err-reply-clause-stays_open
-returns-in_err-reply-clause-stays_open g c may_merge tells still =
+returns-in_err-reply-clause-stays_open g c tells still =
     let old = g.H.Host.world c.args.host.now in
     let mid = g.H.Host.world c.do_statement.new.host in
-    turn_failed may_merge old mid c.args.engine.now c.do_statement.new.engine NoNames still _ (c.do_statement.ensures.stays_open still.trail tells still.opened) (λ (refused : Bool). refused) (λ (refused : Bool). None)
+    turn_failed old mid c.args.engine.now c.do_statement.new.engine NoNames still _ (c.do_statement.ensures.stays_open still.trail tells still.opened) (λ (refused : Bool). refused) (λ (refused : Bool). None)
     c.from_residual.result c.from_residual.ensures.0
 
 pub returns-in_err-tell-clause-stays_open : goal.returns-in_err-tell-clause-stays_open
-returns-in_err-tell-clause-stays_open g c may_merge tells still =
+returns-in_err-tell-clause-stays_open g c tells still =
     let old = g.H.Host.world c.args.host.now in
     let mid = g.H.Host.world c.do_statement.new.host in
     let b = c.do_statement.new.engine in
-    turn_unsaid may_merge old mid c.args.engine.now b NoNames still _ (c.do_statement.ensures.stays_open still.trail tells still.opened) (λ (refused : Bool). refused) (λ (refused : Bool). None)
+    turn_unsaid old mid c.args.engine.now b NoNames still _ (c.do_statement.ensures.stays_open still.trail tells still.opened) (λ (refused : Bool). refused) (λ (refused : Bool). None)
     (g.H.Host.world c.tell.new.host) c.tell.result _ (g.met.H.Host.timely c.tell.new.host) (g.met.H.Host.reads_left c.tell.new.host tells) (c.tell.ensures.line tells) b refl
     c.from_residual-in_err-tell.result c.from_residual-in_err-tell.ensures.0
 
 pub returns-clause-stays_open : goal.returns-clause-stays_open
-returns-clause-stays_open g c may_merge tells still =
+returns-clause-stays_open g c tells still =
     let old = g.H.Host.world c.args.host.now in
     let mid = g.H.Host.world c.do_statement.new.host in
     let new = g.H.Host.world c.tell.new.host in
     let b = c.do_statement.new.engine in
-    turn_said may_merge old mid c.args.engine.now b NoNames still _ (c.do_statement.ensures.stays_open still.trail tells still.opened) (λ (refused : Bool). refused) (λ (refused : Bool). None)
+    turn_said old mid c.args.engine.now b NoNames still _ (c.do_statement.ensures.stays_open still.trail tells still.opened) (λ (refused : Bool). refused) (λ (refused : Bool). None)
     new c.tell.result _ (g.met.H.Host.timely c.tell.new.host) (g.met.H.Host.reads_left c.tell.new.host tells) (c.tell.ensures.line tells) b refl
     c.is_refusal-refused.result c.in_ok-reply.ensures.ended tt (λ m none. none)
     (λ yes. refusal_told c.args.told c.args.session c.in_ok-reply.reply mid new (sym c.is_refusal-refused.ensures ∙ yes) (c.in_ok-tell.ensures.line tells).said)

@@ -113,8 +113,8 @@ returns-in-Ok-clause-stays_open g c tells still =
     let stays = stays_among old mid a b (Ok c.in-Ok.copier) (Only (file_asked it)) (Asks it) (λ m same. asks_file it m c.requires.backup same) (c.in-Ok.ensures.stays_open t tells still.opened (no_delta a (file_asked it) (file_plain it c.requires.backup c.requires.asked.fits))) in
     let named = c.in-Ok.ensures.named in
     let plain = file_plain it c.requires.backup c.requires.asked.fits in
-    turn_unheard true old mid a b (Asks it) still (Ok c.in-Ok.copier) stays (λ (taken : Taken). taken.refused) (λ (taken : Taken). taken.task) c.under_way.result b tt refl
-    (subst (λ (x : Taken). TaskStays true b x.task) (sym c.under_way.ensures) (refl, aside_then old a b t (file_asked it) c.in-Ok.copier.backing.name still.opened (c.in-Ok.ensures.free tells) plain named stays.name))
+    turn_unheard old mid a b (Asks it) still (Ok c.in-Ok.copier) stays (λ (taken : Taken). taken.refused) (λ (taken : Taken). taken.task) c.under_way.result b tt refl
+    (subst (λ (x : Taken). TaskStays b x.task) (sym c.under_way.ensures) (aside_then old a b t (file_asked it) c.in-Ok.copier.backing.name still.opened (c.in-Ok.ensures.free tells) plain named stays.name))
     (λ m makes. asks_file it m c.requires.backup (subst (λ (x : Taken). TaskMakes x.task m) c.under_way.ensures makes ∙ named)) (ap (λ (x : Taken). x.refused) c.under_way.ensures)
 
 pub returns-in-Err-Refused-clause-stays_open : goal.returns-in-Err-Refused-clause-stays_open
@@ -126,7 +126,7 @@ returns-in-Err-Refused-clause-stays_open g c tells still =
     let t = still.trail in
     let it = c.args.statement.now in
     let refusal = c.in-Err-Refused.refusal in
-    turn_refused true old mid a b (Asks it) still (Err (Refused refusal)) (stays_among old mid a b (Err (Refused refusal)) (Only (file_asked it)) (Asks it) (λ m same. asks_file it m c.requires.backup same)
+    turn_refused old mid a b (Asks it) still (Err (Refused refusal)) (stays_among old mid a b (Err (Refused refusal)) (Only (file_asked it)) (Asks it) (λ m same. asks_file it m c.requires.backup same)
     (subst (λ (f : Fault). StaysOpen {T = Backed} (Err f) old mid a b t (Only (file_asked it))) c.in-Err-Refused.field-0-is (c.in-Err-Refused.ensures.stays_open t tells still.opened (no_delta a (file_asked it) (file_plain it c.requires.backup c.requires.asked.fits)))))
     (g.H.Host.world c.say_refused.new.host) c.args.session refusal c.say_refused.result (g.met.H.Host.timely c.say_refused.new.host) (g.met.H.Host.reads_left c.say_refused.new.host tells) tt b refl (c.say_refused.ensures.line tells) c.say_refused.ensures.taken
 
@@ -138,7 +138,7 @@ returns-in-Err-Device-clause-stays_open g c tells still =
     let b = c.start.new.engine in
     let t = still.trail in
     let it = c.args.statement.now in
-    turn_failed true old mid a b (Asks it) still (Err Device) (stays_among old mid a b (Err Device) (Only (file_asked it)) (Asks it) (λ m same. asks_file it m c.requires.backup same)
+    turn_failed old mid a b (Asks it) still (Err Device) (stays_among old mid a b (Err Device) (Only (file_asked it)) (Asks it) (λ m same. asks_file it m c.requires.backup same)
     (subst (λ (f : Fault). StaysOpen {T = Backed} (Err f) old mid a b t (Only (file_asked it))) c.in-Err-Device.field-0-is (c.in-Err-Device.ensures.stays_open t tells still.opened (no_delta a (file_asked it) (file_plain it c.requires.backup c.requires.asked.fits))))) (λ (taken : Taken). taken.refused) (λ (taken : Taken). taken.task) (Err Device) refl
 
 pub returns-in-Err-Memory-clause-stays_open : goal.returns-in-Err-Memory-clause-stays_open
@@ -149,5 +149,5 @@ returns-in-Err-Memory-clause-stays_open g c tells still =
     let b = c.start.new.engine in
     let t = still.trail in
     let it = c.args.statement.now in
-    turn_failed true old mid a b (Asks it) still (Err Memory) (stays_among old mid a b (Err Memory) (Only (file_asked it)) (Asks it) (λ m same. asks_file it m c.requires.backup same)
+    turn_failed old mid a b (Asks it) still (Err Memory) (stays_among old mid a b (Err Memory) (Only (file_asked it)) (Asks it) (λ m same. asks_file it m c.requires.backup same)
     (subst (λ (f : Fault). StaysOpen {T = Backed} (Err f) old mid a b t (Only (file_asked it))) c.in-Err-Memory.field-0-is (c.in-Err-Memory.ensures.stays_open t tells still.opened (no_delta a (file_asked it) (file_plain it c.requires.backup c.requires.asked.fits))))) (λ (taken : Taken). taken.refused) (λ (taken : Taken). taken.task) (Err Memory) refl

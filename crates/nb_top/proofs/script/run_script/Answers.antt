@@ -40,7 +40,7 @@ returns-in_err-engine-clause-goes g c = record {
       let plan = c.args.script.now in
       grows_none old mid (first_gave old account no_given plan c.args.telling c.requires.askable knows mid c.open.result
       (λ name size raw cache is. c.open.ensures.creates name size raw cache tells (c.first.ensures ∙ is)) (λ name cache is. c.open.ensures.quiet name cache (c.first.ensures ∙ is)));
-  touches = λ tells whole. let old = g.H.Host.world c.args.host.now in
+  touches = λ tells. let old = g.H.Host.world c.args.host.now in
       let mid = g.H.Host.world c.open.new.host in
       let plan = c.args.script.now in
       let first = first_opens plan.first c.requires.askable.first in
@@ -89,7 +89,7 @@ returns-in_err-refused-in-Ok-clause-goes g c = record {
       (c.in_err-refused-in-Ok.ensures.grows (script_now old account no_given plan c.args.telling c.requires.askable mid held done) tells
       (script_ready old account no_given plan c.args.telling c.requires.askable mid held done) (script_todo old account no_given plan c.args.telling c.requires.askable mid held done)
       (script_making old account no_given plan c.args.telling c.requires.askable mid held done));
-  touches = λ tells whole. let old = g.H.Host.world c.args.host.now in
+  touches = λ tells. let old = g.H.Host.world c.args.host.now in
       let mid = g.H.Host.world c.open.new.host in
       let plan = c.args.script.now in
       let first = first_opens plan.first c.requires.askable.first in
@@ -98,11 +98,11 @@ returns-in_err-refused-in-Ok-clause-goes g c = record {
       let is = settled_value c.in_ok-engine.field-0 held (λ value. c.open.result ≡ Ok value) c.in-Ok.is c.in_ok-engine.ensures.value in
       let still = begun_still old mid plan c.args.telling first c.open.result
       (λ name size raw cache is. c.open.ensures.creates name size raw cache tells (c.first.ensures ∙ is)) (λ name cache is. c.open.ensures.attaches name cache tells (c.first.ensures ∙ is))
-      (λ name cache is. c.open.ensures.quiet name cache (c.first.ensures ∙ is)) held is whole in
+      (λ name cache is. c.open.ensures.quiet name cache (c.first.ensures ∙ is)) held is in
       only_err old new (MayTouch (Ok (ToRun plan c.args.telling))) c.from_residual-in_err-refused-in-Ok.result c.from_residual-in_err-refused-in-Ok.ensures.0
       (turns_leave old mid plan c.args.telling first c.open.result
       (λ name size raw cache is. c.open.ensures.creates name size raw cache tells (c.first.ensures ∙ is)) (λ name cache is. c.open.ensures.attaches name cache tells (c.first.ensures ∙ is))
-      (λ name cache is. c.open.ensures.quiet name cache (c.first.ensures ∙ is)) held is whole new c.run_opened.new.engine _ (c.in_err-refused-in-Ok.ensures.stays_open tells still));
+      (λ name cache is. c.open.ensures.quiet name cache (c.first.ensures ∙ is)) held is new c.run_opened.new.engine _ (c.in_err-refused-in-Ok.ensures.stays_open tells still));
 }
 
 pub returns-in_ok-refused-in-Ok-clause-goes : goal.returns-in_ok-refused-in-Ok-clause-goes
@@ -143,7 +143,7 @@ returns-in_ok-refused-in-Ok-clause-goes g c = record {
       (c.in_ok-refused-in-Ok.ensures.grows (script_now old account no_given plan c.args.telling c.requires.askable mid held done) tells
       (script_ready old account no_given plan c.args.telling c.requires.askable mid held done) (script_todo old account no_given plan c.args.telling c.requires.askable mid held done)
       (script_making old account no_given plan c.args.telling c.requires.askable mid held done));
-  touches = λ tells whole. let old = g.H.Host.world c.args.host.now in
+  touches = λ tells. let old = g.H.Host.world c.args.host.now in
       let mid = g.H.Host.world c.open.new.host in
       let plan = c.args.script.now in
       let first = first_opens plan.first c.requires.askable.first in
@@ -152,10 +152,10 @@ returns-in_ok-refused-in-Ok-clause-goes g c = record {
       let is = settled_value c.in_ok-engine.field-0 held (λ value. c.open.result ≡ Ok value) c.in-Ok.is c.in_ok-engine.ensures.value in
       let still = begun_still old mid plan c.args.telling first c.open.result
       (λ name size raw cache is. c.open.ensures.creates name size raw cache tells (c.first.ensures ∙ is)) (λ name cache is. c.open.ensures.attaches name cache tells (c.first.ensures ∙ is))
-      (λ name cache is. c.open.ensures.quiet name cache (c.first.ensures ∙ is)) held is whole in
+      (λ name cache is. c.open.ensures.quiet name cache (c.first.ensures ∙ is)) held is in
       turns_end old mid plan c.args.telling first c.open.result
       (λ name size raw cache is. c.open.ensures.creates name size raw cache tells (c.first.ensures ∙ is)) (λ name cache is. c.open.ensures.attaches name cache tells (c.first.ensures ∙ is))
-      (λ name cache is. c.open.ensures.quiet name cache (c.first.ensures ∙ is)) held is whole new c.run_opened.new.engine c.in_ok-refused-in-Ok.refused c.ended.result c.ended.ensures.ended c.ended.ensures.number (c.in_ok-refused-in-Ok.ensures.stays_open tells still);
+      (λ name cache is. c.open.ensures.quiet name cache (c.first.ensures ∙ is)) held is new c.run_opened.new.engine c.in_ok-refused-in-Ok.refused c.ended.result c.ended.ensures.ended c.ended.ensures.number (c.in_ok-refused-in-Ok.ensures.stays_open tells still);
 }
 
 pub returns-in-Err-clause-goes : goal.returns-in-Err-clause-goes
@@ -186,7 +186,7 @@ returns-in-Err-clause-goes g c = record {
       grows_joined old mid new (grows_none old mid (first_gave old account no_given plan c.args.telling c.requires.askable knows mid c.open.result
       (λ name size raw cache is. c.open.ensures.creates name size raw cache tells (c.first.ensures ∙ is)) (λ name cache is. c.open.ensures.quiet name cache (c.first.ensures ∙ is))))
       (grows_none mid new c.refuse.ensures.gave);
-  touches = λ tells whole. let old = g.H.Host.world c.args.host.now in
+  touches = λ tells. let old = g.H.Host.world c.args.host.now in
       let mid = g.H.Host.world c.open.new.host in
       let plan = c.args.script.now in
       let first = first_opens plan.first c.requires.askable.first in
