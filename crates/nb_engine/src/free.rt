@@ -1,5 +1,6 @@
 // A raw page is given back.
-ghost use Rattle.std.specs.Prelude.{◌≡◌, IsTrue};
+ghost use Rattle.std.specs.Prelude.{◌≡◌, ◌≢◌, ◌+◌, ◌≤◌, IsTrue, IfErr};
+ghost use Rattle.nb_host.specs.declared.faults.Fault.TheVariants.{Memory};
 ghost use Rattle.nb_change.specs.Counts.{CountsDevice};
 ghost use Rattle.nb_model.specs.Trail.{Trail};
 ghost use Rattle.nb_model.specs.Outcomes.{Seen};
@@ -15,7 +16,8 @@ use nb_host::{Fault, Host, Refusal};
 
 impl Engine {
     /// Gives page `number`, a taken raw page, back: its inventory page says from then on that it is free. The page itself stays as it
-    /// is. The SCN entry of the inventory page is raised before, where that is below the current SCN.
+    /// is. The SCN entry of the inventory page is raised before, where that is below the current SCN. It takes four reads at most, and wants
+    /// memory in the stalled state alone.
     ///
     /// The refusals are `PageRange`, `NotDatabase` of its inventory page, `NotAllocated`, `SystemPage`, `Access` and `NotDatabase` of the
     /// SCN page of the inventory page, in this order. A refused call changes nothing.
@@ -23,7 +25,9 @@ impl Engine {
         ensures turn { (s : Seen) (t : Trail) → IsTrue H.tells → t.base ≡ s.base → IsOpen (H.world host.old) self.old t
             → Does done result (H.world host.old) (H.world host.new) self.old self.new t (free_turn s number) }
         ensures goes { Goes self.old self.new }
+        ensures once { IsTrue H.tells → (H.world host.new).reads ≤ (H.world host.old).reads + 4 }
         ensures cause { CountsDevice result (H.faults host.old) (H.faults host.new) }
+        ensures takes_none { self.old.files.state ≢ 1 → IfErr result (λ fault. fault ≢ Memory) }
     {
         take_raw(&mut self.store, host, number, &mut self.page, &mut self.map)?;
         // Page 0 is the header, whatever the host gave for it.
