@@ -1,5 +1,5 @@
 // A raw page is written, its SCN entry first where that is below the current SCN.
-ghost use Rattle.std.specs.Prelude.{◌≡◌, ◌≢◌, ◌+◌, ◌<◌, ◌≤◌, [], ◌∷◌, true, IsTrue, IfErr, None, length};
+ghost use Rattle.std.specs.Prelude.{◌≡◌, ◌≢◌, ◌+◌, ◌<◌, ◌≤◌, [], ◌∷◌, true, IsTrue, IfErr, Err, None, length};
 ghost use Rattle.nb_fields.specs.Places.{is_page_size};
 ghost use Rattle.nb_host.specs.declared.faults.Fault.TheVariants.{Memory};
 ghost use Rattle.nb_change.specs.Counts.{CountsDevice};
@@ -7,8 +7,8 @@ ghost use Rattle.nb_page.specs.Quiet.{Quiet};
 ghost use Rattle.nb_model.specs.Image.{page_at};
 ghost use Rattle.nb_model.specs.Forms.{scn_page_of};
 ghost use Rattle.nb_model.specs.Trail.{Trail};
-ghost use Rattle.nb_base.specs.Takes.{IsNoRefusal};
-ghost use Rattle.nb_state.specs.Open.{IsOpen, but_pages};
+ghost use Rattle.nb_base.specs.Takes.{Strikes, IsNoRefusal};
+ghost use Rattle.nb_state.specs.Open.{IsOpen, but_pages, name_of};
 ghost use Rattle.nb_state.specs.Does.{Goes, Makes};
 ghost use Rattle.nb_engine.specs.Tries.{Tries};
 ghost use Rattle.nb_engine.specs.Put.{TellsRaise, entry_cause, must_raise, raise_stroke, raise_strokes, raw_stroke};
@@ -66,6 +66,8 @@ fn raise<H: Host>(
     ensures cause { CountsDevice result (H.faults host.old) (H.faults host.new) }
     ensures not_refused { IfErr result IsNoRefusal }
     ensures takes_none { store.old.files.state ≢ 1 → IfErr result (λ fault. fault ≢ Memory) }
+    ensures on_memory { (t : Trail) → IsTrue H.tells → IsOpen (H.world host.old) store.old t → result ≡ Err Memory
+        → Strikes (H.world host.old) (H.world host.new) (name_of store.old) t [] × IsOpen (H.world host.new) store.new t }
 {
     let page_size = store.page_size();
     let (k, index) = nb_scn::covers(page_size, number);
@@ -90,6 +92,8 @@ pub(crate) fn raise_entry<H: Host>(
     ensures once { IsTrue H.tells → (H.world host.new).reads ≤ (H.world host.old).reads + 1 }
     ensures cause { CountsDevice result (H.faults host.old) (H.faults host.new) }
     ensures takes_none { store.old.files.state ≢ 1 → IfErr result (λ fault. fault ≢ Memory) }
+    ensures on_memory { (t : Trail) → IsTrue H.tells → IsOpen (H.world host.old) store.old t → result ≡ Err Memory
+        → Strikes (H.world host.old) (H.world host.new) (name_of store.old) t [] × IsOpen (H.world host.new) store.new t }
 {
     if must_raise(store, host, number, scn_page)? {
         raise(store, host, number, scn_page)?;
@@ -117,6 +121,8 @@ pub(crate) fn write_raw<H: Host>(
     ensures cause { CountsDevice result (H.faults host.old) (H.faults host.new) }
     ensures not_refused { IfErr result IsNoRefusal }
     ensures takes_none { store.old.files.state ≢ 1 → IfErr result (λ fault. fault ≢ Memory) }
+    ensures on_memory { (t : Trail) → IsTrue H.tells → IsOpen (H.world host.old) store.old t → result ≡ Err Memory
+        → Strikes (H.world host.old) (H.world host.new) (name_of store.old) t [] × IsOpen (H.world host.new) store.new t }
 {
     put_text(page, text);
     stamp(page, PageKind::Raw.code(), store.scn(), number);

@@ -188,4 +188,4 @@ returns-clause-touches g c t tells is =
 pub returns-in_err-hold-clause-takes_none : goal.returns-in_err-hold-clause-takes_none
 returns-in_err-hold-clause-takes_none g c plain =
     let parts = may_wait_parts c.args.self.now c.args.number c.args.forced (sym c.may_wait.ensures.value ∙ c.if-may_wait.true) in
-    absurd (c.in_err-hold.ensures.normal (omega (arith, plain, parts.1))).0
+    absurd (true≢false (sym (c.in_err-hold.ensures.normal (omega (arith, plain, parts.1))).0))
