@@ -90,4 +90,3 @@ returns-in_err-write_bit-clause-on_memory g c t tells is memory =
     let xs = raise_strokes image (inventory_of image c.args.number) in
     let left = c.in_err-write_bit.ensures.on_memory (after_strokes t xs) tells (tries_opened tt old mid c.args.store.now c.raise_entry.new.store t _ xs first) wants in
     stops_then old mid new c.args.store.now c.raise_entry.new.store c.write_bit.new.store t _ xs first left.0 left.1
-
