@@ -1,6 +1,7 @@
 // Room for a row of the history: a free slot whose page is taken, or a new page behind the last.
-ghost use Rattle.std.specs.Prelude.{◌≡◌, ◌<◌, ◌≤◌, ℕ, List, [], ◌∷◌, true, IsTrue, IfOk, length};
+ghost use Rattle.std.specs.Prelude.{◌≡◌, ◌≢◌, ◌<◌, ◌≤◌, ℕ, List, [], ◌∷◌, true, IsTrue, IfErr, IfOk, length};
 ghost use Rattle.nb_fields.specs.Places.{is_page_size};
+ghost use Rattle.nb_host.specs.declared.faults.Fault.TheVariants.{Memory};
 ghost use Rattle.nb_change.specs.Counts.{CountsDevice};
 ghost use Rattle.nb_page.specs.Quiet.{Quiet};
 ghost use Rattle.nb_fields.specs.Page.{kind_of};
@@ -39,6 +40,7 @@ const NO_ROWS: [u8; 16] = [0, 0, 0, 0, 1, 0, 0, 0, 0, 0, 0, 0, 0, 0, 0, 0];
 fn check_scn(scn: u32) -> Result<(), Fault>
     ensures test { (image : Image) → scn ≡ image_scn image → Tested result (no_scn image) }
     ensures cause { (faults : ℕ) → CountsDevice result faults faults }
+    ensures takes_none { IfErr result (λ fault. fault ≢ Memory) }
 {
     if scn > LAST_SCN {
         return Err(Fault::Refused(Refusal::ScnExhausted { scn }));
@@ -62,6 +64,7 @@ fn is_free<H: Host>(
     ensures same { but_pages store.new ≡ but_pages store.old }
     ensures quiet { Quiet (H.world host.old) (H.world host.new) }
     ensures cause { CountsDevice result (H.faults host.old) (H.faults host.new) }
+    ensures takes_none { IfErr result (λ fault. fault ≢ Memory) }
 {
     let page_size = store.page_size();
     let (k, bit) = nb_pip::covers(page_size, number);
@@ -87,6 +90,7 @@ fn check_scn_page<H: Host>(
     ensures same { but_pages store.new ≡ but_pages store.old }
     ensures quiet { Quiet (H.world host.old) (H.world host.new) }
     ensures cause { CountsDevice result (H.faults host.old) (H.faults host.new) }
+    ensures takes_none { IfErr result (λ fault. fault ≢ Memory) }
 {
     let page_size = store.page_size();
     let (k, _) = nb_scn::covers(page_size, number);
@@ -118,6 +122,7 @@ pub(crate) fn check_room<H: Host>(
     ensures same { but_pages store.new ≡ but_pages store.old }
     ensures quiet { Quiet (H.world host.old) (H.world host.new) }
     ensures cause { CountsDevice result (H.faults host.old) (H.faults host.new) }
+    ensures takes_none { IfErr result (λ fault. fault ≢ Memory) }
 {
     let scn = store.scn();
     let free = is_free(store, host, number, map)?;
@@ -158,6 +163,7 @@ pub(crate) fn grow<H: Host>(
     ensures map_room { length map.new ≡ length map.old }
     ensures scn_room { length scn_page.new ≡ length scn_page.old }
     ensures cause { CountsDevice result (H.faults host.old) (H.faults host.new) }
+    ensures takes_none { store.old.files.state ≢ 1 → IfErr result (λ fault. fault ≢ Memory) }
 {
     let scn = store.scn();
     let first = check_rooms(store, host, 1, last, map, scn_page)?;
@@ -185,6 +191,7 @@ pub(crate) fn add_row<H: Host>(
     ensures goes { Goes store.old store.new }
     ensures scn_room { length scn_page.new ≡ length scn_page.old }
     ensures cause { CountsDevice result (H.faults host.old) (H.faults host.new) }
+    ensures takes_none { store.old.files.state ≢ 1 → IfErr result (λ fault. fault ≢ Memory) }
 {
     store.read(host, room.page, page)?;
     put_slot(page, room.slot, row);

@@ -1,6 +1,7 @@
 // The tests before new pages, on a database to which nothing was written yet. Nothing changes.
-ghost use Rattle.std.specs.Prelude.{◌≡◌, ◌+◌, ◌-◌, ◌*◌, ◌/◌, ◌<◌, ◌≤◌, ℕ, List, true, false, IsTrue, IfOk, OnOk, length};
+ghost use Rattle.std.specs.Prelude.{◌≡◌, ◌≢◌, ◌+◌, ◌-◌, ◌*◌, ◌/◌, ◌<◌, ◌≤◌, ℕ, List, true, false, IsTrue, IfErr, IfOk, OnOk, length};
 ghost use Rattle.nb_fields.specs.Places.{bits_in};
+ghost use Rattle.nb_host.specs.declared.faults.Fault.TheVariants.{Memory};
 ghost use Rattle.nb_change.specs.Counts.{CountsDevice};
 ghost use Rattle.nb_page.specs.Quiet.{Quiet};
 ghost use Rattle.nb_model.specs.Image.{image_size};
@@ -48,6 +49,7 @@ pub(crate) fn check_new<H: Host>(
     ensures once { (t : Trail) (kind : ℕ) (payload : ℕ → List ℕ) → IsTrue H.tells → IsOpen (H.world host.old) store.old t → IsShaped t.base.image → IsShort payload
         → IfOk result (λ page. (H.world host.new).reads ≤ (H.world host.old).reads + page / bits_in (image_size t.base.image) + 4 + 5 * ((new_of kind payload t.base.image).1 - page)) }
     ensures cause { CountsDevice result (H.faults host.old) (H.faults host.new) }
+    ensures takes_none { IfErr result (λ fault. fault ≢ Memory) }
 {
     // Contracts ask for it.
     let _page_size = store.page_size();
@@ -86,6 +88,7 @@ fn find_rooms<H: Host>(
     ensures same { but_pages store.new ≡ but_pages store.old }
     ensures quiet { Quiet (H.world host.old) (H.world host.new) }
     ensures cause { CountsDevice result (H.faults host.old) (H.faults host.new) }
+    ensures takes_none { IfErr result (λ fault. fault ≢ Memory) }
 {
     // Contracts ask for it.
     let _page_size = store.page_size();
@@ -135,6 +138,7 @@ pub(crate) fn check_rooms<H: Host>(
     ensures same { but_pages store.new ≡ but_pages store.old }
     ensures quiet { Quiet (H.world host.old) (H.world host.new) }
     ensures cause { CountsDevice result (H.faults host.old) (H.faults host.new) }
+    ensures takes_none { IfErr result (λ fault. fault ≢ Memory) }
 {
     let mut behind = Behind::at(store, host, number, map, scn_page)?;
     let found = find_rooms(store, host, pages, &mut behind, map, scn_page);
