@@ -22,7 +22,7 @@ use Rattle.nb_model.specs.Backups.{close_backup}
 use Rattle.nb_model.specs.Chains.{backup_slot, put_slot}
 use Rattle.nb_model.specs.Causes.{when}
 use Rattle.nb_model.specs.Forms.{drafted, has_entry, scn_page_of}
-use Rattle.nb_model.specs.Going.{HasItsEntry}
+use Rattle.nb_model.specs.Forms.{HasItsEntry}
 use Rattle.nb_model.specs.Image.{Image}
 use Rattle.nb_model.specs.Levels.{file_of, count_in}
 use Rattle.nb_model.specs.Outcomes.{Backing, Seen, next_time}

@@ -8,7 +8,7 @@ ghost use Rattle.nb_page.specs.Quiet.{Quiet};
 ghost use Rattle.nb_model.specs.Account.{Ask};
 ghost use Rattle.nb_model.specs.Backups.{backup_turn, since_turn, close_backup};
 ghost use Rattle.nb_model.specs.Causes.{first_cause};
-ghost use Rattle.nb_model.specs.Going.{HasItsEntry};
+ghost use Rattle.nb_model.specs.Forms.{HasItsEntry};
 ghost use Rattle.nb_model.specs.Outcomes.{Seen, next_guid, next_time};
 ghost use Rattle.nb_model.specs.Owner.{delta_name};
 ghost use Rattle.nb_model.specs.Sound.{IsSoundImage};

@@ -4,7 +4,7 @@ use Rattle.nb_host.specs.declared.faults.Fault.{Fault}
 use Rattle.nb_host.specs.declared.faults.Fault.TheVariants.{Device}
 use Rattle.nb_model.specs.Chains.{backup_slot, put_slot}
 use Rattle.nb_model.specs.Forms.{drafted}
-use Rattle.nb_model.specs.Going.{HasItsEntry}
+use Rattle.nb_model.specs.Forms.{HasItsEntry}
 use Rattle.nb_model.specs.Outcomes.{next_time}
 use Rattle.nb_model.specs.Strokes.{Stroke}
 use Rattle.nb_state.proofs.MakesLaws.{still_open}

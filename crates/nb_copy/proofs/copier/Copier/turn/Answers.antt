@@ -3,7 +3,7 @@ use Rattle.std.specs.Prelude.{Ok, Err, Option, Result}
 use Rattle.nb_host.specs.declared.faults.Fault.{Fault}
 use Rattle.nb_host.specs.declared.faults.Fault.TheVariants.{Device}
 use Rattle.nb_model.specs.Backups.{close_backup}
-use Rattle.nb_model.specs.Going.{HasItsEntry}
+use Rattle.nb_model.specs.Forms.{HasItsEntry}
 use Rattle.nb_model.specs.Outcomes.{Backing, next_time}
 use Rattle.nb_model.specs.Strokes.{Stroke}
 use Rattle.nb_state.specs.Open.{Held, name_of}
