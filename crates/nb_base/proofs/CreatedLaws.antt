@@ -35,9 +35,6 @@ quiet_then old mid new name image quiet so_far =
     (λ files. ⊎_elim (λ was. inl (left_before old mid _ quiet.still.left name (files name) tt was)) inr)
 
 -- so it is of what reads
-pub quiet_reads : (old new : World) (name : List ℕ) (image : Image) → Quiet old new → CreateReads old name image new.files
-quiet_reads old new name image quiet = inl (ap (λ (f : Files). f name) quiet.still.files)
-
 pub quiet_then_reads : (old mid : World) (name : List ℕ) (image : Image) (files : Files) → Quiet old mid → CreateReads mid name image files → CreateReads old name image files
 quiet_then_reads old mid name image files quiet = ⊎_elim (λ same. inl (same ∙ ap (λ (f : Files). f name) quiet.still.files)) inr
 
