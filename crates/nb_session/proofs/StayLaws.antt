@@ -27,7 +27,6 @@ use Rattle.nb_base.specs.Takes.{Strikes}
 use Rattle.nb_state.specs.Open.{Held, IsOpen, but_pages, name_of}
 use Rattle.nb_state.specs.Does.{WhereEnded}
 use Rattle.nb_state.proofs.MakesLaws.{open_running, still_open, where_ended}
-use Rattle.nb_state.proofs.WholeLaws.{whole_same}
 use Rattle.nb_engine.specs.Stays.{CanBeOpened, OfFilesOr, StaysOpen}
 use Rattle.nb_engine.proofs.StaysLaws.{stays_struck}
 use Rattle.nb_session.specs.Askers.{IsBackup, file_asked}
@@ -65,7 +64,7 @@ seen_of t running = record { base = t.base; cache = 0; running = running; entry 
 
 -- a call that makes no stroke
 pub stays_out : {T : Type 0} (result : Result T Fault) (old new : World) (a b : Held) (t : Trail) (others : Names) → but_pages b ≡ but_pages a → Strikes old new (name_of a) t [] → WhereEnded result (IsOpen new b t) → StaysOpen result old new a b t others
-stays_out result old new a b t others same struck opened = stays_struck result old new a b t others t [] struck opened (where_ended result _ (whole_same t.base.image)) (ap (λ (h : Held). name_of h) same)
+stays_out result old new a b t others same struck opened = stays_struck result old new a b t others t [] struck opened (ap (λ (h : Held). name_of h) same)
 
 -- The names of files that are made.
 aside : (w : World) (held : Held) (t : Trail) (name : List ℕ) → IsOpen w held t → is_free_name w.files name ≡ true → is_delta name ≡ false → IsAside held name
