@@ -230,10 +230,7 @@ module _ (old mid : World) (account : Account) (name bytes : List ℕ) (plain : 
           subst (λ (tr : Trail). StandsIn t.name tr new.files) (seen_same t off (take stands.0 (steps_of es)) ∙ ap (λ (ss : List Step). seen_after account t.name (take stands.0 ss)) (sym (steps_are name bytes es))) stands.1,
         )
         by (Some t) off (inr unbegun) = inr (record {
-          main = ⊎_elim
-              (λ same. inl (same ∙ written.others_read t.name off))
-              (λ made. inr (made.0, ⊎_elim inl (λ left. inr (before t.name (new.files t.name) off left)) made.1))
-              unbegun.main;
+          main = ⊎_elim (λ same. inl (same ∙ written.others_read t.name off)) inr unbegun.main;
           delta = unbegun.delta ∙ written.others_read (delta_name t.name) (no_main t.name name plain);
         })
 

@@ -290,9 +290,9 @@ pub record Finished (status : Status) (old new : World) (account : Account) (tar
   pub guids : left.guids ≢ [] → new.guids ≡ old.guids ++ guids_in (strokes_of events)
 
 -- The run hasn't begun to change its database: both files read as before. Only where the run creates the database, its main file may also
--- be one whose name is free, or one of those that a stop would have left before.
+-- be one whose name is free.
 pub record ReadsUnbegun (old new : World) (target : Target) : Type 0 where
-  pub main : (new.files target.name ≡ old.files target.name) ⊎ ((target.creates ≡ true) × ((is_free_file (new.files target.name) ≡ true) ⊎ Leaves old target.name (new.files target.name)))
+  pub main : (new.files target.name ≡ old.files target.name) ⊎ ((target.creates ≡ true) × (is_free_file (new.files target.name) ≡ true))
   pub delta : new.files (delta_name target.name) ≡ old.files (delta_name target.name)
 
 -- The files as they read hold what may be left of what was seen of the database behind some of the steps, or the run hasn't begun.
