@@ -16,8 +16,6 @@ use Rattle.nb_model.specs.Causes.{Cause, not_kind}
 use Rattle.nb_model.proofs.DraftLaws.{IsOf, drafts_are, drafted_is, put_keeps, set_bit_keeps, system_keeps}
 use Rattle.nb_model.proofs.DraftJoin.{join_set_bit}
 use Rattle.nb_model.proofs.NewSound.{inventory_before}
-use Rattle.nb_model.proofs.RoundLaws as rounds
-use Rattle.nb_model.proofs.RoundLaws.{found}
 use Rattle.nb_base.specs.Takes.{after_strokes}
 use Rattle.nb_state.specs.Open.{Held, IsOpen}
 use Rattle.nb_state.specs.Does.{Makes}
