@@ -1,6 +1,6 @@
 -- Which turns make a file of which name.
 use Rattle.std.proofs.Common.{◌≡◌, ◌≢◌, inl, inr, ℕ, zero, suc, ◌-◌, ◌<◌, ◌≤◌, List, [], ◌∷◌, ◌++◌, length, get_or, set, refl, sym, ap, subst, arith, get_or-set_same}
-use Rattle.std.specs.Prelude.{Contains}
+use Rattle.std.specs.Prelude.{Bool, Contains}
 use Rattle.std.specs.List.{AllByRecursion, slice_index_or}
 use Rattle.std.proofs.lemmas.List.Elements.{Contains-append_left, Contains-append_right, Contains-append_cases}
 use Rattle.nb_model.specs.Backups.{close_backup, close_copy}

@@ -242,7 +242,7 @@ module _ (old new : World) (a b : Held) (t : Trail) (now : Now) (session : ℕ) 
 -- The stalled state ends behind a backup whose session runs: it isn't refused.
 pub ends_quiet : {sound : Bool} (w : World) (held : Held) (t : Trail) (now : Now) (session : ℕ) → IsReady w held t now → IsGoing sound now → (reply : Reply) (more : List Turn) → slice_index_or now.todo (session - 1) [] ≡ Ends reply ∷ more
     → held.running ≡ Some session → (end_turn (seen_now now) session).reply ≡ None
-ends_quiet w held t now session ready going reply more here runs =
+ends_quiet {sound = sound} w held t now session ready going reply more here runs =
     end_quiet (seen_now now) session (ending_at now (session - 1) reply more (subst (IsAt sound now (session - 1)) here (going.each (session - 1)))).state (sym ready.running ∙ runs)
 
 pub ends_unrefused : {sound : Bool} (old new : World) (a b : Held) (t : Trail) (now : Now) (session : ℕ) → IsReady old a t now → IsGoing sound now → (reply : Reply) (more : List Turn) → slice_index_or now.todo (session - 1) [] ≡ Ends reply ∷ more
