@@ -370,5 +370,5 @@ module _ (old mid : World) (a b : Held) (t : Trail) (now : Now) (session : ℕ) 
 -- the session whose copy it is has it to do in the stalled state
 pub copying_stalled : {sound : Bool} (w : World) (held : Held) (t : Trail) (now : Now) (session : ℕ) (left : ℕ) (name : List ℕ) (more : List Turn) → IsReady w held t now → IsGoing sound now
     → slice_index_or now.todo (session - 1) [] ≡ copy_first left (ClosesCopy name) ∷ (copy_rest left (ClosesCopy name) ++ more) → held.files.state ≡ 1
-copying_stalled w held t now session left name more ready going here =
+copying_stalled {sound = sound} w held t now session left name more ready going here =
     stalled_now w held t now (session - 1) ready (copying_at now (session - 1) left name more (subst (IsAt sound now (session - 1)) here (going.each (session - 1)))).0

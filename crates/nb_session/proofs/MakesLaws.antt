@@ -155,7 +155,7 @@ begin_none (Finishes reply ∷ ts) name all = absurd all.0
 
 -- where no copy and no merge is under way, no file is in the making
 pub none_runs : {sound : Bool} (now : Now) → IsGoing sound now → ((place number : ℕ) → 1 ≤ number → Runs now place number → ⊥) → (name : List ℕ) → IsNoneOf (under_way now) name
-none_runs now going none name = make_none_all (base_now now).frozen now.todo name (all_places (MakeNo name) now.todo (λ place. at place (slice_index_or now.todo place []) (going.each place)))
+none_runs {sound = sound} now going none name = make_none_all (base_now now).frozen now.todo name (all_places (MakeNo name) now.todo (λ place. at place (slice_index_or now.todo place []) (going.each place)))
   where
     at : (place : ℕ) (ts : List Turn) → IsAt sound now place ts → MakeNo name ts
     at place ts (waits all) = begin_none ts name all

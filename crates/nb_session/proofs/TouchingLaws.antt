@@ -133,7 +133,7 @@ none_starts session x now place asks runs =
 
 -- So a session touches nothing.
 pub none_touching : {sound : Bool} (session : ℕ) (now : Now) → IsGoing sound now → (place : ℕ) → Runs now place 1 → session - 1 ≢ place → touching_by session now ≡ []
-none_touching session now going place runs off =
+none_touching {sound = sound} session now going place runs off =
     ap (λ (files : List MadeFile). files ++ making_by session now) (by (slice_index_or now.todo (session - 1) []) (going.each (session - 1))) ∙ none_making session now going place runs off
   where
     alone : (m : ℕ) → Runs now (session - 1) m → ⊥

@@ -80,7 +80,7 @@ copy_runs now place todo turn rest (merges turns runs) is copy = absurd (no_merg
 
 -- while another one runs a session makes nothing
 pub none_making : {sound : Bool} (session : ℕ) (now : Now) → IsGoing sound now → (place : ℕ) → Runs now place 1 → session - 1 ≢ place → making_by session now ≡ []
-none_making session now going place runs off = by (slice_index_or now.todo (session - 1) []) (going.each (session - 1))
+none_making {sound = sound} session now going place runs off = by (slice_index_or now.todo (session - 1) []) (going.each (session - 1))
   where
     alone : (m : ℕ) → Runs now (session - 1) m → ⊥
     alone m its = off (one_runs now (session - 1) place m 1 its runs)
