@@ -1,5 +1,5 @@
 -- Behind the first statement the database stands ready for the turns of its sessions, and the files that they make are none of its two.
-use Rattle.std.proofs.Common.{◌≡◌, ◌≢◌, inl, inr, ℕ, ◌+◌, ◌-◌, ◌≤◌, List, [], ◌∷◌, length, get_or, refl, sym, ap, subst, ◌∙◌, arith}
+use Rattle.std.proofs.Common.{◌≡◌, ◌≢◌, inl, inr, ℕ, zero, suc, ◌+◌, ◌-◌, ◌≤◌, List, [], ◌∷◌, length, get_or, refl, sym, ap, subst, ◌∙◌, arith}
 use Rattle.std.specs.Prelude.{Bool, true, false, not, nat_le, is_some, ◌&&◌, Contains}
 use Rattle.std.specs.List.{AllByRecursion, list_any}
 use Rattle.std.proofs.lemmas.Bool.{and_parts, or_left, or_right, true≢false}
@@ -139,7 +139,7 @@ module _ (plan : Plan) (askable : IsAskable plan) (now : Now) (todo : now.todo �
     pub begins_going : HasHeader (base_now now).image → image_state (base_now now).image ≤ 2
         → (image_state (base_now now).image ≡ 1 → (is_header (first_page (base_now now).frozen) ≡ true) × (image_state (base_now now).frozen ≡ 1)) → MayBeGiven now.given → IsGoing sound now
     begins_going header state frozen sixteen =
-        begun_going now plan.sessions todo header sure (λ place. all_so _ _ (λ (x : Statement) asked goes. levels (asked goes)) (get_or plan.sessions place []) (levels_asked place)) state (λ stalled. (frozen stalled).0) sixteen
+        begun_going now plan.sessions todo header sure (λ place. all_so (λ (x : Statement). goes_by_entries (Begins x) ≡ true → asks_levels plan ≡ true) (λ (x : Statement). goes_by_entries (Begins x) ≡ true → sound ≡ true) (λ x asked goes. levels (asked goes)) (get_or plan.sessions place []) (levels_asked place)) state (λ stalled. (frozen stalled).0) sixteen
 
     pub begins_making : HasHeader (base_now now).image → image_state (base_now now).image ≤ 2
         → (image_state (base_now now).image ≡ 1 → (is_header (first_page (base_now now).frozen) ≡ true) × (image_state (base_now now).frozen ≡ 1)) → MayBeGiven now.given → IsMaking now

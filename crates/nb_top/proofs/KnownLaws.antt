@@ -23,8 +23,8 @@ use Rattle.nb_model.proofs.GoingLaws.{name_short}
 use Rattle.nb_model.proofs.OpeningLaws.{free_entry}
 use Rattle.nb_catalog.specs.Turns.{names_in}
 use Rattle.nb_script.specs.Fits.{FitsFirst}
+use Rattle.nb_script.specs.Asked.{IsAskable}
 use Rattle.nb_script.specs.Scripts.{Plan}
-use Rattle.nb_top.specs.declared.telling.Telling.{Telling}
 use Rattle.nb_top.specs.declared.telling.Telling.TheVariants.{All}
 use Rattle.nb_top.specs.Performed.{Knows, KnowsAsked, KnowsNames, KnowsOpened, asks_levels, levels_asked}
 use Rattle.nb_top.specs.Requests.{Asked, Runs, ToRun, FitsJob, request_asked, request_of, script_in, to_plan, to_run}
@@ -64,11 +64,11 @@ module _ (files : Files) (names : HaveNames files) (account : Account) (same : I
       record { same = same name plain; sound = λ asked b is. sound (may asked) name b plain is }
   known_opened own may other fits = tt
 
-  known_plan : (plan : Plan) (telling : Telling) → (asks_levels plan ≡ true → levels ≡ true) → FitsFirst plan.first → Knows files account (Ok (ToRun plan telling))
-  known_plan plan telling may fits = (known_names, known_opened (asks_levels plan) may plan.first fits)
+  known_plan : (plan : Plan) → IsAskable plan → (asks_levels plan ≡ true → levels ≡ true) → Knows files account (Ok (ToRun plan All))
+  known_plan plan askable may = (known_names, known_opened (asks_levels plan) may plan.first askable.first.fits)
 
   known_script : (name : List ℕ) (read : Result Plan Refusal) → script_in name (files name) ≡ read → (levels_asked (Runs (to_run read)) ≡ true → levels ≡ true) → Knows files account (to_run read)
-  known_script name (Ok plan) is may = known_plan plan All may (askable_in name (files name) plan is).first.fits
+  known_script name (Ok plan) is may = known_plan plan (askable_in name (files name) plan is) may
   known_script name (Err refusal) is may = tt
 
   known_list : (keep : ℕ) (names : Result (List (List ℕ)) Refusal) → KnowsAsked files account (to_plan keep names)
@@ -77,12 +77,12 @@ module _ (files : Files) (names : HaveNames files) (account : Account) (same : I
 
   known_job : (job : Job) → FitsJob job → (levels_asked (request_of files job) ≡ true → levels ≡ true) → KnowsAsked files account (request_of files job)
   known_job (Run name) fits may = known_script name (script_in name (files name)) refl may
-  known_job (Backup level db file) fits may = known_plan _ _ may (backup_askable level db file fits).first.fits
-  known_job (BackupSince guid db file) fits may = known_plan _ _ may (since_askable guid db file fits).first.fits
-  known_job (Stat db) fits may = known_plan _ _ may (stat_askable db fits).first.fits
-  known_job (Lock db) fits may = known_plan _ _ may (begin_askable db fits).first.fits
-  known_job (LockWithSize db) fits may = known_plan _ _ may (begin_askable db fits).first.fits
-  known_job (Unlock db) fits may = known_plan _ _ may (end_askable db fits).first.fits
+  known_job (Backup level db file) fits may = known_plan _ (backup_askable level db file fits) may
+  known_job (BackupSince guid db file) fits may = known_plan _ (since_askable guid db file fits) may
+  known_job (Stat db) fits may = known_plan _ (stat_askable db fits) may
+  known_job (Lock db) fits may = known_plan _ (begin_askable db fits) may
+  known_job (LockWithSize db) fits may = known_plan _ (begin_askable db fits) may
+  known_job (Unlock db) fits may = known_plan _ (end_askable db fits) may
   known_job (Gen number name) fits may = known_names
   known_job (Fixup db) fits may = same db (plain_file db (and_parts (is_file db) (nat_le (length db) 94) fits).0)
   known_job (Restore db names) fits may = known_names db (plain_file db (and_parts (is_file db) (nat_le (length db) 94) fits.0).0)

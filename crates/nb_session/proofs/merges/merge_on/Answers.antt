@@ -88,7 +88,7 @@ returns-in-More-clause-stays_open g c tells still =
     let b = c.merge_turn.new.self in
     let t = still.trail in
     let merges = subst (λ (p : Progress). Merges (Ok p) old mid a b t) c.in-More.is (c.in_ok-merge_turn.ensures.merges t tells still.opened) in
-    turn_unheard old mid a b NoNames still (Ok More) (stays_merges (Ok More) old mid a b t NoNames tt merges) left_refused (left_task _) Same b tt refl refl (λ m none. none) refl
+    turn_unheard old mid a b NoNames still (Ok More) (stays_merges (Ok More) old mid a b t NoNames tt merges) left_refused (left_task _) Same b tt refl tt (λ m none. none) refl
 
 pub returns-in_err-tell-in-Finished-clause-stays_open : goal.returns-in_err-tell-in-Finished-clause-stays_open
 returns-in_err-tell-in-Finished-clause-stays_open g c tells still =
