@@ -37,7 +37,7 @@ returns-in_err-drop_table-in-DropTable-clause-turn g c now t session tells ready
     let s = seen_now now in
     may_passed (some_by done) some_said _ _ _ _ t now session _ [] _ c.from_residual-in_err-drop_table-in-DropTable.result c.from_residual-in_err-drop_table-in-DropTable.ensures
     (does_acts done _ _ _ _ _ t now session c.args.statement.now _ c.in-DropTable.is refl refl refl _ refl ready
-    (c.in_err-drop_table-in-DropTable.ensures.turn s t tells ready.base ready.opened (subst (λ (b : Base). IsSoundImage b.image) ready.base (sound (subst GoesByInventories (sym c.in-DropTable.is) tt))).least (subst (λ (b : Base). IsSoundImage b.image) ready.base (sound (subst GoesByInventories (sym c.in-DropTable.is) tt))).sizes))
+    (c.in_err-drop_table-in-DropTable.ensures.turn s t tells ready.base ready.opened (subst (λ (b : Base). IsSoundImage b.image) ready.base (sound (subst GoesByInventories (sym c.in-DropTable.is) tt))).sizes))
 
 pub returns-in_ok-drop_table-in-DropTable-clause-turn : goal.returns-in_ok-drop_table-in-DropTable-clause-turn
 unfolding first_turn
@@ -45,7 +45,7 @@ returns-in_ok-drop_table-in-DropTable-clause-turn g c now t session tells ready 
     let s = seen_now now in
     may_value (some_by done) some_said _ _ _ _ t now session _ [] c.in_ok-drop_table-in-DropTable.field-0 Done refl
     (does_acts done _ _ _ _ _ t now session c.args.statement.now _ c.in-DropTable.is refl refl refl _ refl ready
-    (c.in_ok-drop_table-in-DropTable.ensures.turn s t tells ready.base ready.opened (subst (λ (b : Base). IsSoundImage b.image) ready.base (sound (subst GoesByInventories (sym c.in-DropTable.is) tt))).least (subst (λ (b : Base). IsSoundImage b.image) ready.base (sound (subst GoesByInventories (sym c.in-DropTable.is) tt))).sizes))
+    (c.in_ok-drop_table-in-DropTable.ensures.turn s t tells ready.base ready.opened (subst (λ (b : Base). IsSoundImage b.image) ready.base (sound (subst GoesByInventories (sym c.in-DropTable.is) tt))).sizes))
 
 pub returns-in_err-insert-in-Insert-clause-turn : goal.returns-in_err-insert-in-Insert-clause-turn
 unfolding first_turn
