@@ -10,13 +10,13 @@ ghost use Rattle.nb_model.specs.Causes.{first_cause, not_kind, not_of_form, no_s
 ghost use Rattle.nb_model.specs.Chains.{History, last_of, put_slot, backup_slot, grown};
 ghost use Rattle.nb_model.specs.Forms.{drafted, is_kind, inventory_of, scn_page_of, is_free_page};
 ghost use Rattle.nb_model.specs.Trail.{Trail};
-ghost use Rattle.nb_model.proofs.StepLaws.{IsShaped};
 ghost use Rattle.nb_state.specs.Open.{IsOpen, but_pages};
 ghost use Rattle.nb_state.specs.Does.{Tested, Goes};
 ghost use Rattle.nb_engine.specs.History.{IsPlaced};
 ghost use Rattle.nb_engine.specs.Make.{MakesSome};
 ghost use Rattle.nb_engine.specs.Put.{entry_cause};
 ghost use Rattle.nb_engine.specs.Room.{taken_draft, grow_cause};
+ghost use Rattle.nb_engine.specs.Search.{IsSearchable};
 ghost use Rattle.nb_engine.specs.Tries.{Tries};
 
 use crate::grow::grow_from;
@@ -152,10 +152,10 @@ pub(crate) fn grow<H: Host>(
     requires scn_room { length scn_page.old ≡ store.old.files.page_size }
     requires low { 0 < last }
     requires high { last < 1048576 }
-    ensures makes { (t : Trail) (pages : List ℕ) → IsTrue H.tells → IsOpen (H.world host.old) store.old t → IsShaped t.base.image → last ≡ last_of pages → is_kind t.base.image 5 last ≡ true
+    ensures makes { (t : Trail) (pages : List ℕ) → IsTrue H.tells → IsOpen (H.world host.old) store.old t → IsSearchable t.base.image → last ≡ last_of pages → is_kind t.base.image 5 last ≡ true
         → Tries result (H.world host.old) (H.world host.new) store.old store.new t (grow_cause t.base.image pages) (grown History pages [] (drafted t.base.image)).0.strokes }
-    ensures value { (t : Trail) (pages : List ℕ) → IsTrue H.tells → IsOpen (H.world host.old) store.old t → IsShaped t.base.image → is_kind t.base.image 5 last ≡ true → IfOk result (λ number. number ≡ (grown History pages [] (drafted t.base.image)).1) }
-    ensures below { (t : Trail) (pages : List ℕ) → IsTrue H.tells → IsOpen (H.world host.old) store.old t → IsShaped t.base.image → is_kind t.base.image 5 last ≡ true → IfOk result (λ number. number < length (grown History pages [] (drafted t.base.image)).0.image) }
+    ensures value { (t : Trail) (pages : List ℕ) → IsTrue H.tells → IsOpen (H.world host.old) store.old t → IsSearchable t.base.image → is_kind t.base.image 5 last ≡ true → IfOk result (λ number. number ≡ (grown History pages [] (drafted t.base.image)).1) }
+    ensures below { (t : Trail) (pages : List ℕ) → IsTrue H.tells → IsOpen (H.world host.old) store.old t → IsSearchable t.base.image → is_kind t.base.image 5 last ≡ true → IfOk result (λ number. number < length (grown History pages [] (drafted t.base.image)).0.image) }
     ensures some { (t : Trail) → IsTrue H.tells → IsOpen (H.world host.old) store.old t → 5 ≤ length t.base.image → MakesSome result (H.world host.old) (H.world host.new) store.old store.new t }
     ensures least { IfOk result (λ number. 5 ≤ number) }
     ensures most { IfOk result (λ number. number < 1048576) }

@@ -54,6 +54,10 @@ drop_empty x (q ∷ qs) noted e =
     let both = both_empty (give_broken x q) noted rest.0 in
     (both.1, (both.0, rest.1))
 
+-- The catalogue begins at page 3, so the database has four pages.
+pub table_least : (x : Image) (table : List ℕ) (spot : Spot) → IsWholeTable x table spot → 3 ≤ length x
+table_least x table spot has = let low : 3 < length x = (in_chain Catalogue x 3 (first_found Catalogue x has.catalogue)).0 in omega (arith, low)
+
 module _ (x : Image) (h : HasHeader x) (shaped : IsShaped x) (table : List ℕ) (spot : Spot) (has : IsWholeTable x table spot) where
   abbrev chain : Chain
   chain = RowsFrom (first_in spot.bytes)
