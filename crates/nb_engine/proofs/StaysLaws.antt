@@ -1,6 +1,6 @@
 -- How calls go on that leave a database open, whatever stands in it.
 use Rattle.std.proofs.Common.{◌≡◌, inl, inr, ℕ, List, [], ◌∷◌, refl, sym, ap, subst, ◌∙◌}
-use Rattle.std.specs.Prelude.{Bool, true, false, ◌==◌, Option, Some, None, Result, Ok, Err, IsErr, IsErrAnd, IfErr}
+use Rattle.std.specs.Prelude.{Option, Result, Ok, Err, IsErr, IsErrAnd, IfErr}
 use Rattle.nb_host.specs.Files.{File, Files, with_file}
 use Rattle.nb_host.specs.World.{World}
 use Rattle.nb_host.specs.Crash.{Leaves, LeavesAll}
@@ -17,11 +17,10 @@ use Rattle.nb_change.proofs.NameLaws.{with_file-same, with_file-other}
 use Rattle.nb_model.specs.declared.reply.Reply.{Reply}
 use Rattle.nb_model.specs.Account.{Ask, Base}
 use Rattle.nb_model.specs.Causes.{Cause}
-use Rattle.nb_model.specs.Image.{Image, image_state}
-use Rattle.nb_model.specs.Outcomes.{Outcome, Seen, unless}
+use Rattle.nb_model.specs.Outcomes.{Outcome, Seen}
 use Rattle.nb_model.specs.Owner.{delta_name, owner}
-use Rattle.nb_model.specs.Pages.{end_strokes, end_turn, ends_by}
-use Rattle.nb_model.specs.Strokes.{Stroke, begin, ends, finish}
+use Rattle.nb_model.specs.Pages.{end_turn}
+use Rattle.nb_model.specs.Strokes.{Stroke, begin, finish}
 use Rattle.nb_model.specs.Trail.{Trail, StandsIn, after_stroke}
 use Rattle.nb_base.specs.Open.{OfFiles}
 use Rattle.nb_base.specs.Takes.{Strikes, after_strokes, IsNoRefusal}

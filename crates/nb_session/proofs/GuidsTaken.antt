@@ -1,22 +1,22 @@
 -- Which GUIDs turns take of those that may be given: one for each backup that they begin, in order.
 use Rattle.std.proofs.Common.{◌≡◌, ◌≢◌, ◌⊎◌, inl, inr, ℕ, ◌-◌, List, [], ◌∷◌, ◌++◌, drop, replicate, Bool, true, false, refl, sym, ap, subst, ◌∙◌, append_assoc}
-use Rattle.std.specs.Prelude.{nat_lt, ◌==◌, Some}
+use Rattle.std.specs.Prelude.{◌==◌, Some}
 use Rattle.std.specs.List.{AllByRecursion, slice_index_or}
 use Rattle.std.proofs.lemmas.List.{append-nil, append_cancel_right}
 use Rattle.nb_host.specs.World.{World}
 use Rattle.nb_host.specs.declared.refusals.Refusal.{Refusal}
 use Rattle.nb_model.specs.declared.reply.Reply.{Reply}
 use Rattle.nb_model.specs.declared.statement.Statement.{Statement}
-use Rattle.nb_model.specs.Account.{Ask, Base}
+use Rattle.nb_model.specs.Account.{Ask}
 use Rattle.nb_model.specs.Backups.{room_in, close_backup, close_copy}
 use Rattle.nb_model.specs.Gifts.{WasGiven}
 use Rattle.nb_model.specs.Going.{IsMaking, IsNamed}
-use Rattle.nb_model.specs.Image.{Page, image_scn, image_state}
+use Rattle.nb_model.specs.Image.{image_state}
 use Rattle.nb_model.specs.NewGuids.{guids_in}
 use Rattle.nb_model.specs.Outcomes.{Turn, Begins, Copies, ClosesBackup, ClosesCopy, Ends, Merges, Finishes, Outcome, Seen, Given, next_guid}
 use Rattle.nb_model.specs.Pages.{ends_by, end_strokes}
 use Rattle.nb_model.specs.Run.{Now, Played, outcome, one_turn, play, stands_then, strokes_of}
-use Rattle.nb_model.specs.Strokes.{Stroke, page, begin, ends, on_base}
+use Rattle.nb_model.specs.Strokes.{Stroke, page, begin, ends}
 use Rattle.nb_model.specs.Turns.{first_turn, turn}
 use Rattle.nb_model.proofs.GoingLaws.{making_turn, one_cases}
 use Rattle.nb_model.proofs.GuidLaws.{guids_append}

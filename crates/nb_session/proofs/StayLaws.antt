@@ -26,7 +26,7 @@ use Rattle.nb_base.specs.Open.{OfFiles}
 use Rattle.nb_base.specs.Takes.{Strikes}
 use Rattle.nb_state.specs.Open.{Held, IsOpen, but_pages, name_of}
 use Rattle.nb_state.specs.Does.{WhereEnded}
-use Rattle.nb_state.proofs.MakesLaws.{open_running, still_open, where_ended}
+use Rattle.nb_state.proofs.MakesLaws.{open_running, still_open}
 use Rattle.nb_engine.specs.Stays.{CanBeOpened, OfFilesOr, StaysOpen}
 use Rattle.nb_engine.proofs.StaysLaws.{stays_struck}
 use Rattle.nb_session.specs.Askers.{IsBackup, file_asked}

@@ -1,5 +1,5 @@
 // The end of a backup, which takes many turns: one that ends the stalled state, one for each page that is merged, and a last one.
-ghost use Rattle.std.specs.Prelude.{◌≡◌, ◌<◌, ℕ, ◌-◌, List, [], ◌∷◌, ◌++◌, length, None, Some, true, false, IsTrue, IfOk, IfErr};
+ghost use Rattle.std.specs.Prelude.{◌≡◌, ◌<◌, ◌-◌, List, [], ◌∷◌, ◌++◌, length, None, Some, true, false, IsTrue, IfOk, IfErr};
 ghost use Rattle.std.specs.List.{slice_index_or};
 ghost use Rattle.nb_change.specs.Changes.{NoNames};
 ghost use Rattle.nb_change.specs.Counts.{CountsDevice};

@@ -1,5 +1,5 @@
 // One session of a script.
-ghost use Rattle.std.specs.Prelude.{◌≡◌, ◌≢◌, ◌<◌, ℕ, ◌-◌, List, [], ◌∷◌, Bool, IsTrue, IfOk, IfErr, None, false};
+ghost use Rattle.std.specs.Prelude.{◌≡◌, ◌≢◌, ◌<◌, ◌-◌, List, [], ◌∷◌, IsTrue, IfOk, IfErr, None, false};
 ghost use Rattle.std.specs.List.{slice_index_or};
 ghost use Rattle.nb_change.specs.Counts.{CountsDevice};
 ghost use Rattle.nb_model.specs.Going.{IsMaking};

@@ -1,5 +1,5 @@
 // A statement on tables, which is done in one turn.
-ghost use Rattle.std.specs.Prelude.{◌≡◌, ℕ, [], IsTrue};
+ghost use Rattle.std.specs.Prelude.{ℕ, [], IsTrue};
 ghost use Rattle.nb_change.specs.Changes.{NoNames};
 ghost use Rattle.nb_change.specs.Counts.{CountsDevice};
 ghost use Rattle.nb_model.specs.Outcomes.{Begins};

@@ -14,7 +14,6 @@ use Rattle.nb_model.specs.declared.job.Job.TheVariants.{Run, Stat, Gen, Backup, 
 use Rattle.nb_model.specs.declared.statement.Statement.{Statement}
 use Rattle.nb_model.specs.declared.statement.Statement.TheVariants.{OpenDb}
 use Rattle.nb_model.specs.Account.{Base, IsBase, Account}
-use Rattle.nb_model.specs.Jobs.{usual_cache}
 use Rattle.nb_model.specs.Owner.{delta_name}
 use Rattle.nb_model.specs.Sound.{IsSoundImage}
 use Rattle.nb_model.specs.Stands.{IsSameImage, Stands, to_base}

@@ -1,8 +1,6 @@
 use Rattle.std.proofs.Common.{◌≡◌, [], sym, subst, refl, ◌∙◌}
 use Rattle.std.specs.Prelude.{if◌then◌else◌, Bool, None}
-use Rattle.nb_model.specs.Account.{Base}
 use Rattle.nb_model.specs.Output.{status_after}
-use Rattle.nb_model.specs.Sound.{IsSoundImage}
 use Rattle.nb_session.specs.Replies.{some_said}
 use Rattle.nb_session.proofs.EventLaws.{marks_none}
 use Rattle.nb_session.proofs.KeepLaws.{one_single}

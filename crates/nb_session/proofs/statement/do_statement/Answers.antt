@@ -1,8 +1,7 @@
-use Rattle.std.proofs.Common.{ℕ, [], true≢false, refl, ap, sym, subst, ◌∙◌}
+use Rattle.std.proofs.Common.{ℕ, [], refl, ap, sym, ◌∙◌}
 use Rattle.std.specs.Prelude.{Ok, Some, Err, None}
 use Rattle.nb_host.specs.declared.faults.Fault.TheVariants.{Device}
 use Rattle.nb_model.specs.declared.reply.Reply.TheVariants.{Done, PageMade, Value, Scn, ImageShown, CacheShown}
-use Rattle.nb_model.specs.Account.{Base}
 use Rattle.nb_model.specs.Pages.{write_turn, header_turn}
 use Rattle.nb_model.specs.Turns.{first_turn}
 use Rattle.nb_engine.specs.Replies.{done, page_made, valued, scn_is}

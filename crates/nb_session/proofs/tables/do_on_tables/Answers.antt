@@ -1,7 +1,6 @@
-use Rattle.std.proofs.Common.{[], true≢false, refl, ap, sym, subst, ◌∙◌}
+use Rattle.std.proofs.Common.{[], refl, ap, sym, ◌∙◌}
 use Rattle.std.specs.Prelude.{Some}
 use Rattle.nb_model.specs.declared.reply.Reply.TheVariants.{Done, Value, Rows}
-use Rattle.nb_model.specs.Account.{Base}
 use Rattle.nb_model.specs.Tables.{insert_turn, update_turn}
 use Rattle.nb_model.specs.Turns.{first_turn}
 use Rattle.nb_engine.specs.Replies.{done, valued}
