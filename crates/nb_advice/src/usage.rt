@@ -1,5 +1,5 @@
 // Which word of the command line is wrong.
-use crate::word::{Kind, shown, wrong_name, wrong_number, wrong_since};
+use crate::word::{Kind, shown, wrong_keep, wrong_name, wrong_number, wrong_since};
 use std::alloc::{AllocError, Global};
 
 /// The letters of the flags.
@@ -152,12 +152,9 @@ fn wrong_restore(alloc: Global, plain: &[&str]) -> Result<Option<String>, AllocE
 
 /// What is wrong with the words of a plan.
 fn wrong_plan(alloc: Global, keep: &str, list: &str) -> Result<Option<String>, AllocError> {
-    let wrong = wrong_number(alloc, keep)?;
+    let wrong = wrong_keep(alloc, keep)?;
     if wrong.is_some() {
         return Ok(wrong);
-    }
-    if keep.parse::<u32>().is_err() {
-        return Ok(Some(String::from_str(alloc, "4294967295 restore points are kept at most")?));
     }
     wrong_name(alloc, list, Kind::File)
 }

@@ -107,14 +107,27 @@ fn is_guid(word: &str) -> bool {
         })
 }
 
+/// Whether a word is digits, without a needless zero in front.
+fn is_plain_number(word: &str) -> bool {
+    !word.is_empty()
+        && word.bytes().all(|byte| byte.is_ascii_digit())
+        && (word.len() == 1 || !word.starts_with('0'))
+}
+
 /// Why a word is no number of a script, and none where it is one.
 pub(crate) fn wrong_number(alloc: Global, word: &str) -> Result<Option<String>, AllocError> {
-    let is_plain = !word.is_empty()
-        && word.bytes().all(|byte| byte.is_ascii_digit())
-        && (word.len() == 1 || !word.starts_with('0'));
-    if is_plain && word.parse::<u64>().is_ok() {
+    if is_plain_number(word) && word.parse::<u64>().is_ok() {
         return Ok(None);
     }
     let name = shown(alloc, word)?;
     Ok(Some(format!(in alloc; "{name} is no number of 0 to 18446744073709551615")?))
+}
+
+/// Why a word is no number of restore points, and none where it is one.
+pub(crate) fn wrong_keep(alloc: Global, word: &str) -> Result<Option<String>, AllocError> {
+    if is_plain_number(word) && word.parse::<u32>().is_ok() {
+        return Ok(None);
+    }
+    let name = shown(alloc, word)?;
+    Ok(Some(format!(in alloc; "{name} is no number of 0 to 4294967295")?))
 }

@@ -38,6 +38,11 @@ unfolding first_cause
 one_cause None = refl
 one_cause (Some r) = refl
 
+pub none_behind : (c : Cause) → first_cause (c ∷ None ∷ []) ≡ c
+unfolding first_cause
+none_behind None = refl
+none_behind (Some r) = refl
+
 -- and of a list of causes with others behind it
 pub first_front : (causes rest : List Cause) (r : Refusal) → first_cause causes ≡ Some r → first_cause (causes ++ rest) ≡ Some r
 unfolding first_cause

@@ -115,6 +115,12 @@ content_named None false bytes slots is are p = cc
 content_named (Some owner) false bytes slots is are p = are
 content_named (Some owner) true bytes slots is are p = cc
 
+-- it fits into each page
+pub data_short : (owner : ℕ) (slots : List ℕ) → length slots ≤ 992 → length (data_payload 0 owner slots) ≤ 1008
+unfolding data_payload
+data_short owner slots short =
+    omega (arith, short, length-bytes_of 4 0, length-bytes_of 4 owner, length-append (bytes_of 4 0) (bytes_of 4 owner ++ (replicate 8 0 ++ slots)), length-append (bytes_of 4 owner) (replicate 8 0 ++ slots), length-append (replicate 8 0) slots)
+
 -- so it is made as the definition has it
 pub new_named : (owner : Option ℕ) (own : Bool) (bytes slots : List ℕ) → is_some owner ≡ not own → bytes ≡ data_payload 0 (unwrap_or owner 0) slots → (image : Image) → new_of 5 (content own bytes) image ≡ new_data owner slots image
 new_named owner own bytes slots is are image = new_same (length image + 4) 5 (content own bytes) (λ p. data_payload 0 (owner_by owner p) slots) (drafted image) (content_named owner own bytes slots is are)

@@ -1,22 +1,18 @@
 -- The search for a free page: what it finds, and what one inventory page says of it.
 use Rattle.std.proofs.Common.{◌≡◌, inl, inr, ℕ, zero, suc, ◌+◌, ◌-◌, ◌*◌, ◌/◌, ◌%◌, ◌<◌, ◌≤◌, length, get_or, refl, sym, ap, subst, ◌∙◌, arith}
-use Rattle.std.specs.Prelude.{Bool, true, false, ◌==◌, IsTrue, Option, Some, None, MatchOption, min, max}
+use Rattle.std.specs.Prelude.{Bool, true, false, ◌==◌, Option, Some, None, MatchOption, min, max}
 use Rattle.std.proofs.Math.Nat.{mul-add-mod_self_right, mod-eq_of_lt}
 use Rattle.std.proofs.lemmas.Nat.{div-mul-add}
 use Rattle.std.proofs.lemmas.Bool.{true≢false}
 use Rattle.std.proofs.lemmas.Bool.Decides.{eqb_tells, leb_tells}
-use Rattle.nb_fields.specs.Places.{is_page_size, bits_in, inventory_place}
+use Rattle.nb_fields.specs.Places.{bits_in, inventory_place}
 use Rattle.nb_fields.specs.Payloads.{bit_of}
-use Rattle.nb_fields.proofs.PlaceLemmas.{bits-least}
 use Rattle.nb_pip.specs.Bits.{bits, AreUsed, IsLowestFree}
 use Rattle.nb_pip.proofs.BitLemmas.{get_or-bits}
 use Rattle.nb_model.specs.Image.{Page, Image, page_at, image_size}
 use Rattle.nb_model.specs.Forms.{inventory_of, is_free_page, free_from, lowest_free}
 use Rattle.nb_model.specs.Causes.{not_kind}
-use Rattle.nb_model.specs.Sound.{IsSoundImage}
-use Rattle.nb_model.proofs.SoundLaws.{inventory_there}
 use Rattle.nb_engine.specs.Find.{AreTaken, IsFreeNear, IsMap, IsEnd, EndsAt}
-use Rattle.nb_engine.proofs.TestLaws.{kind_is}
 
 -- what the search from page p on finds, of which `left` pages are left to look at
 pub record Finds (image : Image) (left p q : ℕ) : Type 0 where
@@ -198,22 +194,6 @@ pub map_last : (image : Image) (from page p : ℕ) (map : Page) → length image
 map_last image from page p map end is looked inside =
     let last : min page (length image) - 1 ≡ min p (length image - 1) = omega arith in
     record { most = omega arith; last = subst (λ (q : ℕ). IsMap image q map) last (looked (omega arith)) }
-
--- in a sound image the inventory page of a page below the length is there
-pub inventory_low : (image : Image) (p : ℕ) → IsTrue (is_page_size (image_size image)) → 5 ≤ length image → p < length image → inventory_of image p < length image
-inventory_low image p is least low =
-    let bits = bits-least (image_size image) is in
-    let front : p / bits_in (image_size image) * bits_in (image_size image) ≤ p = omega arith in
-    by (p / bits_in (image_size image)) front
-  where
-    by : (n : ℕ) → n * bits_in (image_size image) ≤ p → inventory_place (image_size image) n < length image
-    by zero front = omega arith
-    by (suc n) front = omega arith
-
-pub inventory_sound : (image : Image) (p : ℕ) → IsTrue (is_page_size (image_size image)) → IsSoundImage image → p < length image → not_kind image 2 (inventory_of image p) ≡ None
-inventory_sound image p is sound low =
-    let there : inventory_of image p < length image = inventory_low image p is sound.least low in
-    kind_is image 2 (inventory_of image p) there (sound.sound.system.inventories (inventory_of image p) there (inventory_there (image_size image) (p / bits_in (image_size image)) is))
 
 -- How many inventory pages there are from that of page `from` on up to that of the last page before one, and up to that behind the end.
 abbrev pub maps_before : (w from page count : ℕ) → ℕ

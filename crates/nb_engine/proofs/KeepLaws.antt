@@ -1,43 +1,30 @@
 -- Where a slot is kept for a row of the history, and why none is.
-use Rattle.std.proofs.Common.{◌≡◌, ℕ, ◌+◌, ◌<◌, List, [], ◌∷◌, ◌++◌, length, refl, sym, ap, subst, ◌∙◌, arith}
+use Rattle.std.proofs.Common.{◌≡◌, ℕ, ◌<◌, List, [], ◌∷◌, length, refl, sym, ap, subst, ◌∙◌, arith}
 use Rattle.std.specs.Prelude.{Bool, true, false, Option, Some, None, Ok, Err}
 use Rattle.std.proofs.lemmas.List.{append-nil}
 use Rattle.nb_host.specs.World.{World}
 use Rattle.nb_host.specs.declared.faults.Fault.{Fault}
 use Rattle.nb_host.specs.declared.refusals.Refusal.TheVariants.{Full}
-use Rattle.nb_fields.specs.Places.{is_inventory_place, is_scn_place, is_system_place}
-use Rattle.nb_fields.specs.Page.{kind_of}
 use Rattle.nb_engine.proofs.TestLaws.{rests}
 use Rattle.nb_model.proofs.ReadLaws.{lt_no}
-use Rattle.nb_model.specs.Sound.{IsSoundImage}
-use Rattle.nb_model.specs.Image.{Image, page_at, image_size}
+use Rattle.nb_model.specs.Image.{Image}
 use Rattle.nb_model.specs.Strokes.{Stroke}
 use Rattle.nb_model.specs.Trail.{Trail}
-use Rattle.nb_model.specs.Forms.{Draft, drafted, needs, put, is_kind, is_free_page, inventory_of, scn_page_of, other_kind}
-use Rattle.nb_model.specs.Causes.{Cause, first_cause, when, lowest_broken, broken_at, not_of_form, no_room, no_scn, too_short, short_for}
-use Rattle.nb_model.specs.Chains.{History, Spot, pages_of, found_pages, spots, free_spot, last_of, grown}
+use Rattle.nb_model.specs.Forms.{Draft, drafted, needs, is_kind, is_free_page, inventory_of, scn_page_of}
+use Rattle.nb_model.specs.Causes.{Cause, first_cause, when, broken_at, not_of_form, no_room, no_scn, too_short, short_for}
+use Rattle.nb_model.specs.Chains.{History, Spot, pages_of, found_pages, spots, free_spot, grown}
 use Rattle.nb_model.specs.Backups.{Room as Kept, room_in, needs_taken}
-use Rattle.nb_model.proofs.DraftJoin.{join_put}
-use Rattle.nb_model.proofs.FitLaws.{IsWhole}
-use Rattle.nb_model.proofs.PutSound.{IsPlace, needs_image}
-use Rattle.nb_model.proofs.RoundLaws as rounds
-use Rattle.nb_model.proofs.RoundLaws.{new_unbroken}
+use Rattle.nb_model.proofs.PutSound.{needs_image}
 use Rattle.nb_state.specs.Open.{Held}
 use Rattle.nb_state.specs.Does.{unless_by}
 use Rattle.nb_engine.specs.declared.walk.Room.{Room}
 use Rattle.nb_engine.specs.History.{room_at}
-use Rattle.nb_engine.specs.Make.{IsWell}
-use Rattle.nb_engine.specs.Room.{room_cause, IsRoomIn, taken_draft, no_rows, new_link, linked_payload, grow_cause}
+use Rattle.nb_engine.specs.Room.{room_cause, IsRoomIn, taken_draft, grow_cause}
 use Rattle.nb_engine.proofs.CauseLaws.{first_next}
 use Rattle.nb_engine.specs.Tries.{Tries}
 use Rattle.nb_engine.proofs.DoesLaws.{tries_front}
 use Rattle.nb_engine.proofs.WhereLaws.{makes_valued}
-use Rattle.nb_engine.proofs.FullLaws.{put_full}
-use Rattle.nb_engine.proofs.GrowLaws.{whole, new_long, no_rows_short, kind_stays}
-use Rattle.nb_engine.proofs.PlaceTests.{system_second}
-use Rattle.nb_engine.proofs.MakeLaws.{well}
-use Rattle.nb_engine.proofs.NewLaws.{told}
-use Rattle.nb_engine.proofs.WalkLaws.{IsData, last_data}
+use Rattle.nb_engine.proofs.WalkLaws.{IsData, history_least}
 
 -- what a test of inventories leaves
 needs_leaves : (kind p : ℕ) (d : Draft) → ((needs kind p d).strokes ≡ d.strokes) × ((needs kind p d).full ≡ d.full)
@@ -96,15 +83,6 @@ skip (Some r) b cs e = refl
 no_room_of : (d : Draft) → d.full ≡ false → no_room d ≡ None
 no_room_of d e = ap (λ (t : Bool). when t (Full 1048576)) e
 
--- no system page is a data page
-data_place : (image : Image) (p : ℕ) → IsSoundImage image → p < length image → kind_of (page_at image p) ≡ 5 → is_system_place (image_size image) p ≡ false
-data_place image p is low kind = by (is_inventory_place (image_size image) p) (is_scn_place (image_size image) p) refl refl
-  where
-    by : (t u : Bool) → is_inventory_place (image_size image) p ≡ t → is_scn_place (image_size image) p ≡ u → is_system_place (image_size image) p ≡ false
-    by true u e f = absurd (omega (arith, kind, is.sound.system.inventories p low e))
-    by false true e f = absurd (omega (arith, kind, is.sound.system.scn_pages p low f))
-    by false false e f = sym (system_second (image_size image) p e) ∙ f
-
 module _ (image : Image) where
   abbrev grows : Draft × ℕ
   grows = grown History (found_pages History image) [] (drafted image)
@@ -155,66 +133,13 @@ module _ (image : Image) where
     pub grown_draft : (room_in image).draft.strokes ≡ grows.0.strokes
     grown_draft = ap (λ (k : Kept). k.draft.strokes) grows_is
 
-    module _ (linked : broken_at (pages_of History image) ≡ None) (is : IsWell image) (some : 0 < last_of (found_pages History image)) where
-      abbrev last : ℕ
-      last = last_of (found_pages History image)
-
-      abbrev y : Image
-      y = (new_link image).0.image
-
-      abbrev payload : List ℕ
-      payload = linked_payload y last (new_link image).1
-
-      y_whole : IsWhole y
-      y_whole = whole 5 (told no_rows) refl (λ p. no_rows_short) (length image + 4) image (well image is)
-
-      at : IsPlace y last
-      at =
-          let there = (last_data image linked).low in
-          let long = new_long 5 (told no_rows) refl (λ p. no_rows_short) (length image + 4) image in
-          let most = y_whole.sound.most in
-          record { behind = omega (arith, some); there = omega (arith, there, long); most = omega (arith, there, long, most) }
-
-      put_clear : (put last 5 payload (drafted y)).broken ≡ []
-      put_clear = rounds.put_unbroken y y_whole last at 5 payload
-
-      long : too_short image ≡ None
-      long = let least = is.sound.least in rests _ _ (lt_no (length image) 5 (omega (arith, least)))
-
-      -- the last page is a data page still
-      there : IsData image last
-      there = last_data image linked
-
-      data_plain : is_system_place (image_size image) last ≡ false
-      data_plain = data_place image last is.sound there.low there.kind
-
-      still : other_kind y 5 last ≡ []
-      unfolding other_kind
-      still =
-          ap (λ (t : Bool). elim t as (λ z. List ℕ) [ true ↦ [] | false ↦ last ∷ [] ])
-          (rounds.kind_found y 5 last (let low = there.low in omega (arith, low, new_long 5 (told no_rows) refl (λ p. no_rows_short) (length image + 4) image)) (kind_stays 5 (told no_rows) refl (λ p. no_rows_short) last (length image + 4) image (well image is) data_plain there.kind))
-
-      unbroken : grows.0.broken ≡ []
-      unfolding grown
-      unbroken =
-          ap (λ (ps : List ℕ). ps ++ (put last 5 payload (new_link image).0).broken) still
-          ∙ ap (λ (d : Draft). d.broken) (join_put last 5 payload (new_link image).0) ∙ ap (λ (ps : List ℕ). ps ++ (new_link image).0.broken) put_clear
-          ∙ new_unbroken (length image + 4) 5 (told no_rows) image (well image is) refl (λ p. no_rows_short)
-
-      same_full : grows.0.full ≡ (new_link image).0.full
-      unfolding grown
-      same_full = put_full last 5 payload (new_link image).0
-
-      form : not_of_form grows.0 ≡ None
-      unfolding lowest_broken
-      form = ap lowest_broken unbroken
-
-      pub grown_cause : grow_cause image ≡ room_cause image
-      grown_cause =
-          sym (first_next (broken_at (pages_of History image)) _ linked
-          ∙ first_next (short_for (free_spot (spots History image)) image) _ (ap (λ (o : Option Spot). short_for o image) e ∙ long)
-          ∙ ap (λ (k : Kept). first_cause (not_of_form k.draft ∷ no_room k.draft ∷ no_scn image ∷ [])) grows_is ∙ first_next (not_of_form grows.0) _ form
-          ∙ ap (λ (t : Bool). first_cause (when t (Full 1048576) ∷ no_scn image ∷ [])) same_full)
+    pub grown_cause : broken_at (pages_of History image) ≡ None → grow_cause image (found_pages History image) ≡ room_cause image
+    grown_cause linked =
+        let least = history_least image linked in
+        let long : too_short image ≡ None = rests _ _ (lt_no (length image) 5 least) in
+        sym (first_next (broken_at (pages_of History image)) _ linked
+        ∙ first_next (short_for (free_spot (spots History image)) image) _ (ap (λ (o : Option Spot). short_for o image) e ∙ long)
+        ∙ ap (λ (k : Kept). first_cause (not_of_form k.draft ∷ no_room k.draft ∷ no_scn image ∷ [])) grows_is)
 
 -- the spot of a place
 pub record IsSpot (o : Option Spot) (room : Room) : Type 0 where

@@ -1,6 +1,6 @@
 -- The inventory pages that a search reads, and the first of them that isn't of its kind.
-use Rattle.std.proofs.Common.{◌≡◌, ◌≢◌, inl, inr, ℕ, zero, suc, ◌+◌, ◌-◌, ◌*◌, ◌/◌, ◌<◌, ◌≤◌, List, [], ◌∷◌, ◌++◌, length, refl, sym, ap, subst, ◌∙◌, arith, mul-le-mul_right}
-use Rattle.std.specs.Prelude.{Bool, true, false, not, ◌==◌, IsTrue, Option, Some, None, Result, Ok, Err, IsErr, IsErrAnd, max}
+use Rattle.std.proofs.Common.{◌≡◌, inl, inr, ℕ, suc, ◌+◌, ◌-◌, ◌*◌, ◌/◌, ◌<◌, ◌≤◌, length, refl, sym, ap, subst, ◌∙◌, arith, mul-le-mul_right}
+use Rattle.std.specs.Prelude.{Bool, true, false, not, IsTrue, Option, Some, None, Result, Err, IsErr, IsErrAnd}
 use Rattle.std.proofs.Math.Nat.{div-mul-le_self, mul-div_cancel}
 use Rattle.std.proofs.lemmas.Nat.{le-div}
 use Rattle.std.proofs.lemmas.Bool.{true≢false}
@@ -13,7 +13,7 @@ use Rattle.nb_host.specs.declared.refusals.Refusal.{Refusal}
 use Rattle.nb_host.specs.declared.refusals.Refusal.TheVariants.{NotDatabase}
 use Rattle.nb_change.proofs.ResultLaws.{passed_on}
 use Rattle.nb_model.specs.Image.{Image, image_size}
-use Rattle.nb_model.specs.Forms.{is_kind, inventory_of, is_free_page, free_from, Need, first_not, maps_from}
+use Rattle.nb_model.specs.Forms.{is_kind, inventory_of, free_from, first_not, maps_from}
 use Rattle.nb_model.specs.Causes.{Cause, when, not_kind}
 use Rattle.nb_model.proofs.NeedLaws.{first_behind, first_append, behind_none, maps_found, maps_split}
 use Rattle.nb_model.proofs.FirstFree.{IsLowestFree, free_from_is}

@@ -1,26 +1,21 @@
 -- A new page: its rounds, each on the database that the round before left.
 use Rattle.std.proofs.Common.{◌≡◌, ℕ, ◌+◌, ◌-◌, ◌<◌, ◌≤◌, List, [], ◌∷◌, ◌++◌, length, refl, sym, ap, subst, ◌∙◌, arith, append_assoc}
-use Rattle.std.specs.Prelude.{Bool, true, false, Some, None, Result, Ok, Err, IsErr, IsErrAnd, IsTrue}
-use Rattle.std.proofs.lemmas.Bool.{or_parts}
+use Rattle.std.specs.Prelude.{true, false, Some, None, Result, Ok, Err, IsErr, IsErrAnd, IsTrue}
 use Rattle.nb_fields.specs.Places.{is_page_size, is_system_place}
 use Rattle.nb_host.specs.World.{World}
 use Rattle.nb_host.specs.declared.faults.Fault.{Fault}
 use Rattle.nb_host.specs.declared.refusals.Refusal.{Refusal}
-use Rattle.nb_host.specs.declared.refusals.Refusal.TheVariants.{Full}
 use Rattle.nb_page.specs.Quiet.{Quiet}
 use Rattle.nb_change.proofs.ReachedLaws.{after_all-joined}
 use Rattle.nb_model.specs.Image.{Page, Image, image_size}
 use Rattle.nb_model.specs.Account.{Base}
 use Rattle.nb_model.specs.Strokes.{Stroke, base_after}
 use Rattle.nb_model.specs.Trail.{Trail, after_stroke}
-use Rattle.nb_model.specs.Forms.{Draft, drafted, put, take_page, system_page, free_from, lowest_free, new_within, inventory_of}
-use Rattle.nb_model.specs.Causes.{Cause, when, not_kind, no_room}
+use Rattle.nb_model.specs.Forms.{Draft, drafted, put, take_page, system_page, free_from, lowest_free, inventory_of}
+use Rattle.nb_model.specs.Causes.{Cause, not_kind}
 use Rattle.nb_model.proofs.DraftLaws.{IsOf, drafts_are, drafted_is, put_keeps, set_bit_keeps, system_keeps}
-use Rattle.nb_model.proofs.DraftJoin.{joined_new, join_set_bit}
+use Rattle.nb_model.proofs.DraftJoin.{join_set_bit}
 use Rattle.nb_model.proofs.NewSound.{inventory_before}
-use Rattle.nb_model.proofs.FitLaws.{IsWhole}
-use Rattle.nb_model.proofs.RoundLaws as rounds
-use Rattle.nb_model.proofs.RoundLaws.{IsFound, found, new_more, new_last, new_next, lowest_behind}
 use Rattle.nb_base.specs.Takes.{after_strokes}
 use Rattle.nb_state.specs.Open.{Held, IsOpen}
 use Rattle.nb_state.specs.Does.{Makes}
@@ -29,12 +24,15 @@ use Rattle.nb_engine.specs.Tries.{Tries}
 use Rattle.nb_engine.specs.Put.{entry_cause}
 use Rattle.nb_engine.specs.Mark.{mark_cause, mark_strokes}
 use Rattle.nb_engine.specs.Find.{IsMap, HoldsMap}
-use Rattle.nb_engine.specs.Make.{IsWell, IsOnward, MakesWhere, page_strokes, new_of, round, behind}
+use Rattle.nb_engine.specs.Make.{IsSupplied, GoesOn, IsOnward, MakesWhere, page_strokes, new_of, round, behind}
+use Rattle.nb_engine.specs.Search.{IsSearchable}
+use Rattle.nb_engine.proofs.RestLaws.{Rest, all_left, here, Onward, onward, AtLast, at_last}
+use Rattle.nb_model.proofs.SearchLaws.{draft_cause}
 use Rattle.nb_engine.proofs.CauseLaws.{first_here}
 use Rattle.nb_engine.proofs.DoesLaws.{tries_passed}
 use Rattle.nb_engine.proofs.FindLaws.{finds}
 use Rattle.nb_engine.proofs.PageLaws.{seen_after}
-use Rattle.nb_engine.proofs.MakeLaws.{well, from_well, mark_none, mark_long, page_long, map_kept}
+use Rattle.nb_engine.proofs.MakeLaws.{mark_long, page_long, map_kept}
 use Rattle.nb_engine.proofs.WhereLaws.{makes_as, makes_valued, where_tries, where_front, where_then}
 
 -- The search goes on to a page up to the length.
@@ -82,17 +80,17 @@ module _ (t : Trail) (p : ℕ) (e : Draft) (of : IsOf t.base e) where
     take_not T V result fault old new a b passed first = where_front (Unit {0}) T P P Q V result fault old new a b t e.strokes taking (take_page p e).strokes passed (λ is. is) (λ is. taken_strokes) first
 
     -- its bit is written
-    pub take_after : (result : Result (Unit {0}) Fault) (old mid new : World) (a b c : Held) → 2 ≤ p → (P → IsWhole e.image) → (first : MakesWhere P Q (Ok tt) old mid a b t e.strokes)
+    pub take_after : (result : Result (Unit {0}) Fault) (old mid new : World) (a b c : Held) → (P → mark_cause e.image p ≡ None) → (first : MakesWhere P Q (Ok tt) old mid a b t e.strokes)
         → IsTrue (is_page_size (image_size (after_strokes t first.some.made).base.image)) → p < length (after_strokes t first.some.made).base.image
         → Tries result mid new b c (after_strokes t first.some.made) (mark_cause (after_strokes t first.some.made).base.image p) (mark_strokes (after_strokes t first.some.made).base.image p 0)
         → MakesWhere P (λ value image. p < length image) result old new a c t (take_page p e).strokes
-    take_after result old mid new a b c two is_well first size low tries =
+    take_after result old mid new a b c marks first size low tries =
         let u : Trail = after_strokes t first.some.made in
         let image : Image = u.base.image in
-        where_then tt P P (IsWell image) Q (λ value x. p < length x) result old mid new a b c t e.strokes (mark_strokes image p 0) (take_page p e).strokes first (λ is. is)
-        (λ is same. from_well image (subst IsWhole (sym (image_is first.some.made same)) (is_well is)))
+        where_then tt P P (mark_cause image p ≡ None) Q (λ value x. p < length x) result old mid new a b c t e.strokes (mark_strokes image p 0) (take_page p e).strokes first (λ is. is)
+        (λ is same. ap (λ (x : Image). mark_cause x p) (image_is first.some.made same) ∙ marks is)
         (λ is same. ap (λ (x : Image). e.strokes ++ (take_page p (drafted x)).strokes) (image_is first.some.made same) ∙ sym (ap (λ (d : Draft). d.strokes) (join_set_bit 0 p e)))
-        (where_tries (IsWell image) (λ value x. p < length x) mid new b c u (mark_cause image p) (mark_strokes image p 0) (mark_strokes image p 0) (λ is. mark_none image p is two low) (λ is. refl) result
+        (where_tries (mark_cause image p ≡ None) (λ value x. p < length x) mid new b c u (mark_cause image p) (mark_strokes image p 0) (mark_strokes image p 0) (λ none. none) (λ none. refl) result
         (λ none value. seen_after u (mark_strokes image p 0) (λ (x : Base). p < length x.image) (let long = mark_long u.base p 0 size none (form_of image p none) in omega (arith, long, low)))
         tries)
 
@@ -109,78 +107,6 @@ round_is b p = set_bit_keeps (IsOf b) (drafts_are b) 0 p (system_page p (drafted
 abbrev pub told : List ℕ → ℕ → List ℕ
 told payload = λ p. payload
 
--- What is left to make of a new page, whose search comes to that place next.
-pub record Rest (kind : ℕ) (payload : ℕ → List ℕ) (image : Image) (place : ℕ) (strokes : List Stroke) (number : ℕ) : Type 0 where
-  pub left : ℕ
-  pub is_well : IsWell image
-  pub at : lowest_free image ≡ place
-  pub room : (new_within left kind payload (drafted image)).0.full ≡ false
-  pub strokes_are : (new_within left kind payload (drafted image)).0.strokes ≡ strokes
-  pub number_is : (new_within left kind payload (drafted image)).1 ≡ number
-
-not_full : (t : Bool) (r : Refusal) → when t r ≡ None → t ≡ false
-not_full false r e = refl
-not_full true r e = cc
-
-pub all_left : (kind : ℕ) (payload : ℕ → List ℕ) (image : Image) (place : ℕ) → IsWell image → place ≡ lowest_free image → no_room (new_of kind payload image).0 ≡ None → Rest kind payload image place (new_of kind payload image).0.strokes (new_of kind payload image).1
-all_left kind payload image place is at room = record { left = length image + 4; is_well = is; at = sym at; room = not_full (new_of kind payload image).0.full (Full 1048576) room; strokes_are = refl; number_is = refl }
-
--- a round at a system place
-pub record Onward (kind : ℕ) (payload : ℕ → List ℕ) (image : Image) (place : ℕ) (strokes : List Stroke) (number : ℕ) : Type 0 where
-  pub rest_strokes : List Stroke
-  pub strokes_are : strokes ≡ (round image place).strokes ++ rest_strokes
-  pub rest : Rest kind payload (round image place).image (behind image place) rest_strokes number
-  pub below : behind image place < 1048576
-
-pub onward : (kind : ℕ) (payload : ℕ → List ℕ) (image : Image) (place : ℕ) (strokes : List Stroke) (number : ℕ) → Rest kind payload image place strokes number → is_system_place (image_size image) place ≡ true → Onward kind payload image place strokes number
-onward kind payload image place strokes number rest system = subst (λ (n : ℕ). Onward kind payload image n strokes number) rest.at (at_lowest (subst (λ (n : ℕ). is_system_place (image_size image) n ≡ true) (sym rest.at) system))
-  where
-    at_lowest : is_system_place (image_size image) (lowest_free image) ≡ true → Onward kind payload image (lowest_free image) strokes number
-    at_lowest there =
-        let p : ℕ = lowest_free image in
-        let h : IsWhole image = well image rest.is_well in
-        let here : IsFound image rest.left p = found image h kind payload rest.left rest.room in
-        let after : Image = (round image p).image in
-        let two : 2 ≤ p = (let five = here.five in omega (arith, five)) in
-        let well_after : IsWhole after = rounds.round_well image h p here.at there two in
-        let more : new_within rest.left kind payload (drafted image) ≡ joined_new (round image p) (new_within here.left kind payload (drafted after)) =
-        ap (λ (n : ℕ). new_within n kind payload (drafted image)) here.tries_is ∙ new_more image h kind payload here.left here.at.most there in
-        let room : (new_within here.left kind payload (drafted after)).0.full ≡ false =
-        (or_parts (new_within here.left kind payload (drafted after)).0.full (round image p).full (sym (ap (λ (x : Draft × ℕ). x.0.full) more) ∙ rest.room)).0 in
-        let low : p < length after = subst (λ (x : Image). p < length x) (sym (rounds.round_image image h p here.at there two)) (rounds.take_long (system_page p (drafted image)).image (rounds.system_well image h p here.at there) p two (rounds.system_low image h p here.at there)) in
-        let next : lowest_free after ≡ behind image p = lowest_behind after p here.five low (λ q five le. new_next image h kind payload there here.at.most q five le) in
-        let next_found : IsFound after here.left (lowest_free after) = found after well_after kind payload here.left room in
-        record {
-          rest_strokes = (new_within here.left kind payload (drafted after)).0.strokes;
-          strokes_are = sym rest.strokes_are ∙ ap (λ (x : Draft × ℕ). x.0.strokes) more;
-          rest = record {
-            left = here.left;
-            is_well = from_well after well_after;
-            at = next;
-            room = room;
-            strokes_are = refl;
-            number_is = sym (ap (λ (x : Draft × ℕ). x.1) more) ∙ rest.number_is;
-          };
-          below = subst (λ (n : ℕ). n < 1048576) next next_found.at.most;
-        }
-
--- the last round
-pub record AtLast (kind : ℕ) (payload : ℕ → List ℕ) (image : Image) (place : ℕ) (strokes : List Stroke) (number : ℕ) : Type 0 where
-  pub strokes_are : strokes ≡ (take_page place (put place kind (payload place) (drafted image))).strokes
-  pub number_is : place ≡ number
-
-pub at_last : (kind : ℕ) (payload : ℕ → List ℕ) (image : Image) (place : ℕ) (strokes : List Stroke) (number : ℕ) → Rest kind payload image place strokes number → is_system_place (image_size image) place ≡ false → AtLast kind payload image place strokes number
-at_last kind payload image place strokes number rest plain = subst (λ (n : ℕ). AtLast kind payload image n strokes number) rest.at (at_lowest (subst (λ (n : ℕ). is_system_place (image_size image) n ≡ false) (sym rest.at) plain))
-  where
-    at_lowest : is_system_place (image_size image) (lowest_free image) ≡ false → AtLast kind payload image (lowest_free image) strokes number
-    at_lowest there =
-        let p : ℕ = lowest_free image in
-        let h : IsWhole image = well image rest.is_well in
-        let here : IsFound image rest.left p = found image h kind payload rest.left rest.room in
-        let last : new_within rest.left kind payload (drafted image) ≡ (take_page p (put p kind (payload p) (drafted image)), p) =
-        ap (λ (n : ℕ). new_within n kind payload (drafted image)) here.tries_is ∙ new_last image h kind payload here.left here.at.most there in
-        record { strokes_are = sym rest.strokes_are ∙ ap (λ (x : Draft × ℕ). x.0.strokes) last; number_is = sym (ap (λ (x : Draft × ℕ). x.1) last) ∙ rest.number_is }
-
 -- What is left of these strokes behind those that are done.
 pub record RestOf (kind : ℕ) (payload : ℕ → List ℕ) (image : Image) (place : ℕ) (done strokes : List Stroke) (number : ℕ) : Type 0 where
   pub rest_strokes : List Stroke
@@ -195,14 +121,14 @@ pub record SoFar (kind : ℕ) (payload : ℕ → List ℕ) (P : Type 0) (old now
   pub holds : HoldsMap (after_strokes t done).base.image place map
   pub rest : P → RestOf kind payload (after_strokes t done).base.image place done strokes number
 
-pub so_far_begun : (kind : ℕ) (payload : ℕ → List ℕ) (w : World) (a : Held) (t : Trail) (place : ℕ) (map : Page) → Quiet w w → IsOpen w a t → place ≡ lowest_free t.base.image → place ≤ length t.base.image → HoldsMap t.base.image place map
-    → SoFar kind payload (IsWell t.base.image × (no_room (new_of kind payload t.base.image).0 ≡ None)) w w a a t place (new_of kind payload t.base.image).0.strokes (new_of kind payload t.base.image).1 map
-so_far_begun kind payload w a t place map quiet is at low holds = record {
+pub so_far_begun : (kind : ℕ) (payload : ℕ → List ℕ) (w : World) (a : Held) (t : Trail) (place : ℕ) (map : Page) → Quiet w w → IsOpen w a t → length t.base.image ≤ 1048576 → place ≡ lowest_free t.base.image → place ≤ length t.base.image
+    → HoldsMap t.base.image place map → SoFar kind payload (IsSearchable t.base.image × (draft_cause (new_of kind payload t.base.image).0 ≡ None)) w w a a t place (new_of kind payload t.base.image).0.strokes (new_of kind payload t.base.image).1 map
+so_far_begun kind payload w a t place map quiet is most at low holds = record {
   done = [];
   makes = makes_none (Ok tt) w w a a t refl quiet is is;
   low = low;
   holds = holds;
-  rest = λ p. record { rest_strokes = (new_of kind payload t.base.image).0.strokes; strokes_are = refl; rest = all_left kind payload t.base.image place p.0 at p.1 };
+  rest = λ p. record { rest_strokes = (new_of kind payload t.base.image).0.strokes; strokes_are = refl; rest = all_left kind payload t.base.image place p.0 most at p.1 };
 }
 
 module _ (kind : ℕ) (payload : ℕ → List ℕ) (P : Type 0) (old mid new : World) (a b c : Held) (t : Trail) (place : ℕ) (strokes : List Stroke) (number : ℕ) (map : Page) (so : SoFar kind payload P old mid a b t place strokes number map) where
@@ -214,14 +140,17 @@ module _ (kind : ℕ) (payload : ℕ → List ℕ) (P : Type 0) (old mid new : W
 
   -- where a round makes its strokes
   abbrev pub Rounds : Type 0
-  Rounds = IsWell x × (behind x place < 1048576)
+  Rounds = IsSupplied x place × GoesOn x place
 
   module _ (system : is_system_place (image_size x) place ≡ true) where
     on : (p : P) → Onward kind payload x place (so.rest p).rest_strokes number
     on p = onward kind payload x place (so.rest p).rest_strokes number (so.rest p).rest system
 
     rounds_there : P → Rounds
-    rounds_there p = ((so.rest p).rest.is_well, (on p).below)
+    rounds_there p =
+        let rest = (so.rest p).rest in
+        let next = here kind payload (round x place).image (behind x place) (on p).rest_strokes number (on p).rest in
+        (record { shaped = rest.shaped; ready = (here kind payload x place (so.rest p).rest_strokes number rest).ready }, record { below = next.below; maps = next.maps })
 
     grouped : (p : P) → strokes ≡ so.done ++ ((round x place).strokes ++ (on p).rest_strokes)
     grouped p = (so.rest p).strokes_are ∙ ap (λ (ss : List Stroke). so.done ++ ss) (on p).strokes_are
@@ -275,9 +204,10 @@ module _ (kind : ℕ) (payload : ℕ → List ℕ) (P : Type 0) (old mid new : W
     last_number p = (last p).number_is
 
     -- the new page itself
-    pub last_round : {T : Type 0} (V : T → Image → Type 0) (result : Result T Fault) → MakesWhere (IsWell x) V result mid new b c u (take_page place (put place kind (payload place) (drafted x))).strokes
+    pub last_round : {T : Type 0} (V : T → Image → Type 0) (result : Result T Fault) → MakesWhere (IsSupplied x place) V result mid new b c u (take_page place (put place kind (payload place) (drafted x))).strokes
         → MakesWhere P V result old new a c t strokes
     last_round V result second =
-        where_then {S = Unit {0}} tt P (Unit {0}) (IsWell x) (λ value y. Unit {0}) V result old mid new a b c t so.done (take_page place (put place kind (payload place) (drafted x))).strokes strokes
-        (record { some = record { made = so.done; makes = so.makes }; ends = tt; these = λ q. record { sure = tt; makes = so.makes; same = refl } }) (λ p. tt) (λ p same. (so.rest p).rest.is_well)
+        where_then {S = Unit {0}} tt P (Unit {0}) (IsSupplied x place) (λ value y. Unit {0}) V result old mid new a b c t so.done (take_page place (put place kind (payload place) (drafted x))).strokes strokes
+        (record { some = record { made = so.done; makes = so.makes }; ends = tt; these = λ q. record { sure = tt; makes = so.makes; same = refl } }) (λ p. tt)
+        (λ p same. let rest = (so.rest p).rest in record { shaped = rest.shaped; ready = (here kind payload x place (so.rest p).rest_strokes number rest).ready })
         (λ p same. sym ((so.rest p).strokes_are ∙ ap (λ (ss : List Stroke). so.done ++ ss) (last p).strokes_are)) second

@@ -1,5 +1,5 @@
 -- What making a new page does of its turn.
-use Rattle.std.proofs.Common.{◌≡◌, ◌<◌, ◌+◌, ℕ, List, [], ◌∷◌, length, refl, sym, ap, subst, ◌∙◌, arith}
+use Rattle.std.proofs.Common.{◌≡◌, ◌<◌, ◌≤◌, ℕ, List, [], ◌∷◌, length, refl, sym, ap, subst, ◌∙◌, arith}
 use Rattle.std.specs.Prelude.{true, false, IsTrue, Some, None, Result, Ok, Err, IfOk, IfErr}
 use Rattle.nb_fields.specs.Bytes.{bytes_of}
 use Rattle.nb_fields.specs.Places.{is_page_size}
@@ -7,29 +7,29 @@ use Rattle.nb_fields.specs.Payloads.{text_payload}
 use Rattle.nb_host.specs.World.{World}
 use Rattle.nb_host.specs.declared.faults.Fault.{Fault}
 use Rattle.nb_host.specs.declared.refusals.Refusal.{Refusal}
-use Rattle.nb_host.specs.declared.refusals.Refusal.TheVariants.{Access}
+use Rattle.nb_host.specs.declared.refusals.Refusal.TheVariants.{Access, NotDatabase}
 use Rattle.nb_model.specs.declared.reply.Reply.{Reply}
 use Rattle.nb_model.specs.declared.reply.Reply.TheVariants.{Refused, PageMade}
-use Rattle.nb_model.specs.Image.{Image, image_scn, is_read_only}
+use Rattle.nb_model.specs.Image.{Image, image_size, image_scn, is_read_only}
 use Rattle.nb_model.specs.Strokes.{Stroke}
 use Rattle.nb_model.specs.Trail.{Trail}
 use Rattle.nb_model.specs.Forms.{Draft}
-use Rattle.nb_model.specs.Causes.{first_cause, read_only, lowest_broken, not_of_form, no_room, too_short}
+use Rattle.nb_model.specs.Causes.{first_cause, read_only, too_short}
 use Rattle.nb_model.specs.Outcomes.{Seen, says}
 use Rattle.nb_model.specs.Pages.{new_turn}
-use Rattle.nb_model.specs.Sound.{IsSoundImage, HasHeader}
-use Rattle.nb_model.proofs.NewSound.{empty_text}
-use Rattle.nb_model.proofs.ReadLaws.{lt_no}
-use Rattle.nb_model.proofs.RoundLaws.{new_unbroken}
+use Rattle.nb_model.specs.Sound.{IsSoundImage, HasHeader, IsOfSize}
+use Rattle.nb_model.proofs.ReadLaws.{lt_no, lt_yes}
+use Rattle.nb_model.proofs.SearchLaws.{draft_cause}
+use Rattle.nb_model.proofs.StepLaws.{IsShaped}
 use Rattle.nb_base.specs.Takes.{IsNoRefusal}
 use Rattle.nb_state.specs.Open.{Held, IsOpen}
 use Rattle.nb_state.specs.Does.{Makes, Does}
 use Rattle.nb_engine.specs.Make.{IsWell, new_raw}
 use Rattle.nb_engine.specs.Replies.{page_made}
+use Rattle.nb_engine.specs.Search.{IsSearchable}
 use Rattle.nb_engine.proofs.TestLaws.{applies, rests}
-use Rattle.nb_engine.proofs.CauseLaws.{unless_refused, unless_allowed, first_none, first_next, first_here, refused_by, judged_by, allowed}
+use Rattle.nb_engine.proofs.CauseLaws.{unless_refused, unless_allowed, first_none, first_next, first_here, refused_by, judged_by}
 use Rattle.nb_engine.proofs.DoesLaws.{seeing, tries_made, tries_does}
-use Rattle.nb_engine.proofs.MakeLaws.{well}
 
 -- the bytes of the empty text
 pub empty_is : 0 ∷ 0 ∷ [] ≡ text_payload []
@@ -42,6 +42,12 @@ header_of w held t is scn = record { header = is.files.agrees.header; scn = scn 
 
 pub well_of : (w : World) (held : Held) (t : Trail) → IsOpen w held t → IsTrue (is_page_size held.files.page_size) → image_scn t.base.image < 4294967296 → IsSoundImage t.base.image → IsWell t.base.image
 well_of w held t is size scn sound = record { sound = sound; size = subst (λ (n : ℕ). IsTrue (is_page_size n)) is.files.agrees.page_size size; scn = scn }
+
+pub shaped_of : (w : World) (held : Held) (t : Trail) → IsOpen w held t → IsTrue (is_page_size held.files.page_size) → 3 ≤ length t.base.image → IsOfSize (image_size t.base.image) t.base.image → IsShaped t.base.image
+shaped_of w held t is size least sizes = record { size = subst (λ (n : ℕ). IsTrue (is_page_size n)) is.files.agrees.page_size size; least = least; sizes = sizes }
+
+pub searchable_of : (w : World) (held : Held) (t : Trail) → IsOpen w held t → IsTrue (is_page_size held.files.page_size) → 5 ≤ length t.base.image → IsOfSize (image_size t.base.image) t.base.image → IsSearchable t.base.image
+searchable_of w held t is size long sizes = record { shaped = shaped_of w held t is size (omega (arith, long)) sizes; long = long }
 
 -- the turn, by its causes
 module _ (s : Seen) where
@@ -58,26 +64,24 @@ module _ (s : Seen) where
   unfolding new_turn
   new_closed closed = refused_by s (read_only image ∷ too_short image ∷ []) draft reply (Access 1) (first_here (read_only image) (too_short image ∷ []) (Access 1) (applies _ _ closed))
 
-  module _ (free : is_read_only image ≡ false) (is : IsWell image) where
-    long : too_short image ≡ None
-    long = let least = is.sound.least in rests _ _ (lt_no (length image) 5 (omega (arith, least)))
-
-    open_to_change : first_cause (read_only image ∷ too_short image ∷ []) ≡ None
-    open_to_change = first_next (read_only image) (too_short image ∷ []) (rests _ _ free) ∙ first_next (too_short image) [] long ∙ first_none
-
-    form : not_of_form draft ≡ None
-    unfolding lowest_broken
-    form = ap lowest_broken (new_unbroken (length image + 4) 8 (λ p. text_payload []) image (well image is) refl empty_text)
-
-    pub new_full : (r : Refusal) → no_room draft ≡ Some r → new_turn s ≡ says s (Refused r) []
+  module _ (free : is_read_only image ≡ false) where
+    pub new_short : length image < 5 → new_turn s ≡ says s (Refused (NotDatabase (length image))) []
     unfolding new_turn
-    new_full r e =
-        judged_by s (read_only image ∷ too_short image ∷ []) draft reply open_to_change
-        ∙ unless_refused s _ (says s reply draft.strokes) r (first_next (not_of_form draft) (no_room draft ∷ []) form ∙ first_here (no_room draft) [] r e)
+    new_short low =
+        refused_by s (read_only image ∷ too_short image ∷ []) draft reply (NotDatabase (length image))
+        (first_next (read_only image) (too_short image ∷ []) (rests _ _ free) ∙ first_here (too_short image) [] (NotDatabase (length image)) (applies _ _ (lt_yes (length image) 5 low)))
 
-    pub new_says : no_room draft ≡ None → new_turn s ≡ says s reply draft.strokes
-    unfolding new_turn
-    new_says room = allowed s (read_only image ∷ too_short image ∷ []) draft reply open_to_change form room
+    module _ (long : 5 ≤ length image) where
+      open_to_change : first_cause (read_only image ∷ too_short image ∷ []) ≡ None
+      open_to_change = first_next (read_only image) (too_short image ∷ []) (rests _ _ free) ∙ first_next (too_short image) [] (rests _ _ (lt_no (length image) 5 long)) ∙ first_none
+
+      pub new_refused : (r : Refusal) → draft_cause draft ≡ Some r → new_turn s ≡ says s (Refused r) []
+      unfolding new_turn
+      new_refused r e = judged_by s (read_only image ∷ too_short image ∷ []) draft reply open_to_change ∙ unless_refused s (draft_cause draft) (says s reply draft.strokes) r e
+
+      pub new_says : draft_cause draft ≡ None → new_turn s ≡ says s reply draft.strokes
+      unfolding new_turn
+      new_says none = judged_by s (read_only image ∷ too_short image ∷ []) draft reply open_to_change ∙ unless_allowed s (draft_cause draft) (says s reply draft.strokes) none
 
 -- what is said of a number is said of an equal one
 number_said : (result : Result ℕ Fault) (n : ℕ) → IfOk result (λ number. number ≡ n) → IfOk result (λ number. page_made number ≡ PageMade n)

@@ -44,7 +44,7 @@ before_scn size p is = by (p / bits_in size) (p / entries_in size) refl refl
             omega (arith, more, same, some)
 
 -- and not behind the page
-inventory_most : (size p : ℕ) → 1 ≤ p → inventory_place size (p / bits_in size) ≤ p
+pub inventory_most : (size p : ℕ) → 1 ≤ p → inventory_place size (p / bits_in size) ≤ p
 inventory_most size p some = by (p / bits_in size) refl
   where
     by : (k : ℕ) → p / bits_in size ≡ k → inventory_place size k ≤ p

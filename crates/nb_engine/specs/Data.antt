@@ -4,8 +4,9 @@ use Rattle.nb_fields.specs.Payloads.{data_payload}
 use Rattle.nb_host.specs.declared.refusals.Refusal.TheVariants.{NotDatabase}
 use Rattle.nb_model.specs.Image.{Page, Image, page_at}
 use Rattle.nb_model.specs.Forms.{Draft, drafted, is_kind, put, new_page}
-use Rattle.nb_model.specs.Causes.{Cause, first_cause, when, not_kind}
+use Rattle.nb_model.specs.Causes.{Cause, first_cause, when, not_kind, too_short, not_of_form, no_room}
 use Rattle.nb_model.specs.Chains.{Chain, owner_of, owner_in}
+use Rattle.nb_engine.specs.Behind.{behind_cause}
 use Rattle.nb_engine.specs.Put.{entry_cause}
 use Rattle.nb_engine.specs.Make.{new_of}
 
@@ -40,3 +41,11 @@ put_data p page image = put p 5 (drop 16 page) (drafted image)
 -- why it doesn't: it is no data page yet, or its SCN page isn't of its kind
 abbrev pub data_cause : Image → ℕ → Cause
 data_cause image p = first_cause (not_kind image 5 p ∷ entry_cause image p ∷ [])
+
+-- why a draft of new pages isn't made: the database is too short for it, or what it needs isn't of its kind, or no page is left
+abbrev pub unmade : Image → Draft → Cause
+unmade image d = first_cause (too_short image ∷ not_of_form d ∷ no_room d ∷ [])
+
+-- and one behind which page p, a data page, is written
+abbrev pub unmade_behind : Image → Draft → (p : ℕ) → Cause
+unmade_behind image d p = first_cause (too_short image ∷ behind_cause d p ∷ [])

@@ -5,6 +5,9 @@ pub mod Turns
 pub mod Replies
 pub mod Find
 pub mod Make
+pub mod Way
+pub mod Behind
+pub mod Search
 pub mod History
 pub mod Room
 pub mod Data

@@ -1,7 +1,7 @@
 -- What making a new page does of an open database.
 use Rattle.std.specs.Prelude.{◌≡◌, ◌<◌, ◌≤◌, ℕ, ◌+◌, ◌-◌, ◌*◌, ◌/◌, List, [], ◌∷◌, ◌++◌, length, Bool, true, false, None, Result, OnOk, IfOk, IfErr, IsTrue}
 use Rattle.nb_fields.specs.Bytes.{bytes_of, with_part}
-use Rattle.nb_fields.specs.Places.{is_page_size, bits_in}
+use Rattle.nb_fields.specs.Places.{is_page_size, bits_in, inventory_place}
 use Rattle.nb_fields.specs.Page.{stamped}
 use Rattle.nb_fields.specs.Payloads.{text_payload}
 use Rattle.nb_host.specs.World.{World}
@@ -12,6 +12,7 @@ use Rattle.nb_model.specs.Trail.{Trail}
 use Rattle.nb_model.specs.Forms.{Draft, drafted, old_page, is_kind, system_kind, system_payload, take_page, system_page, free_from, lowest_free, new_page}
 use Rattle.nb_model.specs.Causes.{Cause}
 use Rattle.nb_model.specs.Sound.{IsSoundImage}
+use Rattle.nb_model.proofs.StepLaws.{IsShaped, IsReady}
 use Rattle.nb_base.specs.Takes.{after_strokes, IsNoRefusal}
 use Rattle.nb_state.specs.Open.{Held}
 use Rattle.nb_state.specs.Does.{Makes}
@@ -55,6 +56,16 @@ round image place = take_page place (system_page place (drafted image))
 abbrev pub behind : Image → (place : ℕ) → ℕ
 behind image place = let after : Image = (round image place).image in free_from (length after - (place + 1)) (place + 1) after
 
+-- all that a new page needs of page p is of its kind
+pub record IsSupplied (image : Image) (p : ℕ) : Type 0 where
+  pub shaped : IsShaped image
+  pub ready : IsReady image p
+
+-- Behind a system page that is made at page p the search goes on to a page that is left, by inventory pages of their kind.
+pub record GoesOn (image : Image) (p : ℕ) : Type 0 where
+  pub below : behind image p < 1048576
+  pub maps : (k : ℕ) → k ≤ behind image p / bits_in (image_size (round image p).image) → is_kind (round image p).image 2 (inventory_place (image_size (round image p).image) k) ≡ true
+
 -- The search goes on behind that place to the lowest free page, or the length. The map is the inventory page of that page.
 pub record IsOnward (image : Image) (place next : ℕ) (map : Page) : Type 0 where
   pub found : next ≡ free_from (length image - (place + 1)) (place + 1) image
@@ -79,6 +90,6 @@ pub record MakesWhere {T : Type 0} (P : Type 0) (Q : T → Image → Type 0) (re
   pub these : P → MakesThese result old new before after t some.made strokes
 
 -- How many reads a new page makes at most where the search for it ends at that page: the inventory pages up to that of the lowest free
--- page, six pages for the new one, and ten for each page between that the search went past.
+-- page, six pages for the new one, and eleven for each page between that the search went past.
 abbrev pub new_reads : (image : Image) (number : ℕ) → ℕ
-new_reads image number = lowest_free image / bits_in (image_size image) + 1 + 6 + 10 * (number - lowest_free image)
+new_reads image number = lowest_free image / bits_in (image_size image) + 1 + 6 + 11 * (number - lowest_free image)

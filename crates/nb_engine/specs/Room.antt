@@ -6,11 +6,10 @@ use Rattle.nb_host.specs.declared.refusals.Refusal.TheVariants.{NotDatabase}
 use Rattle.nb_model.specs.Image.{Image, page_at}
 use Rattle.nb_model.specs.Forms.{Draft, drafted, needs, inventory_of, scn_page_of}
 use Rattle.nb_model.specs.Causes.{Cause, first_cause, when, broken_at, not_of_form, no_room, no_scn, short_for}
-use Rattle.nb_model.specs.Chains.{History, pages_of, spots, free_spot}
+use Rattle.nb_model.specs.Chains.{History, pages_of, spots, free_spot, grown}
 use Rattle.nb_model.specs.Backups.{room_in, needs_taken}
 use Rattle.nb_engine.specs.declared.walk.Room.{Room}
 use Rattle.nb_engine.specs.Put.{entry_cause}
-use Rattle.nb_engine.specs.Make.{new_of}
 
 -- why no slot is kept
 abbrev pub room_cause : Image → Cause
@@ -29,10 +28,6 @@ taken_draft image p = needs_taken p (needs 10 (scn_page_of image p) (needs 2 (in
 abbrev pub no_rows : List ℕ
 no_rows = data_payload 0 1 []
 
--- the new page of the history, and its number
-abbrev pub new_link : Image → Draft × ℕ
-new_link image = new_of 5 (λ p. no_rows) image
-
 -- what stands behind the head of page p when that is linked to the next
 abbrev pub linked_payload : Image → (p next : ℕ) → List ℕ
 linked_payload image p next = drop 16 (with_part 16 (bytes_of 4 next) (page_at image p))
@@ -41,6 +36,6 @@ linked_payload image p next = drop 16 (with_part 16 (bytes_of 4 next) (page_at i
 abbrev pub link_cause : Image → ℕ → Cause
 link_cause image p = first_cause (when (nat_le (length image) p) (NotDatabase p) ∷ entry_cause image p ∷ [])
 
--- why the history doesn't grow, where the inventories agree with the pages
-abbrev pub grow_cause : Image → Cause
-grow_cause image = first_cause (no_room (new_link image).0 ∷ no_scn image ∷ [])
+-- why the history of these pages doesn't grow
+abbrev pub grow_cause : Image → (pages : List ℕ) → Cause
+grow_cause image pages = first_cause (not_of_form (grown History pages [] (drafted image)).0 ∷ no_room (grown History pages [] (drafted image)).0 ∷ no_scn image ∷ [])

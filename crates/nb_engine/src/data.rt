@@ -1,29 +1,34 @@
 // Data pages, of which chains are made, are read, written and given back.
-ghost use Rattle.std.specs.Prelude.{◌≡◌, ◌≢◌, ◌+◌, ◌<◌, ◌≤◌, ◌++◌, IsTrue, IfErr, OnOk, None, length, take, drop};
+ghost use Rattle.std.specs.Prelude.{◌≡◌, ◌≢◌, ◌+◌, ◌<◌, ◌≤◌, ◌++◌, IsTrue, IfErr, IfOk, OnOk, None, length, take, drop};
 ghost use Rattle.nb_fields.specs.Places.{is_page_size};
 ghost use Rattle.nb_host.specs.declared.faults.Fault.TheVariants.{Memory};
 ghost use Rattle.nb_change.specs.Counts.{CountsDevice};
 ghost use Rattle.nb_page.specs.Quiet.{Quiet};
-ghost use Rattle.nb_model.specs.Causes.{not_kind};
+ghost use Rattle.nb_model.specs.Causes.{not_kind, lowest_broken};
 ghost use Rattle.nb_model.specs.Forms.{drafted, give_page};
 ghost use Rattle.nb_model.specs.Sound.{IsSoundImage};
 ghost use Rattle.nb_model.specs.Trail.{Trail};
 ghost use Rattle.nb_base.specs.Takes.{IsNoRefusal};
 ghost use Rattle.nb_state.specs.Open.{IsOpen, but_pages};
-ghost use Rattle.nb_state.specs.Does.{Goes};
+ghost use Rattle.nb_state.specs.Does.{Tested, Goes};
+ghost use Rattle.nb_engine.specs.Behind.{entry_broken, give_broken};
+ghost use Rattle.nb_engine.specs.Find.{need_cause};
 ghost use Rattle.nb_engine.specs.Data.{not_data, put_data, data_cause};
 ghost use Rattle.nb_engine.specs.Mark.{mark_cause};
 ghost use Rattle.nb_engine.specs.Put.{Reads};
 ghost use Rattle.nb_engine.specs.Tries.{Tries};
 
 use crate::Engine;
+use crate::behind::{find_lacking, lower_page};
 use crate::make::put_page;
 use crate::mark::mark;
 use crate::pages::ScnPage;
 use crate::reads::take_system;
+use crate::way::is_there;
 use nb_fields::PageKind;
 use nb_fields::layouts::data;
 use nb_host::{Fault, Host, Refusal};
+use nb_pip::{covers, place_of};
 use nb_state::Store;
 
 /// Where the payload of a page begins.
@@ -58,6 +63,7 @@ fn write_data<H: Host>(
     ensures goes { Goes store.old store.new }
     ensures scn_room { length scn_page.new ≡ length scn_page.old }
     ensures cause { CountsDevice result (H.faults host.old) (H.faults host.new) }
+    ensures takes_none { store.old.files.state ≢ 1 → IfErr result (λ fault. fault ≢ Memory) }
 {
     // A page that is read is below the length, and so below the most pages that there may be.
     let _count = store.count();
@@ -104,7 +110,7 @@ impl Engine {
 
     /// Writes page `number`, a data page. Of the bytes that are given those behind the head count: the next page, the owner and the slots.
     /// The head is that of the page as it stands, with its generation raised and the current SCN. The SCN entry of the page is raised before,
-    /// where that is below the current SCN.
+    /// where that is below the current SCN. It wants memory in the stalled state alone.
     ///
     /// The refusals are `NotDatabase` of the page, where it is past the end or no data page, and of its SCN page, in this order. A refused
     /// call changes nothing.
@@ -121,6 +127,7 @@ impl Engine {
         ensures sure { (t : Trail) → IsTrue H.tells → IsOpen (H.world host.old) self.old t → IsSoundImage t.base.image → not_kind t.base.image 5 number ≡ None → IfErr result IsNoRefusal }
         ensures goes { Goes self.old self.new }
         ensures cause { CountsDevice result (H.faults host.old) (H.faults host.new) }
+        ensures takes_none { self.old.files.state ≢ 1 → IfErr result (λ fault. fault ≢ Memory) }
     {
         write_data(
             &mut self.store,
@@ -134,7 +141,8 @@ impl Engine {
     }
 
     /// Gives page `number` back: its inventory page says from then on that it is free. The page itself stays as it is. The SCN entry of the
-    /// inventory page is raised before, where that is below the current SCN.
+    /// inventory page is raised before, where that is below the current SCN. It takes two reads at most, and wants memory in the stalled
+    /// state alone.
     ///
     /// The refusals are `NotDatabase` of the inventory page and of the SCN page of that, in this order. A refused call changes nothing.
     pub fn data_free<H: Host>(&mut self, host: &mut H, number: u32) -> Result<(), Fault>
@@ -143,7 +151,9 @@ impl Engine {
             → Tries result (H.world host.old) (H.world host.new) self.old self.new t (mark_cause t.base.image number) (give_page number (drafted t.base.image)).strokes }
         ensures sure { (t : Trail) → IsTrue H.tells → IsOpen (H.world host.old) self.old t → IsSoundImage t.base.image → 2 ≤ number → number < length t.base.image → IfErr result IsNoRefusal }
         ensures goes { Goes self.old self.new }
+        ensures once { IsTrue H.tells → (H.world host.new).reads ≤ (H.world host.old).reads + 2 }
         ensures cause { CountsDevice result (H.faults host.old) (H.faults host.new) }
+        ensures takes_none { self.old.files.state ≢ 1 → IfErr result (λ fault. fault ≢ Memory) }
     {
         mark(
             &mut self.store,
@@ -154,5 +164,62 @@ impl Engine {
             &mut self.scn_page,
         )?;
         Ok(())
+    }
+
+    /// The SCN page that writing page `number` changes, where that isn't of its kind. It changes nothing but which pages are in memory,
+    /// refuses nothing, and wants no memory.
+    pub fn data_ready<H: Host>(&mut self, host: &mut H, number: u32) -> Result<Option<u32>, Fault>
+        requires low { 0 < number }
+        requires high { number < 1048576 }
+        ensures test { Tested result None }
+        ensures value { (t : Trail) → IsTrue H.tells → IsOpen (H.world host.old) self.old t → IfOk result (λ lacking. need_cause lacking ≡ lowest_broken (entry_broken t.base.image number)) }
+        ensures open { (t : Trail) → IsTrue H.tells → IsOpen (H.world host.old) self.old t → IsOpen (H.world host.new) self.new t }
+        ensures same { but_pages self.new ≡ but_pages self.old }
+        ensures quiet { Quiet (H.world host.old) (H.world host.new) }
+        ensures cause { CountsDevice result (H.faults host.old) (H.faults host.new) }
+        ensures takes_none { IfErr result (λ fault. fault ≢ Memory) }
+    {
+        find_lacking(
+            &mut self.store,
+            host,
+            number,
+            &mut self.map,
+            &mut self.scn_page,
+        )
+    }
+
+    /// The lowest page that isn't of its kind, of those that giving page `number` back changes: its inventory page, and the SCN page of that. It
+    /// changes nothing but which pages are in memory, refuses nothing, and wants no memory.
+    pub fn free_ready<H: Host>(&mut self, host: &mut H, number: u32) -> Result<Option<u32>, Fault>
+        requires high { number < 1048576 }
+        ensures test { Tested result None }
+        ensures value { (t : Trail) → IsTrue H.tells → IsOpen (H.world host.old) self.old t → IfOk result (λ lacking. need_cause lacking ≡ lowest_broken (give_broken t.base.image number)) }
+        ensures open { (t : Trail) → IsTrue H.tells → IsOpen (H.world host.old) self.old t → IsOpen (H.world host.new) self.new t }
+        ensures same { but_pages self.new ≡ but_pages self.old }
+        ensures quiet { Quiet (H.world host.old) (H.world host.new) }
+        ensures cause { CountsDevice result (H.faults host.old) (H.faults host.new) }
+        ensures takes_none { IfErr result (λ fault. fault ≢ Memory) }
+    {
+        let page_size = self.store.page_size();
+        let (k, _) = covers(page_size, number);
+        let place = place_of(page_size, k);
+        let lacking = find_lacking(
+            &mut self.store,
+            host,
+            place,
+            &mut self.map,
+            &mut self.scn_page,
+        )?;
+        let there = is_there(
+            &mut self.store,
+            host,
+            place,
+            &mut self.map,
+            &mut self.scn_page,
+        )?;
+        if there {
+            return Ok(lacking);
+        }
+        Ok(Some(lower_page(lacking, place)))
     }
 }

@@ -1,23 +1,26 @@
 // New data pages: the first of a chain, and one behind its last.
-ghost use Rattle.std.specs.Prelude.{◌≡◌, ◌+◌, ◌<◌, ◌≤◌, ℕ, List, IsTrue, IfOk, length};
+ghost use Rattle.std.specs.Prelude.{◌≡◌, ◌≢◌, ◌+◌, ◌<◌, ◌≤◌, ℕ, List, true, IsTrue, IfErr, IfOk, OnOk, length};
 ghost use Rattle.nb_fields.specs.Payloads.{data_payload};
+ghost use Rattle.nb_host.specs.declared.faults.Fault.TheVariants.{Memory};
 ghost use Rattle.nb_change.specs.Counts.{CountsDevice};
 ghost use Rattle.nb_page.specs.Quiet.{Quiet};
-ghost use Rattle.nb_model.specs.Causes.{no_room};
 ghost use Rattle.nb_model.specs.Chains.{Chain, owner_of, last_of, grown};
-ghost use Rattle.nb_model.specs.Forms.{drafted, new_page};
-ghost use Rattle.nb_model.specs.Sound.{IsSoundImage};
+ghost use Rattle.nb_model.specs.Forms.{drafted, is_kind};
+ghost use Rattle.nb_model.specs.Image.{image_size};
+ghost use Rattle.nb_model.specs.Sound.{IsOfSize};
 ghost use Rattle.nb_model.specs.Trail.{Trail};
 ghost use Rattle.nb_state.specs.Open.{IsOpen, but_pages};
 ghost use Rattle.nb_state.specs.Does.{Tested, Goes};
-ghost use Rattle.nb_engine.specs.Data.{new_data, second_data};
-ghost use Rattle.nb_engine.specs.Make.{MakesSome};
+ghost use Rattle.nb_engine.specs.Data.{new_data, second_data, unmade, unmade_behind};
+ghost use Rattle.nb_engine.specs.Make.{MakesSome, new_of};
+ghost use Rattle.nb_engine.specs.Search.{IsShort};
 ghost use Rattle.nb_engine.specs.Tries.{Tries};
 
 use crate::Engine;
-use crate::find::{FIRST_TO_GIVE, check_new, check_rooms};
-use crate::grow::{check_growth, grow_from};
+use crate::find::FIRST_TO_GIVE;
+use crate::grow::grow_from;
 use crate::make::make_new;
+use crate::rooms::{check_new, check_rooms};
 use nb_fields::{Field, PageKind};
 use nb_host::{Fault, Host, Refusal};
 
@@ -42,11 +45,12 @@ fn fill_payload(into: &mut [u8], owner: u32, slots: &[u8])
 
 impl Engine {
     /// Makes a data page with these slots, and answers its number, which is found as that of a new raw page. It leads to no other page. Its
-    /// owner is the one that is named, or, where none is, the page itself: so begins the chain of a table.
+    /// owner is the one that is named, or, where none is, the page itself: so begins the chain of a table. It wants memory in the stalled
+    /// state alone.
     ///
-    /// The refusals are `NotDatabase` of a database of fewer than five pages, by its length, or of an inventory page that isn't of its kind,
-    /// and `Full`, where no page is left. All that the new page changes is tested before the first write. Where the inventories agree with
-    /// the pages, a refused call changes nothing, and is refused for want of room alone.
+    /// The refusals are `NotDatabase` of a database of fewer than five pages, by its length, or of the lowest page that the new page needs and
+    /// that isn't of its kind, and `Full`, where no page is left, in this order. All that the new page changes is tested before the first
+    /// write: a refused call changes nothing.
     pub fn data_new<H: Host>(
         &mut self,
         host: &mut H,
@@ -54,9 +58,11 @@ impl Engine {
         slots: &[u8],
     ) -> Result<u32, Fault>
         requires short { length slots.now ≤ 992 }
-        ensures makes { (t : Trail) → IsTrue H.tells → IsOpen (H.world host.old) self.old t → IsSoundImage t.base.image
-            → Tries result (H.world host.old) (H.world host.new) self.old self.new t (no_room (new_data owner slots.now t.base.image).0) (new_data owner slots.now t.base.image).0.strokes }
-        ensures value { (t : Trail) → IsTrue H.tells → IsOpen (H.world host.old) self.old t → IsSoundImage t.base.image → IfOk result (λ number. number ≡ (new_data owner slots.now t.base.image).1) }
+        ensures makes { (t : Trail) → IsTrue H.tells → IsOpen (H.world host.old) self.old t → IsOfSize (image_size t.base.image) t.base.image
+            → Tries result (H.world host.old) (H.world host.new) self.old self.new t (unmade t.base.image (new_data owner slots.now t.base.image).0) (new_data owner slots.now t.base.image).0.strokes }
+        ensures value { (t : Trail) → IsTrue H.tells → IsOpen (H.world host.old) self.old t → IsOfSize (image_size t.base.image) t.base.image → IfOk result (λ number. number ≡ (new_data owner slots.now t.base.image).1) }
+
+        ensures sizes { (t : Trail) → IsTrue H.tells → IsOpen (H.world host.old) self.old t → IsOfSize (image_size t.base.image) t.base.image → OnOk result (IsOfSize (image_size (new_data owner slots.now t.base.image).0.image) (new_data owner slots.now t.base.image).0.image) }
 
         // Whatever is in the database: it makes some strokes and is open behind them, so only its two files are touched.
         ensures some { (t : Trail) → IsTrue H.tells → IsOpen (H.world host.old) self.old t → MakesSome result (H.world host.old) (H.world host.new) self.old self.new t }
@@ -64,6 +70,7 @@ impl Engine {
         ensures most { IfOk result (λ number. number < 1048576) }
         ensures goes { Goes self.old self.new }
         ensures cause { CountsDevice result (H.faults host.old) (H.faults host.new) }
+        ensures takes_none { self.old.files.state ≢ 1 → IfErr result (λ fault. fault ≢ Memory) }
     {
         let count = self.store.count();
         if count < FIRST_TO_GIVE {
@@ -88,10 +95,11 @@ impl Engine {
     }
 
     /// Makes a data page with these slots behind `last`, the last page of a chain of that owner, which is linked to it once it stands. It
-    /// answers the number of the new page.
+    /// answers the number of the new page. It wants memory in the stalled state alone.
     ///
-    /// The refusals are those of `data_new`, and `NotDatabase` of the SCN page of the last page. All is tested before the first write. Where
-    /// the inventories agree with the pages, a refused call changes nothing, and is refused for want of room alone.
+    /// The refusals are `NotDatabase` of a database of fewer than five pages, by its length, or of the lowest page that isn't of its kind: one
+    /// that the new page needs, the SCN page of the last page, or the last page itself, where the search for the new page makes a system page
+    /// of it; and `Full`, where no page is left, in this order. All is tested before the first write: a refused call changes nothing.
     pub fn data_grow<H: Host>(
         &mut self,
         host: &mut H,
@@ -102,23 +110,25 @@ impl Engine {
         requires low { 0 < last }
         requires high { last < 1048576 }
         requires short { length slots.now ≤ 992 }
-        ensures makes { (t : Trail) (chain : Chain) (pages : List ℕ) → IsTrue H.tells → IsOpen (H.world host.old) self.old t → IsSoundImage t.base.image → owner ≡ owner_of chain → last ≡ last_of pages → last < length t.base.image
-            → Tries result (H.world host.old) (H.world host.new) self.old self.new t (no_room (grown chain pages slots.now (drafted t.base.image)).0) (grown chain pages slots.now (drafted t.base.image)).0.strokes }
-        ensures value { (t : Trail) (chain : Chain) (pages : List ℕ) → IsTrue H.tells → IsOpen (H.world host.old) self.old t → IsSoundImage t.base.image → owner ≡ owner_of chain
+        ensures makes { (t : Trail) (chain : Chain) (pages : List ℕ) → IsTrue H.tells → IsOpen (H.world host.old) self.old t → IsOfSize (image_size t.base.image) t.base.image → owner ≡ owner_of chain → last ≡ last_of pages → is_kind t.base.image 5 last ≡ true
+            → Tries result (H.world host.old) (H.world host.new) self.old self.new t (unmade t.base.image (grown chain pages slots.now (drafted t.base.image)).0) (grown chain pages slots.now (drafted t.base.image)).0.strokes }
+        ensures value { (t : Trail) (chain : Chain) (pages : List ℕ) → IsTrue H.tells → IsOpen (H.world host.old) self.old t → IsOfSize (image_size t.base.image) t.base.image → owner ≡ owner_of chain → is_kind t.base.image 5 last ≡ true
             → IfOk result (λ number. number ≡ (grown chain pages slots.now (drafted t.base.image)).1) }
         ensures some { (t : Trail) → IsTrue H.tells → IsOpen (H.world host.old) self.old t → MakesSome result (H.world host.old) (H.world host.new) self.old self.new t }
         ensures least { IfOk result (λ number. 5 ≤ number) }
         ensures most { IfOk result (λ number. number < 1048576) }
         ensures goes { Goes self.old self.new }
         ensures cause { CountsDevice result (H.faults host.old) (H.faults host.new) }
+        ensures takes_none { self.old.files.state ≢ 1 → IfErr result (λ fault. fault ≢ Memory) }
     {
         let count = self.store.count();
         if count < FIRST_TO_GIVE {
             return Err(Fault::Refused(Refusal::NotDatabase { page: count }));
         }
-        let first = check_growth(
+        let first = check_rooms(
             &mut self.store,
             host,
+            1,
             last,
             &mut self.map,
             &mut self.scn_page,
@@ -139,21 +149,28 @@ impl Engine {
         Ok(number)
     }
 
-    /// Tests that `pages` new data pages, one or two, may be made, one right behind the other. It changes nothing but which pages
-    /// are in memory.
+    /// Tests that `pages` new data pages, one or two, may be made, one right behind the other, and that page `behind`, a data page, may be
+    /// written behind them. It changes nothing but which pages are in memory, and wants no memory.
     ///
-    /// The refusals are `NotDatabase` of a database of fewer than five pages, by its length, or of an inventory page that isn't of its kind,
-    /// and `Full`, where fewer pages are left.
-    pub fn room_for<H: Host>(&mut self, host: &mut H, pages: u32) -> Result<(), Fault>
+    /// The refusals are `NotDatabase` of a database of fewer than five pages, by its length, or of the lowest page that isn't of its kind: one
+    /// that the new pages need, the SCN page of page `behind`, or that page itself, where the search for the new pages makes a system page of
+    /// it; and `Full`, where fewer pages are left, in this order.
+    pub fn room_for<H: Host>(&mut self, host: &mut H, pages: u32, behind: u32) -> Result<(), Fault>
         requires some { 1 ≤ pages }
         requires few { pages ≤ 2 }
-        ensures one { (t : Trail) (first : ℕ → List ℕ) → IsTrue H.tells → IsOpen (H.world host.old) self.old t → IsSoundImage t.base.image → pages ≡ 1 → Tested result (no_room (new_page 5 first (drafted t.base.image)).0) }
-        ensures two { (t : Trail) (first second : ℕ → List ℕ) → IsTrue H.tells → IsOpen (H.world host.old) self.old t → IsSoundImage t.base.image → pages ≡ 2 → ((p : ℕ) → length (first p) ≤ 1008)
-            → Tested result (no_room (second_data first second t.base.image).0) }
+        requires low { 0 < behind }
+        requires high { behind < 1048576 }
+        ensures one { (t : Trail) (first : ℕ → List ℕ) → IsTrue H.tells → IsOpen (H.world host.old) self.old t → IsOfSize (image_size t.base.image) t.base.image → IsShort first → is_kind t.base.image 5 behind ≡ true → pages ≡ 1
+            → Tested result (unmade_behind t.base.image (new_of 5 first t.base.image).0 behind) }
+        ensures two { (t : Trail) (first second : ℕ → List ℕ) → IsTrue H.tells → IsOpen (H.world host.old) self.old t → IsOfSize (image_size t.base.image) t.base.image → IsShort first → IsShort second → is_kind t.base.image 5 behind ≡ true → pages ≡ 2
+            → Tested result (unmade_behind t.base.image (second_data first second t.base.image).0 behind) }
+        ensures still { (t : Trail) (first : ℕ → List ℕ) → IsTrue H.tells → IsOpen (H.world host.old) self.old t → IsOfSize (image_size t.base.image) t.base.image → IsShort first → is_kind t.base.image 5 behind ≡ true → pages ≡ 2
+            → OnOk result (is_kind (new_of 5 first t.base.image).0.image 5 behind ≡ true) }
         ensures open { (t : Trail) → IsTrue H.tells → IsOpen (H.world host.old) self.old t → IsOpen (H.world host.new) self.new t }
         ensures same { but_pages self.new ≡ but_pages self.old }
         ensures quiet { Quiet (H.world host.old) (H.world host.new) }
         ensures cause { CountsDevice result (H.faults host.old) (H.faults host.new) }
+        ensures takes_none { IfErr result (λ fault. fault ≢ Memory) }
     {
         let count = self.store.count();
         if count < FIRST_TO_GIVE {
@@ -163,6 +180,7 @@ impl Engine {
             &mut self.store,
             host,
             pages,
+            behind,
             &mut self.map,
             &mut self.scn_page,
         )?;

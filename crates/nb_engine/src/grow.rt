@@ -1,63 +1,28 @@
 // A chain of data pages grows by a page, which is made behind its last one and then linked.
-ghost use Rattle.std.specs.Prelude.{◌≡◌, ◌<◌, ◌≤◌, ℕ, List, None, IsTrue, IfOk, OnOk, length};
+ghost use Rattle.std.specs.Prelude.{◌≡◌, ◌≢◌, ◌<◌, ◌≤◌, ℕ, List, None, IsTrue, IfErr, IfOk, length};
 ghost use Rattle.nb_fields.specs.Payloads.{data_payload};
 ghost use Rattle.nb_fields.specs.Places.{is_page_size};
+ghost use Rattle.nb_host.specs.declared.faults.Fault.TheVariants.{Memory};
 ghost use Rattle.nb_change.specs.Counts.{CountsDevice};
-ghost use Rattle.nb_page.specs.Quiet.{Quiet};
-ghost use Rattle.nb_model.specs.Causes.{no_room};
 ghost use Rattle.nb_model.specs.Chains.{Chain, owner_of, last_of, grown};
 ghost use Rattle.nb_model.specs.Forms.{drafted, lowest_free};
-ghost use Rattle.nb_model.specs.Sound.{IsSoundImage};
 ghost use Rattle.nb_model.specs.Trail.{Trail};
-ghost use Rattle.nb_state.specs.Open.{IsOpen, but_pages};
-ghost use Rattle.nb_state.specs.Does.{Tested, Goes};
+ghost use Rattle.nb_state.specs.Open.{IsOpen};
+ghost use Rattle.nb_state.specs.Does.{Goes};
+ghost use Rattle.nb_engine.specs.Behind.{behind_cause};
 ghost use Rattle.nb_engine.specs.Data.{new_behind};
 ghost use Rattle.nb_engine.specs.Find.{HoldsMap};
-ghost use Rattle.nb_engine.specs.Make.{IsWell, MakesSome, page_strokes, new_of};
+ghost use Rattle.nb_engine.specs.Make.{MakesSome, page_strokes};
 ghost use Rattle.nb_engine.specs.Room.{linked_payload, link_cause};
+ghost use Rattle.nb_engine.specs.Search.{IsSearchable};
 ghost use Rattle.nb_engine.specs.Tries.{Tries};
 
-use crate::find::{check_entry, check_new};
 use crate::make::{make_new, put_page};
 use crate::pages::{InventoryPage, ScnPage};
 use nb_fields::PageKind;
 use nb_fields::layouts::data;
 use nb_host::{Fault, Host, Refusal};
 use nb_state::Store;
-
-/// Tests all that a new page behind page `last` changes, and answers the page at which it is made at first, as `check_new` does.
-///
-/// The refusals are `NotDatabase` of an inventory page that isn't of its kind, and `Full`.
-pub(crate) fn check_growth<H: Host>(
-    store: &mut Store,
-    host: &mut H,
-    last: u32,
-    map: &mut InventoryPage,
-    scn_page: &mut ScnPage,
-) -> Result<u32, Fault>
-    requires size { IsTrue (is_page_size store.old.files.page_size) }
-    requires map_room { length map.old ≡ store.old.files.page_size }
-    requires scn_room { length scn_page.old ≡ store.old.files.page_size }
-    requires low { 0 < last }
-    requires high { last < 1048576 }
-    ensures test { (t : Trail) (kind : ℕ) (payload : ℕ → List ℕ) → IsTrue H.tells → IsOpen (H.world host.old) store.old t → IsSoundImage t.base.image → last < length t.base.image
-        → Tested result (no_room (new_of kind payload t.base.image).0) }
-    ensures room { (t : Trail) (kind : ℕ) (payload : ℕ → List ℕ) → IsTrue H.tells → IsOpen (H.world host.old) store.old t → IsSoundImage t.base.image → OnOk result (no_room (new_of kind payload t.base.image).0 ≡ None) }
-    ensures value { (t : Trail) → IsTrue H.tells → IsOpen (H.world host.old) store.old t → IfOk result (λ page. page ≡ lowest_free t.base.image) }
-    ensures map { (t : Trail) → IsTrue H.tells → IsOpen (H.world host.old) store.old t → IfOk result (λ page. HoldsMap t.base.image page map.new) }
-    ensures least { IfOk result (λ page. 5 ≤ page) }
-    ensures most { IfOk result (λ page. page < 1048576) }
-    ensures map_room { length map.new ≡ length map.old }
-    ensures scn_room { length scn_page.new ≡ length scn_page.old }
-    ensures open { (t : Trail) → IsTrue H.tells → IsOpen (H.world host.old) store.old t → IsOpen (H.world host.new) store.new t }
-    ensures same { but_pages store.new ≡ but_pages store.old }
-    ensures quiet { Quiet (H.world host.old) (H.world host.new) }
-    ensures cause { CountsDevice result (H.faults host.old) (H.faults host.new) }
-{
-    check_entry(store, host, last, scn_page)?;
-    let first = check_new(store, host, map, scn_page)?;
-    Ok(first)
-}
 
 /// Links page `last`, a data page, to page `next`. The refusals are `NotDatabase` of the page, where it is past the end, and of its SCN page.
 fn link<H: Host>(
@@ -78,6 +43,7 @@ fn link<H: Host>(
     ensures goes { Goes store.old store.new }
     ensures scn_room { length scn_page.new ≡ length scn_page.old }
     ensures cause { CountsDevice result (H.faults host.old) (H.faults host.new) }
+    ensures takes_none { store.old.files.state ≢ 1 → IfErr result (λ fault. fault ≢ Memory) }
 {
     if last >= store.count() {
         return Err(Fault::Refused(Refusal::NotDatabase { page: last }));
@@ -89,7 +55,7 @@ fn link<H: Host>(
 }
 
 /// Makes a new data page with these bytes behind its head, and links page `last` to it once it stands. It answers its number. The search
-/// for its place comes to `first` at first, as `check_growth` has found.
+/// for its place comes to `first` at first, as `check_rooms` has found.
 pub(crate) fn grow_from<H: Host>(
     store: &mut Store,
     host: &mut H,
@@ -110,13 +76,13 @@ pub(crate) fn grow_from<H: Host>(
     requires high { last < 1048576 }
     requires short { length payload.now ≤ 1008 }
     ensures tries { (t : Trail) (chain : Chain) (pages slots : List ℕ) → IsTrue H.tells → IsOpen (H.world host.old) store.old t → first ≡ lowest_free t.base.image → HoldsMap t.base.image first map.old
-        → IsWell t.base.image → no_room (new_behind chain slots t.base.image).0 ≡ None → payload.now ≡ data_payload 0 (owner_of chain) slots → last ≡ last_of pages → last < length t.base.image
+        → IsSearchable t.base.image → behind_cause (new_behind chain slots t.base.image).0 last ≡ None → payload.now ≡ data_payload 0 (owner_of chain) slots → last ≡ last_of pages
         → Tries result (H.world host.old) (H.world host.new) store.old store.new t None (grown chain pages slots (drafted t.base.image)).0.strokes }
     ensures value { (t : Trail) (chain : Chain) (pages slots : List ℕ) → IsTrue H.tells → IsOpen (H.world host.old) store.old t → first ≡ lowest_free t.base.image → HoldsMap t.base.image first map.old
-        → IsWell t.base.image → no_room (new_behind chain slots t.base.image).0 ≡ None → payload.now ≡ data_payload 0 (owner_of chain) slots
+        → IsSearchable t.base.image → behind_cause (new_behind chain slots t.base.image).0 last ≡ None → payload.now ≡ data_payload 0 (owner_of chain) slots
         → IfOk result (λ number. number ≡ (grown chain pages slots (drafted t.base.image)).1) }
     ensures below { (t : Trail) (chain : Chain) (pages slots : List ℕ) → IsTrue H.tells → IsOpen (H.world host.old) store.old t → first ≡ lowest_free t.base.image → HoldsMap t.base.image first map.old
-        → IsWell t.base.image → no_room (new_behind chain slots t.base.image).0 ≡ None → payload.now ≡ data_payload 0 (owner_of chain) slots
+        → IsSearchable t.base.image → behind_cause (new_behind chain slots t.base.image).0 last ≡ None → payload.now ≡ data_payload 0 (owner_of chain) slots
         → IfOk result (λ number. number < length (grown chain pages slots (drafted t.base.image)).0.image) }
     ensures some { (t : Trail) → IsTrue H.tells → IsOpen (H.world host.old) store.old t → first ≡ lowest_free t.base.image → HoldsMap t.base.image first map.old → 5 ≤ length t.base.image
         → MakesSome result (H.world host.old) (H.world host.new) store.old store.new t }
@@ -126,6 +92,7 @@ pub(crate) fn grow_from<H: Host>(
     ensures map_room { length map.new ≡ length map.old }
     ensures scn_room { length scn_page.new ≡ length scn_page.old }
     ensures cause { CountsDevice result (H.faults host.old) (H.faults host.new) }
+    ensures takes_none { store.old.files.state ≢ 1 → IfErr result (λ fault. fault ≢ Memory) }
 {
     let number = make_new(
         store,

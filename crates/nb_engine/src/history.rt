@@ -1,13 +1,15 @@
 // The backup history: what it has, and what is added.
-ghost use Rattle.std.specs.Prelude.{◌≡◌, ◌+◌, ◌<◌, ◌≤◌, IsTrue, IfErr, IfOk, OnOk, length, nat_eq};
+ghost use Rattle.std.specs.Prelude.{◌≡◌, ◌≢◌, ◌+◌, ◌<◌, ◌≤◌, IsTrue, IfErr, IfOk, OnOk, length, nat_eq};
 ghost use Rattle.nb_host.specs.Names.{same_name};
+ghost use Rattle.nb_host.specs.declared.faults.Fault.TheVariants.{Memory};
 ghost use Rattle.nb_change.specs.Counts.{CountsDevice};
 ghost use Rattle.nb_page.specs.Quiet.{Quiet};
 ghost use Rattle.nb_model.specs.Causes.{broken_at};
 ghost use Rattle.nb_model.specs.Backups.{room_in};
 ghost use Rattle.nb_model.specs.Chains.{History, pages_of, found_pages, backup_spot, level_in, guid_in, put_slot, backup_slot};
 ghost use Rattle.nb_model.specs.Forms.{drafted};
-ghost use Rattle.nb_model.specs.Sound.{IsSoundImage};
+ghost use Rattle.nb_model.specs.Image.{image_size};
+ghost use Rattle.nb_model.specs.Sound.{IsSoundImage, IsOfSize};
 ghost use Rattle.nb_model.specs.Trail.{Trail};
 ghost use Rattle.nb_state.specs.Open.{IsOpen, but_pages};
 ghost use Rattle.nb_base.specs.Takes.{IsNoRefusal};
@@ -25,7 +27,8 @@ use crate::walk::{Room, walk};
 use nb_host::{Fault, Host, Refusal};
 
 impl Engine {
-    /// The latest backup of that level in the history, and none exactly where it has none. Each page of the history is read once.
+    /// The latest backup of that level in the history, and none exactly where it has none. Each page of the history is read once, and no memory is
+    /// wanted.
     ///
     /// The refusal is `NotDatabase` of the first page of the history that breaks the form.
     pub fn history_last<H: Host>(
@@ -41,12 +44,14 @@ impl Engine {
         ensures once { (t : Trail) → IsTrue H.tells → IsOpen (H.world host.old) self.old t → OnOk result ((H.world host.new).reads ≤ (H.world host.old).reads + length (found_pages History t.base.image)) }
         ensures most { IsTrue H.tells → (H.world host.new).reads ≤ (H.world host.old).reads + self.old.files.count }
         ensures cause { CountsDevice result (H.faults host.old) (H.faults host.new) }
+        ensures takes_none { IfErr result (λ fault. fault ≢ Memory) }
     {
         let (walked, _) = walk(&mut self.store, host, &mut self.page, &Wanted::Level(level))?;
         Ok(walked.row)
     }
 
-    /// The latest backup of that GUID in the history, and none exactly where it has none. Each page of the history is read once.
+    /// The latest backup of that GUID in the history, and none exactly where it has none. Each page of the history is read once, and no memory is
+    /// wanted.
     ///
     /// The refusal is `NotDatabase` of the first page of the history that breaks the form.
     pub fn history_find<H: Host>(
@@ -62,28 +67,31 @@ impl Engine {
         ensures once { (t : Trail) → IsTrue H.tells → IsOpen (H.world host.old) self.old t → OnOk result ((H.world host.new).reads ≤ (H.world host.old).reads + length (found_pages History t.base.image)) }
         ensures most { IsTrue H.tells → (H.world host.new).reads ≤ (H.world host.old).reads + self.old.files.count }
         ensures cause { CountsDevice result (H.faults host.old) (H.faults host.new) }
+        ensures takes_none { IfErr result (λ fault. fault ≢ Memory) }
     {
         let (walked, _) = walk(&mut self.store, host, &mut self.page, &Wanted::Guid(*guid))?;
         Ok(walked.row)
     }
 
     /// Makes sure that the history has a free slot, and answers the first. Where there is none a new page is made, and the last page of the
-    /// history is linked to it behind that.
+    /// history is linked to it behind that. It wants memory in the stalled state alone.
     ///
-    /// The refusals are `NotDatabase` of the first page of the history that breaks the form, `NotDatabase` of an inventory page that isn't
-    /// of its kind or of the page of the slot, where that is free, `Full` and `ScnExhausted`, in this order. All is tested before the first
-    /// write. Where the inventories agree with the pages, a refused call changes nothing.
+    /// The refusals are `NotDatabase` of the first page of the history that breaks the form, `NotDatabase` of the lowest page that isn't of its
+    /// kind, `Full` and `ScnExhausted`, in this order. For a free slot these pages are the inventory page and the SCN page of its page, and that
+    /// page itself, where it is free; for a new page those that it needs, the SCN page of the last page, and that page itself, where the search
+    /// for the new page makes a system page of it. All is tested before the first write: a refused call changes nothing.
     pub fn history_room<H: Host>(&mut self, host: &mut H) -> Result<Room, Fault>
-        ensures makes { (t : Trail) → IsTrue H.tells → IsOpen (H.world host.old) self.old t → IsSoundImage t.base.image
+        ensures makes { (t : Trail) → IsTrue H.tells → IsOpen (H.world host.old) self.old t → IsOfSize (image_size t.base.image) t.base.image
             → Tries result (H.world host.old) (H.world host.new) self.old self.new t (room_cause t.base.image) (room_in t.base.image).draft.strokes }
-        ensures room { (t : Trail) → IsTrue H.tells → IsOpen (H.world host.old) self.old t → IsSoundImage t.base.image → IfOk result (IsRoomIn t.base.image) }
-        ensures below { (t : Trail) → IsTrue H.tells → IsOpen (H.world host.old) self.old t → IsSoundImage t.base.image → IfOk result (λ room. room.page < length (room_in t.base.image).draft.image) }
+        ensures room { (t : Trail) → IsTrue H.tells → IsOpen (H.world host.old) self.old t → IsOfSize (image_size t.base.image) t.base.image → IfOk result (IsRoomIn t.base.image) }
+        ensures below { (t : Trail) → IsTrue H.tells → IsOpen (H.world host.old) self.old t → IsOfSize (image_size t.base.image) t.base.image → IfOk result (λ room. room.page < length (room_in t.base.image).draft.image) }
 
         // Whatever is in the database: it makes some strokes and is open behind them, so only its two files are touched.
         ensures some { (t : Trail) → IsTrue H.tells → IsOpen (H.world host.old) self.old t → MakesSome result (H.world host.old) (H.world host.new) self.old self.new t }
         ensures placed { IfOk result (IsPlaced self.old.files.page_size) }
         ensures goes { Goes self.old self.new }
         ensures cause { CountsDevice result (H.faults host.old) (H.faults host.new) }
+        ensures takes_none { self.old.files.state ≢ 1 → IfErr result (λ fault. fault ≢ Memory) }
     {
         // Contracts ask for its range, which is known of what was read.
         let _scn = self.store.scn();
@@ -116,7 +124,8 @@ impl Engine {
         }
     }
 
-    /// Writes a row into a slot that was kept for it. The SCN entry of its page is raised before, where that is below the current SCN.
+    /// Writes a row into a slot that was kept for it. The SCN entry of its page is raised before, where that is below the current SCN. It wants
+    /// memory in the stalled state alone.
     ///
     /// The refusals are `NotDatabase` of that page, where it is past the end, and of its SCN page, in this order. A refused call changes
     /// nothing.
@@ -136,6 +145,7 @@ impl Engine {
         ensures some { (t : Trail) → IsTrue H.tells → IsOpen (H.world host.old) self.old t → MakesSome result (H.world host.old) (H.world host.new) self.old self.new t }
         ensures goes { Goes self.old self.new }
         ensures cause { CountsDevice result (H.faults host.old) (H.faults host.new) }
+        ensures takes_none { self.old.files.state ≢ 1 → IfErr result (λ fault. fault ≢ Memory) }
     {
         // Contracts ask for its range, which is known of what was read.
         let _scn = self.store.scn();

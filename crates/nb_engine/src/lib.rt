@@ -4,14 +4,15 @@
 //! and that each call that writes makes its one stroke. It rests on `nb_page` and the inventories for the bytes of pages, and on the
 //! table of turns of `nb_model`. A layer above may rely on this: each call answers what its turn says and makes the turn's strokes
 //! in order, in every backup state; at each moment a stop leaves what may be left of what was seen behind a front of them, and once
-//! the call has answered a value or a refusal the database is open behind all of them. A new page does so where the inventories agree
-//! with the pages; of any other database it says that it makes some strokes. The history of the backups is read page by page; a row
-//! takes two calls, one that keeps a slot for it and one that writes it, so that a backup that has begun finds its slot. Data pages, of
-//! which tables are made, are read, made, written and given back one by one, as the short forms of their turns say; what several such
-//! calls will need can be tested before the first.
+//! the call has answered a value or a refusal the database is open behind all of them. That holds of every database that opens, whatever
+//! its pages are: a call tests all that it changes before its first write, on the database as it stands, and a refused call changes nothing.
+//! The history of the backups is read page by page; a row takes two calls, one that keeps a slot for it and one that writes it, so that a
+//! backup that has begun finds its slot. Data pages, of which tables are made, are read, made, written and given back one by one, as the
+//! short forms of their turns say; what several such calls will need can be tested before the first.
 #![tactic(auto)]
 
 mod backup;
+mod behind;
 mod data;
 mod data_new;
 mod engine;
@@ -27,8 +28,10 @@ mod pages;
 mod put;
 mod reads;
 mod room;
+mod rooms;
 mod rows;
 mod walk;
+mod way;
 mod write;
 
 pub use engine::Engine;

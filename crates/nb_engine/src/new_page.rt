@@ -1,21 +1,24 @@
 // A new page.
-ghost use Rattle.std.specs.Prelude.{◌≡◌, ◌+◌, ◌<◌, ◌≤◌, IsTrue, IfOk, Err, true, false};
+ghost use Rattle.std.specs.Prelude.{◌≡◌, ◌≢◌, ◌+◌, ◌<◌, ◌≤◌, IsTrue, IfErr, IfOk, Err, true, false};
 ghost use Rattle.nb_host.specs.declared.faults.Fault.TheVariants.{Refused};
 ghost use Rattle.nb_host.specs.declared.refusals.Refusal.TheVariants.{Access, NotDatabase};
+ghost use Rattle.nb_host.specs.declared.faults.Fault.TheVariants.{Memory};
 ghost use Rattle.nb_change.specs.Counts.{CountsDevice};
 ghost use Rattle.nb_page.specs.Quiet.{Quiet};
 ghost use Rattle.nb_model.specs.Trail.{Trail};
 ghost use Rattle.nb_model.specs.Outcomes.{Seen};
 ghost use Rattle.nb_model.specs.Pages.{new_turn};
-ghost use Rattle.nb_model.specs.Sound.{IsSoundImage};
+ghost use Rattle.nb_model.specs.Image.{image_size};
+ghost use Rattle.nb_model.specs.Sound.{IsOfSize};
 ghost use Rattle.nb_state.specs.Open.{IsOpen};
 ghost use Rattle.nb_state.specs.Does.{Goes, Does};
 ghost use Rattle.nb_engine.specs.Replies.{page_made};
 ghost use Rattle.nb_engine.specs.Make.{MakesSome, new_reads};
 
 use crate::Engine;
-use crate::find::{FIRST_TO_GIVE, check_new};
+use crate::find::FIRST_TO_GIVE;
 use crate::make::make_new;
+use crate::rooms::check_new;
 use nb_fields::PageKind;
 use nb_host::{Fault, Host, Refusal};
 
@@ -26,13 +29,14 @@ impl Engine {
     /// Makes a raw page with the empty text, and answers its number: the lowest free page, or a page at the end where none is free. Where
     /// the search for it comes to the place of a system page, that page is made, is taken, and the search goes on behind it. Each page is
     /// written before it is taken, and its SCN entry is raised before, where that is below the current SCN. It reads each inventory page up
-    /// to that of the lowest free page once, and few pages more for each page that the search went on.
+    /// to that of the lowest free page once, and few pages more for each page that the search went on. It wants memory in the stalled state
+    /// alone.
     ///
-    /// The refusals are `Access`, `NotDatabase` of a database of fewer than five pages, by its length, or of an inventory page that isn't
-    /// of its kind, and `Full`, where no page is left. All that the new page changes is tested before the first write. Where the
-    /// inventories agree with the pages, a refused call changes nothing.
+    /// The refusals are `Access`, `NotDatabase` of a database of fewer than five pages, by its length, or of the lowest page that the new page
+    /// needs and that isn't of its kind, and `Full`, where no page is left, in this order. All that the new page changes is tested before the
+    /// first write: a refused call changes nothing.
     pub fn page_new<H: Host>(&mut self, host: &mut H) -> Result<u32, Fault>
-        ensures turn { (s : Seen) (t : Trail) → IsTrue H.tells → t.base ≡ s.base → IsOpen (H.world host.old) self.old t → IsSoundImage s.base.image
+        ensures turn { (s : Seen) (t : Trail) → IsTrue H.tells → t.base ≡ s.base → IsOpen (H.world host.old) self.old t → IsOfSize (image_size s.base.image) s.base.image
             → Does page_made result (H.world host.old) (H.world host.new) self.old self.new t (new_turn s) }
 
         // Whatever is in the database: it makes some strokes and is open behind them, so only its two files are touched.
@@ -40,9 +44,10 @@ impl Engine {
         ensures closed { self.old.read_only ≡ true → (result ≡ Err (Refused (Access 1))) × Quiet (H.world host.old) (H.world host.new) }
         ensures short { self.old.read_only ≡ false → self.old.files.count < 5 → (result ≡ Err (Refused (NotDatabase self.old.files.count))) × Quiet (H.world host.old) (H.world host.new) }
         ensures goes { Goes self.old self.new }
-        ensures once { (t : Trail) → IsTrue H.tells → IsOpen (H.world host.old) self.old t → IsSoundImage t.base.image
+        ensures once { (t : Trail) → IsTrue H.tells → IsOpen (H.world host.old) self.old t → IsOfSize (image_size t.base.image) t.base.image
             → IfOk result (λ page. (H.world host.new).reads ≤ (H.world host.old).reads + new_reads t.base.image page) }
         ensures cause { CountsDevice result (H.faults host.old) (H.faults host.new) }
+        ensures takes_none { self.old.files.state ≢ 1 → IfErr result (λ fault. fault ≢ Memory) }
     {
         // Contracts ask for its range, which is known of what was read.
         let _scn = self.store.scn();

@@ -1,5 +1,5 @@
 -- What a row's turn does, once its table's rows are come by.
-use Rattle.std.proofs.Common.{◌≡◌, ℕ, ◌<◌, List, [], ◌∷◌, refl, sym, ap, ◌∙◌, arith}
+use Rattle.std.proofs.Common.{◌≡◌, ℕ, ◌<◌, List, [], ◌∷◌, refl, sym, ap, ◌∙◌}
 use Rattle.std.specs.Prelude.{true, false, Option, Some, None, Result, Ok, Err, IfOk, IfSome, is_some}
 use Rattle.nb_host.specs.World.{World}
 use Rattle.nb_host.specs.declared.faults.Fault.{Fault}
@@ -9,26 +9,27 @@ use Rattle.nb_model.specs.declared.reply.Reply.TheVariants.{Refused, Done}
 use Rattle.nb_model.specs.Image.{Image}
 use Rattle.nb_model.specs.Trail.{Trail}
 use Rattle.nb_model.specs.Forms.{Draft, drafted}
-use Rattle.nb_model.specs.Causes.{Cause, when, read_only, too_long, not_kind, not_of_form, no_room, broken_at, too_short, short_for}
+use Rattle.nb_model.specs.Causes.{Cause, when, read_only, too_long, not_kind, not_of_form, no_room, broken_at, short_for}
 use Rattle.nb_model.specs.Chains.{Chain, RowsFrom, Slot, Spot, pages_of, found_pages, spots, table_spot, row_spot, free_spot, first_in, row_slot, free_slot, put_slot, place_slot}
 use Rattle.nb_model.specs.Outcomes.{Seen, Outcome, says, unless, changes}
 use Rattle.nb_model.specs.Tables.{with_spot, in_row, insert_turn, update_turn, delete_turn}
 use Rattle.nb_state.specs.Open.{Held}
 use Rattle.nb_state.specs.Does.{Does}
-use Rattle.nb_engine.specs.Make.{IsWell}
+use Rattle.nb_engine.specs.Put.{entry_cause}
 use Rattle.nb_engine.specs.Replies.{done}
 use Rattle.nb_engine.specs.Tries.{Tries}
-use Rattle.nb_engine.proofs.CauseLaws.{unless_allowed, first_none, first_next, first_here, one_cause, refused_by, judged_by, allowed}
+use Rattle.nb_engine.proofs.CauseLaws.{first_none, first_next, first_here, refused_by, judged_by}
 use Rattle.nb_engine.proofs.DoesLaws.{seeing, tries_does}
+use Rattle.nb_engine.proofs.RoomsLaws.{slot_alone}
 use Rattle.nb_engine.proofs.TestLaws.{applies, rests}
 use Rattle.nb_table.specs.declared.look.Found.{Found}
 use Rattle.nb_table.specs.declared.look.Place.{Place}
 use Rattle.nb_table.specs.declared.look.Sought.TheVariants.{Row}
 use Rattle.nb_table.specs.declared.look.Walked.{Walked}
-use Rattle.nb_table.specs.Rows.{rows_cause}
+use Rattle.nb_table.specs.Rows.{rows_cause, place_cause}
 use Rattle.nb_table.specs.Walks.{gathered, found_at, place_at, IsPlaced}
 use Rattle.nb_table.proofs.InTableLaws.{table_refused, table_goes_from}
-use Rattle.nb_table.proofs.PlaceLaws.{IsPlaceOf, found_some, found_there, slot_form, slot_room}
+use Rattle.nb_table.proofs.PlaceLaws.{IsPlaceOf, found_some, found_there}
 use Rattle.nb_table.proofs.SpotPages.{row_kind}
 
 -- what is said is `ok`
@@ -50,10 +51,11 @@ module _ (s : Seen) (chain : Chain) (key : ℕ) (bytes : Slot) where
   row_missing none = ap row_by none
 
   -- its slot is written
-  pub row_written : (row : Spot) → row_spot key (spots chain image) ≡ Some row → IsWell image → 0 < row.page → not_kind image 5 row.page ≡ None → in_row s chain key bytes ≡ says s Done (put_slot row.page row.slot bytes (drafted image)).strokes
+  pub row_written : (row : Spot) → row_spot key (spots chain image) ≡ Some row → in_row s chain key bytes ≡ unless s (entry_cause image row.page) (says s Done (put_slot row.page row.slot bytes (drafted image)).strokes)
   unfolding in_row with_spot
-  row_written row found is some kind =
-      ap row_by found ∙ allowed s [] (put_slot row.page row.slot bytes (drafted image)) Done first_none (slot_form s.base is row.page row.slot bytes some kind) (slot_room s.base is row.page row.slot bytes some kind)
+  row_written row found =
+      ap row_by found ∙ judged_by s [] (put_slot row.page row.slot bytes (drafted image)) Done first_none
+      ∙ ap (λ (c : Cause). unless s c (says s Done (put_slot row.page row.slot bytes (drafted image)).strokes)) (slot_alone image row.page row.slot bytes)
 
 -- the page of a row that was found is a data page
 pub found_kind : (image : Image) (chain : Chain) → broken_at (pages_of chain image) ≡ None → (key : ℕ) (row : Found) → Some row ≡ found_at (row_spot key (spots chain image)) → not_kind image 5 row.place.page ≡ None
@@ -62,10 +64,10 @@ found_kind image chain formed key row found =
     ap (λ (n : ℕ). not_kind image 5 n) at.page ∙ row_kind chain image formed key at.spot at.is
 
 -- so a call that writes it does that
-pub row_does : (result : Result (Unit {0}) Fault) (old new : World) (a b : Held) (t : Trail) (s : Seen) (chain : Chain) (key : ℕ) (bytes : Slot) (row : Found) → t.base ≡ s.base → IsWell t.base.image → broken_at (pages_of chain t.base.image) ≡ None
-    → Some row ≡ found_at (row_spot key (spots chain t.base.image)) → 0 < row.place.page → Tries result old new a b t None (put_slot row.place.page row.place.slot bytes (drafted t.base.image)).strokes → Does done result old new a b t (in_row s chain key bytes)
-row_does result old new a b t s chain key bytes row same is formed found some tries =
-    tries_does done result old new a b t s (λ (x : Seen). in_row x chain key bytes) None Done refl (put_slot row.place.page row.place.slot bytes (drafted image)).strokes same turn (said result) tries
+pub row_does : (result : Result (Unit {0}) Fault) (old new : World) (a b : Held) (t : Trail) (s : Seen) (chain : Chain) (key : ℕ) (bytes : Slot) (row : Found) → t.base ≡ s.base → Some row ≡ found_at (row_spot key (spots chain t.base.image))
+    → Tries result old new a b t (entry_cause t.base.image row.place.page) (put_slot row.place.page row.place.slot bytes (drafted t.base.image)).strokes → Does done result old new a b t (in_row s chain key bytes)
+row_does result old new a b t s chain key bytes row same found tries =
+    tries_does done result old new a b t s (λ (x : Seen). in_row x chain key bytes) (entry_cause image row.place.page) Done refl (put_slot row.place.page row.place.slot bytes (drafted image)).strokes same turn (said result) tries
   where
     image : Image
     image = t.base.image
@@ -73,19 +75,14 @@ row_does result old new a b t s chain key bytes row same is formed found some tr
     at : IsPlaceOf (row_spot key (spots chain image)) row.place
     at = found_some (row_spot key (spots chain image)) row found
 
-    there : Draft
-    there = put_slot at.spot.page at.spot.slot bytes (drafted image)
-
     are : put_slot row.place.page row.place.slot bytes (drafted image) ≡ put_slot at.spot.page at.spot.slot bytes (drafted image)
     are = ap (λ (n : ℕ). put_slot n row.place.slot bytes (drafted image)) at.page ∙ ap (λ (n : ℕ). put_slot at.spot.page n bytes (drafted image)) at.slot
 
-    turn : in_row (seeing s t.base) chain key bytes ≡ unless (seeing s t.base) None (says (seeing s t.base) Done (put_slot row.place.page row.place.slot bytes (drafted image)).strokes)
+    turn : in_row (seeing s t.base) chain key bytes ≡ unless (seeing s t.base) (entry_cause image row.place.page) (says (seeing s t.base) Done (put_slot row.place.page row.place.slot bytes (drafted image)).strokes)
     turn =
-        row_written (seeing s t.base) chain key bytes at.spot at.is is (subst_low at.page some) (row_kind chain image formed key at.spot at.is)
-        ∙ ap (λ (d : Draft). says (seeing s t.base) Done d.strokes) (sym are) ∙ sym (unless_allowed (seeing s t.base) None (says (seeing s t.base) Done (put_slot row.place.page row.place.slot bytes (drafted image)).strokes) refl)
-      where
-        subst_low : {p q : ℕ} → p ≡ q → 0 < p → 0 < q
-        subst_low e low = omega (arith, e, low)
+        row_written (seeing s t.base) chain key bytes at.spot at.is
+        ∙ ap (λ (n : ℕ). unless (seeing s t.base) (entry_cause image n) (says (seeing s t.base) Done (put_slot at.spot.page at.spot.slot bytes (drafted image)).strokes)) (sym at.page)
+        ∙ ap (λ (d : Draft). unless (seeing s t.base) (entry_cause image row.place.page) (says (seeing s t.base) Done d.strokes)) (sym are)
 
 -- A row is added.
 module _ (s : Seen) (chain : Chain) (key : ℕ) (bytes : Slot) where
@@ -109,15 +106,10 @@ module _ (s : Seen) (chain : Chain) (key : ℕ) (bytes : Slot) where
   pub key_known : is_some (row_spot key (spots chain now)) ≡ true → adding ≡ says s (Refused (KeyExists key)) []
   key_known e = refused_by s (known ∷ short ∷ []) into Done (KeyExists key) (first_here known (short ∷ []) (KeyExists key) (applies _ _ e))
 
-  -- or it is refused for want of room alone
-  pub key_new : is_some (row_spot key (spots chain now)) ≡ false → too_short now ≡ None → not_of_form into ≡ None → adding ≡ unless s (no_room into) (says s Done into.strokes)
-  key_new e long form =
-      judged_by s (known ∷ short ∷ []) into Done (first_next known (short ∷ []) (rests _ _ e) ∙ first_next short [] (never (free_spot (spots chain now))) ∙ first_none)
-      ∙ ap (λ (c : Cause). unless s c (says s Done into.strokes)) (first_next (not_of_form into) (no_room into ∷ []) form ∙ one_cause (no_room into))
-    where
-      never : (o : Option Spot) → short_for o now ≡ None
-      never (Some f) = refl
-      never None = long
+  -- or it isn't, and the row is placed
+  pub key_new : is_some (row_spot key (spots chain now)) ≡ false → adding ≡ unless s (place_cause chain now bytes) (says s Done into.strokes)
+  unfolding changes
+  key_new e = ap (λ (c : Cause). unless s c (says s Done into.strokes)) (first_next known (short ∷ not_of_form into ∷ no_room into ∷ []) (rests _ _ e))
 
 -- What a walk for a key came by.
 module _ (first key : ℕ) (ss : List Spot) (walked : Walked) (is : walked ≡ gathered (Row first key) ss) where

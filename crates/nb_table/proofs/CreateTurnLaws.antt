@@ -1,5 +1,5 @@
 -- The turn of a table that is made, by its causes.
-use Rattle.std.proofs.Common.{◌≡◌, ℕ, ◌<◌, ◌≤◌, List, [], ◌∷◌, length, refl, sym, ap, subst, ◌∙◌, arith}
+use Rattle.std.proofs.Common.{◌≡◌, ℕ, ◌<◌, ◌≤◌, List, [], ◌∷◌, ◌++◌, length, refl, sym, ap, ◌∙◌, arith}
 use Rattle.std.specs.Prelude.{Bool, true, false, Option, Some, None, is_some, nat_le, min}
 use Rattle.nb_host.specs.declared.refusals.Refusal.{Refusal}
 use Rattle.nb_host.specs.declared.refusals.Refusal.TheVariants.{TableExists, TooManyTables}
@@ -8,20 +8,21 @@ use Rattle.nb_model.specs.Causes.{Cause, first_cause, broken_at, read_only, not_
 use Rattle.nb_model.specs.Chains.{Catalogue, Spot, found_pages, free_spot, pages_of, spots, table_spot, table_slot, place_at}
 use Rattle.nb_model.specs.Forms.{Draft}
 use Rattle.nb_model.specs.Image.{Image}
-use Rattle.nb_model.specs.Outcomes.{Seen, says, unless}
+use Rattle.nb_model.specs.Outcomes.{Seen, says, unless, changes}
 use Rattle.nb_model.specs.Rows.{used}
 use Rattle.nb_model.specs.Tables.{create_turn}
+use Rattle.nb_engine.specs.Data.{unmade}
 use Rattle.nb_model.proofs.PutSound.{no_first}
 use Rattle.nb_model.proofs.ReadLaws.{le_no}
 use Rattle.nb_engine.proofs.DataLaws.{data_there}
 use Rattle.nb_engine.proofs.TestLaws.{le_yes}
-use Rattle.nb_engine.proofs.CauseLaws.{first_none, first_next, first_here, first_front, first_rest, one_cause, refused_by, judged_by}
+use Rattle.nb_engine.proofs.CauseLaws.{first_next, first_here, first_front, first_rest, one_cause, refused_by}
 use Rattle.nb_table.specs.declared.look.Place.{Place}
 use Rattle.nb_table.specs.Creates.{first_made, created_in, created_behind, new_cause}
 use Rattle.nb_table.specs.declared.look.Sought.TheVariants.{Table}
 use Rattle.nb_table.specs.declared.look.Walked.{Walked}
 use Rattle.nb_table.specs.Walks.{gathered, place_of, place_at as places}
-use Rattle.nb_table.proofs.PlaceLaws.{IsPlaceOf, place_some, found_there, wants_met}
+use Rattle.nb_table.proofs.PlaceLaws.{IsPlaceOf, place_some, found_there}
 use Rattle.nb_table.proofs.SpotPages.{free_kind}
 
 module _ (image : Image) (table : List ℕ) where
@@ -74,33 +75,28 @@ module _ (s : Seen) (table : List ℕ) where
     unfolding create_turn
     create_refused r e = refused_by s causes (draft here) Done r (first_next (read_only image_now) _ free ∙ first_front (broken image_now table ∷ there image_now table ∷ many image_now table ∷ []) (too_short image_now ∷ []) r e)
 
-    module _ (new : new_cause image_now table ≡ None) (long : too_short image_now ≡ None) where
-      create_by : (d : Draft) → draft here ≡ d → not_of_form d ≡ None → create_turn s table ≡ unless s (no_room d) (says s Done d.strokes)
-      unfolding create_turn
-      create_by d same formed =
-          judged_by s causes (draft here) Done (first_next (read_only image_now) _ free ∙ first_rest (broken image_now table ∷ there image_now table ∷ many image_now table ∷ []) (too_short image_now ∷ []) new ∙ first_next (too_short image_now) [] long ∙ first_none)
-          ∙ ap (λ (e : Draft). unless s (first_cause (not_of_form e ∷ no_room e ∷ [])) (says s Done e.strokes)) same
-          ∙ ap (λ (c : Cause). unless s c (says s Done d.strokes)) (first_next (not_of_form d) (no_room d ∷ []) formed ∙ one_cause (no_room d))
+    module _ (new : new_cause image_now table ≡ None) where
+      create_by : (d : Draft) → draft here ≡ d → create_turn s table ≡ unless s (unmade image_now d) (says s Done d.strokes)
+      unfolding create_turn changes
+      create_by d same =
+          ap (λ (e : Draft). unless s (first_cause (causes ++ not_of_form e ∷ no_room e ∷ [])) (says s Done e.strokes)) same
+          ∙ ap (λ (c : Cause). unless s c (says s Done d.strokes)) (first_next (read_only image_now) _ free
+          ∙ first_rest (broken image_now table ∷ there image_now table ∷ many image_now table ∷ []) (too_short image_now ∷ not_of_form d ∷ no_room d ∷ []) new)
 
       -- the slot is at a place
-      pub create_at : (place : Place) → Some place ≡ places here → not_kind (first_made image_now).0.image 5 place.page ≡ None → not_of_form (created_in image_now table place) ≡ None
-          → create_turn s table ≡ unless s (no_room (created_in image_now table place)) (says s Done (created_in image_now table place).strokes)
-      create_at place e still formed = create_by (created_in image_now table place) (by here e) formed
+      pub create_at : (place : Place) → Some place ≡ places here → create_turn s table ≡ unless s (unmade image_now (created_in image_now table place)) (says s Done (created_in image_now table place).strokes)
+      create_at place e = create_by (created_in image_now table place) (by here e)
         where
           some_is : (a b : Place) → Some a ≡ Some b → a ≡ b
           some_is a b f = cc
 
           by : (o : Option Spot) → Some place ≡ places o → draft o ≡ created_in image_now table place
           by None f = cc
-          by (Some f) g =
-              let same : place ≡ place_of f = some_is place (place_of f) g in
-              wants_met (first_made image_now).0.image 5 f.page (created_in image_now table (place_of f)) (subst (λ (p : Place). not_kind (first_made image_now).0.image 5 p.page ≡ None) same still)
-              ∙ ap (λ (p : Place). created_in image_now table p) (sym same)
+          by (Some f) g = ap (λ (p : Place). created_in image_now table p) (sym (some_is place (place_of f) g))
 
       -- or in a new page
-      pub create_last : None ≡ places here → not_of_form (created_behind image_now table) ≡ None
-          → create_turn s table ≡ unless s (no_room (created_behind image_now table)) (says s Done (created_behind image_now table).strokes)
-      create_last e formed = create_by (created_behind image_now table) (by here e) formed
+      pub create_last : None ≡ places here → create_turn s table ≡ unless s (unmade image_now (created_behind image_now table)) (says s Done (created_behind image_now table).strokes)
+      create_last e = create_by (created_behind image_now table) (by here e)
         where
           by : (o : Option Spot) → None ≡ places o → draft o ≡ created_behind image_now table
           by None f = refl

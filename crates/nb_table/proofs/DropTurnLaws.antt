@@ -1,27 +1,26 @@
 -- The turn of a table that is dropped, by its causes.
-use Rattle.std.proofs.Common.{◌≡◌, ℕ, List, [], ◌∷◌, sym, subst, ◌∙◌}
+use Rattle.std.proofs.Common.{◌≡◌, ℕ, List, [], ◌∷◌, refl, ap, ◌∙◌}
 use Rattle.std.specs.Prelude.{Some, None}
 use Rattle.nb_host.specs.declared.refusals.Refusal.{Refusal}
 use Rattle.nb_model.specs.declared.reply.Reply.TheVariants.{Done, Refused}
-use Rattle.nb_model.specs.Causes.{Cause, broken_at, read_only, not_kind}
-use Rattle.nb_model.specs.Chains.{Chain, Catalogue, RowsFrom, Spot, first_in, found_pages, free_slot, pages_of, put_slot, table_spot}
-use Rattle.nb_model.specs.Forms.{Draft, drafted}
+use Rattle.nb_model.specs.Causes.{Cause, first_cause, broken_at, read_only, not_of_form, no_room}
+use Rattle.nb_model.specs.Chains.{Chain, Catalogue, Spot, found_pages, free_slot, pages_of, put_slot, table_spot}
+use Rattle.nb_model.specs.Forms.{drafted}
 use Rattle.nb_model.specs.Image.{Image}
-use Rattle.nb_model.specs.Outcomes.{Seen, Outcome, says, changes}
-use Rattle.nb_model.specs.Sound.{HasHeader, IsSoundImage}
+use Rattle.nb_model.specs.Outcomes.{Seen, Outcome, says, unless, changes}
 use Rattle.nb_model.specs.Tables.{all_given, drop_turn}
-use Rattle.nb_model.proofs.DropTurns.{join_given}
-use Rattle.nb_model.proofs.PutSound.{header_whole, no_first}
-use Rattle.nb_engine.specs.Make.{IsWell}
-use Rattle.nb_engine.proofs.CauseLaws.{first_none, allowed}
-use Rattle.nb_engine.proofs.MakeLaws.{from_well}
+use Rattle.nb_model.proofs.PutSound.{no_first}
+use Rattle.nb_engine.proofs.CauseLaws.{first_none, judged_by}
 use Rattle.nb_table.specs.Drops.{IsWholeTable, dropped}
 use Rattle.nb_table.specs.Rows.{chain_cause, rows_cause}
-use Rattle.nb_table.proofs.CleanLaws.{IsClean, clean_joined, clean_given}
-use Rattle.nb_table.proofs.DropLaws.{slot_low, written, tables_then}
+use Rattle.nb_table.proofs.DropCauseLaws.{dropped_full}
 use Rattle.nb_table.proofs.InTableLaws.{chain_formed, table_refused, table_goes}
-use Rattle.nb_table.proofs.PlaceLaws.{slot_form, slot_room}
-use Rattle.nb_table.proofs.SpotPages.{table_kind}
+
+-- of two causes the first, where there is no second
+alone : (a b : Cause) → b ≡ None → first_cause (a ∷ b ∷ []) ≡ a
+unfolding first_cause
+alone None b e = ap (λ (c : Cause). first_cause (c ∷ [])) e
+alone (Some r) b e = refl
 
 module _ (s : Seen) (table : List ℕ) where
   abbrev image : Image
@@ -45,28 +44,8 @@ module _ (s : Seen) (table : List ℕ) where
     formed = chain_formed image (read_only image) table None none spot found;
   }
 
-  pub drop_says : tests ≡ None → (spot : Spot) → HasHeader image → IsSoundImage image → IsWholeTable image table spot → drop_turn s table ≡ says s Done (dropped image spot).strokes
+  pub drop_says : tests ≡ None → (spot : Spot) → IsWholeTable image table spot → drop_turn s table ≡ unless s (not_of_form (dropped image spot)) (says s Done (dropped image spot).strokes)
   unfolding drop_turn
-  drop_says none spot h is has =
-      table_goes s (read_only image) table None drops none spot has.found
-      ∙ allowed s [] (dropped image spot) Done first_none clean.formed clean.room
-    where
-      pages : List ℕ
-      pages = found_pages (RowsFrom (first_in spot.bytes)) image
-
-      freed : Draft
-      freed = put_slot spot.page spot.slot free_slot (drafted image)
-
-      kind : not_kind image 5 spot.page ≡ None
-      kind = table_kind image has.catalogue table spot has.found
-
-      well : IsWell image
-      well = from_well image (header_whole image h is)
-
-      slot : IsClean freed
-      slot = record { formed = slot_form s.base well spot.page spot.slot free_slot (slot_low s.base h is table spot has) kind; room = slot_room s.base well spot.page spot.slot free_slot (slot_low s.base h is table spot has) kind }
-
-      clean : IsClean (dropped image spot)
-      clean = subst IsClean (sym (join_given pages freed))
-          (clean_joined freed (all_given pages (drafted freed.image)) slot
-          (clean_given freed.image pages (written s.base h is table spot has).keeps.fits.whole (tables_then s.base h is table spot has)))
+  drop_says none spot has =
+      table_goes s (read_only image) table None drops none spot has.found ∙ judged_by s [] (dropped image spot) Done first_none
+      ∙ ap (λ (c : Cause). unless s c (says s Done (dropped image spot).strokes)) (alone (not_of_form (dropped image spot)) (no_room (dropped image spot)) (dropped_full image spot))

@@ -1,9 +1,8 @@
 -- A statement on a table, test by test: before the table is looked for, that it is there, behind that, and that its chain is of the form.
 use Rattle.std.proofs.Common.{◌≡◌, ℕ, List, [], ◌∷◌, refl, sym, ap, subst, ◌∙◌}
-use Rattle.std.specs.Prelude.{Option, Some, None, is_none, Result, Ok, Err, IsErr, IsErrAnd}
+use Rattle.std.specs.Prelude.{Option, Some, None, is_none, Result, Err, IsErr, IsErrAnd}
 use Rattle.nb_host.specs.World.{World}
 use Rattle.nb_host.specs.declared.faults.Fault.{Fault}
-use Rattle.nb_host.specs.declared.faults.Fault.TheVariants.{Refused as RefusedFault, Device, Memory}
 use Rattle.nb_host.specs.declared.refusals.Refusal.{Refusal}
 use Rattle.nb_host.specs.declared.refusals.Refusal.TheVariants.{NoTable}
 use Rattle.nb_page.specs.Quiet.{Quiet}

@@ -4,7 +4,8 @@ pub mod PlaceLaws
 pub mod ChangeLaws
 pub mod DropLaws
 pub mod GiveLaws
-pub mod CleanLaws
+pub mod CheckLaws
+pub mod DropCauseLaws
 pub mod DropTurnLaws
 pub mod CreateLaws
 pub mod CreateTurnLaws

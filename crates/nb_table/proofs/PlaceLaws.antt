@@ -1,153 +1,43 @@
 -- A slot of a chain is written, or its chain grows: what that does of a turn.
-use Rattle.std.proofs.Common.{◌≡◌, ℕ, ◌+◌, ◌*◌, ◌<◌, ◌≤◌, List, [], ◌∷◌, ◌++◌, length, drop, refl, sym, ap, ◌∙◌, arith}
-use Rattle.std.specs.Prelude.{Bool, true, false, Option, Some, None, Result, IfSome, is_some}
-use Rattle.nb_fields.specs.Bytes.{bytes_of, with_part}
-use Rattle.nb_fields.specs.Page.{kind_of}
-use Rattle.nb_fields.specs.Payloads.{data_payload}
-use Rattle.nb_fields.specs.Places.{is_inventory_place, is_scn_place, is_system_place}
+use Rattle.std.proofs.Common.{◌≡◌, ℕ, ◌+◌, ◌*◌, List, [], ◌∷◌, ◌++◌, drop, refl, sym, ap, ◌∙◌}
+use Rattle.std.specs.Prelude.{Bool, true, false, Option, Some, None, Result, is_some}
+use Rattle.nb_fields.specs.Bytes.{with_part}
 use Rattle.nb_host.specs.World.{World}
 use Rattle.nb_host.specs.declared.faults.Fault.{Fault}
 use Rattle.nb_host.specs.declared.refusals.Refusal.TheVariants.{NotDatabase}
-use Rattle.nb_model.specs.Account.{Base}
-use Rattle.nb_model.specs.Image.{Page, Image, page_at, image_size, image_scn}
+use Rattle.nb_model.specs.Image.{Page, Image, page_at}
 use Rattle.nb_model.specs.Trail.{Trail}
-use Rattle.nb_model.specs.Forms.{Draft, drafted, put, new_page, is_kind, other_kind, wants}
-use Rattle.nb_model.specs.Causes.{not_kind, lowest_broken, not_of_form, no_room, broken_at, too_short}
-use Rattle.nb_model.specs.Chains.{Chain, Slot, Spot, owner_of, pages_of, found_pages, spots, free_spot, last_of, put_slot, grown, place_slot}
-use Rattle.nb_model.specs.Sound.{IsSoundImage}
-use Rattle.nb_model.proofs.DraftJoin.{join_put}
-use Rattle.nb_model.proofs.FitLaws.{IsWhole}
-use Rattle.nb_model.proofs.PutSound.{IsPlace, header_whole}
-use Rattle.nb_model.proofs.ReadLaws.{lt_no}
-use Rattle.nb_model.proofs.RoomLaws.{no_system}
-use Rattle.nb_model.proofs.RoundLaws.{new_unbroken, put_unbroken}
-use Rattle.nb_state.specs.Open.{Held, IsOpen}
-use Rattle.nb_engine.specs.Data.{new_behind, data_cause, put_data}
-use Rattle.nb_engine.specs.Make.{IsWell}
+use Rattle.nb_model.specs.Forms.{Draft, drafted, put, is_kind, other_kind, wants}
+use Rattle.nb_model.specs.Causes.{first_cause, not_kind, not_of_form, no_room, broken_at, too_short, short_for}
+use Rattle.nb_model.specs.Chains.{Chain, Slot, Spot, pages_of, found_pages, spots, free_spot, put_slot, grown, place_slot}
+use Rattle.nb_model.proofs.SearchLaws.{draft_cause}
+use Rattle.nb_state.specs.Open.{Held}
+use Rattle.nb_engine.specs.Data.{data_cause, put_data, unmade}
 use Rattle.nb_engine.specs.Put.{entry_cause}
-use Rattle.nb_engine.specs.Room.{linked_payload}
 use Rattle.nb_engine.specs.Tries.{Tries}
-use Rattle.nb_engine.proofs.DataLaws.{data_there, by_entry}
-use Rattle.nb_engine.proofs.GrowLaws.{whole, new_long, kind_stays}
-use Rattle.nb_engine.proofs.MakeLaws.{well, from_well, entry_none, tries_named}
-use Rattle.nb_engine.proofs.NewLaws.{told}
-use Rattle.nb_engine.proofs.NewTurn.{header_of}
-use Rattle.nb_engine.proofs.PutLaws.{put_form, put_room, is_kind-parts, none_of}
-use Rattle.nb_engine.proofs.TestLaws.{kind_is, rests}
+use Rattle.nb_engine.proofs.CauseLaws.{first_next}
+use Rattle.nb_engine.proofs.DataLaws.{by_entry}
+use Rattle.nb_engine.proofs.MakeLaws.{tries_named}
+use Rattle.nb_engine.proofs.PutLaws.{none_of}
+use Rattle.nb_engine.proofs.RoomsLaws.{slot_alone}
 use Rattle.nb_table.specs.declared.look.Place.{Place}
 use Rattle.nb_table.specs.declared.look.Found.{Found}
+use Rattle.nb_table.specs.Rows.{place_cause}
 use Rattle.nb_table.specs.Walks.{place_of, found_of, place_at, found_at}
-use Rattle.nb_table.proofs.SpotPages.{free_kind, last_there, last_kind}
-
--- what the laws of a sound image ask for, of a database that is open
-pub well_open : (w : World) (held : Held) (t : Trail) → IsOpen w held t → IsSoundImage t.base.image → IsWell t.base.image
-well_open w held t is sound =
-    let scn : image_scn t.base.image < 4294967296 = omega (arith, is.agrees.scn, is.agrees.four) in
-    from_well t.base.image (header_whole t.base.image (header_of w held t is scn) sound)
-
--- it is long enough for a new page
-pub not_short : (image : Image) → 5 ≤ length image → too_short image ≡ None
-not_short image least = rests _ _ (lt_no (length image) 5 least)
-
--- a data page of a sound image stands at no system place
-pub data_plain : (image : Image) → IsWhole image → (p : ℕ) → p < length image → kind_of (page_at image p) ≡ 5 → is_system_place (image_size image) p ≡ false
-data_plain image h p low kind = no_system (image_size image) p (inventory (is_inventory_place (image_size image) p) refl) (scn_page (is_scn_place (image_size image) p) refl)
-  where
-    inventory : (t : Bool) → is_inventory_place (image_size image) p ≡ t → is_inventory_place (image_size image) p ≡ false
-    inventory false e = e
-    inventory true e = absurd (omega (arith, kind, h.sound.sound.system.inventories p low e))
-
-    scn_page : (t : Bool) → is_scn_place (image_size image) p ≡ t → is_scn_place (image_size image) p ≡ false
-    scn_page false e = e
-    scn_page true e = absurd (omega (arith, kind, h.sound.sound.system.scn_pages p low e))
-
--- a data page is one still behind a new page
-pub data_stays : (image : Image) (payload : ℕ → List ℕ) → IsWhole image → ((p : ℕ) → length (payload p) ≤ 1008) → (p : ℕ) → not_kind image 5 p ≡ None → not_kind (new_page 5 payload (drafted image)).0.image 5 p ≡ None
-data_stays image payload h short p kind =
-    let parts = is_kind-parts image 5 p (none_of (is_kind image 5 p) (NotDatabase p) kind) in
-    let long = new_long 5 payload refl short (length image + 4) image in
-    kind_is (new_page 5 payload (drafted image)).0.image 5 p (omega (arith, parts.0, long)) (kind_stays 5 payload refl short p (length image + 4) image h (data_plain image h p parts.0 parts.1) parts.1)
+use Rattle.nb_table.proofs.SpotPages.{free_kind}
 
 -- nothing is noted of it
 pub wants_met : (image : Image) (kind p : ℕ) (d : Draft) → not_kind image kind p ≡ None → wants image kind p d ≡ d
 unfolding other_kind
 wants_met image kind p d none = ap (λ (t : Bool). record d { broken = (elim t as (λ z. List ℕ) [ true ↦ [] | false ↦ p ∷ [] ]) ++ d.broken }) (none_of (is_kind image kind p) (NotDatabase p) none)
 
--- A slot of a data page is written.
-module _ (image : Image) (is : IsWell image) (p : ℕ) (some : 0 < p) (kind : not_kind image 5 p ≡ None) where
-  slot_place : IsPlace image p
-  slot_place =
-      let low : p < length image = data_there image p kind in
-      record { behind = omega (arith, some); there = omega (arith, low); most = (let most = is.sound.most in omega (arith, most, low)) }
-
-  -- its SCN page is of the form
-  slot_entry : entry_cause image p ≡ None
-  slot_entry = entry_none image p is slot_place
-
-  pub slot_cause : data_cause image p ≡ None
-  slot_cause = sym (by_entry image p kind) ∙ slot_entry
-
--- so the write of its page, with these bytes there, is that of the slot
-pub slot_tries : {T : Type 0} (result : Result T Fault) (old new : World) (a b : Held) (t : Trail) (p slot : ℕ) (bytes : Slot) (page : Page) → IsWell t.base.image → 0 < p → not_kind t.base.image 5 p ≡ None
+-- A slot of a data page is written as its page is, with these bytes there.
+pub slot_tries : {T : Type 0} (result : Result T Fault) (old new : World) (a b : Held) (t : Trail) (p slot : ℕ) (bytes : Slot) (page : Page) → not_kind t.base.image 5 p ≡ None
     → page ≡ with_part (32 + 256 * slot) bytes (page_at t.base.image p) → Tries result old new a b t (data_cause t.base.image p) (put_data p page t.base.image).strokes
-    → Tries result old new a b t None (put_slot p slot bytes (drafted t.base.image)).strokes
+    → Tries result old new a b t (entry_cause t.base.image p) (put_slot p slot bytes (drafted t.base.image)).strokes
 unfolding put_slot
-slot_tries result old new a b t p slot bytes page is some kind now tries =
-    tries_named result old new a b t (data_cause t.base.image p) None _ _ (slot_cause t.base.image is p some kind) (ap (λ (x : Page). (put p 5 (drop 16 x) (drafted t.base.image)).strokes) now) tries
-
--- What the draft of a write finds: nothing that is broken, and it asks for no page.
-module _ (b : Base) (is : IsWell b.image) (p slot : ℕ) (bytes : Slot) (some : 0 < p) (kind : not_kind b.image 5 p ≡ None) where
-  abbrev payload : List ℕ
-  payload = drop 16 (with_part (32 + 256 * slot) bytes (page_at b.image p))
-
-  pub slot_form : not_of_form (put_slot p slot bytes (drafted b.image)) ≡ None
-  unfolding put_slot
-  slot_form = put_form b p 5 payload (slot_entry b.image is p some kind)
-
-  pub slot_room : no_room (put_slot p slot bytes (drafted b.image)) ≡ None
-  unfolding put_slot
-  slot_room = put_room b p 5 payload (slot_entry b.image is p some kind)
-
--- A chain grows by a page: what its draft reads is of the form.
-payload_short : (chain : Chain) (slots : List ℕ) → length slots ≤ 992 → length (data_payload 0 (owner_of chain) slots) ≤ 1008
-unfolding data_payload bytes_of
-payload_short chain slots short = omega (arith, short)
-
-module _ (image : Image) (is : IsWell image) (chain : Chain) (pages slots : List ℕ) (short : length slots ≤ 992) (some : 0 < last_of pages) (there : last_of pages < length image) (kind : not_kind image 5 (last_of pages) ≡ None) where
-  abbrev last : ℕ
-  last = last_of pages
-
-  abbrev added : List ℕ
-  added = data_payload 0 (owner_of chain) slots
-
-  abbrev y : Image
-  y = (new_behind chain slots image).0.image
-
-  abbrev link : List ℕ
-  link = linked_payload y last (new_behind chain slots image).1
-
-  few : length added ≤ 1008
-  few = payload_short chain slots short
-
-  y_whole : IsWhole y
-  y_whole = whole 5 (told added) refl (λ p. few) (length image + 4) image (well image is)
-
-  at : IsPlace y last
-  at =
-      let long = new_long 5 (told added) refl (λ p. few) (length image + 4) image in
-      let most = y_whole.sound.most in
-      record { behind = omega (arith, some); there = omega (arith, there, long); most = omega (arith, there, long, most) }
-
-  unbroken : (grown chain pages slots (drafted image)).0.broken ≡ []
-  unfolding grown
-  unbroken =
-      ap (λ (d : Draft). d.broken) (wants_met y 5 last (put last 5 link (new_behind chain slots image).0) (data_stays image (told added) (well image is) (λ p. few) last kind))
-      ∙ ap (λ (d : Draft). d.broken) (join_put last 5 link (new_behind chain slots image).0) ∙ ap (λ (ps : List ℕ). ps ++ (new_behind chain slots image).0.broken) (put_unbroken y y_whole last at 5 link)
-      ∙ new_unbroken (length image + 4) 5 (told added) image (well image is) refl (λ p. few)
-
-  pub grown_form : not_of_form (grown chain pages slots (drafted image)).0 ≡ None
-  unfolding lowest_broken
-  grown_form = ap lowest_broken unbroken
+slot_tries result old new a b t p slot bytes page kind now tries =
+    tries_named result old new a b t (data_cause t.base.image p) (entry_cause t.base.image p) _ _ (sym (by_entry t.base.image p kind)) (ap (λ (x : Page). (put p 5 (drop 16 x) (drafted t.base.image)).strokes) now) tries
 
 -- A slot is written at its place in a chain.
 module _ (chain : Chain) (image : Image) (bytes : Slot) where
@@ -203,15 +93,12 @@ found_there None = refl
 found_there (Some s) = refl
 
 -- What is placed in a chain that is of the form.
-module _ (b : Base) (chain : Chain) (is : IsWell b.image) (formed : broken_at (pages_of chain b.image) ≡ None) (bytes : Slot) where
-  abbrev z : Image
-  z = b.image
-
+module _ (z : Image) (chain : Chain) (formed : broken_at (pages_of chain z) ≡ None) (bytes : Slot) where
   abbrev into : Draft
   into = place_slot chain (found_pages chain z) bytes (drafted z)
 
   -- into a free slot
-  module _ (place : Place) (free : Some place ≡ place_at (free_spot (spots chain z))) (some : 0 < place.page) where
+  module _ (place : Place) (free : Some place ≡ place_at (free_spot (spots chain z))) where
     at_place : IsPlaceOf (free_spot (spots chain z)) place
     at_place = place_some (free_spot (spots chain z)) place free
 
@@ -223,28 +110,29 @@ module _ (b : Base) (chain : Chain) (is : IsWell b.image) (formed : broken_at (p
         ap (λ (n : ℕ). put_slot n place.slot bytes (drafted z)) at_place.page ∙ ap (λ (n : ℕ). put_slot at_place.spot.page n bytes (drafted z)) at_place.slot
         ∙ sym (placed_there chain z bytes at_place.spot at_place.is (free_kind chain z formed at_place.spot at_place.is))
 
-    pub there_form : not_of_form into ≡ None
-    there_form = ap (λ (d : Draft). not_of_form d) (sym there_is) ∙ slot_form b is place.page place.slot bytes some place_kind
+    there_cause : entry_cause z place.page ≡ place_cause chain z bytes
+    there_cause =
+        sym (slot_alone z place.page place.slot bytes) ∙ ap draft_cause there_is ∙ sym (first_next (short_for (free_spot (spots chain z)) z) (not_of_form into ∷ no_room into ∷ []) (ap (λ (o : Option Spot). short_for o z) at_place.is))
 
-    there_room : no_room into ≡ None
-    there_room = ap (λ (d : Draft). no_room d) (sym there_is) ∙ slot_room b is place.page place.slot bytes some place_kind
-
-    pub there_tries : {T : Type 0} (result : Result T Fault) (old new : World) (a e : Held) (t : Trail) → Tries result old new a e t None (put_slot place.page place.slot bytes (drafted z)).strokes → Tries result old new a e t (no_room into) into.strokes
-    there_tries result old new a e t tries = tries_named result old new a e t None (no_room into) _ _ (sym there_room) (ap (λ (d : Draft). d.strokes) there_is) tries
+    pub there_tries : {T : Type 0} (result : Result T Fault) (old new : World) (a e : Held) (t : Trail) → Tries result old new a e t (entry_cause z place.page) (put_slot place.page place.slot bytes (drafted z)).strokes
+        → Tries result old new a e t (place_cause chain z bytes) into.strokes
+    there_tries result old new a e t tries = tries_named result old new a e t (entry_cause z place.page) (place_cause chain z bytes) _ _ there_cause (ap (λ (d : Draft). d.strokes) there_is) tries
 
   -- or into a new page
   module _ (none : None ≡ place_at (free_spot (spots chain z))) where
-    behind_is : (grown chain (found_pages chain z) bytes (drafted z)).0 ≡ into
-    behind_is = sym (placed_behind chain z bytes (place_none (free_spot (spots chain z)) none))
+    abbrev grows : Draft
+    grows = (grown chain (found_pages chain z) bytes (drafted z)).0
 
-    pub behind_form : length bytes ≤ 992 → 0 < last_of (found_pages chain z) → not_of_form into ≡ None
-    behind_form short some = ap (λ (d : Draft). not_of_form d) (sym behind_is) ∙ grown_form z is chain (found_pages chain z) bytes short some (last_there chain z formed) (last_kind chain z formed)
+    no_spot : free_spot (spots chain z) ≡ None
+    no_spot = place_none (free_spot (spots chain z)) none
 
-    pub behind_tries : {T : Type 0} (result : Result T Fault) (old new : World) (a e : Held) (t : Trail)
-        → Tries result old new a e t (no_room (grown chain (found_pages chain z) bytes (drafted z)).0) (grown chain (found_pages chain z) bytes (drafted z)).0.strokes → Tries result old new a e t (no_room into) into.strokes
-    behind_tries result old new a e t tries = tries_named result old new a e t _ (no_room into) _ _ (ap (λ (d : Draft). no_room d) behind_is) (ap (λ (d : Draft). d.strokes) behind_is) tries
+    behind_is : grows ≡ into
+    behind_is = sym (placed_behind chain z bytes no_spot)
 
-  -- so what it reads is of the form
-  pub placed_form : (room : Option Place) → room ≡ place_at (free_spot (spots chain z)) → IfSome room (λ place. 0 < place.page) → length bytes ≤ 992 → 0 < last_of (found_pages chain z) → not_of_form into ≡ None
-  placed_form (Some place) e some short last_some = there_form place e some
-  placed_form None e some short last_some = behind_form e short last_some
+    behind_by : unmade z grows ≡ place_cause chain z bytes
+    behind_by =
+        ap (λ (d : Draft). first_cause (too_short z ∷ not_of_form d ∷ no_room d ∷ [])) behind_is
+        ∙ ap (λ (o : Option Spot). first_cause (short_for o z ∷ not_of_form into ∷ no_room into ∷ [])) (sym no_spot)
+
+    pub behind_tries : {T : Type 0} (result : Result T Fault) (old new : World) (a e : Held) (t : Trail) → Tries result old new a e t (unmade z grows) grows.strokes → Tries result old new a e t (place_cause chain z bytes) into.strokes
+    behind_tries result old new a e t tries = tries_named result old new a e t (unmade z grows) (place_cause chain z bytes) _ _ behind_by (ap (λ (d : Draft). d.strokes) behind_is) tries

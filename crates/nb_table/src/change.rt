@@ -5,7 +5,8 @@ ghost use Rattle.nb_change.specs.Counts.{CountsDevice};
 ghost use Rattle.nb_model.specs.Causes.{broken_at};
 ghost use Rattle.nb_model.specs.Chains.{Chain, pages_of, spots, row_spot};
 ghost use Rattle.nb_model.specs.Outcomes.{Seen};
-ghost use Rattle.nb_model.specs.Sound.{IsSoundImage};
+ghost use Rattle.nb_model.specs.Image.{image_size};
+ghost use Rattle.nb_model.specs.Sound.{IsOfSize};
 ghost use Rattle.nb_model.specs.Tables.{in_row, insert_turn, update_turn, delete_turn};
 ghost use Rattle.nb_model.specs.Trail.{Trail};
 ghost use Rattle.nb_engine.specs.Replies.{done};
@@ -37,7 +38,7 @@ fn put_found<H: Host>(
 ) -> Result<(), Fault>
     requires size { length page.old ≡ engine.old.files.page_size }
     requires placed { IfSome found.now (λ f. IsPlaced engine.old.files.page_size f.place) }
-    ensures turn { (s : Seen) (t : Trail) (chain : Chain) → IsTrue H.tells → t.base ≡ s.base → IsOpen (H.world host.old) engine.old t → IsSoundImage t.base.image → broken_at (pages_of chain t.base.image) ≡ None
+    ensures turn { (s : Seen) (t : Trail) (chain : Chain) → IsTrue H.tells → t.base ≡ s.base → IsOpen (H.world host.old) engine.old t → broken_at (pages_of chain t.base.image) ≡ None
         → found.now ≡ found_at (row_spot key (spots chain t.base.image))
         → Does done result (H.world host.old) (H.world host.new) engine.old engine.new t (in_row s chain key bytes.now) }
     ensures stays_open { (t : Trail) → IsTrue H.tells → IsOpen (H.world host.old) engine.old t → StaysOpen result (H.world host.old) (H.world host.new) engine.old engine.new t NoNames }
@@ -54,8 +55,9 @@ fn put_found<H: Host>(
 /// Puts a row with that key and a text of at most 200 bytes into the table. It goes into the first free slot in the order of the chain;
 /// where none is free, a new page holds it before the chain leads to that page.
 ///
-/// The refusals are `Access`, `NotDatabase` of the catalogue, `NoTable`, `TextLong`, `NotDatabase` of the table's chain, `KeyExists` and
-/// `Full`, in this order. A refused call changes nothing.
+/// The refusals are `Access`, `NotDatabase` of the catalogue, `NoTable`, `TextLong`, `NotDatabase` of the table's chain, `KeyExists`,
+/// `NotDatabase` of the lowest page that is written and isn't of its kind, or of a database of fewer than five pages, by its length, where a
+/// new page is made, and `Full`, in this order. A refused call changes nothing.
 pub fn insert<H: Host>(
     host: &mut H,
     engine: &mut Engine,
@@ -63,7 +65,7 @@ pub fn insert<H: Host>(
     key: u64,
     text: &[u8],
 ) -> Result<(), Fault>
-    ensures turn { (s : Seen) (t : Trail) → IsTrue H.tells → t.base ≡ s.base → IsOpen (H.world host.old) engine.old t → IsSoundImage s.base.image
+    ensures turn { (s : Seen) (t : Trail) → IsTrue H.tells → t.base ≡ s.base → IsOpen (H.world host.old) engine.old t → IsOfSize (image_size s.base.image) s.base.image
         → Does done result (H.world host.old) (H.world host.new) engine.old engine.new t (insert_turn s table.now key text.now) }
 
     // Whatever is in the database: only its two files are touched, and it is open behind that.
@@ -92,8 +94,8 @@ pub fn insert<H: Host>(
 
 /// Gives the row with that key a text of at most 200 bytes.
 ///
-/// The refusals are `Access`, `NotDatabase` of the catalogue, `NoTable`, `TextLong`, `NotDatabase` of the table's chain and `NoKey`, in
-/// this order. A refused call changes nothing.
+/// The refusals are `Access`, `NotDatabase` of the catalogue, `NoTable`, `TextLong`, `NotDatabase` of the table's chain, `NoKey` and
+/// `NotDatabase` of the SCN page of the row's page, in this order. A refused call changes nothing.
 pub fn update<H: Host>(
     host: &mut H,
     engine: &mut Engine,
@@ -101,7 +103,7 @@ pub fn update<H: Host>(
     key: u64,
     text: &[u8],
 ) -> Result<(), Fault>
-    ensures turn { (s : Seen) (t : Trail) → IsTrue H.tells → t.base ≡ s.base → IsOpen (H.world host.old) engine.old t → IsSoundImage s.base.image
+    ensures turn { (s : Seen) (t : Trail) → IsTrue H.tells → t.base ≡ s.base → IsOpen (H.world host.old) engine.old t
         → Does done result (H.world host.old) (H.world host.new) engine.old engine.new t (update_turn s table.now key text.now) }
 
     // Whatever is in the database: only its two files are touched, and it is open behind that.
@@ -119,15 +121,15 @@ pub fn update<H: Host>(
 
 /// Takes the row with that key out of the table: its slot is free again. The chain keeps its pages.
 ///
-/// The refusals are `Access`, `NotDatabase` of the catalogue, `NoTable`, `NotDatabase` of the table's chain and `NoKey`, in this order. A
-/// refused call changes nothing.
+/// The refusals are `Access`, `NotDatabase` of the catalogue, `NoTable`, `NotDatabase` of the table's chain, `NoKey` and `NotDatabase` of the
+/// SCN page of the row's page, in this order. A refused call changes nothing.
 pub fn delete<H: Host>(
     host: &mut H,
     engine: &mut Engine,
     table: &TableName,
     key: u64,
 ) -> Result<(), Fault>
-    ensures turn { (s : Seen) (t : Trail) → IsTrue H.tells → t.base ≡ s.base → IsOpen (H.world host.old) engine.old t → IsSoundImage s.base.image
+    ensures turn { (s : Seen) (t : Trail) → IsTrue H.tells → t.base ≡ s.base → IsOpen (H.world host.old) engine.old t
         → Does done result (H.world host.old) (H.world host.new) engine.old engine.new t (delete_turn s table.now key) }
 
     // Whatever is in the database: only its two files are touched, and it is open behind that.

@@ -1,14 +1,16 @@
 // A table is made.
-ghost use Rattle.std.specs.Prelude.{◌≡◌, ◌<◌, IsTrue, IfOk, IfSome, None, length};
+ghost use Rattle.std.specs.Prelude.{◌≡◌, ◌<◌, ◌≤◌, true, IsTrue, IfOk, IfSome, length};
 ghost use Rattle.nb_change.specs.Changes.{NoNames};
 ghost use Rattle.nb_change.specs.Counts.{CountsDevice};
 ghost use Rattle.nb_page.specs.Quiet.{Quiet};
-ghost use Rattle.nb_model.specs.Causes.{no_room, not_kind};
 ghost use Rattle.nb_model.specs.Chains.{Catalogue, found_pages, free_spot, last_of, spots};
 ghost use Rattle.nb_model.specs.Outcomes.{Seen};
-ghost use Rattle.nb_model.specs.Sound.{IsSoundImage};
+ghost use Rattle.nb_model.specs.Forms.{is_kind};
+ghost use Rattle.nb_model.specs.Image.{image_size};
+ghost use Rattle.nb_model.specs.Sound.{IsOfSize};
 ghost use Rattle.nb_model.specs.Tables.{create_turn};
 ghost use Rattle.nb_model.specs.Trail.{Trail};
+ghost use Rattle.nb_engine.specs.Data.{unmade};
 ghost use Rattle.nb_engine.specs.Replies.{done};
 ghost use Rattle.nb_engine.specs.Stays.{StaysOpen};
 ghost use Rattle.nb_engine.specs.Tries.{Tries};
@@ -60,7 +62,10 @@ fn check_table<H: Host>(
     Ok((walked.room, last))
 }
 
-/// Makes the first page of a table, and then its slot in the catalogue at that place. The refusal is `Full`.
+/// Makes the first page of a table, and then its slot in the catalogue at that place. All is tested before the first write.
+///
+/// The refusals are `NotDatabase` of a database of fewer than five pages, by its length, or of the lowest page that isn't of its kind, and
+/// `Full`.
 fn create_in<H: Host>(
     host: &mut H,
     engine: &mut Engine,
@@ -70,36 +75,41 @@ fn create_in<H: Host>(
 ) -> Result<(), Fault>
     requires size { length page.old ≡ engine.old.files.page_size }
     requires placed { IsPlaced engine.old.files.page_size place }
-    ensures tries { (t : Trail) → IsTrue H.tells → IsOpen (H.world host.old) engine.old t → IsSoundImage t.base.image → not_kind t.base.image 5 place.page ≡ None
-        → Tries result (H.world host.old) (H.world host.new) engine.old engine.new t (no_room (created_in t.base.image table.now place)) (created_in t.base.image table.now place).strokes }
+    ensures tries { (t : Trail) → IsTrue H.tells → IsOpen (H.world host.old) engine.old t → IsOfSize (image_size t.base.image) t.base.image → is_kind t.base.image 5 place.page ≡ true
+        → Tries result (H.world host.old) (H.world host.new) engine.old engine.new t (unmade t.base.image (created_in t.base.image table.now place)) (created_in t.base.image table.now place).strokes }
     ensures stays_open { (t : Trail) → IsTrue H.tells → IsOpen (H.world host.old) engine.old t → StaysOpen result (H.world host.old) (H.world host.new) engine.old engine.new t NoNames }
     ensures goes { Goes engine.old engine.new }
     ensures cause { CountsDevice result (H.faults host.old) (H.faults host.new) }
 {
+    // Nothing is made where the slot isn't to be written behind it.
+    engine.room_for(host, 1, place.page)?;
     let first = engine.data_new(host, None, &[])?;
-    // That may be the page that was made just now, where the inventories call a page of the catalogue free.
     put_slot(host, engine, place, &table_bytes(table, first), page)?;
     Ok(())
 }
 
-/// Makes the first page of a table, and then one behind the last of the catalogue, in which its slot stands. The refusal is `Full`, where
-/// not both pages are left.
+/// Makes the first page of a table, and then one behind the last of the catalogue, in which its slot stands. All is tested before the first
+/// write.
+///
+/// The refusals are `NotDatabase` of a database of fewer than five pages, by its length, or of the lowest page that isn't of its kind, and
+/// `Full`, where not both pages are left.
 fn create_behind<H: Host>(
     host: &mut H,
     engine: &mut Engine,
     table: &TableName,
     last: u32,
 ) -> Result<(), Fault>
+    requires name { length table.now ≤ 240 }
     requires low { 0 < last }
     requires high { last < 1048576 }
-    ensures tries { (t : Trail) → IsTrue H.tells → IsOpen (H.world host.old) engine.old t → IsSoundImage t.base.image → IsLastOf t.base.image last
-        → Tries result (H.world host.old) (H.world host.new) engine.old engine.new t (no_room (created_behind t.base.image table.now)) (created_behind t.base.image table.now).strokes }
+    ensures tries { (t : Trail) → IsTrue H.tells → IsOpen (H.world host.old) engine.old t → IsOfSize (image_size t.base.image) t.base.image → IsLastOf t.base.image last
+        → Tries result (H.world host.old) (H.world host.new) engine.old engine.new t (unmade t.base.image (created_behind t.base.image table.now)) (created_behind t.base.image table.now).strokes }
     ensures stays_open { (t : Trail) → IsTrue H.tells → IsOpen (H.world host.old) engine.old t → StaysOpen result (H.world host.old) (H.world host.new) engine.old engine.new t NoNames }
     ensures goes { Goes engine.old engine.new }
     ensures cause { CountsDevice result (H.faults host.old) (H.faults host.new) }
 {
-    // Nothing is made where the second page isn't to be had.
-    engine.room_for(host, 2)?;
+    // Nothing is made where the second page isn't to be had, or the last one of the catalogue isn't to be linked to it.
+    engine.room_for(host, 2, last)?;
     let first = engine.data_new(host, None, &[])?;
     engine.data_grow(host, last, CATALOGUE, &table_bytes(table, first))?;
     Ok(())
@@ -107,10 +117,11 @@ fn create_behind<H: Host>(
 
 /// Makes a table without rows: its first page, and then its slot in the catalogue, which is the moment at which it is there.
 ///
-/// The refusals are `Access`, `NotDatabase` of the catalogue, `TableExists`, `TooManyTables` where there are 12, and `Full`, in this
-/// order. A refused call changes nothing.
+/// The refusals are `Access`, `NotDatabase` of the catalogue, `TableExists`, `TooManyTables` where there are 12, `NotDatabase` of a database
+/// of fewer than five pages, by its length, or of the lowest page that is written and isn't of its kind, and `Full`, in this order. A refused
+/// call changes nothing.
 pub fn create<H: Host>(host: &mut H, engine: &mut Engine, table: &TableName) -> Result<(), Fault>
-    ensures turn { (s : Seen) (t : Trail) → IsTrue H.tells → t.base ≡ s.base → IsOpen (H.world host.old) engine.old t → IsSoundImage s.base.image
+    ensures turn { (s : Seen) (t : Trail) → IsTrue H.tells → t.base ≡ s.base → IsOpen (H.world host.old) engine.old t → IsOfSize (image_size s.base.image) s.base.image
         → Does done result (H.world host.old) (H.world host.new) engine.old engine.new t (create_turn s table.now) }
 
     // Whatever is in the database: only its two files are touched, and it is open behind that.

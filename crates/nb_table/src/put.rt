@@ -3,15 +3,18 @@ ghost use Rattle.std.specs.Prelude.{◌≡◌, ◌+◌, ◌*◌, ◌<◌, ◌≤
 ghost use Rattle.nb_fields.specs.Bytes.{with_part};
 ghost use Rattle.nb_change.specs.Changes.{NoNames};
 ghost use Rattle.nb_change.specs.Counts.{CountsDevice};
-ghost use Rattle.nb_model.specs.Causes.{not_kind, no_room, broken_at};
+ghost use Rattle.nb_model.specs.Causes.{not_kind, broken_at};
 ghost use Rattle.nb_model.specs.Chains.{Chain, owner_of, pages_of, found_pages, spots, free_spot, last_of, put_slot, place_slot};
 ghost use Rattle.nb_model.specs.Forms.{drafted};
-ghost use Rattle.nb_model.specs.Sound.{IsSoundImage};
+ghost use Rattle.nb_model.specs.Image.{image_size};
+ghost use Rattle.nb_model.specs.Sound.{IsOfSize};
 ghost use Rattle.nb_model.specs.Trail.{Trail};
+ghost use Rattle.nb_engine.specs.Put.{entry_cause};
 ghost use Rattle.nb_engine.specs.Stays.{StaysOpen};
 ghost use Rattle.nb_engine.specs.Tries.{Tries};
 ghost use Rattle.nb_state.specs.Open.{IsOpen};
 ghost use Rattle.nb_state.specs.Does.{Goes};
+ghost use Rattle.nb_table.specs.Rows.{place_cause};
 ghost use Rattle.nb_table.specs.Walks.{place_at, IsPlaced};
 
 use crate::look::{Place, SLOT};
@@ -28,7 +31,7 @@ fn put_bytes(page: &mut [u8], number: u32, bytes: &[u8; SLOT])
     page[from..from + data::SLOT].copy_from_slice(bytes);
 }
 
-/// Writes a slot of a data page. Where the inventories agree with the pages, it isn't refused.
+/// Writes a slot of a data page. The refusal is `NotDatabase` of the SCN page with its entry.
 pub(crate) fn put_slot<H: Host>(
     host: &mut H,
     engine: &mut Engine,
@@ -38,8 +41,8 @@ pub(crate) fn put_slot<H: Host>(
 ) -> Result<(), Fault>
     requires size { length page.old ≡ engine.old.files.page_size }
     requires placed { IsPlaced engine.old.files.page_size place }
-    ensures tries { (t : Trail) → IsTrue H.tells → IsOpen (H.world host.old) engine.old t → IsSoundImage t.base.image → not_kind t.base.image 5 place.page ≡ None
-        → Tries result (H.world host.old) (H.world host.new) engine.old engine.new t None (put_slot place.page place.slot bytes.now (drafted t.base.image)).strokes }
+    ensures tries { (t : Trail) → IsTrue H.tells → IsOpen (H.world host.old) engine.old t → not_kind t.base.image 5 place.page ≡ None
+        → Tries result (H.world host.old) (H.world host.new) engine.old engine.new t (entry_cause t.base.image place.page) (put_slot place.page place.slot bytes.now (drafted t.base.image)).strokes }
     ensures stays_open { (t : Trail) → IsTrue H.tells → IsOpen (H.world host.old) engine.old t → StaysOpen result (H.world host.old) (H.world host.new) engine.old engine.new t NoNames }
     ensures goes { Goes engine.old engine.new }
     ensures cause { CountsDevice result (H.faults host.old) (H.faults host.new) }
@@ -53,7 +56,8 @@ pub(crate) fn put_slot<H: Host>(
 /// Puts these bytes into a chain whose pages have that owner: into `room`, its first free slot, or, where it has none, into the first slot
 /// of a new page, behind which the last page is linked to that.
 ///
-/// The refusal is `Full`, where no page is left for a new one.
+/// The refusals are `NotDatabase` of the lowest page that isn't of its kind, or of a database of fewer than five pages, by its length, where a
+/// new page is made, and `Full`, where no page is left for it.
 pub(crate) fn add_slot<H: Host>(
     host: &mut H,
     engine: &mut Engine,
@@ -67,9 +71,9 @@ pub(crate) fn add_slot<H: Host>(
     requires placed { IfSome room (IsPlaced engine.old.files.page_size) }
     requires low { 0 < last }
     requires high { last < 1048576 }
-    ensures tries { (t : Trail) (chain : Chain) → IsTrue H.tells → IsOpen (H.world host.old) engine.old t → IsSoundImage t.base.image → owner ≡ owner_of chain → broken_at (pages_of chain t.base.image) ≡ None
+    ensures tries { (t : Trail) (chain : Chain) → IsTrue H.tells → IsOpen (H.world host.old) engine.old t → IsOfSize (image_size t.base.image) t.base.image → owner ≡ owner_of chain → broken_at (pages_of chain t.base.image) ≡ None
         → room ≡ place_at (free_spot (spots chain t.base.image)) → last ≡ last_of (found_pages chain t.base.image)
-        → Tries result (H.world host.old) (H.world host.new) engine.old engine.new t (no_room (place_slot chain (found_pages chain t.base.image) bytes.now (drafted t.base.image)))
+        → Tries result (H.world host.old) (H.world host.new) engine.old engine.new t (place_cause chain t.base.image bytes.now)
         (place_slot chain (found_pages chain t.base.image) bytes.now (drafted t.base.image)).strokes }
     ensures stays_open { (t : Trail) → IsTrue H.tells → IsOpen (H.world host.old) engine.old t → StaysOpen result (H.world host.old) (H.world host.new) engine.old engine.new t NoNames }
     ensures goes { Goes engine.old engine.new }

@@ -1,25 +1,14 @@
 use Rattle.std.proofs.Common.{rules, ◌≡◌, ◌+◌, ◌*◌, ◌/◌, ◌<◌, ◌≤◌, ℕ, length, sym, ap, subst, ◌∙◌, arith}
-use Rattle.std.specs.Prelude.{Option, Err, IsTrue, max}
+use Rattle.std.specs.Prelude.{Option, IsTrue, max}
 use Rattle.nb_fields.specs.Places.{is_page_size, bits_in}
 use Rattle.nb_fields.proofs.PlaceLemmas.{bits-least}
 use Rattle.nb_page.proofs.QuietLemmas.{quiet_joined}
 use Rattle.nb_model.specs.Image.{image_size}
-use Rattle.nb_model.specs.Causes.{Cause}
 use Rattle.nb_state.specs.Open.{Held}
-use Rattle.nb_state.specs.Does.{Tested}
-use Rattle.nb_engine.proofs.FindLaws.{some_near, taken_behind, found_near, found_none, map_near, map_behind, map_last, inventory_sound}
-use Rattle.nb_engine.proofs.PlaceTests.{never_refused}
+use Rattle.nb_engine.proofs.FindLaws.{some_near, taken_behind, found_near, found_none, map_near, map_behind, map_last}
 use Rattle.nb_engine.proofs.NeedReads.{read_broken, read_next, read_near, read_end, refused_on, index_same, next_group, next_whole}
 use Rattle.nb_engine.proofs.SearchReads.{no_lower, found_later}
 use Rattle.nb_engine.proofs.find.next_free.Goals as goal
-
-pub returns-in_err-free-clause-sound : goal.returns-in_err-free-clause-sound
-returns-in_err-free-clause-sound g c t tells is sound =
-    let still = c.loop-page.invariant.opened t tells is in
-    let low : c.loop-page.page < length t.base.image = omega (arith, is.files.agrees.count, c.count-count.ensures.value, c.loop-page-test.true) in
-    let size : IsTrue (is_page_size (image_size t.base.image)) = subst (λ (s : ℕ). IsTrue (is_page_size s)) (c.page_size-page_size.ensures.value ∙ is.files.agrees.page_size) c.page_size-page_size.ensures.one_of in
-    never_refused (Option ℕ) ℕ _ _ _ c.from_residual.ensures
-    (subst (λ (cause : Cause). Tested {T = Option ℕ} (Err c.in_err-free.field-0.0) cause) (inventory_sound t.base.image c.loop-page.page size sound low) (c.in_err-free.ensures.reads t tells still).test)
 
 pub returns-in-Some-clause-value : goal.returns-in-Some-clause-value
 returns-in-Some-clause-value g c t tells is =

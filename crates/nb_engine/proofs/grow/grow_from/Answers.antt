@@ -1,9 +1,10 @@
-use Rattle.std.proofs.Common.{◌≡◌, ◌<◌, ◌≤◌, ℕ, List, length, sym, subst, ap, ◌∙◌, arith}
-use Rattle.std.specs.Prelude.{None, Ok, Err}
-use Rattle.nb_fields.specs.Payloads.{data_payload}
+use Rattle.std.proofs.Common.{◌≡◌, ◌<◌, ◌≤◌, ℕ, List, length, sym, subst, ◌∙◌, arith}
+use Rattle.std.specs.Prelude.{None, IsTrue, Ok, Err}
+use Rattle.nb_fields.specs.Places.{is_page_size}
 use Rattle.nb_model.specs.Forms.{drafted}
-use Rattle.nb_model.specs.Causes.{no_room}
-use Rattle.nb_model.specs.Chains.{owner_of, grown}
+use Rattle.nb_model.specs.Image.{image_size}
+use Rattle.nb_model.specs.Chains.{grown}
+use Rattle.nb_model.proofs.SearchLaws.{draft_cause}
 use Rattle.nb_base.specs.Takes.{after_strokes}
 use Rattle.nb_state.specs.Does.{Makes}
 use Rattle.nb_engine.specs.Data.{new_behind}
@@ -13,72 +14,83 @@ use Rattle.nb_engine.specs.Tries.{Tries}
 use Rattle.nb_engine.proofs.DoesLaws.{tries_passed}
 use Rattle.nb_engine.proofs.FullLaws.{lowest_most}
 use Rattle.nb_engine.proofs.GrowLaws.{grown_number, new_below, grown_below, grown_front, grown_failed, grown_done, some_failed, some_done}
+use Rattle.nb_engine.proofs.RoomsLaws.{free_behind}
 use Rattle.nb_engine.proofs.grow.grow_from.Goals as goal
 
 pub returns-in_err-number-clause-tries : goal.returns-in_err-number-clause-tries
-returns-in_err-number-clause-tries g c t chain pages slots tells is at holds is_well room bytes last there =
+returns-in_err-number-clause-tries g c t chain pages slots tells is at holds shaped none bytes last =
     let image = t.base.image in
     let w = g.H.Host.world c.args.host.now in
-    let low : c.args.first ≤ length image = omega (arith, at, lowest_most image is_well.sound.least) in
-    let full = subst (λ (xs : List ℕ). no_room (new_of 5 (λ p. xs) image).0 ≡ None) (sym bytes) room in
-    let short : length (data_payload 0 (owner_of chain) slots) ≤ 1008 = omega (arith, ap length bytes, c.requires.short) in
+    let low : c.args.first ≤ length image = omega (arith, at, lowest_most image shaped.long) in
+    let free = free_behind (new_behind chain slots image).0 c.args.last none in
+    let full = subst (λ (xs : List ℕ). draft_cause (new_of 5 (λ p. xs) image).0 ≡ None) (sym bytes) free.clear in
     let fault = c.in_err-number.field-0.0 in
     let new = g.H.Host.world c.make_new.new.host in
-    let these = (c.in_err-number.ensures.makes t tells is at low holds).these (is_well, full) in
+    let these = (c.in_err-number.ensures.makes t tells is at low holds).these (shaped, full) in
     let made = subst (λ (xs : List ℕ). Makes {T = ℕ} (Err fault) w new c.args.store.now c.make_new.new.store t (new_of 5 (λ p. xs) image).0.strokes) bytes these.makes in
     tries_passed c.from_residual.result fault (λ r. Tries r w new c.args.store.now c.make_new.new.store t None (grown chain pages slots (drafted image)).0.strokes) c.from_residual.ensures
-    (grown_front chain slots t pages c.args.last is_well short last c.requires.low there fault w new c.args.store.now c.make_new.new.store these.sure made)
+    (grown_front chain slots t pages fault w new c.args.store.now c.make_new.new.store these.sure made)
 
 pub returns-in_err-link-clause-tries : goal.returns-in_err-link-clause-tries
-returns-in_err-link-clause-tries g c t chain pages slots tells is at holds is_well room bytes last there =
+returns-in_err-link-clause-tries g c t chain pages slots tells is at holds shaped none bytes last =
     let image = t.base.image in
     let w = g.H.Host.world c.args.host.now in
-    let low : c.args.first ≤ length image = omega (arith, at, lowest_most image is_well.sound.least) in
-    let full = subst (λ (xs : List ℕ). no_room (new_of 5 (λ p. xs) image).0 ≡ None) (sym bytes) room in
-    let short : length (data_payload 0 (owner_of chain) slots) ≤ 1008 = omega (arith, ap length bytes, c.requires.short) in
+    let low : c.args.first ≤ length image = omega (arith, at, lowest_most image shaped.long) in
+    let free = free_behind (new_behind chain slots image).0 c.args.last none in
+    let full = subst (λ (xs : List ℕ). draft_cause (new_of 5 (λ p. xs) image).0 ≡ None) (sym bytes) free.clear in
     let fault = c.in_err-link.field-0.0 in
     let mid = g.H.Host.world c.make_new.new.host in
     let new = g.H.Host.world c.link.new.host in
     let n : ℕ = c.in_ok-number.number in
-    let these = (c.in_ok-number.ensures.makes t tells is at low holds).these (is_well, full) in
+    let these = (c.in_ok-number.ensures.makes t tells is at low holds).these (shaped, full) in
     let made = subst (λ (xs : List ℕ). Makes (Ok n) w mid c.args.store.now c.make_new.new.store t (new_of 5 (λ p. xs) image).0.strokes) bytes these.makes in
-    let number = subst (λ (xs : List ℕ). n ≡ (new_of 5 (λ p. xs) image).1) bytes (c.in_ok-number.ensures.value t tells is at low holds is_well full) in
+    let number = subst (λ (xs : List ℕ). n ≡ (new_of 5 (λ p. xs) image).1) bytes (c.in_ok-number.ensures.value t tells is at low holds shaped full) in
+    let opened = made.opened in
+    let size : IsTrue (is_page_size (image_size (after_strokes t (new_behind chain slots image).0.strokes).base.image)) =
+    subst (λ (k : ℕ). IsTrue (is_page_size k)) (c.requires.room ∙ sym c.in_ok-number.ensures.goes.page_size ∙ opened.files.agrees.page_size) c.requires.size in
     tries_passed c.from_residual-in_err-link.result fault (λ r. Tries r w new c.args.store.now c.link.new.store t None (grown chain pages slots (drafted image)).0.strokes) c.from_residual-in_err-link.ensures
-    (grown_failed chain slots t pages c.args.last is_well short last c.requires.low there n fault w mid new c.args.store.now c.make_new.new.store c.link.new.store number made
-    (c.in_err-link.ensures.tries (after_strokes t (new_behind chain slots image).0.strokes) tells made.opened))
+    (grown_failed chain slots t pages c.args.last free size last n fault w mid new c.args.store.now c.make_new.new.store c.link.new.store number made
+    (c.in_err-link.ensures.tries (after_strokes t (new_behind chain slots image).0.strokes) tells opened))
 
 pub returns-clause-tries : goal.returns-clause-tries
-returns-clause-tries g c t chain pages slots tells is at holds is_well room bytes last there =
+returns-clause-tries g c t chain pages slots tells is at holds shaped none bytes last =
     let image = t.base.image in
     let w = g.H.Host.world c.args.host.now in
-    let low : c.args.first ≤ length image = omega (arith, at, lowest_most image is_well.sound.least) in
-    let full = subst (λ (xs : List ℕ). no_room (new_of 5 (λ p. xs) image).0 ≡ None) (sym bytes) room in
-    let short : length (data_payload 0 (owner_of chain) slots) ≤ 1008 = omega (arith, ap length bytes, c.requires.short) in
+    let low : c.args.first ≤ length image = omega (arith, at, lowest_most image shaped.long) in
+    let free = free_behind (new_behind chain slots image).0 c.args.last none in
+    let full = subst (λ (xs : List ℕ). draft_cause (new_of 5 (λ p. xs) image).0 ≡ None) (sym bytes) free.clear in
     let mid = g.H.Host.world c.make_new.new.host in
     let new = g.H.Host.world c.link.new.host in
     let n : ℕ = c.in_ok-number.number in
-    let these = (c.in_ok-number.ensures.makes t tells is at low holds).these (is_well, full) in
+    let these = (c.in_ok-number.ensures.makes t tells is at low holds).these (shaped, full) in
     let made = subst (λ (xs : List ℕ). Makes (Ok n) w mid c.args.store.now c.make_new.new.store t (new_of 5 (λ p. xs) image).0.strokes) bytes these.makes in
-    let number = subst (λ (xs : List ℕ). n ≡ (new_of 5 (λ p. xs) image).1) bytes (c.in_ok-number.ensures.value t tells is at low holds is_well full) in
-    grown_done chain slots t pages c.args.last is_well short last c.requires.low there n w mid new c.args.store.now c.make_new.new.store c.link.new.store number made
-    (c.in_ok-link.ensures.tries (after_strokes t (new_behind chain slots image).0.strokes) tells made.opened)
+    let number = subst (λ (xs : List ℕ). n ≡ (new_of 5 (λ p. xs) image).1) bytes (c.in_ok-number.ensures.value t tells is at low holds shaped full) in
+    let opened = made.opened in
+    let size : IsTrue (is_page_size (image_size (after_strokes t (new_behind chain slots image).0.strokes).base.image)) =
+    subst (λ (k : ℕ). IsTrue (is_page_size k)) (c.requires.room ∙ sym c.in_ok-number.ensures.goes.page_size ∙ opened.files.agrees.page_size) c.requires.size in
+    grown_done chain slots t pages c.args.last free size last n w mid new c.args.store.now c.make_new.new.store c.link.new.store number made
+    (c.in_ok-link.ensures.tries (after_strokes t (new_behind chain slots image).0.strokes) tells opened)
 
 pub returns-clause-value : goal.returns-clause-value
-returns-clause-value g c t chain pages slots tells is at holds is_well room bytes =
+returns-clause-value g c t chain pages slots tells is at holds shaped none bytes =
     let image = t.base.image in
-    let low : c.args.first ≤ length image = omega (arith, at, lowest_most image is_well.sound.least) in
-    let full = subst (λ (xs : List ℕ). no_room (new_of 5 (λ p. xs) image).0 ≡ None) (sym bytes) room in
+    let w = g.H.Host.world c.args.host.now in
+    let low : c.args.first ≤ length image = omega (arith, at, lowest_most image shaped.long) in
+    let free = free_behind (new_behind chain slots image).0 c.args.last none in
+    let full = subst (λ (xs : List ℕ). draft_cause (new_of 5 (λ p. xs) image).0 ≡ None) (sym bytes) free.clear in
     let n : ℕ = c.in_ok-number.number in
-    subst (λ (xs : List ℕ). n ≡ (new_of 5 (λ p. xs) image).1) bytes (c.in_ok-number.ensures.value t tells is at low holds is_well full) ∙ sym (grown_number chain slots image pages)
+    subst (λ (xs : List ℕ). n ≡ (new_of 5 (λ p. xs) image).1) bytes (c.in_ok-number.ensures.value t tells is at low holds shaped full) ∙ sym (grown_number chain slots image pages)
 
 pub returns-clause-below : goal.returns-clause-below
-returns-clause-below g c t chain pages slots tells is at holds is_well room bytes =
+returns-clause-below g c t chain pages slots tells is at holds shaped none bytes =
     let image = t.base.image in
-    let low : c.args.first ≤ length image = omega (arith, at, lowest_most image is_well.sound.least) in
-    let full = subst (λ (xs : List ℕ). no_room (new_of 5 (λ p. xs) image).0 ≡ None) (sym bytes) room in
+    let w = g.H.Host.world c.args.host.now in
+    let low : c.args.first ≤ length image = omega (arith, at, lowest_most image shaped.long) in
+    let free = free_behind (new_behind chain slots image).0 c.args.last none in
+    let full = subst (λ (xs : List ℕ). draft_cause (new_of 5 (λ p. xs) image).0 ≡ None) (sym bytes) free.clear in
     let n : ℕ = c.in_ok-number.number in
     let all = c.in_ok-number.ensures.makes t tells is at low holds in
-    let inside = subst (λ (xs : List ℕ). n < length (new_of 5 (λ p. xs) image).0.image) bytes (new_below t 5 (λ p. c.args.payload.now) n all.some.made all.ends (all.these (is_well, full)).same) in
+    let inside = subst (λ (xs : List ℕ). n < length (new_of 5 (λ p. xs) image).0.image) bytes (new_below t 5 (λ p. c.args.payload.now) n all.some.made all.ends (all.these (shaped, full)).same) in
     grown_below chain slots image pages n inside
 
 pub returns-in_err-number-clause-some : goal.returns-in_err-number-clause-some

@@ -1,10 +1,8 @@
-use Rattle.std.proofs.Common.{ℕ, List, [], replicate, refl, sym, subst}
+use Rattle.std.proofs.Common.{ℕ, List, [], replicate, refl}
 use Rattle.std.specs.Prelude.{Ok, Err}
-use Rattle.nb_model.specs.Account.{Base}
 use Rattle.nb_model.specs.Causes.{read_only, too_long}
 use Rattle.nb_model.specs.Chains.{RowsFrom, Slot, spots}
 use Rattle.nb_model.specs.Outcomes.{Seen}
-use Rattle.nb_model.specs.Sound.{IsSoundImage}
 use Rattle.nb_model.specs.Tables.{in_row, delete_turn}
 use Rattle.nb_engine.specs.Replies.{done}
 use Rattle.nb_engine.proofs.DoesLaws.{seeing, tested_does}
@@ -17,7 +15,7 @@ use Rattle.nb_table.proofs.ChangeLaws.{walked_found, delete_refused, delete_goes
 use Rattle.nb_table.proofs.change.delete.Goals as goal
 
 pub returns-in_err-rows-clause-turn : goal.returns-in_err-rows-clause-turn
-returns-in_err-rows-clause-turn g c s t tells same is sound =
+returns-in_err-rows-clause-turn g c s t tells same is =
     let image = t.base.image in
     let table : List ℕ = c.args.table.now in
     let found = c.in_err-rows.ensures in
@@ -25,14 +23,13 @@ returns-in_err-rows-clause-turn g c s t tells same is sound =
     (found.test t tells is) (delete_refused (seeing s t.base) table c.args.key)
 
 pub returns-in_err-put_found-clause-turn : goal.returns-in_err-put_found-clause-turn
-returns-in_err-put_found-clause-turn g c s t tells same is sound =
+returns-in_err-put_found-clause-turn g c s t tells same is =
     let image = t.base.image in
     let table : List ℕ = c.args.table.now in
     let key : ℕ = c.args.key in
     let found = c.in_ok-rows.ensures in
     let rows = c.in_ok-rows.rows in
     let w = g.H.Host.world c.args.host.now in
-    let here = subst (λ (b : Base). IsSoundImage b.image) (sym same) sound in
     let none = found.test t tells is in
     let at = found.table t tells is in
     let bytes : Slot = replicate 256 0 in
@@ -47,17 +44,16 @@ returns-in_err-put_found-clause-turn g c s t tells same is sound =
     let result = c.from_residual-in_err-put_found.result in
     table_does done result w after c.args.engine.now end t s (λ (x : Seen). delete_turn x table key) same rest goes
     (does_passed done result fault w after c.args.engine.now end t rest c.from_residual-in_err-put_found.ensures
-    (does_after done (Err fault) w _ after c.args.engine.now _ end t rest found.same found.quiet is (c.in_err-put_found.ensures.turn (seeing s t.base) t chain tells refl (found.open t tells is) here formed row)))
+    (does_after done (Err fault) w _ after c.args.engine.now _ end t rest found.same found.quiet is (c.in_err-put_found.ensures.turn (seeing s t.base) t chain tells refl (found.open t tells is) formed row)))
 
 pub returns-clause-turn : goal.returns-clause-turn
-returns-clause-turn g c s t tells same is sound =
+returns-clause-turn g c s t tells same is =
     let image = t.base.image in
     let table : List ℕ = c.args.table.now in
     let key : ℕ = c.args.key in
     let found = c.in_ok-rows.ensures in
     let rows = c.in_ok-rows.rows in
     let w = g.H.Host.world c.args.host.now in
-    let here = subst (λ (b : Base). IsSoundImage b.image) (sym same) sound in
     let none = found.test t tells is in
     let at = found.table t tells is in
     let bytes : Slot = replicate 256 0 in
@@ -69,7 +65,7 @@ returns-clause-turn g c s t tells same is sound =
     let after = g.H.Host.world c.put_found.new.host in
     let end = c.put_found.new.engine in
     table_does done (Ok tt) w after c.args.engine.now end t s (λ (x : Seen). delete_turn x table key) same rest goes
-    (does_after done (Ok tt) w _ after c.args.engine.now _ end t rest found.same found.quiet is (c.in_ok-put_found.ensures.turn (seeing s t.base) t chain tells refl (found.open t tells is) here formed row))
+    (does_after done (Ok tt) w _ after c.args.engine.now _ end t rest found.same found.quiet is (c.in_ok-put_found.ensures.turn (seeing s t.base) t chain tells refl (found.open t tells is) formed row))
 
 pub returns-in_err-rows-clause-stays_open : goal.returns-in_err-rows-clause-stays_open
 returns-in_err-rows-clause-stays_open g c t tells is = let found = c.in_err-rows.ensures in stays_still _ _ _ _ _ t _ found.same found.quiet is (found.open t tells is)

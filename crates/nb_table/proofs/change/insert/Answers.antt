@@ -1,29 +1,28 @@
-use Rattle.std.proofs.Common.{◌≡◌, ℕ, ◌≤◌, List, length, refl, sym, ap, subst, ◌∙◌, arith}
+use Rattle.std.proofs.Common.{◌≡◌, ℕ, List, refl, sym, subst, ◌∙◌}
 use Rattle.std.specs.Prelude.{true, false, Ok, Err, is_some}
 use Rattle.nb_host.specs.declared.refusals.Refusal.TheVariants.{KeyExists}
 use Rattle.nb_model.specs.declared.reply.Reply.TheVariants.{Done}
 use Rattle.nb_model.specs.Account.{Base}
-use Rattle.nb_model.specs.Causes.{read_only, too_long, no_room}
+use Rattle.nb_model.specs.Causes.{read_only, too_long}
 use Rattle.nb_model.specs.Chains.{RowsFrom, Slot, found_pages, spots, row_spot, row_slot, place_slot}
 use Rattle.nb_model.specs.Forms.{drafted}
 use Rattle.nb_model.specs.Outcomes.{Seen}
-use Rattle.nb_model.specs.Sound.{IsSoundImage}
+use Rattle.nb_model.specs.Image.{image_size}
+use Rattle.nb_model.specs.Sound.{IsOfSize}
 use Rattle.nb_model.specs.Tables.{insert_turn}
-use Rattle.nb_model.proofs.TableTurns.{row_length}
 use Rattle.nb_engine.specs.Replies.{done}
 use Rattle.nb_engine.specs.Tries.{Tries}
 use Rattle.nb_engine.proofs.DoesLaws.{seeing, refused_does, tested_does, tries_does, tries_passed, tries_after}
 use Rattle.nb_engine.proofs.StaysLaws.{stays_still, stays_after, stays_passed}
 use Rattle.nb_table.specs.declared.rows.Rows.{Rows}
-use Rattle.nb_table.specs.Rows.{rows_cause}
+use Rattle.nb_table.specs.Rows.{rows_cause, place_cause}
 use Rattle.nb_table.specs.Walks.{spot_of}
 use Rattle.nb_table.proofs.InTableLaws.{chain_formed_from}
-use Rattle.nb_table.proofs.PlaceLaws.{well_open, not_short, placed_form}
-use Rattle.nb_table.proofs.ChangeLaws.{said, key_known, key_new, walked_room, walked_key, low_of, insert_refused, insert_goes}
+use Rattle.nb_table.proofs.ChangeLaws.{said, key_known, key_new, walked_room, walked_key, insert_refused, insert_goes}
 use Rattle.nb_table.proofs.change.insert.Goals as goal
 
 pub returns-in_err-rows-clause-turn : goal.returns-in_err-rows-clause-turn
-returns-in_err-rows-clause-turn g c s t tells same is sound =
+returns-in_err-rows-clause-turn g c s t tells same is sizes =
     let image = t.base.image in
     let table : List ℕ = c.args.table.now in
     let text : List ℕ = c.args.text.now in
@@ -32,7 +31,7 @@ returns-in_err-rows-clause-turn g c s t tells same is sound =
     (found.test t tells is) (insert_refused (seeing s t.base) table c.args.key text)
 
 pub returns-then-is_some-clause-turn : goal.returns-then-is_some-clause-turn
-returns-then-is_some-clause-turn g c s t tells same is sound =
+returns-then-is_some-clause-turn g c s t tells same is sizes =
     let image = t.base.image in
     let table : List ℕ = c.args.table.now in
     let text : List ℕ = c.args.text.now in
@@ -46,7 +45,7 @@ returns-then-is_some-clause-turn g c s t tells same is sound =
     (insert_goes (seeing s t.base) table key text (found.test t tells is) (spot_of rows.table) (found.table t tells is) rows.first found.first bytes refl ∙ key_known (seeing s t.base) (RowsFrom rows.first) key bytes known)
 
 pub returns-in_err-add_slot-clause-turn : goal.returns-in_err-add_slot-clause-turn
-returns-in_err-add_slot-clause-turn g c s t tells same is sound =
+returns-in_err-add_slot-clause-turn g c s t tells same is sizes =
     let image = t.base.image in
     let table : List ℕ = c.args.table.now in
     let text : List ℕ = c.args.text.now in
@@ -54,7 +53,7 @@ returns-in_err-add_slot-clause-turn g c s t tells same is sound =
     let found = c.in_ok-rows.ensures in
     let rows = c.in_ok-rows.rows in
     let w = g.H.Host.world c.args.host.now in
-    let here = subst (λ (b : Base). IsSoundImage b.image) (sym same) sound in
+    let here = subst (λ (b : Base). IsOfSize (image_size b.image) b.image) (sym same) sizes in
     let ss = spots (RowsFrom rows.first) image in
     let are = found.walked t tells is in
     let none = found.test t tells is in
@@ -64,20 +63,18 @@ returns-in_err-add_slot-clause-turn g c s t tells same is sound =
     let new : is_some (row_spot key ss) ≡ false = sym (walked_key rows.first key ss rows.walked are) ∙ sym c.is_some.ensures ∙ c.if-is_some.false in
     let room = walked_room rows.first key ss rows.walked are in
     let last = found.last t tells is in
-    let short : length bytes ≤ 992 = omega (arith, ap length c.row_bytes-bytes.ensures, row_length key text (omega (arith, found.short))) in
-    let form = placed_form t.base (RowsFrom rows.first) (well_open w c.args.engine.now t is here) formed bytes rows.walked.room room (low_of _ rows.walked.room found.room) short (omega (arith, found.low, last)) in
-    let turn = insert_goes (seeing s t.base) table key text none (spot_of rows.table) at rows.first found.first bytes c.row_bytes-bytes.ensures ∙ key_new (seeing s t.base) (RowsFrom rows.first) key bytes new (not_short image here.least) form in
+    let turn = insert_goes (seeing s t.base) table key text none (spot_of rows.table) at rows.first found.first bytes c.row_bytes-bytes.ensures ∙ key_new (seeing s t.base) (RowsFrom rows.first) key bytes new in
     let into = place_slot (RowsFrom rows.first) (found_pages (RowsFrom rows.first) image) bytes (drafted image) in
     let after = g.H.Host.world c.add_slot.new.host in
     let fault = c.in_err-add_slot.field-0.0 in
     let result = c.from_residual-in_err-add_slot.result in
-    tries_does done result w after c.args.engine.now c.add_slot.new.engine t s (λ (x : Seen). insert_turn x table key text) (no_room into) Done refl into.strokes same turn (said result)
-    (tries_passed result fault (λ r. Tries r w after c.args.engine.now c.add_slot.new.engine t (no_room into) into.strokes) c.from_residual-in_err-add_slot.ensures
-    (tries_after {T = Unit {0}} (Err fault) w _ after c.args.engine.now _ c.add_slot.new.engine t (no_room into) into.strokes found.same found.quiet is
+    tries_does done result w after c.args.engine.now c.add_slot.new.engine t s (λ (x : Seen). insert_turn x table key text) (place_cause (RowsFrom rows.first) image bytes) Done refl into.strokes same turn (said result)
+    (tries_passed result fault (λ r. Tries r w after c.args.engine.now c.add_slot.new.engine t (place_cause (RowsFrom rows.first) image bytes) into.strokes) c.from_residual-in_err-add_slot.ensures
+    (tries_after {T = Unit {0}} (Err fault) w _ after c.args.engine.now _ c.add_slot.new.engine t (place_cause (RowsFrom rows.first) image bytes) into.strokes found.same found.quiet is
     (c.in_err-add_slot.ensures.tries t (RowsFrom rows.first) tells (found.open t tells is) here refl formed room last)))
 
 pub returns-clause-turn : goal.returns-clause-turn
-returns-clause-turn g c s t tells same is sound =
+returns-clause-turn g c s t tells same is sizes =
     let image = t.base.image in
     let table : List ℕ = c.args.table.now in
     let text : List ℕ = c.args.text.now in
@@ -85,7 +82,7 @@ returns-clause-turn g c s t tells same is sound =
     let found = c.in_ok-rows.ensures in
     let rows = c.in_ok-rows.rows in
     let w = g.H.Host.world c.args.host.now in
-    let here = subst (λ (b : Base). IsSoundImage b.image) (sym same) sound in
+    let here = subst (λ (b : Base). IsOfSize (image_size b.image) b.image) (sym same) sizes in
     let ss = spots (RowsFrom rows.first) image in
     let are = found.walked t tells is in
     let none = found.test t tells is in
@@ -95,13 +92,11 @@ returns-clause-turn g c s t tells same is sound =
     let new : is_some (row_spot key ss) ≡ false = sym (walked_key rows.first key ss rows.walked are) ∙ sym c.is_some.ensures ∙ c.if-is_some.false in
     let room = walked_room rows.first key ss rows.walked are in
     let last = found.last t tells is in
-    let short : length bytes ≤ 992 = omega (arith, ap length c.row_bytes-bytes.ensures, row_length key text (omega (arith, found.short))) in
-    let form = placed_form t.base (RowsFrom rows.first) (well_open w c.args.engine.now t is here) formed bytes rows.walked.room room (low_of _ rows.walked.room found.room) short (omega (arith, found.low, last)) in
-    let turn = insert_goes (seeing s t.base) table key text none (spot_of rows.table) at rows.first found.first bytes c.row_bytes-bytes.ensures ∙ key_new (seeing s t.base) (RowsFrom rows.first) key bytes new (not_short image here.least) form in
+    let turn = insert_goes (seeing s t.base) table key text none (spot_of rows.table) at rows.first found.first bytes c.row_bytes-bytes.ensures ∙ key_new (seeing s t.base) (RowsFrom rows.first) key bytes new in
     let into = place_slot (RowsFrom rows.first) (found_pages (RowsFrom rows.first) image) bytes (drafted image) in
     let after = g.H.Host.world c.add_slot.new.host in
-    tries_does done (Ok tt) w after c.args.engine.now c.add_slot.new.engine t s (λ (x : Seen). insert_turn x table key text) (no_room into) Done refl into.strokes same turn (said (Ok tt))
-    (tries_after {T = Unit {0}} (Ok tt) w _ after c.args.engine.now _ c.add_slot.new.engine t (no_room into) into.strokes found.same found.quiet is
+    tries_does done (Ok tt) w after c.args.engine.now c.add_slot.new.engine t s (λ (x : Seen). insert_turn x table key text) (place_cause (RowsFrom rows.first) image bytes) Done refl into.strokes same turn (said (Ok tt))
+    (tries_after {T = Unit {0}} (Ok tt) w _ after c.args.engine.now _ c.add_slot.new.engine t (place_cause (RowsFrom rows.first) image bytes) into.strokes found.same found.quiet is
     (c.in_ok-add_slot.ensures.tries t (RowsFrom rows.first) tells (found.open t tells is) here refl formed room last))
 
 pub returns-in_err-rows-clause-stays_open : goal.returns-in_err-rows-clause-stays_open

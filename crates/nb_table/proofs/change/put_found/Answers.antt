@@ -1,5 +1,5 @@
-use Rattle.std.proofs.Common.{refl, sym, subst, ◌∙◌}
-use Rattle.std.specs.Prelude.{Option, Ok, Err, IfSome}
+use Rattle.std.proofs.Common.{refl, sym, ◌∙◌}
+use Rattle.std.specs.Prelude.{Ok, Err}
 use Rattle.nb_host.specs.declared.refusals.Refusal.TheVariants.{NoKey}
 use Rattle.nb_page.proofs.QuietLemmas.{quiet_begun}
 use Rattle.nb_model.specs.Outcomes.{Seen}
@@ -8,40 +8,32 @@ use Rattle.nb_model.specs.Tables.{in_row}
 use Rattle.nb_engine.specs.Replies.{done}
 use Rattle.nb_engine.proofs.DoesLaws.{seeing, refused_does}
 use Rattle.nb_engine.proofs.StaysLaws.{stays_still, stays_passed}
-use Rattle.nb_table.specs.declared.look.Found.{Found}
-use Rattle.nb_table.specs.Walks.{IsPlaced}
 use Rattle.nb_table.proofs.InTableLaws.{does_passed}
-use Rattle.nb_table.proofs.PlaceLaws.{well_open, found_none}
+use Rattle.nb_table.proofs.PlaceLaws.{found_none}
 use Rattle.nb_table.proofs.ChangeLaws.{row_missing, row_does, found_kind}
 use Rattle.nb_table.proofs.change.put_found.Goals as goal
 
 pub returns-in_default-clause-turn : goal.returns-in_default-clause-turn
-returns-in_default-clause-turn g c s t chain tells same is sound formed found =
+returns-in_default-clause-turn g c s t chain tells same is formed found =
     let w = g.H.Host.world c.args.host.now in
     refused_does done (NoKey c.args.key) w w c.args.engine.now c.args.engine.now t s (λ (x : Seen). in_row x chain c.args.key c.args.bytes.now) same refl (quiet_begun w (g.met.H.Host.timely c.args.host.now)) is is
     (row_missing (seeing s t.base) chain c.args.key c.args.bytes.now (found_none (row_spot c.args.key (spots chain t.base.image)) (sym c.in_default.is ∙ found)))
 
 pub returns-in_err-put_slot-clause-turn : goal.returns-in_err-put_slot-clause-turn
-returns-in_err-put_slot-clause-turn g c s t chain tells same is sound formed found =
+returns-in_err-put_slot-clause-turn g c s t chain tells same is formed found =
     let w = g.H.Host.world c.args.host.now in
-    let well = well_open w c.args.engine.now t is sound in
     let row = c.in-Some.row in
     let there = sym c.in-Some.is ∙ found in
-    let placed = subst (λ (o : Option Found). IfSome o (λ f. IsPlaced c.args.engine.now.files.page_size f.place)) c.in-Some.is c.requires.placed in
-    let low = placed.low in
     does_passed done _ c.in_err-put_slot.field-0.0 w _ _ _ t (in_row s chain c.args.key c.args.bytes.now) c.from_residual.ensures
-    (row_does (Err c.in_err-put_slot.field-0.0) w _ _ _ t s chain c.args.key c.args.bytes.now row same well formed there low
-    (c.in_err-put_slot.ensures.tries t tells is sound (found_kind t.base.image chain formed c.args.key row there)))
+    (row_does (Err c.in_err-put_slot.field-0.0) w _ _ _ t s chain c.args.key c.args.bytes.now row same there
+    (c.in_err-put_slot.ensures.tries t tells is (found_kind t.base.image chain formed c.args.key row there)))
 
 pub returns-clause-turn : goal.returns-clause-turn
-returns-clause-turn g c s t chain tells same is sound formed found =
+returns-clause-turn g c s t chain tells same is formed found =
     let w = g.H.Host.world c.args.host.now in
-    let well = well_open w c.args.engine.now t is sound in
     let row = c.in-Some.row in
     let there = sym c.in-Some.is ∙ found in
-    let placed = subst (λ (o : Option Found). IfSome o (λ f. IsPlaced c.args.engine.now.files.page_size f.place)) c.in-Some.is c.requires.placed in
-    let low = placed.low in
-    row_does (Ok tt) w _ _ _ t s chain c.args.key c.args.bytes.now row same well formed there low (c.in_ok-put_slot.ensures.tries t tells is sound (found_kind t.base.image chain formed c.args.key row there))
+    row_does (Ok tt) w _ _ _ t s chain c.args.key c.args.bytes.now row same there (c.in_ok-put_slot.ensures.tries t tells is (found_kind t.base.image chain formed c.args.key row there))
 
 pub returns-in_default-clause-stays_open : goal.returns-in_default-clause-stays_open
 returns-in_default-clause-stays_open g c t tells is = stays_still _ _ _ _ _ t _ refl (quiet_begun _ (g.met.H.Host.timely c.args.host.now)) is is

@@ -1,33 +1,32 @@
-use Rattle.std.proofs.Common.{◌≡◌, ◌<◌, ◌≤◌, ℕ, List, length, refl, sym, ap, subst, ◌∙◌, arith}
-use Rattle.std.specs.Prelude.{Option, Ok, Err, IfSome}
+use Rattle.std.proofs.Common.{◌≡◌, ℕ, List, refl, sym, ap, subst, ◌∙◌, arith}
+use Rattle.std.specs.Prelude.{Option, Ok, Err}
 use Rattle.nb_page.proofs.QuietLemmas.{quiet_begun}
 use Rattle.nb_model.specs.declared.reply.Reply.TheVariants.{Done}
 use Rattle.nb_model.specs.Account.{Base}
-use Rattle.nb_model.specs.Causes.{read_only, no_room}
+use Rattle.nb_model.specs.Causes.{read_only}
+use Rattle.nb_model.specs.Forms.{is_kind}
+use Rattle.nb_host.specs.declared.refusals.Refusal.TheVariants.{NotDatabase}
+use Rattle.nb_engine.specs.Data.{unmade}
+use Rattle.nb_engine.proofs.PutLaws.{none_of}
 use Rattle.nb_model.specs.Chains.{Catalogue, found_pages, last_of}
-use Rattle.nb_model.specs.Image.{image_scn, is_read_only}
+use Rattle.nb_model.specs.Image.{image_size, is_read_only}
 use Rattle.nb_model.specs.Outcomes.{Seen}
-use Rattle.nb_model.specs.Sound.{IsSoundImage}
+use Rattle.nb_model.specs.Sound.{IsOfSize}
 use Rattle.nb_model.specs.Tables.{create_turn}
-use Rattle.nb_model.proofs.PutSound.{header_whole}
 use Rattle.nb_model.proofs.TableTurns.{name_short}
 use Rattle.nb_engine.specs.Replies.{done}
 use Rattle.nb_engine.proofs.DoesLaws.{seeing, tested_does, tries_passed, tries_after, tries_does}
-use Rattle.nb_engine.proofs.NewTurn.{header_of}
 use Rattle.nb_state.specs.Open.{Held}
 use Rattle.nb_state.specs.Does.{Does}
 use Rattle.nb_engine.proofs.StaysLaws.{stays_still, stays_after, stays_passed}
 use Rattle.nb_table.specs.declared.look.Place.{Place}
 use Rattle.nb_table.specs.Creates.{new_cause, created_in, created_behind}
-use Rattle.nb_table.specs.Walks.{IsPlaced}
-use Rattle.nb_table.proofs.CreateLaws.{kind_stays, in_form, behind_form}
 use Rattle.nb_table.proofs.CreateTurnLaws.{create_denied, create_refused, create_at, create_last, new_formed, place_data}
-use Rattle.nb_table.proofs.SpotPages.{last_there, last_kind}
-use Rattle.nb_table.proofs.PlaceLaws.{not_short}
+use Rattle.nb_table.proofs.SpotPages.{last_kind}
 use Rattle.nb_table.proofs.creating.create.Goals as goal
 
 pub returns-in_err-check_access-clause-turn : goal.returns-in_err-check_access-clause-turn
-returns-in_err-check_access-clause-turn g c s t tells same is sound =
+returns-in_err-check_access-clause-turn g c s t tells same is sizes =
     let image = t.base.image in
     let table : List ℕ = c.args.table.now in
     let w = g.H.Host.world c.args.host.now in
@@ -36,7 +35,7 @@ returns-in_err-check_access-clause-turn g c s t tells same is sound =
     (c.in_err-check_access.ensures.test image closed) (create_denied (seeing s t.base) table)
 
 pub returns-in_err-free-clause-turn : goal.returns-in_err-free-clause-turn
-returns-in_err-free-clause-turn g c s t tells same is sound =
+returns-in_err-free-clause-turn g c s t tells same is sizes =
     let image = t.base.image in
     let table : List ℕ = c.args.table.now in
     let closed : c.is_read_only.result ≡ is_read_only image = c.is_read_only.ensures ∙ ap (λ (h : Held). h.read_only) c.store.ensures ∙ is.agrees.read_only in
@@ -45,7 +44,7 @@ returns-in_err-free-clause-turn g c s t tells same is sound =
     (create_refused (seeing s t.base) table (c.in_ok-check_access.ensures.test image closed))
 
 pub returns-in_err-create_in-in-Some-clause-turn : goal.returns-in_err-create_in-in-Some-clause-turn
-returns-in_err-create_in-in-Some-clause-turn g c s t tells same is sound =
+returns-in_err-create_in-in-Some-clause-turn g c s t tells same is sizes =
     let image = t.base.image in
     let table : List ℕ = c.args.table.now in
     let closed : c.is_read_only.result ≡ is_read_only image = c.is_read_only.ensures ∙ ap (λ (h : Held). h.read_only) c.store.ensures ∙ is.agrees.read_only in
@@ -53,26 +52,24 @@ returns-in_err-create_in-in-Some-clause-turn g c s t tells same is sound =
     let tests = c.in_ok-free.ensures in
     let new = tests.test t tells is in
     let place = c.in-Some.place in
-    let here = subst (λ (b : Base). IsSoundImage b.image) (sym same) sound in
-    let scn : image_scn image < 4294967296 = omega (arith, is.agrees.scn, is.agrees.four) in
+    let here = subst (λ (b : Base). IsOfSize (image_size b.image) b.image) (sym same) sizes in
     let w = g.H.Host.world c.args.host.now in
     let mid = g.H.Host.world c.check_table.new.host in
     let last = g.H.Host.world c.create_in.new.host in
-    let whole = header_whole image (header_of w c.args.engine.now t is scn) here in
     let at = sym c.in-Some.is ∙ tests.room t tells is in
-    let placed = subst (λ (o : Option Place). IfSome o (IsPlaced c.args.engine.now.files.page_size)) c.in-Some.is tests.placed in
     let page_is = place_data image (new_formed image table new) place at in
+    let kind = none_of (is_kind image 5 place.page) (NotDatabase place.page) page_is.1 in
     let fault = c.in_err-create_in-in-Some.field-0.0 in
     let made = created_in image table place in
     let now = seeing s t.base in
     tries_passed c.from_residual-in_err-create_in-in-Some.result fault (λ r. Does done r w last c.args.engine.now c.create_in.new.engine t (create_turn s table)) c.from_residual-in_err-create_in-in-Some.ensures
-    (tries_does {T = Unit {0}} done (Err fault) w last c.args.engine.now c.create_in.new.engine t s (λ (x : Seen). create_turn x table) (no_room made) Done refl made.strokes same
-    (create_at now table free new (not_short image here.least) place at (kind_stays image whole place.page page_is.1) (in_form image whole table place placed.low page_is.0)) tt
-    (tries_after {T = Unit {0}} (Err fault) w mid last c.args.engine.now c.check_table.new.engine c.create_in.new.engine t (no_room made) made.strokes tests.same tests.quiet is
-    (c.in_err-create_in-in-Some.ensures.tries t tells (tests.open t tells is) here page_is.1)))
+    (tries_does {T = Unit {0}} done (Err fault) w last c.args.engine.now c.create_in.new.engine t s (λ (x : Seen). create_turn x table) (unmade image made) Done refl made.strokes same
+    (create_at now table free new place at) tt
+    (tries_after {T = Unit {0}} (Err fault) w mid last c.args.engine.now c.check_table.new.engine c.create_in.new.engine t (unmade image made) made.strokes tests.same tests.quiet is
+    (c.in_err-create_in-in-Some.ensures.tries t tells (tests.open t tells is) here kind)))
 
 pub returns-in_ok-create_in-in-Some-clause-turn : goal.returns-in_ok-create_in-in-Some-clause-turn
-returns-in_ok-create_in-in-Some-clause-turn g c s t tells same is sound =
+returns-in_ok-create_in-in-Some-clause-turn g c s t tells same is sizes =
     let image = t.base.image in
     let table : List ℕ = c.args.table.now in
     let closed : c.is_read_only.result ≡ is_read_only image = c.is_read_only.ensures ∙ ap (λ (h : Held). h.read_only) c.store.ensures ∙ is.agrees.read_only in
@@ -80,75 +77,67 @@ returns-in_ok-create_in-in-Some-clause-turn g c s t tells same is sound =
     let tests = c.in_ok-free.ensures in
     let new = tests.test t tells is in
     let place = c.in-Some.place in
-    let here = subst (λ (b : Base). IsSoundImage b.image) (sym same) sound in
-    let scn : image_scn image < 4294967296 = omega (arith, is.agrees.scn, is.agrees.four) in
+    let here = subst (λ (b : Base). IsOfSize (image_size b.image) b.image) (sym same) sizes in
     let w = g.H.Host.world c.args.host.now in
     let mid = g.H.Host.world c.check_table.new.host in
     let last = g.H.Host.world c.create_in.new.host in
-    let whole = header_whole image (header_of w c.args.engine.now t is scn) here in
     let at = sym c.in-Some.is ∙ tests.room t tells is in
-    let placed = subst (λ (o : Option Place). IfSome o (IsPlaced c.args.engine.now.files.page_size)) c.in-Some.is tests.placed in
     let page_is = place_data image (new_formed image table new) place at in
+    let kind = none_of (is_kind image 5 place.page) (NotDatabase place.page) page_is.1 in
     let made = created_in image table place in
     let now = seeing s t.base in
-    tries_does {T = Unit {0}} done (Ok tt) w last c.args.engine.now c.create_in.new.engine t s (λ (x : Seen). create_turn x table) (no_room made) Done refl made.strokes same
-    (create_at now table free new (not_short image here.least) place at (kind_stays image whole place.page page_is.1) (in_form image whole table place placed.low page_is.0)) refl
-    (tries_after {T = Unit {0}} (Ok tt) w mid last c.args.engine.now c.check_table.new.engine c.create_in.new.engine t (no_room made) made.strokes tests.same tests.quiet is
-    (c.in_ok-create_in-in-Some.ensures.tries t tells (tests.open t tells is) here page_is.1))
+    tries_does {T = Unit {0}} done (Ok tt) w last c.args.engine.now c.create_in.new.engine t s (λ (x : Seen). create_turn x table) (unmade image made) Done refl made.strokes same
+    (create_at now table free new place at) refl
+    (tries_after {T = Unit {0}} (Ok tt) w mid last c.args.engine.now c.check_table.new.engine c.create_in.new.engine t (unmade image made) made.strokes tests.same tests.quiet is
+    (c.in_ok-create_in-in-Some.ensures.tries t tells (tests.open t tells is) here kind))
 
 pub returns-in_err-create_behind-in-None-clause-turn : goal.returns-in_err-create_behind-in-None-clause-turn
-returns-in_err-create_behind-in-None-clause-turn g c s t tells same is sound =
+returns-in_err-create_behind-in-None-clause-turn g c s t tells same is sizes =
     let image = t.base.image in
     let table : List ℕ = c.args.table.now in
     let closed : c.is_read_only.result ≡ is_read_only image = c.is_read_only.ensures ∙ ap (λ (h : Held). h.read_only) c.store.ensures ∙ is.agrees.read_only in
     let free = c.in_ok-check_access.ensures.test image closed in
     let tests = c.in_ok-free.ensures in
     let new = tests.test t tells is in
-    let here = subst (λ (b : Base). IsSoundImage b.image) (sym same) sound in
-    let scn : image_scn image < 4294967296 = omega (arith, is.agrees.scn, is.agrees.four) in
+    let here = subst (λ (b : Base). IsOfSize (image_size b.image) b.image) (sym same) sizes in
     let w = g.H.Host.world c.args.host.now in
     let mid = g.H.Host.world c.check_table.new.host in
     let end = g.H.Host.world c.create_behind.new.host in
-    let whole = header_whole image (header_of w c.args.engine.now t is scn) here in
     let none = sym c.in-None.is ∙ tests.room t tells is in
     let last_is = tests.last t tells is in
-    let there = last_there Catalogue image (new_formed image table new) in
-    let some : 0 < last_of (found_pages Catalogue image) = omega (arith, tests.low, last_is) in
-    let named : length table ≤ 240 = omega (arith, name_short table c.as_str-name.ensures.name) in
+    let last_page : ℕ = last_of (found_pages Catalogue image) in
+    let kind = ap (is_kind image 5) last_is ∙ none_of (is_kind image 5 last_page) (NotDatabase last_page) (last_kind Catalogue image (new_formed image table new)) in
     let fault = c.in_err-create_behind-in-None.field-0.0 in
     let made = created_behind image table in
     let now = seeing s t.base in
     tries_passed c.from_residual-in_err-create_behind-in-None.result fault (λ r. Does done r w end c.args.engine.now c.create_behind.new.engine t (create_turn s table)) c.from_residual-in_err-create_behind-in-None.ensures
-    (tries_does {T = Unit {0}} done (Err fault) w end c.args.engine.now c.create_behind.new.engine t s (λ (x : Seen). create_turn x table) (no_room made) Done refl made.strokes same
-    (create_last now table free new (not_short image here.least) none (behind_form image whole table named some there (last_kind Catalogue image (new_formed image table new)))) tt
-    (tries_after {T = Unit {0}} (Err fault) w mid end c.args.engine.now c.check_table.new.engine c.create_behind.new.engine t (no_room made) made.strokes tests.same tests.quiet is
-    (c.in_err-create_behind-in-None.ensures.tries t tells (tests.open t tells is) here (record { is = last_is; below = omega (arith, last_is, there) }))))
+    (tries_does {T = Unit {0}} done (Err fault) w end c.args.engine.now c.create_behind.new.engine t s (λ (x : Seen). create_turn x table) (unmade image made) Done refl made.strokes same
+    (create_last now table free new none) tt
+    (tries_after {T = Unit {0}} (Err fault) w mid end c.args.engine.now c.check_table.new.engine c.create_behind.new.engine t (unmade image made) made.strokes tests.same tests.quiet is
+    (c.in_err-create_behind-in-None.ensures.tries t tells (tests.open t tells is) here (record { is = last_is; kind = kind }))))
 
 pub returns-in_ok-create_behind-in-None-clause-turn : goal.returns-in_ok-create_behind-in-None-clause-turn
-returns-in_ok-create_behind-in-None-clause-turn g c s t tells same is sound =
+returns-in_ok-create_behind-in-None-clause-turn g c s t tells same is sizes =
     let image = t.base.image in
     let table : List ℕ = c.args.table.now in
     let closed : c.is_read_only.result ≡ is_read_only image = c.is_read_only.ensures ∙ ap (λ (h : Held). h.read_only) c.store.ensures ∙ is.agrees.read_only in
     let free = c.in_ok-check_access.ensures.test image closed in
     let tests = c.in_ok-free.ensures in
     let new = tests.test t tells is in
-    let here = subst (λ (b : Base). IsSoundImage b.image) (sym same) sound in
-    let scn : image_scn image < 4294967296 = omega (arith, is.agrees.scn, is.agrees.four) in
+    let here = subst (λ (b : Base). IsOfSize (image_size b.image) b.image) (sym same) sizes in
     let w = g.H.Host.world c.args.host.now in
     let mid = g.H.Host.world c.check_table.new.host in
     let end = g.H.Host.world c.create_behind.new.host in
-    let whole = header_whole image (header_of w c.args.engine.now t is scn) here in
     let none = sym c.in-None.is ∙ tests.room t tells is in
     let last_is = tests.last t tells is in
-    let there = last_there Catalogue image (new_formed image table new) in
-    let some : 0 < last_of (found_pages Catalogue image) = omega (arith, tests.low, last_is) in
-    let named : length table ≤ 240 = omega (arith, name_short table c.as_str-name.ensures.name) in
+    let last_page : ℕ = last_of (found_pages Catalogue image) in
+    let kind = ap (is_kind image 5) last_is ∙ none_of (is_kind image 5 last_page) (NotDatabase last_page) (last_kind Catalogue image (new_formed image table new)) in
     let made = created_behind image table in
     let now = seeing s t.base in
-    tries_does {T = Unit {0}} done (Ok tt) w end c.args.engine.now c.create_behind.new.engine t s (λ (x : Seen). create_turn x table) (no_room made) Done refl made.strokes same
-    (create_last now table free new (not_short image here.least) none (behind_form image whole table named some there (last_kind Catalogue image (new_formed image table new)))) refl
-    (tries_after {T = Unit {0}} (Ok tt) w mid end c.args.engine.now c.check_table.new.engine c.create_behind.new.engine t (no_room made) made.strokes tests.same tests.quiet is
-    (c.in_ok-create_behind-in-None.ensures.tries t tells (tests.open t tells is) here (record { is = last_is; below = omega (arith, last_is, there) })))
+    tries_does {T = Unit {0}} done (Ok tt) w end c.args.engine.now c.create_behind.new.engine t s (λ (x : Seen). create_turn x table) (unmade image made) Done refl made.strokes same
+    (create_last now table free new none) refl
+    (tries_after {T = Unit {0}} (Ok tt) w mid end c.args.engine.now c.check_table.new.engine c.create_behind.new.engine t (unmade image made) made.strokes tests.same tests.quiet is
+    (c.in_ok-create_behind-in-None.ensures.tries t tells (tests.open t tells is) here (record { is = last_is; kind = kind })))
 
 pub returns-in_err-check_access-clause-stays_open : goal.returns-in_err-check_access-clause-stays_open
 returns-in_err-check_access-clause-stays_open g c t tells is = stays_still _ _ _ _ _ t _ refl (quiet_begun _ (g.met.H.Host.timely c.args.host.now)) is is
@@ -181,3 +170,6 @@ returns-in_ok-create_behind-in-None-clause-stays_open g c t tells is =
     let tests = c.in_ok-free.ensures in
     let opened = tests.open t tells is in
     stays_after _ _ _ _ _ _ _ t _ tests.same tests.quiet is opened (c.in_ok-create_behind-in-None.ensures.stays_open t tells opened)
+
+pub create_behind-requires-clause-name : goal.create_behind-requires-clause-name
+create_behind-requires-clause-name g c = omega (arith, name_short c.args.table.now c.as_str-name.ensures.name)

@@ -1,100 +1,102 @@
-use Rattle.std.proofs.Common.{◌<◌, ℕ, List, length, refl, sym, subst, ◌∙◌, arith}
+use Rattle.std.proofs.Common.{ℕ, List, refl, sym, ap, subst, ◌∙◌, arith}
 use Rattle.std.specs.Prelude.{Ok, Err}
-use Rattle.nb_model.specs.Causes.{no_room}
-use Rattle.nb_model.specs.Chains.{Catalogue, found_pages, grown}
+use Rattle.nb_model.specs.Chains.{Catalogue, found_pages, grown, table_slot}
 use Rattle.nb_model.specs.Forms.{drafted}
-use Rattle.nb_model.specs.Image.{image_scn}
-use Rattle.nb_model.proofs.PutSound.{header_whole}
-use Rattle.nb_model.proofs.TableTurns.{none_room}
+use Rattle.nb_model.proofs.TableTurns.{table_length}
 use Rattle.nb_base.specs.Takes.{after_strokes}
+use Rattle.nb_engine.specs.Data.{second_data, unmade, unmade_behind}
+use Rattle.nb_engine.specs.Search.{IsShort}
 use Rattle.nb_engine.specs.Tries.{Tries}
+use Rattle.nb_engine.proofs.ContentLaws.{data_short}
 use Rattle.nb_engine.proofs.DoesLaws.{tries_early, tries_passed, tries_after, tries_opened}
-use Rattle.nb_engine.proofs.NewTurn.{header_of}
 use Rattle.nb_engine.proofs.StaysLaws.{stays_still, stays_after, stays_passed, stays_some, stays_then, stays_valued}
 use Rattle.nb_table.specs.Creates.{first_made, created_behind}
-use Rattle.nb_table.proofs.CreateLaws.{first, second, sound_then, long_then, behind_room, behind_front, behind_failed, behind_done}
+use Rattle.nb_table.proofs.CreateLaws.{first, first_short, second, behind_named, sizes_then, data_then, behind_front, behind_failed, behind_done}
 use Rattle.nb_table.proofs.creating.create_behind.Goals as goal
 
 pub returns-in_err-room_for-clause-tries : goal.returns-in_err-room_for-clause-tries
-returns-in_err-room_for-clause-tries g c t tells is sound last =
+returns-in_err-room_for-clause-tries g c t tells is sizes last =
     let table : List ℕ = c.args.table.now in
     let image = t.base.image in
-    let scn : image_scn image < 4294967296 = omega (arith, is.agrees.scn, is.agrees.four) in
-    let whole = header_whole image (header_of _ _ t is scn) sound in
+    let made = created_behind image table in
+    let named = behind_named image table ∙ ap (unmade_behind image (second_data first (second image table) image).0) (sym last.is) in
+    let short : IsShort (second image table) = λ p. data_short 0 (table_slot table (first_made image).1) (omega (arith, table_length table (first_made image).1 c.requires.name)) in
     let room = c.in_err-room_for.ensures in
-    let same = behind_room image whole table in
-    tries_early (Unit {0}) (Unit {0}) _ _ _ _ _ _ t _ (no_room (created_behind image table)) _ c.from_residual.ensures (λ r e. sym same ∙ e)
-    (room.two t (first image whole) (second image whole table) tells is sound refl none_room) room.same room.quiet is (room.open t tells is)
+    tries_early (Unit {0}) (Unit {0}) _ _ _ _ _ _ t (unmade_behind image (second_data first (second image table) image).0 c.args.last) (unmade image made) made.strokes c.from_residual.ensures (λ r e. named ∙ e)
+    (room.two t first (second image table) tells is sizes first_short short last.kind refl) room.same room.quiet is (room.open t tells is)
 
 pub returns-in_err-first-clause-tries : goal.returns-in_err-first-clause-tries
-returns-in_err-first-clause-tries g c t tells is sound last =
+returns-in_err-first-clause-tries g c t tells is sizes last =
     let table : List ℕ = c.args.table.now in
     let image = t.base.image in
-    let scn : image_scn image < 4294967296 = omega (arith, is.agrees.scn, is.agrees.four) in
-    let whole = header_whole image (header_of _ _ t is scn) sound in
+    let made = created_behind image table in
+    let named = behind_named image table ∙ ap (unmade_behind image (second_data first (second image table) image).0) (sym last.is) in
+    let short : IsShort (second image table) = λ p. data_short 0 (table_slot table (first_made image).1) (omega (arith, table_length table (first_made image).1 c.requires.name)) in
     let room = c.in_ok-room_for.ensures in
-    let left = sym (behind_room image whole table) ∙ room.two t (first image whole) (second image whole table) tells is sound refl none_room in
+    let none = named ∙ room.two t first (second image table) tells is sizes first_short short last.kind refl in
+    let still = room.open t tells is in
     let w = g.H.Host.world c.args.host.now in
     let mid = g.H.Host.world c.room_for.new.host in
-    let new = g.H.Host.world c.data_new.new.host in
+    let then = g.H.Host.world c.data_new.new.host in
     let fault = c.in_err-first.field-0.0 in
-    let made = created_behind image table in
-    tries_passed c.from_residual-in_err-first.result fault (λ r. Tries r w new c.args.engine.now c.data_new.new.self t (no_room made) made.strokes) c.from_residual-in_err-first.ensures
-    (tries_after {T = Unit {0}} (Err fault) w mid new c.args.engine.now c.room_for.new.self c.data_new.new.self t (no_room made) made.strokes room.same room.quiet is
-    (behind_front t whole table left fault mid new c.room_for.new.self c.data_new.new.self (c.in_err-first.ensures.makes t tells (room.open t tells is) sound)))
+    tries_passed c.from_residual-in_err-first.result fault (λ r. Tries r w then c.args.engine.now c.data_new.new.self t (unmade image made) made.strokes) c.from_residual-in_err-first.ensures
+    (tries_after {T = Unit {0}} (Err fault) w mid then c.args.engine.now c.room_for.new.self c.data_new.new.self t (unmade image made) made.strokes room.same room.quiet is
+    (behind_front t table none fault mid then c.room_for.new.self c.data_new.new.self (c.in_err-first.ensures.makes t tells still sizes)))
 
 pub returns-in_err-data_grow-clause-tries : goal.returns-in_err-data_grow-clause-tries
-returns-in_err-data_grow-clause-tries g c t tells is sound last =
+returns-in_err-data_grow-clause-tries g c t tells is sizes last =
     let table : List ℕ = c.args.table.now in
     let image = t.base.image in
-    let n : ℕ = c.in_ok-first.first in
-    let scn : image_scn image < 4294967296 = omega (arith, is.agrees.scn, is.agrees.four) in
-    let whole = header_whole image (header_of _ _ t is scn) sound in
+    let made = created_behind image table in
+    let named = behind_named image table ∙ ap (unmade_behind image (second_data first (second image table) image).0) (sym last.is) in
+    let short : IsShort (second image table) = λ p. data_short 0 (table_slot table (first_made image).1) (omega (arith, table_length table (first_made image).1 c.requires.name)) in
     let room = c.in_ok-room_for.ensures in
-    let left = sym (behind_room image whole table) ∙ room.two t (first image whole) (second image whole table) tells is sound refl none_room in
+    let none = named ∙ room.two t first (second image table) tells is sizes first_short short last.kind refl in
+    let still = room.open t tells is in
     let w = g.H.Host.world c.args.host.now in
     let mid = g.H.Host.world c.room_for.new.host in
     let then = g.H.Host.world c.data_new.new.host in
+    let n : ℕ = c.in_ok-first.first in
     let new = g.H.Host.world c.data_grow.new.host in
-    let fault = c.in_err-data_grow.field-0.0 in
-    let made = created_behind image table in
-    let still = room.open t tells is in
-    let one = c.in_ok-first.ensures.makes t tells still sound in
-    let value = c.in_ok-first.ensures.value t tells still sound in
+    let one = c.in_ok-first.ensures.makes t tells still sizes in
+    let value = c.in_ok-first.ensures.value t tells still sizes in
     let u = after_strokes t (first_made image).0.strokes in
-    let opened = tries_opened n mid then c.room_for.new.self c.data_new.new.self t (no_room (first_made image).0) (first_made image).0.strokes one in
-    let low : c.args.last < length u.base.image = omega (arith, last.below, long_then t whole table) in
-    let grows = c.in_err-data_grow.ensures.makes u Catalogue (found_pages Catalogue image) tells opened (sound_then t whole table) refl last.is low in
-    let two = subst (λ (bs : List ℕ). Tries {T = ℕ} (Err fault) then new c.data_new.new.self c.data_grow.new.self u (no_room (grown Catalogue (found_pages Catalogue image) bs (drafted u.base.image)).0) (grown Catalogue (found_pages Catalogue image) bs (drafted u.base.image)).0.strokes) c.table_bytes.ensures grows in
-    tries_passed c.from_residual-in_err-data_grow.result fault (λ r. Tries r w new c.args.engine.now c.data_grow.new.self t (no_room made) made.strokes) c.from_residual-in_err-data_grow.ensures
-    (tries_after {T = Unit {0}} (Err fault) w mid new c.args.engine.now c.room_for.new.self c.data_grow.new.self t (no_room made) made.strokes room.same room.quiet is
-    (behind_failed t whole table left n fault mid then new c.room_for.new.self c.data_new.new.self c.data_grow.new.self one value two))
+    let opened = tries_opened n mid then c.room_for.new.self c.data_new.new.self t (unmade image (first_made image).0) (first_made image).0.strokes one in
+    let larger = sizes_then t table (c.in_ok-first.ensures.sizes t tells still sizes) in
+    let is_data = data_then t table c.args.last (room.still t first tells is sizes first_short last.kind refl) in
+    let fault = c.in_err-data_grow.field-0.0 in
+    let grows = c.in_err-data_grow.ensures.makes u Catalogue (found_pages Catalogue image) tells opened larger refl last.is is_data in
+    let two = subst (λ (bs : List ℕ). Tries {T = ℕ} (Err fault) then new c.data_new.new.self c.data_grow.new.self u (unmade u.base.image (grown Catalogue (found_pages Catalogue image) bs (drafted u.base.image)).0) (grown Catalogue (found_pages Catalogue image) bs (drafted u.base.image)).0.strokes) c.table_bytes.ensures grows in
+    tries_passed c.from_residual-in_err-data_grow.result fault (λ r. Tries r w new c.args.engine.now c.data_grow.new.self t (unmade image made) made.strokes) c.from_residual-in_err-data_grow.ensures
+    (tries_after {T = Unit {0}} (Err fault) w mid new c.args.engine.now c.room_for.new.self c.data_grow.new.self t (unmade image made) made.strokes room.same room.quiet is
+    (behind_failed t table none n fault mid then new c.room_for.new.self c.data_new.new.self c.data_grow.new.self one value two))
 
 pub returns-clause-tries : goal.returns-clause-tries
-returns-clause-tries g c t tells is sound last =
+returns-clause-tries g c t tells is sizes last =
     let table : List ℕ = c.args.table.now in
     let image = t.base.image in
-    let n : ℕ = c.in_ok-first.first in
-    let m : ℕ = c.in_ok-data_grow.field-0 in
-    let scn : image_scn image < 4294967296 = omega (arith, is.agrees.scn, is.agrees.four) in
-    let whole = header_whole image (header_of _ _ t is scn) sound in
+    let made = created_behind image table in
+    let named = behind_named image table ∙ ap (unmade_behind image (second_data first (second image table) image).0) (sym last.is) in
+    let short : IsShort (second image table) = λ p. data_short 0 (table_slot table (first_made image).1) (omega (arith, table_length table (first_made image).1 c.requires.name)) in
     let room = c.in_ok-room_for.ensures in
-    let left = sym (behind_room image whole table) ∙ room.two t (first image whole) (second image whole table) tells is sound refl none_room in
+    let none = named ∙ room.two t first (second image table) tells is sizes first_short short last.kind refl in
+    let still = room.open t tells is in
     let w = g.H.Host.world c.args.host.now in
     let mid = g.H.Host.world c.room_for.new.host in
     let then = g.H.Host.world c.data_new.new.host in
+    let n : ℕ = c.in_ok-first.first in
     let new = g.H.Host.world c.data_grow.new.host in
-    let made = created_behind image table in
-    let still = room.open t tells is in
-    let one = c.in_ok-first.ensures.makes t tells still sound in
-    let value = c.in_ok-first.ensures.value t tells still sound in
+    let one = c.in_ok-first.ensures.makes t tells still sizes in
+    let value = c.in_ok-first.ensures.value t tells still sizes in
     let u = after_strokes t (first_made image).0.strokes in
-    let opened = tries_opened n mid then c.room_for.new.self c.data_new.new.self t (no_room (first_made image).0) (first_made image).0.strokes one in
-    let low : c.args.last < length u.base.image = omega (arith, last.below, long_then t whole table) in
-    let grows = c.in_ok-data_grow.ensures.makes u Catalogue (found_pages Catalogue image) tells opened (sound_then t whole table) refl last.is low in
-    let two = subst (λ (bs : List ℕ). Tries (Ok m) then new c.data_new.new.self c.data_grow.new.self u (no_room (grown Catalogue (found_pages Catalogue image) bs (drafted u.base.image)).0) (grown Catalogue (found_pages Catalogue image) bs (drafted u.base.image)).0.strokes) c.table_bytes.ensures grows in
-    tries_after (Ok tt) w mid new c.args.engine.now c.room_for.new.self c.data_grow.new.self t (no_room made) made.strokes room.same room.quiet is
-    (behind_done t whole table left n m mid then new c.room_for.new.self c.data_new.new.self c.data_grow.new.self one value two)
+    let opened = tries_opened n mid then c.room_for.new.self c.data_new.new.self t (unmade image (first_made image).0) (first_made image).0.strokes one in
+    let larger = sizes_then t table (c.in_ok-first.ensures.sizes t tells still sizes) in
+    let is_data = data_then t table c.args.last (room.still t first tells is sizes first_short last.kind refl) in
+    let m : ℕ = c.in_ok-data_grow.field-0 in
+    let grows = c.in_ok-data_grow.ensures.makes u Catalogue (found_pages Catalogue image) tells opened larger refl last.is is_data in
+    let two = subst (λ (bs : List ℕ). Tries (Ok m) then new c.data_new.new.self c.data_grow.new.self u (unmade u.base.image (grown Catalogue (found_pages Catalogue image) bs (drafted u.base.image)).0) (grown Catalogue (found_pages Catalogue image) bs (drafted u.base.image)).0.strokes) c.table_bytes.ensures grows in
+    tries_after {T = Unit {0}} (Ok tt) w mid new c.args.engine.now c.room_for.new.self c.data_grow.new.self t (unmade image made) made.strokes room.same room.quiet is
+    (behind_done t table none n m mid then new c.room_for.new.self c.data_new.new.self c.data_grow.new.self one value two)
 
 pub returns-in_err-room_for-clause-stays_open : goal.returns-in_err-room_for-clause-stays_open
 returns-in_err-room_for-clause-stays_open g c t tells is = let room = c.in_err-room_for.ensures in stays_still _ _ _ _ _ t _ room.same room.quiet is (room.open t tells is)

@@ -1,68 +1,122 @@
-use Rattle.std.proofs.Common.{◌<◌, arith}
-use Rattle.std.specs.Prelude.{None, Ok, Err}
-use Rattle.nb_model.specs.Chains.{RowsFrom, found_pages}
+use Rattle.std.proofs.Common.{◌<◌, ℕ, List, subst, ◌∙◌, arith}
+use Rattle.std.specs.Prelude.{IsTrue, Ok, Err}
+use Rattle.nb_fields.specs.Places.{is_page_size}
+use Rattle.nb_model.specs.Causes.{lowest_broken, not_of_form}
+use Rattle.nb_model.specs.Chains.{RowsFrom, first_in, found_pages}
 use Rattle.nb_model.specs.Image.{image_scn}
+use Rattle.nb_engine.specs.Behind.{entry_broken}
 use Rattle.nb_engine.specs.Tries.{Tries}
-use Rattle.nb_engine.proofs.DoesLaws.{tries_passed}
-use Rattle.nb_engine.proofs.NewTurn.{header_of}
-use Rattle.nb_engine.proofs.StaysLaws.{stays_passed, stays_then}
-use Rattle.nb_table.specs.Drops.{dropped}
+use Rattle.nb_engine.proofs.DoesLaws.{tries_early, tries_passed, tries_after}
+use Rattle.nb_engine.proofs.NewTurn.{header_of, shaped_of}
+use Rattle.nb_engine.proofs.StaysLaws.{stays_still, stays_after, stays_passed, stays_then}
+use Rattle.nb_table.specs.Drops.{dropped, drop_broken}
 use Rattle.nb_table.specs.Walks.{spot_of}
-use Rattle.nb_table.proofs.DropLaws.{drop_front, drop_then, drop_opened, drop_sound, drop_chain}
-use Rattle.nb_table.proofs.SpotPages.{table_kind}
+use Rattle.nb_table.proofs.DropLaws.{table_least, drop_cause, its_chain, its_kind, drop_front, drop_then, drop_opened, drop_shaped, drop_chain, drop_givable}
 use Rattle.nb_table.proofs.dropping.drop_rows.Goals as goal
 
-pub returns-in_err-put_slot-clause-tries : goal.returns-in_err-put_slot-clause-tries
-returns-in_err-put_slot-clause-tries g c t table tells is sound has =
+pub returns-in_err-check_drop-clause-tries : goal.returns-in_err-check_drop-clause-tries
+returns-in_err-check_drop-clause-tries g c t table tells is sizes has =
+    let image = t.base.image in
     let spot = spot_of c.args.rows.now.table in
+    let pages : List ℕ = found_pages (RowsFrom (first_in spot.bytes)) image in
+    let scn : image_scn image < 4294967296 = omega (arith, is.agrees.scn, is.agrees.four) in
+    let header = header_of _ _ t is scn in
+    let size : IsTrue (is_page_size c.args.engine.now.files.page_size) = subst (λ (n : ℕ). IsTrue (is_page_size n)) c.requires.room c.requires.size in
+    let shaped = shaped_of _ _ t is size (table_least image table spot has) sizes in
+    let check = c.in_err-check_drop.ensures in
+    tries_early (Unit {0}) (Unit {0}) _ _ _ _ _ _ t (lowest_broken (drop_broken image pages (entry_broken image spot.page))) (not_of_form (dropped image spot)) (dropped image spot).strokes c.from_residual.ensures
+    (λ r e. drop_cause image header shaped table spot has ∙ e)
+    (check.test t pages tells is (its_chain t header shaped table spot has c.args.rows.now.first c.requires.first)) check.same check.quiet is (check.open t tells is)
+
+pub returns-in_err-put_slot-clause-tries : goal.returns-in_err-put_slot-clause-tries
+returns-in_err-put_slot-clause-tries g c t table tells is sizes has =
+    let image = t.base.image in
+    let spot = spot_of c.args.rows.now.table in
+    let pages : List ℕ = found_pages (RowsFrom (first_in spot.bytes)) image in
     let w = g.H.Host.world c.args.host.now in
+    let mid = g.H.Host.world c.check_drop.new.host in
     let new = g.H.Host.world c.put_slot.new.host in
     let fault = c.in_err-put_slot.field-0.0 in
-    let scn : image_scn t.base.image < 4294967296 = omega (arith, is.agrees.scn, is.agrees.four) in
+    let scn : image_scn image < 4294967296 = omega (arith, is.agrees.scn, is.agrees.four) in
     let header = header_of _ _ t is scn in
-    let kind = table_kind t.base.image has.catalogue table spot has.found in
-    tries_passed c.from_residual.result fault (λ r. Tries r w new c.args.engine.now c.put_slot.new.engine t None (dropped t.base.image spot).strokes) c.from_residual.ensures
-    (drop_front t header sound table spot has fault w new c.args.engine.now c.put_slot.new.engine (c.in_err-put_slot.ensures.tries t tells is sound kind))
+    let size : IsTrue (is_page_size c.args.engine.now.files.page_size) = subst (λ (n : ℕ). IsTrue (is_page_size n)) c.requires.room c.requires.size in
+    let shaped = shaped_of _ _ t is size (table_least image table spot has) sizes in
+    let check = c.in_ok-check_drop.ensures in
+    let none = check.test t pages tells is (its_chain t header shaped table spot has c.args.rows.now.first c.requires.first) in
+    let still = check.open t tells is in
+    tries_passed c.from_residual-in_err-put_slot.result fault (λ r. Tries r w new c.args.engine.now c.put_slot.new.engine t (not_of_form (dropped image spot)) (dropped image spot).strokes) c.from_residual-in_err-put_slot.ensures
+    (tries_after {T = Unit {0}} (Err fault) w mid new c.args.engine.now c.check_drop.new.engine c.put_slot.new.engine t (not_of_form (dropped image spot)) (dropped image spot).strokes check.same check.quiet is
+    (drop_front t header shaped table spot has none fault mid new c.check_drop.new.engine c.put_slot.new.engine (c.in_err-put_slot.ensures.tries t tells still (its_kind t header shaped table spot has))))
 
 pub returns-in_err-give_all_back-clause-tries : goal.returns-in_err-give_all_back-clause-tries
-returns-in_err-give_all_back-clause-tries g c t table tells is sound has =
+returns-in_err-give_all_back-clause-tries g c t table tells is sizes has =
+    let image = t.base.image in
     let spot = spot_of c.args.rows.now.table in
+    let first : ℕ = c.args.rows.now.first in
+    let pages : List ℕ = found_pages (RowsFrom (first_in spot.bytes)) image in
     let w = g.H.Host.world c.args.host.now in
-    let mid = g.H.Host.world c.put_slot.new.host in
+    let mid = g.H.Host.world c.check_drop.new.host in
+    let then = g.H.Host.world c.put_slot.new.host in
     let new = g.H.Host.world c.give_all_back.new.host in
     let fault = c.in_err-give_all_back.field-0.0 in
-    let scn : image_scn t.base.image < 4294967296 = omega (arith, is.agrees.scn, is.agrees.four) in
+    let scn : image_scn image < 4294967296 = omega (arith, is.agrees.scn, is.agrees.four) in
     let header = header_of _ _ t is scn in
-    let kind = table_kind t.base.image has.catalogue table spot has.found in
-    let one = c.in_ok-put_slot.ensures.tries t tells is sound kind in
-    let after = drop_sound t header sound table spot has in
-    tries_passed c.from_residual-in_err-give_all_back.result fault (λ r. Tries r w new c.args.engine.now c.give_all_back.new.engine t None (dropped t.base.image spot).strokes) c.from_residual-in_err-give_all_back.ensures
-    (drop_then t header sound table spot has (Err fault) w mid new c.args.engine.now c.put_slot.new.engine c.give_all_back.new.engine one c.args.rows.now.first c.requires.first
-    (c.in_err-give_all_back.ensures.tries _ (found_pages (RowsFrom c.args.rows.now.first) t.base.image) tells (drop_opened t header sound table spot has w mid c.args.engine.now c.put_slot.new.engine one) after
-    (drop_chain t header sound table spot has c.args.rows.now.first c.requires.first)))
+    let size : IsTrue (is_page_size c.args.engine.now.files.page_size) = subst (λ (n : ℕ). IsTrue (is_page_size n)) c.requires.room c.requires.size in
+    let shaped = shaped_of _ _ t is size (table_least image table spot has) sizes in
+    let check = c.in_ok-check_drop.ensures in
+    let none = check.test t pages tells is (its_chain t header shaped table spot has first c.requires.first) in
+    let still = check.open t tells is in
+    let one = c.in_ok-put_slot.ensures.tries t tells still (its_kind t header shaped table spot has) in
+    tries_passed c.from_residual-in_err-give_all_back.result fault (λ r. Tries r w new c.args.engine.now c.give_all_back.new.engine t (not_of_form (dropped image spot)) (dropped image spot).strokes) c.from_residual-in_err-give_all_back.ensures
+    (tries_after {T = Unit {0}} (Err fault) w mid new c.args.engine.now c.check_drop.new.engine c.give_all_back.new.engine t (not_of_form (dropped image spot)) (dropped image spot).strokes check.same check.quiet is
+    (drop_then t header shaped table spot has none (Err fault) mid then new c.check_drop.new.engine c.put_slot.new.engine c.give_all_back.new.engine one
+    (c.in_err-give_all_back.ensures.tries _ pages tells (drop_opened t header shaped table spot has none mid then c.check_drop.new.engine c.put_slot.new.engine one)
+    (drop_shaped t header shaped table spot has none) (drop_chain t header shaped table spot has none first c.requires.first) (drop_givable t header shaped table spot has none))))
 
 pub returns-clause-tries : goal.returns-clause-tries
-returns-clause-tries g c t table tells is sound has =
+returns-clause-tries g c t table tells is sizes has =
+    let image = t.base.image in
     let spot = spot_of c.args.rows.now.table in
+    let first : ℕ = c.args.rows.now.first in
+    let pages : List ℕ = found_pages (RowsFrom (first_in spot.bytes)) image in
     let w = g.H.Host.world c.args.host.now in
-    let mid = g.H.Host.world c.put_slot.new.host in
+    let mid = g.H.Host.world c.check_drop.new.host in
+    let then = g.H.Host.world c.put_slot.new.host in
     let new = g.H.Host.world c.give_all_back.new.host in
-    let scn : image_scn t.base.image < 4294967296 = omega (arith, is.agrees.scn, is.agrees.four) in
+    let scn : image_scn image < 4294967296 = omega (arith, is.agrees.scn, is.agrees.four) in
     let header = header_of _ _ t is scn in
-    let kind = table_kind t.base.image has.catalogue table spot has.found in
-    let one = c.in_ok-put_slot.ensures.tries t tells is sound kind in
-    let after = drop_sound t header sound table spot has in
-    drop_then t header sound table spot has (Ok tt) w mid new c.args.engine.now c.put_slot.new.engine c.give_all_back.new.engine one c.args.rows.now.first c.requires.first
-    (c.in_ok-give_all_back.ensures.tries _ (found_pages (RowsFrom c.args.rows.now.first) t.base.image) tells (drop_opened t header sound table spot has w mid c.args.engine.now c.put_slot.new.engine one) after
-    (drop_chain t header sound table spot has c.args.rows.now.first c.requires.first))
+    let size : IsTrue (is_page_size c.args.engine.now.files.page_size) = subst (λ (n : ℕ). IsTrue (is_page_size n)) c.requires.room c.requires.size in
+    let shaped = shaped_of _ _ t is size (table_least image table spot has) sizes in
+    let check = c.in_ok-check_drop.ensures in
+    let none = check.test t pages tells is (its_chain t header shaped table spot has first c.requires.first) in
+    let still = check.open t tells is in
+    let one = c.in_ok-put_slot.ensures.tries t tells still (its_kind t header shaped table spot has) in
+    tries_after {T = Unit {0}} (Ok tt) w mid new c.args.engine.now c.check_drop.new.engine c.give_all_back.new.engine t (not_of_form (dropped image spot)) (dropped image spot).strokes check.same check.quiet is
+    (drop_then t header shaped table spot has none (Ok tt) mid then new c.check_drop.new.engine c.put_slot.new.engine c.give_all_back.new.engine one
+    (c.in_ok-give_all_back.ensures.tries _ pages tells (drop_opened t header shaped table spot has none mid then c.check_drop.new.engine c.put_slot.new.engine one)
+    (drop_shaped t header shaped table spot has none) (drop_chain t header shaped table spot has none first c.requires.first) (drop_givable t header shaped table spot has none)))
+
+pub returns-in_err-check_drop-clause-stays_open : goal.returns-in_err-check_drop-clause-stays_open
+returns-in_err-check_drop-clause-stays_open g c t tells is = let check = c.in_err-check_drop.ensures in stays_still _ _ _ _ _ t _ check.same check.quiet is (check.open t tells is)
 
 pub returns-in_err-put_slot-clause-stays_open : goal.returns-in_err-put_slot-clause-stays_open
-returns-in_err-put_slot-clause-stays_open g c t tells is = stays_passed _ _ _ _ _ (Unit {0}) (Unit {0}) _ c.in_err-put_slot.field-0.0 c.from_residual.ensures (c.in_err-put_slot.ensures.stays_open t tells is)
+returns-in_err-put_slot-clause-stays_open g c t tells is =
+    let check = c.in_ok-check_drop.ensures in
+    let opened = check.open t tells is in
+    stays_after _ _ _ _ _ _ _ t _ check.same check.quiet is opened
+    (stays_passed _ _ _ _ _ (Unit {0}) (Unit {0}) _ c.in_err-put_slot.field-0.0 c.from_residual-in_err-put_slot.ensures (c.in_err-put_slot.ensures.stays_open t tells opened))
 
 pub returns-in_err-give_all_back-clause-stays_open : goal.returns-in_err-give_all_back-clause-stays_open
 returns-in_err-give_all_back-clause-stays_open g c t tells is =
-    stays_then tt _ _ _ _ _ _ _ _ (c.in_ok-put_slot.ensures.stays_open t tells is)
-    (λ u here. stays_passed _ _ _ _ _ (Unit {0}) (Unit {0}) _ c.in_err-give_all_back.field-0.0 c.from_residual-in_err-give_all_back.ensures (c.in_err-give_all_back.ensures.stays_open u tells here))
+    let check = c.in_ok-check_drop.ensures in
+    let opened = check.open t tells is in
+    stays_after _ _ _ _ _ _ _ t _ check.same check.quiet is opened
+    (stays_then tt _ _ _ _ _ _ _ _ (c.in_ok-put_slot.ensures.stays_open t tells opened)
+    (λ u here. stays_passed _ _ _ _ _ (Unit {0}) (Unit {0}) _ c.in_err-give_all_back.field-0.0 c.from_residual-in_err-give_all_back.ensures (c.in_err-give_all_back.ensures.stays_open u tells here)))
 
 pub returns-clause-stays_open : goal.returns-clause-stays_open
-returns-clause-stays_open g c t tells is = stays_then tt _ _ _ _ _ _ _ _ (c.in_ok-put_slot.ensures.stays_open t tells is) (λ u here. c.in_ok-give_all_back.ensures.stays_open u tells here)
+returns-clause-stays_open g c t tells is =
+    let check = c.in_ok-check_drop.ensures in
+    let opened = check.open t tells is in
+    stays_after _ _ _ _ _ _ _ t _ check.same check.quiet is opened
+    (stays_then tt _ _ _ _ _ _ _ _ (c.in_ok-put_slot.ensures.stays_open t tells opened) (λ u here. c.in_ok-give_all_back.ensures.stays_open u tells here))

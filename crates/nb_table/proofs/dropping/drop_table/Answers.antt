@@ -1,16 +1,14 @@
-use Rattle.std.proofs.Common.{◌<◌, ℕ, List, [], refl, sym, subst, ◌∙◌, arith}
-use Rattle.std.specs.Prelude.{None, Ok, Err}
+use Rattle.std.proofs.Common.{ℕ, List, [], refl, sym, subst}
+use Rattle.std.specs.Prelude.{Ok, Err}
 use Rattle.nb_model.specs.declared.reply.Reply.TheVariants.{Done}
 use Rattle.nb_model.specs.Account.{Base}
-use Rattle.nb_model.specs.Causes.{read_only, too_long}
-use Rattle.nb_model.specs.Image.{image_scn}
-use Rattle.nb_model.specs.Outcomes.{Seen, says}
-use Rattle.nb_model.specs.Sound.{IsSoundImage}
+use Rattle.nb_model.specs.Causes.{read_only, too_long, not_of_form}
+use Rattle.nb_model.specs.Image.{image_size}
+use Rattle.nb_model.specs.Outcomes.{Seen}
+use Rattle.nb_model.specs.Sound.{IsOfSize}
 use Rattle.nb_model.specs.Tables.{drop_turn}
 use Rattle.nb_engine.specs.Replies.{done}
-use Rattle.nb_engine.proofs.CauseLaws.{unless_allowed}
 use Rattle.nb_engine.proofs.DoesLaws.{seeing, tested_does, tries_passed, tries_after, tries_does}
-use Rattle.nb_engine.proofs.NewTurn.{header_of}
 use Rattle.nb_state.specs.Does.{Does}
 use Rattle.nb_engine.proofs.StaysLaws.{stays_still, stays_after, stays_passed}
 use Rattle.nb_table.specs.declared.rows.Rows.{Rows}
@@ -21,7 +19,7 @@ use Rattle.nb_table.proofs.DropTurnLaws.{drop_refused, whole_table, drop_says}
 use Rattle.nb_table.proofs.dropping.drop_table.Goals as goal
 
 pub returns-in_err-rows-clause-turn : goal.returns-in_err-rows-clause-turn
-returns-in_err-rows-clause-turn g c s t tells same is sound =
+returns-in_err-rows-clause-turn g c s t tells same is sizes =
     let image = t.base.image in
     let table : List ℕ = c.args.table.now in
     let found = c.in_err-rows.ensures in
@@ -29,7 +27,8 @@ returns-in_err-rows-clause-turn g c s t tells same is sound =
     (found.test t tells is) (drop_refused (seeing s t.base) table)
 
 pub returns-in_err-drop_rows-clause-turn : goal.returns-in_err-drop_rows-clause-turn
-returns-in_err-drop_rows-clause-turn g c s t tells same is sound =
+returns-in_err-drop_rows-clause-turn g c s t tells same is sizes =
+    let image = t.base.image in
     let table : List ℕ = c.args.table.now in
     let found = c.in_ok-rows.ensures in
     let spot = spot_of c.in_ok-rows.rows.table in
@@ -37,35 +36,34 @@ returns-in_err-drop_rows-clause-turn g c s t tells same is sound =
     let mid = g.H.Host.world c.find_rows.new.host in
     let new = g.H.Host.world c.drop_rows.new.host in
     let fault = c.in_err-drop_rows.field-0.0 in
-    let here = subst (λ (b : Base). IsSoundImage b.image) (sym same) sound in
-    let scn : image_scn t.base.image < 4294967296 = omega (arith, is.agrees.scn, is.agrees.four) in
+    let here = subst (λ (b : Base). IsOfSize (image_size b.image) b.image) (sym same) sizes in
     let now = seeing s t.base in
     let none = found.test t tells is in
     let has = whole_table now table none spot (found.table t tells is) in
-    let xs = (dropped t.base.image spot).strokes in
+    let whole = dropped image spot in
     tries_passed c.from_residual-in_err-drop_rows.result fault (λ r. Does done r w new c.args.engine.now c.drop_rows.new.engine t (drop_turn s table)) c.from_residual-in_err-drop_rows.ensures
-    (tries_does {T = Unit {0}} done (Err fault) w new c.args.engine.now c.drop_rows.new.engine t s (λ (x : Seen). drop_turn x table) None Done refl xs same
-    (drop_says now table none spot (header_of w c.args.engine.now t is scn) here has ∙ sym (unless_allowed now None (says now Done xs) refl)) tt
-    (tries_after {T = Unit {0}} (Err fault) w mid new c.args.engine.now c.find_rows.new.engine c.drop_rows.new.engine t None xs found.same found.quiet is
+    (tries_does {T = Unit {0}} done (Err fault) w new c.args.engine.now c.drop_rows.new.engine t s (λ (x : Seen). drop_turn x table) (not_of_form whole) Done refl whole.strokes same
+    (drop_says now table none spot has) tt
+    (tries_after {T = Unit {0}} (Err fault) w mid new c.args.engine.now c.find_rows.new.engine c.drop_rows.new.engine t (not_of_form whole) whole.strokes found.same found.quiet is
     (c.in_err-drop_rows.ensures.tries t table tells (found.open t tells is) here has)))
 
 pub returns-clause-turn : goal.returns-clause-turn
-returns-clause-turn g c s t tells same is sound =
+returns-clause-turn g c s t tells same is sizes =
+    let image = t.base.image in
     let table : List ℕ = c.args.table.now in
     let found = c.in_ok-rows.ensures in
     let spot = spot_of c.in_ok-rows.rows.table in
     let w = g.H.Host.world c.args.host.now in
     let mid = g.H.Host.world c.find_rows.new.host in
     let new = g.H.Host.world c.drop_rows.new.host in
-    let here = subst (λ (b : Base). IsSoundImage b.image) (sym same) sound in
-    let scn : image_scn t.base.image < 4294967296 = omega (arith, is.agrees.scn, is.agrees.four) in
+    let here = subst (λ (b : Base). IsOfSize (image_size b.image) b.image) (sym same) sizes in
     let now = seeing s t.base in
     let none = found.test t tells is in
     let has = whole_table now table none spot (found.table t tells is) in
-    let xs = (dropped t.base.image spot).strokes in
-    tries_does {T = Unit {0}} done (Ok tt) w new c.args.engine.now c.drop_rows.new.engine t s (λ (x : Seen). drop_turn x table) None Done refl xs same
-    (drop_says now table none spot (header_of w c.args.engine.now t is scn) here has ∙ sym (unless_allowed now None (says now Done xs) refl)) refl
-    (tries_after {T = Unit {0}} (Ok tt) w mid new c.args.engine.now c.find_rows.new.engine c.drop_rows.new.engine t None xs found.same found.quiet is
+    let whole = dropped image spot in
+    tries_does {T = Unit {0}} done (Ok tt) w new c.args.engine.now c.drop_rows.new.engine t s (λ (x : Seen). drop_turn x table) (not_of_form whole) Done refl whole.strokes same
+    (drop_says now table none spot has) refl
+    (tries_after {T = Unit {0}} (Ok tt) w mid new c.args.engine.now c.find_rows.new.engine c.drop_rows.new.engine t (not_of_form whole) whole.strokes found.same found.quiet is
     (c.in_ok-drop_rows.ensures.tries t table tells (found.open t tells is) here has))
 
 pub returns-in_err-rows-clause-stays_open : goal.returns-in_err-rows-clause-stays_open

@@ -3,23 +3,18 @@ use Rattle.std.specs.Prelude.{None}
 use Rattle.nb_page.proofs.QuietLemmas.{quiet_begun}
 use Rattle.nb_model.specs.Chains.{RowsFrom}
 use Rattle.nb_model.specs.Forms.{drafted}
-use Rattle.nb_model.specs.Image.{image_scn}
 use Rattle.nb_model.specs.Tables.{all_given}
 use Rattle.nb_state.proofs.MakesLaws.{goes_on, goes_nowhere}
 use Rattle.nb_engine.specs.Tries.{Tries}
 use Rattle.nb_engine.proofs.DoesLaws.{tries_passed}
-use Rattle.nb_engine.proofs.NewTurn.{header_of}
 use Rattle.nb_engine.proofs.StaysLaws.{stays_still, stays_passed, stays_then, stays_valued}
-use Rattle.nb_table.proofs.GiveLaws.{giving_begun, giving_two, giving_data, giving_failed, giving_last, giving_onward, giving_over, giving_opened, giving_sound, giving_tables}
+use Rattle.nb_table.proofs.GiveLaws.{giving_begun, giving_data, giving_failed, giving_last, giving_onward, giving_over, giving_opened}
 use Rattle.nb_table.proofs.dropping.give_all_back.Goals as goal
 
 pub loop-left-init : goal.loop-left-init
 loop-left-init g c = record {
-  giving = λ t pages tells is sound found.
-      let scn : image_scn t.base.image < 4294967296 = omega (arith, is.agrees.scn, is.agrees.four) in
-      let header = header_of _ _ t is scn in
-      giving_begun (RowsFrom c.args.first) pages (g.H.Host.world c.args.host.now) c.args.engine.now t c.count-left.result c.args.first (quiet_begun _ (g.met.H.Host.timely c.args.host.now)) is header sound found
-      (giving_tables c.args.first t.base.image header sound pages found) (c.count-left.ensures.value ∙ is.files.agrees.count) refl;
+  giving = λ t pages tells is shaped found givable.
+      giving_begun (RowsFrom c.args.first) pages (g.H.Host.world c.args.host.now) c.args.engine.now t c.count-left.result c.args.first (quiet_begun _ (g.met.H.Host.timely c.args.host.now)) is shaped found givable (c.count-left.ensures.value ∙ is.files.agrees.count) refl;
   stays = λ t tells is. stays_still _ _ _ _ _ t _ refl (quiet_begun _ (g.met.H.Host.timely c.args.host.now)) is is;
   goes = goes_nowhere c.args.engine.now c.args.engine.now refl;
   room = refl;
@@ -27,38 +22,38 @@ loop-left-init g c = record {
 }
 
 pub returns-in_err-next-clause-tries : goal.returns-in_err-next-clause-tries
-returns-in_err-next-clause-tries g c t pages tells is sound found =
+returns-in_err-next-clause-tries g c t pages tells is shaped found givable =
     let l = c.loop-left in
     let some : 0 < l.left = c.loop-left-test.true in
-    let giving = l.invariant.giving t pages tells is sound found in
+    let giving = l.invariant.giving t pages tells is shaped found givable in
     let w = g.H.Host.world c.args.host.now in
     let new = g.H.Host.world c.give_back.new.host in
     let fault = c.in_err-next.field-0.0 in
     tries_passed c.from_residual.result fault (λ r. Tries r w new c.args.engine.now c.give_back.new.engine t None (all_given pages (drafted t.base.image)).strokes) c.from_residual.ensures
     (giving_failed (RowsFrom c.args.first) pages w (g.H.Host.world l.host) c.args.engine.now l.engine t l.left l.number some giving fault new c.give_back.new.engine
-    (c.in_err-next.ensures.tries _ tells (giving_opened _ _ _ _ _ _ t l.left l.number giving) (giving_sound _ _ _ _ _ _ t l.left l.number giving) (giving_two _ _ _ _ _ _ t l.left l.number some giving) (giving_data _ _ _ _ _ _ t l.left l.number some giving)))
+    (c.in_err-next.ensures.tries _ tells (giving_opened _ _ _ _ _ _ t l.left l.number giving) (giving_data _ _ _ _ _ _ t l.left l.number some giving)))
 
 pub returns-then-next-eq0-clause-tries : goal.returns-then-next-eq0-clause-tries
-returns-then-next-eq0-clause-tries g c t pages tells is sound found =
+returns-then-next-eq0-clause-tries g c t pages tells is shaped found givable =
     let l = c.loop-left in
     let some : 0 < l.left = c.loop-left-test.true in
-    let giving = l.invariant.giving t pages tells is sound found in
+    let giving = l.invariant.giving t pages tells is shaped found givable in
     let opened = giving_opened _ _ _ _ _ _ t l.left l.number giving in
     let new = g.H.Host.world c.give_back.new.host in
     giving_last (RowsFrom c.args.first) pages (g.H.Host.world c.args.host.now) (g.H.Host.world l.host) c.args.engine.now l.engine t l.left l.number some giving c.in_ok-next.next new c.give_back.new.engine
-    (c.in_ok-next.ensures.tries _ tells opened (giving_sound _ _ _ _ _ _ t l.left l.number giving) (giving_two _ _ _ _ _ _ t l.left l.number some giving) (giving_data _ _ _ _ _ _ t l.left l.number some giving))
+    (c.in_ok-next.ensures.tries _ tells opened (giving_data _ _ _ _ _ _ t l.left l.number some giving))
     (c.in_ok-next.ensures.next _ tells opened) c.if-next-eq0.true
 
 pub loop-left-preserved : goal.loop-left-preserved
 loop-left-preserved g c =
     let l = c.loop-left in
     record {
-      giving = λ t pages tells is sound found.
+      giving = λ t pages tells is shaped found givable.
           let some : 0 < l.left = c.loop-left-test.true in
-          let giving = l.invariant.giving t pages tells is sound found in
+          let giving = l.invariant.giving t pages tells is shaped found givable in
           let opened = giving_opened _ _ _ _ _ _ t l.left l.number giving in
           giving_onward (RowsFrom c.args.first) pages (g.H.Host.world c.args.host.now) (g.H.Host.world l.host) c.args.engine.now l.engine t l.left l.number some giving c.in_ok-next.next (g.H.Host.world c.give_back.new.host) c.give_back.new.engine
-          (c.in_ok-next.ensures.tries _ tells opened (giving_sound _ _ _ _ _ _ t l.left l.number giving) (giving_two _ _ _ _ _ _ t l.left l.number some giving) (giving_data _ _ _ _ _ _ t l.left l.number some giving))
+          (c.in_ok-next.ensures.tries _ tells opened (giving_data _ _ _ _ _ _ t l.left l.number some giving))
           (c.in_ok-next.ensures.next _ tells opened) c.if-next-eq0.false;
       stays = λ t tells is. stays_then tt _ _ _ _ _ _ _ _ (l.invariant.stays t tells is) (λ u here. stays_valued _ _ _ _ _ c.in_ok-next.next tt (c.in_ok-next.ensures.stays_open u tells here));
       goes = goes_on _ _ _ l.invariant.goes c.in_ok-next.ensures.goes;
@@ -67,9 +62,9 @@ loop-left-preserved g c =
     }
 
 pub returns-clause-tries : goal.returns-clause-tries
-returns-clause-tries g c t pages tells is sound found =
+returns-clause-tries g c t pages tells is shaped found givable =
     let l = c.loop-left in
-    absurd (giving_over (RowsFrom c.args.first) pages _ _ _ _ t l.left l.number (omega (arith, c.loop-left-test.false)) (l.invariant.giving t pages tells is sound found))
+    absurd (giving_over (RowsFrom c.args.first) pages _ _ _ _ t l.left l.number (omega (arith, c.loop-left-test.false)) (l.invariant.giving t pages tells is shaped found givable))
 
 pub returns-in_err-next-clause-stays_open : goal.returns-in_err-next-clause-stays_open
 returns-in_err-next-clause-stays_open g c t tells is =

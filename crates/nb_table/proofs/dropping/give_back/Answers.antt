@@ -1,40 +1,46 @@
-use Rattle.std.proofs.Common.{ℕ, ap, ◌∙◌}
-use Rattle.std.specs.Prelude.{None, Ok, Err}
+use Rattle.std.proofs.Common.{◌≡◌, ℕ, sym, ap, ◌∙◌}
+use Rattle.std.specs.Prelude.{Some, None, Ok, Err}
+use Rattle.nb_model.specs.Chains.{next_in}
 use Rattle.nb_model.specs.Forms.{drafted, give_page}
+use Rattle.nb_host.specs.declared.refusals.Refusal.{Refusal}
 use Rattle.nb_engine.specs.Data.{not_data}
+use Rattle.nb_engine.specs.Mark.{mark_cause}
 use Rattle.nb_engine.specs.Tries.{Tries}
 use Rattle.nb_engine.proofs.DoesLaws.{tries_early, tries_passed, tries_after}
 use Rattle.nb_engine.proofs.StaysLaws.{stays_still, stays_after, stays_passed, stays_tries, stays_valued}
-use Rattle.nb_table.proofs.GiveLaws.{tries_sure, tries_given, data_below, same_cause}
+use Rattle.nb_engine.proofs.KeepLaws.{tries_other, tries_valued}
 use Rattle.nb_table.proofs.dropping.give_back.Goals as goal
 
+none_some : (r : Refusal) → None ≡ Some r → ⊥
+none_some r e = cc
+
 pub returns-in_err-data_read-clause-tries : goal.returns-in_err-data_read-clause-tries
-returns-in_err-data_read-clause-tries g c t tells is sound two none =
+returns-in_err-data_read-clause-tries g c t tells is none =
     let read = c.in_err-data_read.ensures in
-    tries_early (Unit {0}) ℕ _ _ _ _ _ _ t (not_data t.base.image c.args.owner c.args.number) None _ c.from_residual.ensures (same_cause _ none) (read.reads t tells is).test read.same read.quiet is (read.open t tells is)
+    tries_early (Unit {0}) ℕ _ _ _ _ _ _ t (not_data t.base.image c.args.owner c.args.number) (mark_cause t.base.image c.args.number) _ c.from_residual.ensures (λ r e. absurd (none_some r (sym none ∙ e))) (read.reads t tells is).test read.same read.quiet is (read.open t tells is)
 
 pub returns-in_err-data_free-clause-tries : goal.returns-in_err-data_free-clause-tries
-returns-in_err-data_free-clause-tries g c t tells is sound two none =
+returns-in_err-data_free-clause-tries g c t tells is none =
     let read = c.in_ok-data_read.ensures in
     let free = c.in_err-data_free.ensures in
     let still = read.open t tells is in
     let fault = c.in_err-data_free.field-0.0 in
     let w = g.H.Host.world c.args.host.now in
     let new = g.H.Host.world c.data_free.new.host in
-    tries_passed c.from_residual-in_err-data_free.result fault (λ r. Tries r w new c.args.engine.now c.data_free.new.self t None (give_page c.args.number (drafted t.base.image)).strokes) c.from_residual-in_err-data_free.ensures
-    (tries_after {T = ℕ} (Err fault) w (g.H.Host.world c.data_read.new.host) new c.args.engine.now c.data_read.new.self c.data_free.new.self t None _ read.same read.quiet is
-    (tries_sure ℕ fault _ _ _ _ t _ _ (free.tries t tells still) (free.sure t tells still sound two (data_below t.base.image c.args.owner c.args.number none))))
+    tries_passed c.from_residual-in_err-data_free.result fault (λ r. Tries r w new c.args.engine.now c.data_free.new.self t (mark_cause t.base.image c.args.number) (give_page c.args.number (drafted t.base.image)).strokes) c.from_residual-in_err-data_free.ensures
+    (tries_after {T = ℕ} (Err fault) w (g.H.Host.world c.data_read.new.host) new c.args.engine.now c.data_read.new.self c.data_free.new.self t _ _ read.same read.quiet is
+    (tries_other (Unit {0}) ℕ fault _ _ _ _ t _ _ (free.tries t tells still)))
 
 pub returns-clause-tries : goal.returns-clause-tries
-returns-clause-tries g c t tells is sound two none =
+returns-clause-tries g c t tells is none =
     let read = c.in_ok-data_read.ensures in
     let free = c.in_ok-data_free.ensures in
     let still = read.open t tells is in
-    tries_after (Ok c.get-next.result) (g.H.Host.world c.args.host.now) (g.H.Host.world c.data_read.new.host) (g.H.Host.world c.data_free.new.host) c.args.engine.now c.data_read.new.self c.data_free.new.self t None _ read.same read.quiet is
-    (tries_given c.get-next.result _ _ _ _ t _ _ (free.tries t tells still))
+    tries_after (Ok c.get-next.result) (g.H.Host.world c.args.host.now) (g.H.Host.world c.data_read.new.host) (g.H.Host.world c.data_free.new.host) c.args.engine.now c.data_read.new.self c.data_free.new.self t _ _ read.same read.quiet is
+    (tries_valued tt c.get-next.result _ _ _ _ t _ _ (free.tries t tells still))
 
 pub returns-clause-next : goal.returns-clause-next
-returns-clause-next g c t tells is = c.get-next.ensures.value ∙ ap Rattle.nb_model.specs.Chains.next_in ((c.in_ok-data_read.ensures.reads t tells is).page)
+returns-clause-next g c t tells is = c.get-next.ensures.value ∙ ap next_in ((c.in_ok-data_read.ensures.reads t tells is).page)
 
 pub returns-in_err-data_read-clause-stays_open : goal.returns-in_err-data_read-clause-stays_open
 returns-in_err-data_read-clause-stays_open g c t tells is = let read = c.in_err-data_read.ensures in stays_still _ _ _ _ _ t _ read.same read.quiet is (read.open t tells is)

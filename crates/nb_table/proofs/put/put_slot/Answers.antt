@@ -1,22 +1,23 @@
 use Rattle.std.proofs.Common.{◌≡◌, ℕ, ◌+◌, ◌*◌, List, ap, ◌∙◌}
-use Rattle.std.specs.Prelude.{None, Ok, Err}
+use Rattle.std.specs.Prelude.{Ok, Err}
 use Rattle.nb_fields.specs.Bytes.{with_part}
 use Rattle.nb_model.specs.Image.{Page, page_at}
 use Rattle.nb_model.specs.Forms.{drafted}
 use Rattle.nb_model.specs.Chains.{put_slot}
+use Rattle.nb_engine.specs.Put.{entry_cause}
 use Rattle.nb_engine.specs.Tries.{Tries}
 use Rattle.nb_engine.proofs.DataLaws.{data_there}
 use Rattle.nb_engine.proofs.DoesLaws.{tries_passed, tries_after}
 use Rattle.nb_engine.proofs.MakeLaws.{tries_fault}
 use Rattle.nb_engine.proofs.StaysLaws.{stays_still, stays_after, stays_passed, stays_tries}
-use Rattle.nb_table.proofs.PlaceLaws.{well_open, slot_tries}
+use Rattle.nb_table.proofs.PlaceLaws.{slot_tries}
 use Rattle.nb_table.proofs.put.put_slot.Goals as goal
 
 pub returns-in_err-read-clause-tries : goal.returns-in_err-read-clause-tries
-returns-in_err-read-clause-tries g c t tells is sound kind = tries_fault _ _ _ _ _ t None _ c.from_residual.ensures c.in_err-read.ensures.same c.in_err-read.ensures.quiet is
+returns-in_err-read-clause-tries g c t tells is kind = tries_fault _ _ _ _ _ t (entry_cause t.base.image c.args.place.page) _ c.from_residual.ensures c.in_err-read.ensures.same c.in_err-read.ensures.quiet is
 
 pub returns-in_err-data_write-clause-tries : goal.returns-in_err-data_write-clause-tries
-returns-in_err-data_write-clause-tries g c t tells is sound kind =
+returns-in_err-data_write-clause-tries g c t tells is kind =
     let image = t.base.image in
     let place = c.args.place in
     let p : ℕ = place.page in
@@ -27,12 +28,12 @@ returns-in_err-data_write-clause-tries g c t tells is sound kind =
     let fault = c.in_err-data_write.field-0.0 in
     let w = g.H.Host.world c.args.host.now in
     let new = g.H.Host.world c.data_write.new.host in
-    tries_passed c.from_residual-in_err-data_write.result fault (λ r. Tries r w new c.args.engine.now c.data_write.new.self t None (put_slot p place.slot bytes (drafted image)).strokes) c.from_residual-in_err-data_write.ensures
-    (slot_tries {T = Unit {0}} (Err fault) w new c.args.engine.now c.data_write.new.self t p place.slot bytes c.put_bytes.new.page (well_open w c.args.engine.now t is sound) c.requires.placed.low kind now
+    tries_passed c.from_residual-in_err-data_write.result fault (λ r. Tries r w new c.args.engine.now c.data_write.new.self t (entry_cause image p) (put_slot p place.slot bytes (drafted image)).strokes) c.from_residual-in_err-data_write.ensures
+    (slot_tries {T = Unit {0}} (Err fault) w new c.args.engine.now c.data_write.new.self t p place.slot bytes c.put_bytes.new.page kind now
     (tries_after {T = Unit {0}} (Err fault) w _ new c.args.engine.now _ c.data_write.new.self t _ _ old.same old.quiet is (c.in_err-data_write.ensures.tries t tells (old.open t tells is))))
 
 pub returns-clause-tries : goal.returns-clause-tries
-returns-clause-tries g c t tells is sound kind =
+returns-clause-tries g c t tells is kind =
     let image = t.base.image in
     let place = c.args.place in
     let p : ℕ = place.page in
@@ -42,7 +43,7 @@ returns-clause-tries g c t tells is sound kind =
     c.put_bytes.ensures ∙ ap (λ (x : Page). with_part (32 + 256 * place.slot) bytes x) (old.page t tells is (data_there image p kind)) in
     let w = g.H.Host.world c.args.host.now in
     let new = g.H.Host.world c.data_write.new.host in
-    slot_tries {T = Unit {0}} (Ok tt) w new c.args.engine.now c.data_write.new.self t p place.slot bytes c.put_bytes.new.page (well_open w c.args.engine.now t is sound) c.requires.placed.low kind now
+    slot_tries {T = Unit {0}} (Ok tt) w new c.args.engine.now c.data_write.new.self t p place.slot bytes c.put_bytes.new.page kind now
     (tries_after {T = Unit {0}} (Ok tt) w _ new c.args.engine.now _ c.data_write.new.self t _ _ old.same old.quiet is (c.in_ok-data_write.ensures.tries t tells (old.open t tells is)))
 
 pub returns-in_err-read-clause-stays_open : goal.returns-in_err-read-clause-stays_open

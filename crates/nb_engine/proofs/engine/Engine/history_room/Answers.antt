@@ -1,10 +1,10 @@
-use Rattle.std.proofs.Common.{◌≡◌, ◌<◌, ℕ, List, [], ◌∷◌, length, sym, ap, subst, ◌∙◌, arith}
-use Rattle.std.specs.Prelude.{None, Ok, Err}
+use Rattle.std.proofs.Common.{◌≡◌, ℕ, List, [], ◌∷◌, sym, ap, subst, ◌∙◌}
+use Rattle.std.specs.Prelude.{true, None, Ok, Err}
 use Rattle.nb_fields.specs.Page.{kind_of}
 use Rattle.nb_page.proofs.QuietLemmas.{quiet_joined}
-use Rattle.nb_model.specs.Image.{page_at, image_scn}
+use Rattle.nb_model.specs.Image.{page_at}
 use Rattle.nb_model.specs.Strokes.{Stroke}
-use Rattle.nb_model.specs.Forms.{drafted}
+use Rattle.nb_model.specs.Forms.{drafted, is_kind}
 use Rattle.nb_model.specs.Causes.{first_cause, broken_at, not_of_form, no_room, no_scn, short_for}
 use Rattle.nb_model.specs.Chains.{History, pages_of, found_pages, spots, free_spot, last_of, grown}
 use Rattle.nb_model.specs.Backups.{room_in}
@@ -20,13 +20,14 @@ use Rattle.nb_engine.proofs.CauseLaws.{first_here}
 use Rattle.nb_engine.proofs.DoesLaws.{tries_early, tries_passed, tries_made, tries_after}
 use Rattle.nb_engine.proofs.KeepLaws.{kept_room, kept_below, kept_none, kept_cause, grown_room, grown_low, grown_draft, grown_cause, room_some, room_none, tries_other, tries_valued}
 use Rattle.nb_engine.proofs.MakeLaws.{tries_named}
-use Rattle.nb_engine.proofs.NewTurn.{well_of}
+use Rattle.nb_engine.proofs.NewTurn.{searchable_of}
+use Rattle.nb_model.proofs.StepLaws.{kind_from}
 use Rattle.nb_engine.proofs.WalkLaws.{last_data, spot_data, history_least}
 use Rattle.nb_engine.proofs.WhereLaws.{makes_as, makes_valued}
 use Rattle.nb_engine.proofs.engine.Engine.history_room.Goals as goal
 
 pub returns-in_err-walked-clause-makes : goal.returns-in_err-walked-clause-makes
-returns-in_err-walked-clause-makes g c t tells is sound =
+returns-in_err-walked-clause-makes g c t tells is sizes =
     let w = g.H.Host.world c.args.host.now in
     let here = subst (λ (h : Held). IsOpen w h t) (sym c.self.view_is) is in
     let image = t.base.image in
@@ -35,7 +36,7 @@ returns-in_err-walked-clause-makes g c t tells is sound =
     (λ r e. first_here (broken_at (pages_of History image)) (short_for (free_spot (spots History image)) image ∷ not_of_form (room_in image).draft ∷ no_room (room_in image).draft ∷ no_scn image ∷ []) r e) (walked.test t tells here) (walked.same ∙ ap but_pages c.self.view_is) walked.quiet is (walked.open t tells here)
 
 pub returns-in_err-check_room-in-Some-clause-makes : goal.returns-in_err-check_room-in-Some-clause-makes
-returns-in_err-check_room-in-Some-clause-makes g c t tells is sound =
+returns-in_err-check_room-in-Some-clause-makes g c t tells is sizes =
     let w = g.H.Host.world c.args.host.now in
     let here = subst (λ (h : Held). IsOpen w h t) (sym c.self.view_is) is in
     let image = t.base.image in
@@ -52,7 +53,7 @@ returns-in_err-check_room-in-Some-clause-makes g c t tells is sound =
     (quiet_joined _ _ _ walked.quiet tests.quiet) is (tests.open t tells still)
 
 pub returns-in_ok-check_room-in-Some-clause-makes : goal.returns-in_ok-check_room-in-Some-clause-makes
-returns-in_ok-check_room-in-Some-clause-makes g c t tells is sound =
+returns-in_ok-check_room-in-Some-clause-makes g c t tells is sizes =
     let w = g.H.Host.world c.args.host.now in
     let here = subst (λ (h : Held). IsOpen w h t) (sym c.self.view_is) is in
     let image = t.base.image in
@@ -70,7 +71,7 @@ returns-in_ok-check_room-in-Some-clause-makes g c t tells is sound =
     (makes_none (Ok c.in-Some.room) w _ _ _ t (tests.same ∙ same) (quiet_joined _ _ _ walked.quiet tests.quiet) is (tests.open t tells still)))
 
 pub returns-in_err-number-in-None-clause-makes : goal.returns-in_err-number-in-None-clause-makes
-returns-in_err-number-in-None-clause-makes g c t tells is sound =
+returns-in_err-number-in-None-clause-makes g c t tells is sizes =
     let w = g.H.Host.world c.args.host.now in
     let here = subst (λ (h : Held). IsOpen w h t) (sym c.self.view_is) is in
     let image = t.base.image in
@@ -81,20 +82,19 @@ returns-in_err-number-in-None-clause-makes g c t tells is sound =
     let none : free_spot (spots History image) ≡ None = room_none (free_spot (spots History image)) (sym (ap (λ (x : Walked). x.room) (walked.walked t tells here)) ∙ c.in-None.is) in
     let pages : List ℕ = found_pages History image in
     let last_is = walked.last t tells here in
-    let last_some : 0 < last_of pages = omega (arith, walked.low, last_is) in
-    let there : c.in_ok-walked.last < length image = omega (arith, (last_data image linked).low, last_is) in
-    let scn : image_scn image < 4294967296 = omega (arith, here.agrees.scn, c.scn-scn.ensures) in
-    let is_well = well_of w _ t here c.self.invariant.0 scn sound in
+    let data_page = last_data image linked in
+    let is_data : is_kind image 5 c.in_ok-walked.last ≡ true = ap (is_kind image 5) last_is ∙ kind_from image 5 (last_of pages) data_page.low data_page.kind in
+    let shaped = searchable_of w _ t here c.self.invariant.0 (history_least image linked) sizes in
     let strokes : List Stroke = (grown History pages [] (drafted image)).0.strokes in
     let fault = c.in_err-number-in-None.field-0.0 in
     let new = g.H.Host.world c.grow.new.host in
     tries_passed c.from_residual-in_err-number-in-None.result fault (λ r. Tries r w new c.args.self.now c.grow.new.store t (room_cause image) (room_in image).draft.strokes) c.from_residual-in_err-number-in-None.ensures
-    (tries_named {T = Room} (Err fault) w new c.args.self.now c.grow.new.store t (grow_cause image) (room_cause image) strokes (room_in image).draft.strokes (grown_cause image none linked is_well last_some) (sym (grown_draft image none))
-    (tries_other ℕ Room fault w new c.args.self.now c.grow.new.store t (grow_cause image) strokes
-    (tries_after {T = ℕ} (Err fault) w _ new _ _ _ t _ _ same walked.quiet is (c.in_err-number-in-None.ensures.makes t pages tells still sound last_is there))))
+    (tries_named {T = Room} (Err fault) w new c.args.self.now c.grow.new.store t (grow_cause image pages) (room_cause image) strokes (room_in image).draft.strokes (grown_cause image none linked) (sym (grown_draft image none))
+    (tries_other ℕ Room fault w new c.args.self.now c.grow.new.store t (grow_cause image pages) strokes
+    (tries_after {T = ℕ} (Err fault) w _ new _ _ _ t _ _ same walked.quiet is (c.in_err-number-in-None.ensures.makes t pages tells still shaped last_is is_data))))
 
 pub returns-in_ok-number-in-None-clause-makes : goal.returns-in_ok-number-in-None-clause-makes
-returns-in_ok-number-in-None-clause-makes g c t tells is sound =
+returns-in_ok-number-in-None-clause-makes g c t tells is sizes =
     let w = g.H.Host.world c.args.host.now in
     let here = subst (λ (h : Held). IsOpen w h t) (sym c.self.view_is) is in
     let image = t.base.image in
@@ -105,19 +105,18 @@ returns-in_ok-number-in-None-clause-makes g c t tells is sound =
     let none : free_spot (spots History image) ≡ None = room_none (free_spot (spots History image)) (sym (ap (λ (x : Walked). x.room) (walked.walked t tells here)) ∙ c.in-None.is) in
     let pages : List ℕ = found_pages History image in
     let last_is = walked.last t tells here in
-    let last_some : 0 < last_of pages = omega (arith, walked.low, last_is) in
-    let there : c.in_ok-walked.last < length image = omega (arith, (last_data image linked).low, last_is) in
-    let scn : image_scn image < 4294967296 = omega (arith, here.agrees.scn, c.scn-scn.ensures) in
-    let is_well = well_of w _ t here c.self.invariant.0 scn sound in
+    let data_page = last_data image linked in
+    let is_data : is_kind image 5 c.in_ok-walked.last ≡ true = ap (is_kind image 5) last_is ∙ kind_from image 5 (last_of pages) data_page.low data_page.kind in
+    let shaped = searchable_of w _ t here c.self.invariant.0 (history_least image linked) sizes in
     let strokes : List Stroke = (grown History pages [] (drafted image)).0.strokes in
     let room : Room = record { page = c.in_ok-number-in-None.number; slot = 0 } in
     let new = g.H.Host.world c.grow.new.host in
-    tries_named (Ok room) w new c.args.self.now c.grow.new.store t (grow_cause image) (room_cause image) strokes (room_in image).draft.strokes (grown_cause image none linked is_well last_some) (sym (grown_draft image none))
-    (tries_valued c.in_ok-number-in-None.number room w new c.args.self.now c.grow.new.store t (grow_cause image) strokes
-    (tries_after (Ok c.in_ok-number-in-None.number) w _ new _ _ _ t _ _ same walked.quiet is (c.in_ok-number-in-None.ensures.makes t pages tells still sound last_is there)))
+    tries_named (Ok room) w new c.args.self.now c.grow.new.store t (grow_cause image pages) (room_cause image) strokes (room_in image).draft.strokes (grown_cause image none linked) (sym (grown_draft image none))
+    (tries_valued c.in_ok-number-in-None.number room w new c.args.self.now c.grow.new.store t (grow_cause image pages) strokes
+    (tries_after (Ok c.in_ok-number-in-None.number) w _ new _ _ _ t _ _ same walked.quiet is (c.in_ok-number-in-None.ensures.makes t pages tells still shaped last_is is_data)))
 
 pub returns-in_ok-check_room-in-Some-clause-room : goal.returns-in_ok-check_room-in-Some-clause-room
-returns-in_ok-check_room-in-Some-clause-room g c t tells is sound =
+returns-in_ok-check_room-in-Some-clause-room g c t tells is sizes =
     let w = g.H.Host.world c.args.host.now in
     let here = subst (λ (h : Held). IsOpen w h t) (sym c.self.view_is) is in
     let image = t.base.image in
@@ -132,7 +131,7 @@ returns-in_ok-check_room-in-Some-clause-room g c t tells is sound =
     kept_room image kept.spot kept.is c.in-Some.room kept.page kept.slot
 
 pub returns-in_ok-number-in-None-clause-room : goal.returns-in_ok-number-in-None-clause-room
-returns-in_ok-number-in-None-clause-room g c t tells is sound =
+returns-in_ok-number-in-None-clause-room g c t tells is sizes =
     let w = g.H.Host.world c.args.host.now in
     let here = subst (λ (h : Held). IsOpen w h t) (sym c.self.view_is) is in
     let image = t.base.image in
@@ -143,15 +142,14 @@ returns-in_ok-number-in-None-clause-room g c t tells is sound =
     let none : free_spot (spots History image) ≡ None = room_none (free_spot (spots History image)) (sym (ap (λ (x : Walked). x.room) (walked.walked t tells here)) ∙ c.in-None.is) in
     let pages : List ℕ = found_pages History image in
     let last_is = walked.last t tells here in
-    let last_some : 0 < last_of pages = omega (arith, walked.low, last_is) in
-    let there : c.in_ok-walked.last < length image = omega (arith, (last_data image linked).low, last_is) in
-    let scn : image_scn image < 4294967296 = omega (arith, here.agrees.scn, c.scn-scn.ensures) in
-    let is_well = well_of w _ t here c.self.invariant.0 scn sound in
+    let data_page = last_data image linked in
+    let is_data : is_kind image 5 c.in_ok-walked.last ≡ true = ap (is_kind image 5) last_is ∙ kind_from image 5 (last_of pages) data_page.low data_page.kind in
+    let shaped = searchable_of w _ t here c.self.invariant.0 (history_least image linked) sizes in
     let strokes : List Stroke = (grown History pages [] (drafted image)).0.strokes in
-    grown_room image none c.in_ok-number-in-None.number (c.in_ok-number-in-None.ensures.value t pages tells still sound)
+    grown_room image none c.in_ok-number-in-None.number (c.in_ok-number-in-None.ensures.value t pages tells still shaped is_data)
 
 pub returns-in_ok-check_room-in-Some-clause-below : goal.returns-in_ok-check_room-in-Some-clause-below
-returns-in_ok-check_room-in-Some-clause-below g c t tells is sound =
+returns-in_ok-check_room-in-Some-clause-below g c t tells is sizes =
     let w = g.H.Host.world c.args.host.now in
     let here = subst (λ (h : Held). IsOpen w h t) (sym c.self.view_is) is in
     let image = t.base.image in
@@ -166,7 +164,7 @@ returns-in_ok-check_room-in-Some-clause-below g c t tells is sound =
     kept_below image kept.spot kept.is c.in-Some.room kept.page data_page
 
 pub returns-in_ok-number-in-None-clause-below : goal.returns-in_ok-number-in-None-clause-below
-returns-in_ok-number-in-None-clause-below g c t tells is sound =
+returns-in_ok-number-in-None-clause-below g c t tells is sizes =
     let w = g.H.Host.world c.args.host.now in
     let here = subst (λ (h : Held). IsOpen w h t) (sym c.self.view_is) is in
     let image = t.base.image in
@@ -177,12 +175,11 @@ returns-in_ok-number-in-None-clause-below g c t tells is sound =
     let none : free_spot (spots History image) ≡ None = room_none (free_spot (spots History image)) (sym (ap (λ (x : Walked). x.room) (walked.walked t tells here)) ∙ c.in-None.is) in
     let pages : List ℕ = found_pages History image in
     let last_is = walked.last t tells here in
-    let last_some : 0 < last_of pages = omega (arith, walked.low, last_is) in
-    let there : c.in_ok-walked.last < length image = omega (arith, (last_data image linked).low, last_is) in
-    let scn : image_scn image < 4294967296 = omega (arith, here.agrees.scn, c.scn-scn.ensures) in
-    let is_well = well_of w _ t here c.self.invariant.0 scn sound in
+    let data_page = last_data image linked in
+    let is_data : is_kind image 5 c.in_ok-walked.last ≡ true = ap (is_kind image 5) last_is ∙ kind_from image 5 (last_of pages) data_page.low data_page.kind in
+    let shaped = searchable_of w _ t here c.self.invariant.0 (history_least image linked) sizes in
     let strokes : List Stroke = (grown History pages [] (drafted image)).0.strokes in
-    grown_low image none c.in_ok-number-in-None.number (c.in_ok-number-in-None.ensures.below t pages tells still sound)
+    grown_low image none c.in_ok-number-in-None.number (c.in_ok-number-in-None.ensures.below t pages tells still shaped is_data)
 
 pub returns-in_err-walked-clause-some : goal.returns-in_err-walked-clause-some
 returns-in_err-walked-clause-some g c t tells is =

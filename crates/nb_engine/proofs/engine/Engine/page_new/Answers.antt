@@ -1,14 +1,18 @@
-use Rattle.std.proofs.Common.{◌≡◌, ◌<◌, ◌≤◌, ℕ, List, [], ◌∷◌, length, refl, sym, subst, ◌∙◌, arith, ap}
+use Rattle.std.proofs.Common.{◌≡◌, ◌≤◌, ◌+◌, ◌-◌, ◌*◌, ◌/◌, ℕ, List, [], ◌∷◌, length, refl, sym, subst, ◌∙◌, arith, ap}
 use Rattle.std.specs.Prelude.{true, false, Ok, Err}
 use Rattle.nb_fields.specs.Payloads.{text_payload}
+use Rattle.nb_fields.specs.Places.{bits_in}
 use Rattle.nb_host.specs.declared.faults.Fault.TheVariants.{Refused}
 use Rattle.nb_host.specs.declared.refusals.Refusal.TheVariants.{Access, NotDatabase}
 use Rattle.nb_page.proofs.QuietLemmas.{quiet_begun}
 use Rattle.nb_model.specs.Account.{Base}
-use Rattle.nb_model.specs.Image.{image_scn, is_read_only}
-use Rattle.nb_model.specs.Causes.{no_room}
+use Rattle.nb_model.specs.Image.{image_size, is_read_only}
+use Rattle.nb_model.specs.declared.reply.Reply.TheVariants.{Refused as RefusedBy}
+use Rattle.nb_model.specs.Outcomes.{says}
 use Rattle.nb_model.specs.Pages.{new_turn}
-use Rattle.nb_model.specs.Sound.{IsSoundImage}
+use Rattle.nb_model.specs.Sound.{IsOfSize}
+use Rattle.nb_model.proofs.NewSound.{empty_text}
+use Rattle.nb_model.proofs.SearchLaws.{draft_cause}
 use Rattle.nb_state.specs.Open.{Held, IsOpen, but_pages}
 use Rattle.nb_state.specs.Does.{Makes, Does}
 use Rattle.nb_state.proofs.MakesLaws.{makes_none, makes_after}
@@ -16,79 +20,78 @@ use Rattle.nb_engine.specs.Make.{MakesSome, new_raw, new_of}
 use Rattle.nb_engine.specs.Replies.{page_made}
 use Rattle.nb_engine.proofs.DoesLaws.{seeing, tested_does, refused_does, tries_passed}
 use Rattle.nb_engine.proofs.FullLaws.{lowest_most}
-use Rattle.nb_engine.proofs.NewTurn.{empty_is, header_of, well_of, new_closed, new_full, new_says, made_does}
-use Rattle.nb_engine.specs.Find.{IsRoom}
-use Rattle.nb_engine.proofs.MakeLaws.{well}
-use Rattle.nb_engine.proofs.NewReads.{room_made, new_read}
+use Rattle.nb_engine.proofs.NewTurn.{empty_is, searchable_of, new_closed, new_short, new_refused, new_says, made_does}
+use Rattle.nb_engine.proofs.NewReads.{new_read}
 use Rattle.nb_engine.proofs.engine.Engine.page_new.Goals as goal
 
 pub returns-then-is_read_only-clause-turn : goal.returns-then-is_read_only-clause-turn
-returns-then-is_read_only-clause-turn g c s t tells same is sound =
+returns-then-is_read_only-clause-turn g c s t tells same is sizes =
     let w = g.H.Host.world c.args.host.now in
     let here = subst (λ (h : Held). IsOpen w h t) (sym c.self.view_is) is in
     let closed : is_read_only t.base.image ≡ true = sym here.agrees.read_only ∙ sym c.is_read_only.ensures ∙ c.if-is_read_only.true in
     refused_does page_made (Access 1) w w _ _ t s new_turn same refl (quiet_begun w (g.met.H.Host.timely c.args.host.now)) is is (new_closed (seeing s t.base) closed)
 
 pub returns-then-count-lt-FIRST_TO_GIVE-clause-turn : goal.returns-then-count-lt-FIRST_TO_GIVE-clause-turn
-returns-then-count-lt-FIRST_TO_GIVE-clause-turn g c s t tells same is sound =
+returns-then-count-lt-FIRST_TO_GIVE-clause-turn g c s t tells same is sizes =
     let w = g.H.Host.world c.args.host.now in
     let here = subst (λ (h : Held). IsOpen w h t) (sym c.self.view_is) is in
-    let least = (subst (λ (b : Base). IsSoundImage b.image) (sym same) sound).least in
-    absurd {A = Does {T = ℕ} page_made (Err (Refused (NotDatabase c.count-count.result))) w w c.args.self.now c.args.self.now t (new_turn s)} (omega (arith, least, here.files.agrees.count, c.count-count.ensures.value, c.if-count-lt-FIRST_TO_GIVE.true))
+    let image = t.base.image in
+    let free : is_read_only image ≡ false = sym here.agrees.read_only ∙ sym c.is_read_only.ensures ∙ c.if-is_read_only.false in
+    let count : c.count-count.result ≡ length image = c.count-count.ensures.value ∙ here.files.agrees.count in
+    let short = new_short (seeing s t.base) free (omega (arith, count, c.if-count-lt-FIRST_TO_GIVE.true)) in
+    refused_does page_made (NotDatabase c.count-count.result) w w _ _ t s new_turn same refl (quiet_begun w (g.met.H.Host.timely c.args.host.now)) is is
+    (subst (λ (n : ℕ). new_turn (seeing s t.base) ≡ says (seeing s t.base) (RefusedBy (NotDatabase n)) []) (sym count) short)
 
 pub returns-in_err-first-clause-turn : goal.returns-in_err-first-clause-turn
-returns-in_err-first-clause-turn g c s t tells same is sound =
+returns-in_err-first-clause-turn g c s t tells same is sizes =
     let w = g.H.Host.world c.args.host.now in
     let here = subst (λ (h : Held). IsOpen w h t) (sym c.self.view_is) is in
     let image = t.base.image in
-    let whole = subst (λ (b : Base). IsSoundImage b.image) (sym same) sound in
-    let scn : image_scn image < 4294967296 = omega (arith, here.agrees.scn, c.scn-scn.ensures) in
     let free : is_read_only image ≡ false = sym here.agrees.read_only ∙ sym c.is_read_only.ensures ∙ c.if-is_read_only.false in
-    let is_well = well_of w _ t here c.self.invariant.0 scn whole in
+    let long : 5 ≤ length image = omega (arith, here.files.agrees.count, c.count-count.ensures.value, c.if-count-lt-FIRST_TO_GIVE.false) in
+    let shaped = searchable_of w _ t here c.self.invariant.0 long (subst (λ (b : Base). IsOfSize (image_size b.image) b.image) (sym same) sizes) in
     let tests = c.in_err-first.ensures in
-    tested_does ℕ ℕ page_made _ _ _ _ _ _ t s new_turn (no_room (new_raw image).0) c.from_residual.ensures same (tests.same ∙ ap but_pages c.self.view_is) tests.quiet is (tests.open t tells here)
-    (tests.test t 8 (λ p. text_payload []) tells here (header_of w _ t here scn) whole) (new_full (seeing s t.base) free is_well)
+    tested_does ℕ ℕ page_made _ _ _ _ _ _ t s new_turn (draft_cause (new_raw image).0) c.from_residual.ensures same (tests.same ∙ ap but_pages c.self.view_is) tests.quiet is (tests.open t tells here)
+    (tests.test t 8 (λ p. text_payload []) tells here shaped empty_text) (new_refused (seeing s t.base) free long)
 
 pub returns-in_err-number-clause-turn : goal.returns-in_err-number-clause-turn
-returns-in_err-number-clause-turn g c s t tells same is sound =
+returns-in_err-number-clause-turn g c s t tells same is sizes =
     let w = g.H.Host.world c.args.host.now in
     let here = subst (λ (h : Held). IsOpen w h t) (sym c.self.view_is) is in
     let image = t.base.image in
-    let whole = subst (λ (b : Base). IsSoundImage b.image) (sym same) sound in
-    let scn : image_scn image < 4294967296 = omega (arith, here.agrees.scn, c.scn-scn.ensures) in
     let free : is_read_only image ≡ false = sym here.agrees.read_only ∙ sym c.is_read_only.ensures ∙ c.if-is_read_only.false in
-    let is_well = well_of w _ t here c.self.invariant.0 scn whole in
+    let long : 5 ≤ length image = omega (arith, here.files.agrees.count, c.count-count.ensures.value, c.if-count-lt-FIRST_TO_GIVE.false) in
+    let shaped = searchable_of w _ t here c.self.invariant.0 long (subst (λ (b : Base). IsOfSize (image_size b.image) b.image) (sym same) sizes) in
     let tests = c.in_ok-first.ensures in
-    let room = tests.test t 8 (λ p. text_payload []) tells here (header_of w _ t here scn) whole in
-    let for_zeros = tests.test t 8 (λ p. 0 ∷ 0 ∷ []) tells here (header_of w _ t here scn) whole in
+    let room = tests.test t 8 (λ p. text_payload []) tells here shaped empty_text in
+    let for_zeros = tests.test t 8 (λ p. 0 ∷ 0 ∷ []) tells here shaped (λ p. omega arith) in
     let at = tests.value t tells here in
-    let low : c.in_ok-first.first ≤ length image = omega (arith, at, lowest_most image whole.least) in
+    let low : c.in_ok-first.first ≤ length image = omega (arith, at, lowest_most image long) in
     let still = tests.open t tells here in
     let fault = c.in_err-number.field-0.0 in
-    let these = (c.in_err-number.ensures.makes t tells still at low (tests.map t tells here)).these (is_well, for_zeros) in
+    let these = (c.in_err-number.ensures.makes t tells still at low (tests.map t tells here)).these (shaped, for_zeros) in
     let result = c.from_residual-in_err-number.result in
     tries_passed result fault (λ r. Does page_made r w (g.H.Host.world c.make_new.new.host) c.args.self.now c.make_new.new.store t (new_turn s)) c.from_residual-in_err-number.ensures
-    (made_does (Err fault) w _ c.args.self.now c.make_new.new.store t s (new_raw image).1 (new_raw image).0.strokes same (new_says (seeing s t.base) free is_well room) tt these.sure
+    (made_does (Err fault) w _ c.args.self.now c.make_new.new.store t s (new_raw image).1 (new_raw image).0.strokes same (new_says (seeing s t.base) free long room) tt these.sure
     (makes_after (Err fault) w _ _ _ _ _ t (new_raw image).0.strokes (tests.same ∙ ap but_pages c.self.view_is) tests.quiet is (subst (λ (xs : List ℕ). Makes {T = ℕ} (Err fault) (g.H.Host.world c.check_new.new.host) (g.H.Host.world c.make_new.new.host) c.check_new.new.store c.make_new.new.store t (new_of 8 (λ p. xs) image).0.strokes) empty_is these.makes)))
 
 pub returns-clause-turn : goal.returns-clause-turn
-returns-clause-turn g c s t tells same is sound =
+returns-clause-turn g c s t tells same is sizes =
     let w = g.H.Host.world c.args.host.now in
     let here = subst (λ (h : Held). IsOpen w h t) (sym c.self.view_is) is in
     let image = t.base.image in
-    let whole = subst (λ (b : Base). IsSoundImage b.image) (sym same) sound in
-    let scn : image_scn image < 4294967296 = omega (arith, here.agrees.scn, c.scn-scn.ensures) in
     let free : is_read_only image ≡ false = sym here.agrees.read_only ∙ sym c.is_read_only.ensures ∙ c.if-is_read_only.false in
-    let is_well = well_of w _ t here c.self.invariant.0 scn whole in
+    let long : 5 ≤ length image = omega (arith, here.files.agrees.count, c.count-count.ensures.value, c.if-count-lt-FIRST_TO_GIVE.false) in
+    let shaped = searchable_of w _ t here c.self.invariant.0 long (subst (λ (b : Base). IsOfSize (image_size b.image) b.image) (sym same) sizes) in
     let tests = c.in_ok-first.ensures in
-    let room = tests.test t 8 (λ p. text_payload []) tells here (header_of w _ t here scn) whole in
-    let for_zeros = tests.test t 8 (λ p. 0 ∷ 0 ∷ []) tells here (header_of w _ t here scn) whole in
+    let room = tests.test t 8 (λ p. text_payload []) tells here shaped empty_text in
+    let for_zeros = tests.test t 8 (λ p. 0 ∷ 0 ∷ []) tells here shaped (λ p. omega arith) in
     let at = tests.value t tells here in
-    let low : c.in_ok-first.first ≤ length image = omega (arith, at, lowest_most image whole.least) in
+    let low : c.in_ok-first.first ≤ length image = omega (arith, at, lowest_most image long) in
     let still = tests.open t tells here in
-    let these = (c.in_ok-number.ensures.makes t tells still at low (tests.map t tells here)).these (is_well, for_zeros) in
-    made_does (Ok c.in_ok-number.number) w _ c.args.self.now c.make_new.new.store t s (new_raw image).1 (new_raw image).0.strokes same (new_says (seeing s t.base) free is_well room)
-    (subst (λ (xs : List ℕ). c.in_ok-number.number ≡ (new_of 8 (λ p. xs) image).1) empty_is (c.in_ok-number.ensures.value t tells still at low (tests.map t tells here) is_well for_zeros)) tt
+    let these = (c.in_ok-number.ensures.makes t tells still at low (tests.map t tells here)).these (shaped, for_zeros) in
+    made_does (Ok c.in_ok-number.number) w _ c.args.self.now c.make_new.new.store t s (new_raw image).1 (new_raw image).0.strokes same (new_says (seeing s t.base) free long room)
+    (subst (λ (xs : List ℕ). c.in_ok-number.number ≡ (new_of 8 (λ p. xs) image).1) empty_is (c.in_ok-number.ensures.value t tells still at low (tests.map t tells here) shaped for_zeros)) tt
     (makes_after (Ok c.in_ok-number.number) w _ _ _ _ _ t (new_raw image).0.strokes (tests.same ∙ ap but_pages c.self.view_is) tests.quiet is (subst (λ (xs : List ℕ). Makes (Ok c.in_ok-number.number) (g.H.Host.world c.check_new.new.host) (g.H.Host.world c.make_new.new.host) c.check_new.new.store c.make_new.new.store t (new_of 8 (λ p. xs) image).0.strokes) empty_is these.makes))
 
 pub returns-then-is_read_only-clause-some : goal.returns-then-is_read_only-clause-some
@@ -134,16 +137,17 @@ returns-clause-some g c t tells is =
     record { made = some.made; makes = makes_after (Ok c.in_ok-number.number) w _ _ _ _ _ t some.made (tests.same ∙ ap but_pages c.self.view_is) tests.quiet is some.makes }
 
 pub returns-clause-once : goal.returns-clause-once
-returns-clause-once g c t tells is sound =
+returns-clause-once g c t tells is sizes =
     let w = g.H.Host.world c.args.host.now in
     let here = subst (λ (h : Held). IsOpen w h t) (sym c.self.view_is) is in
     let image = t.base.image in
-    let scn : image_scn image < 4294967296 = omega (arith, here.agrees.scn, c.scn-scn.ensures) in
-    let is_well = well_of w _ t here c.self.invariant.0 scn sound in
+    let long : 5 ≤ length image = omega (arith, here.files.agrees.count, c.count-count.ensures.value, c.if-count-lt-FIRST_TO_GIVE.false) in
+    let shaped = searchable_of w _ t here c.self.invariant.0 long sizes in
     let tests = c.in_ok-first.ensures in
-    let for_zeros = tests.test t 8 (λ p. 0 ∷ 0 ∷ []) tells here (header_of w _ t here scn) sound in
+    let for_zeros = tests.test t 8 (λ p. 0 ∷ 0 ∷ []) tells here shaped (λ p. omega arith) in
     let at = tests.value t tells here in
-    let low : c.in_ok-first.first ≤ length image = omega (arith, at, lowest_most image sound.least) in
-    let number = c.in_ok-number.ensures.value t tells (tests.open t tells here) at low (tests.map t tells here) is_well for_zeros in
-    let room : IsRoom image c.in_ok-number.number = subst (IsRoom image) (sym number) (room_made image (well image is_well) for_zeros) in
-    new_read image c.in_ok-first.first c.in_ok-number.number _ _ _ at (tests.once t tells here c.in_ok-number.number room) (c.in_ok-number.ensures.once tells)
+    let low : c.in_ok-first.first ≤ length image = omega (arith, at, lowest_most image long) in
+    let number = c.in_ok-number.ensures.value t tells (tests.open t tells here) at low (tests.map t tells here) shaped for_zeros in
+    let few = tests.once t 8 (λ p. 0 ∷ 0 ∷ []) tells here shaped (λ p. omega arith) in
+    new_read image c.in_ok-first.first c.in_ok-number.number _ _ _ at
+    (subst (λ (n : ℕ). (g.H.Host.world c.check_new.new.host).reads ≤ (g.H.Host.world c.args.host.now).reads + c.in_ok-first.first / bits_in (image_size image) + 4 + 5 * (n - c.in_ok-first.first)) (sym number) few) (c.in_ok-number.ensures.once tells)

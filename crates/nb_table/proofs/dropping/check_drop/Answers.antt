@@ -1,0 +1,24 @@
+use Rattle.std.proofs.Common.{◌≡◌, ℕ, List}
+use Rattle.std.specs.Prelude.{Option, Some, None}
+use Rattle.nb_host.specs.declared.refusals.Refusal.{Refusal}
+use Rattle.nb_model.specs.Causes.{lowest_broken}
+use Rattle.nb_engine.specs.Behind.{entry_broken}
+use Rattle.nb_engine.proofs.DoesLaws.{tested_on}
+use Rattle.nb_table.specs.Drops.{drop_broken}
+use Rattle.nb_table.proofs.dropping.check_drop.Goals as goal
+
+none_some : (r : Refusal) → None ≡ Some r → ⊥
+none_some r e = cc
+
+pub returns-in_err-lacking-clause-test : goal.returns-in_err-lacking-clause-test
+returns-in_err-lacking-clause-test g c t pages tells is found =
+    let image = t.base.image in
+    let noted : List ℕ = entry_broken image c.args.rows.now.table.place.page in
+    tested_on (Option ℕ) (Unit {0}) _ _ None (lowest_broken (drop_broken image pages noted)) c.from_residual.ensures (λ r e. absurd (none_some r e)) c.in_err-lacking.ensures.test
+
+pub returns-clause-test : goal.returns-clause-test
+returns-clause-test g c t pages tells is found =
+    let image = t.base.image in
+    let noted : List ℕ = entry_broken image c.args.rows.now.table.place.page in
+    let ready = c.in_ok-lacking.ensures in
+    c.check_chain.ensures.test t pages noted tells (ready.open t tells is) found (ready.value t tells is)
