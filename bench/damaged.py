@@ -18,7 +18,7 @@ from common import Folder, in_memory, report
 from reader import NORMAL, Database, Gifts, Refused, guid_text, number, said_by
 
 CASES, SEED, SECONDS = 12_000, 41, 20
-HELD = re.compile(r"held (\d+)")
+HELD, REFUSED = re.compile(r"held \d+"), re.compile("^1: refused", re.MULTILINE)
 HIDDEN = 64  # of the slot of page 0 so many bytes have no meaning
 CLOCK = 300  # seconds by which the time of a history row may differ from now
 
@@ -41,6 +41,16 @@ class Case:
     def __str__(self):
         script = self.files.get("s", b"").decode("ascii").splitlines()
         return f"case {self.index}: {' '.join(self.words)} {script}; {'; '.join(self.told) or 'nothing was changed'}"
+
+
+def kept(case):
+    """The files of a case stay in a folder, for a look at them."""
+    name = f"case.{case.index}"
+    os.makedirs(name, exist_ok=True)
+    for file, data in case.files.items():
+        with open(os.path.join(name, file), "wb") as copy:
+            copy.write(data)
+    print(f"{case}\n    its files are in {name}")
 
 
 def written(folder, files):
@@ -120,20 +130,19 @@ def differs(files, wanted):
 
 
 def judge(folder, path, case):
-    """Raises what differs. It answers whether the database was opened, and whether a statement was refused."""
+    """Raises what differs, and answers how many statements are refused. How many pages are in memory is left open."""
     written(folder, case.files)
     said, status = run(folder, path, case.words)
-    files = read(folder)
+    said, files = HELD.sub("held HELD", said), read(folder)
     wanted, wanted_status, left = said_by(case.files, case.words, Gifts() if files == case.files else gifts_of(case, said, files))
-    if HELD.sub("held HELD", said) != wanted or status != wanted_status:
+    if said != wanted or status != wanted_status:
         raise Wrong(f"it says {said!r} and ends with {status}, not {wanted!r} with {wanted_status}")
     difference = differs(files, left)
     if difference:
         raise Wrong(f"behind {said!r} {difference}")
     if files != case.files:
         reopen(folder, path, files)
-    refused = [reply for reply in said.split("\n") if reply.startswith("1: refused")]
-    return len(refused)
+    return len(REFUSED.findall(said))
 
 
 def reopen(folder, path, files):
@@ -166,6 +175,8 @@ def main():
         for index in range(CASES) if only is None else [only]:
             case = Case(seed, index, bases)
             kinds.update(case.kinds)
+            if only is not None:
+                kept(case)
             try:
                 refused += judge(folder, path, case)
             except (Wrong, subprocess.TimeoutExpired) as fault:

@@ -10,7 +10,7 @@ import struct
 from reader import (
     APPLYING, CATALOGUE, DATA, HISTORY, INVENTORY, MERGE, MOST_PAGES, NORMAL, RAW, SCN_PAGE, SLOT, STALLED, Database, Gifts, backup_slot, created, guid_text, number,
     row_slot, table_slot,
-)  # fmt: skip
+)
 
 NAME, DELTA = "a.db", "a.db.delta"
 BASES = 90
@@ -47,7 +47,7 @@ class Base:
         db.files.clear()
         self.files = db.left()
         self.size, self.count, self.places, self.state = db.size, db.count, db.places, db.state
-        catalogue, history = db.catalogue(), db.chain(HISTORY, 1, lambda slot: (slot[1], number(slot, 4), bytes(slot[16:32])))
+        catalogue, history = db.catalogue(), db.history()
         chains = [catalogue, history] + [db.rows(table[0]) for _, _, table in catalogue.used]
         self.chains = [chain.pages for chain in chains]
         self.used = [place[:2] for chain in chains for place in chain.used]
@@ -96,7 +96,7 @@ def fill(random, db, count):
         choices = (
             (f"create table {table}", 2), (f"insert {table} {key} '{'r' * random.randrange(5)}'", 12), (f"delete {table} {key}", 1), (f"drop table {table}", 0.3),
             ("page new", 2), (f"free {page}", 1.5), (f"write {page} 'text {key}'", 3),
-        )  # fmt: skip
+        )
         db.answer(random.choices([choice[0] for choice in choices], [choice[1] for choice in choices])[0])
 
 
@@ -277,7 +277,7 @@ class Hand:
         forms = (
             row_slot(self.random.randrange(14), b"row"), table_slot(self.random.choice(TABLES).encode("ascii"), self.target()),
             backup_slot(self.random.randrange(11), self.pick(*NUMBERS), 9, self.random.randbytes(16), b"b.0"), bytes(SLOT),
-        )  # fmt: skip
+        )
         self.change(page, at, self.pick(*forms))
 
     def text(self):
@@ -311,9 +311,7 @@ class Hand:
             data[32:] = self.full_slots(chain) if self.random.random() < 0.6 else bytes(self.size - 32)
         self.change(page, 0, bytes([DATA]) + bytes(data[1:16]) + bytes(4) + bytes(data[20:]))
         if self.random.random() < 0.6:
-            bit = page % self.base.places.bits
-            place = self.base.places.inventory(page)
-            self.number(place, 32 + bit // 8, self.db.page(place)[32 + bit // 8] | 1 << bit % 8, 1)
+            self.give(page)
 
     def trap(self):
         """A chain ends at a page that the search for a new page comes to, as no lower one is free; other system pages may be broken."""
@@ -322,29 +320,47 @@ class Hand:
         if page < 5:
             return
         self.full()
-        self.lead(self.chain(), page)
-        place, bit = self.base.places.inventory(page), page % self.base.places.bits
-        self.number(place, 32 + bit // 8, self.db.page(place)[32 + bit // 8] | 1 << bit % 8, 1)
+        chain = self.chain()
+        for full in chain if self.random.random() < 0.8 else ():
+            self.change(full, 32, self.full_slots(chain))
+        self.lead(chain, page)
+        self.give(page)
         if self.random.random() < 0.3:
             self.some()
 
+    def give(self, page):
+        """The bit of a page says that it is free."""
+        place, bit = self.base.places.inventory(page), page % self.base.places.bits
+        self.number(place, 32 + bit // 8, self.db.page(place)[32 + bit // 8] | 1 << bit % 8, 1)
+
+    def untaken(self):
+        """Pages of a chain are said to be free."""
+        for page in self.pick(self.aimed, self.aimed[-1:]):
+            self.give(page)
+
     def some(self):
-        """System pages get other kinds."""
-        for _ in range(self.random.choice((1, 2, 3))):
-            self.number(self.random.choice(self.base.system), 0, self.pick(*KINDS), 1)
+        """System pages get other kinds: a few, or an inventory page and its SCN page."""
+        pages = [self.pick(2, self.random.choice(self.base.system)) for _ in range(self.random.choice((1, 2, 3)))]
+        maps = [page for page in self.base.system if self.base.places.kind(page) == INVENTORY]
+        if self.random.random() < 0.4:
+            pages = [self.random.choice(maps[1:] or maps)]
+            pages.append(self.base.places.scn(pages[0]))
+        for page in pages:
+            self.number(page, 0, self.pick(*KINDS), 1)
 
     def full_slots(self, chain):
-        """Used slots of the form that the chain has."""
+        """Used slots of the form that the chain has: not more of tables than there may be."""
         forms = {CATALOGUE: lambda index: table_slot(b"u%d" % index, 77), HISTORY: lambda index: backup_slot(index, index, 5, bytes(15) + b"x", b"old")}
         form = forms.get(chain[0], lambda index: row_slot(1000 + index, b"old"))
-        return b"".join(form(index) for index in range((self.size - 32) // SLOT)).ljust(self.size - 32, b"\0")
+        count = (self.size - 32) // SLOT
+        return b"".join(form(index) for index in range(min(count, 8) if chain[0] == CATALOGUE else count)).ljust(self.size - 32, b"\0")
 
     def header(self):
         """A field of the header."""
         fields = (
             (22, 2, (NORMAL, 1, MERGE, APPLYING, 4)), (28, 4, (0, *NUMBERS, *NUMBERS, 7)), (28, 4, NUMBERS[5:]), (64, 1, (0, 1, 2)), (65, 1, (0, 1, 7)), (4, 4, NUMBERS),
             (8, 4, NUMBERS), (1, 1, (3,)), (72, 4, (9,)), (76, 4, (9,)), (48, 4, (5,)), (65, 1, (1, 0, 0)),
-        )  # fmt: skip
+        )
         if self.random.random() < 0.12:
             fields = ((0, 1, KINDS), (12, 4, (0, 1)), (16, 4, (7,)), (20, 2, (1, 2)), (24, 4, (512, 1000, 1024, 2048, 65536)))
         at, width, values = self.pick(*fields)
@@ -369,9 +385,9 @@ class Hand:
 
     def last_zeros(self):
         """The last pages are zeros."""
-        for page in range(self.base.count - self.random.choice((1, 2, 5)), self.base.count):
-            if page > 0:
-                self.change(page, 0, bytes(self.size))
+        first = self.random.choice((*(self.base.count - few for few in (1, 2, 5)), 4, 4, 3, 1))
+        for page in range(max(first, 1), min(self.base.count, first + 600)):
+            self.change(page, 0, bytes(self.size))
 
     def leave(self):
         """A difference file beside a database in the normal state."""
@@ -411,15 +427,20 @@ class Hand:
 # How often each of these is drawn.
 HANDS = {
     Hand.kind: 14, Hand.head: 4, Hand.byte: 5, Hand.link: 9, Hand.owner: 3, Hand.bit: 14, Hand.full: 8, Hand.free_all: 4, Hand.entry: 6, Hand.slot: 9, Hand.new_slot: 7,
-    Hand.text: 3, Hand.zero: 5, Hand.move: 5, Hand.graft: 12, Hand.trap: 9, Hand.some: 8, Hand.header: 5, Hand.end: 5, Hand.last_zeros: 3, Hand.delta: 9, Hand.leave: 2, Hand.junk: 2,
-}  # fmt: skip
+    Hand.text: 3, Hand.zero: 5, Hand.move: 5, Hand.graft: 12, Hand.trap: 5, Hand.untaken: 8, Hand.some: 12, Hand.header: 5, Hand.end: 5, Hand.last_zeros: 6, Hand.delta: 9, Hand.leave: 2, Hand.junk: 2,
+}
 
 
 def damaged(random, base, aimed):
     """The files of a database behind a few changes, and what was changed."""
     hand = Hand(random, base, aimed)
-    for _ in range(random.choices((0, 1, 2, 3, 5), (6, 40, 28, 18, 8))[0]):
-        random.choices(list(HANDS), list(HANDS.values()))[0](hand)
+    if base.is_long and random.random() < 0.3:
+        hand.some()
+    elif random.random() < 0.12:
+        hand.trap()
+    else:
+        for _ in range(random.choices((0, 1, 2, 3, 5), (6, 40, 28, 18, 8))[0]):
+            random.choices(list(HANDS), list(HANDS.values()))[0](hand)
     return {name: bytes(data) for name, data in hand.files.items()} | BESIDE, hand.told
 
 
@@ -498,8 +519,9 @@ WHOLE = ("end backup", "show pages", "show image", "stat", "-N")
 
 
 def base_for(random, bases, kind):
-    """A database that a statement is for, mostly."""
-    fitting = [base for base in bases if not (base.is_long and kind in WHOLE)]
+    """A database that a statement is for, mostly: where new pages are made often one with further system pages."""
+    has_more = kind in OFTEN and random.random() < 0.5
+    fitting = [base for base in bases if not (base.is_long and kind in WHOLE or has_more and len(base.system) < 3)]
     return random.choice([base for base in fitting if random.random() < 0.2 or base.state in STATES.get(kind, (base.state,))] or fitting)
 
 

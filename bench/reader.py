@@ -424,6 +424,9 @@ class Database:
     def catalogue(self):
         return self.chain(CATALOGUE, CATALOGUE_OWNER, table_of)
 
+    def history(self):
+        return self.chain(HISTORY, HISTORY_OWNER, backup_of)
+
     def table_named(self, name):
         """The slot of a table in the catalogue: its page, its place, and its name and first page."""
         found = self.catalogue().first(lambda table: table[0] == name)
@@ -526,9 +529,8 @@ class Database:
             raise Refused(6, "WrongState", NORMAL)
         if self.state == STALLED:
             self.control(MERGE, self.scn + 1)
-        for page, slot in self.slots.items():
-            data = bytes(self.delta[slot * self.size : (slot + 1) * self.size])
-            put_page(self.main, page, data)
+        for page in self.slots:
+            put_page(self.main, page, self.page(page))
         self.control(NORMAL, self.scn)
         self.delta, self.slots = None, {}
         self.count = self.counted()
@@ -541,7 +543,7 @@ class Database:
     def backup(self, level, name):
         """A backup of a level goes on from the latest one of the level below."""
         self.is_startable(name)
-        history = self.chain(HISTORY, HISTORY_OWNER, backup_of)
+        history = self.history()
         below = history.last(lambda backup: backup[0] == level - 1) if level else None
         if level and below is None:
             raise Refused(14, "NoHistory", level - 1)
@@ -550,7 +552,7 @@ class Database:
     def backup_since(self, guid, name):
         """A backup goes on from the latest one of that GUID."""
         self.is_startable(name)
-        history = self.chain(HISTORY, HISTORY_OWNER, backup_of)
+        history = self.history()
         below = history.last(lambda backup: backup[2] == guid)
         if below is None:
             raise Refused(30, "NoGuid", guid_text(guid))
