@@ -140,12 +140,12 @@ def long_base(random):
 
 
 def lengthen(random, db, count):
-    """The database has so many pages, all but a few of them taken."""
-    places, bits = db.places, db.places.bits
+    """The database has so many pages, all of them taken, or all but a few."""
+    places, bits, share = db.places, db.places.bits, random.choice((0, 0, 0.02, 0.2))
     for first in range(0, count, bits):
         place, taken = places.inventory(first), min(bits, count - first)
         free = ((1 << bits) - 1) >> taken << taken
-        if random.random() < 0.1:
+        if random.random() < share:
             free |= 1 << random.choice((random.randrange(5, bits), random.randrange(1, bits // places.entries) * places.entries, bits - 1))
         wanted = {place: (INVENTORY, struct.pack("<I12x", first // bits) + free.to_bytes(bits // 8, "little"))}
         wanted |= {places.scn(page): (SCN_PAGE, db.system_page(places.scn(page), SCN_PAGE)) for page in (place, count - 1, min(count, MOST_PAGES - 1))}
