@@ -1,5 +1,5 @@
 -- What one write of the short forms keeps, every form keeps.
-use Rattle.std.proofs.Common.{◌≡◌, ℕ, zero, suc, ◌+◌, List, [], ◌∷◌, refl, ap, ◌∙◌}
+use Rattle.std.proofs.Common.{◌≡◌, ℕ, zero, suc, List, [], ◌∷◌, refl, ap, ◌∙◌}
 use Rattle.std.specs.Prelude.{Bool, Option, Some, None, true, false, ◌==◌, nat_lt}
 use Rattle.nb_fields.specs.Places.{is_system_place}
 use Rattle.nb_model.specs.Image.{Page, Image, image_size, image_scn, with_page}

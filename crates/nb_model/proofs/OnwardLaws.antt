@@ -1,20 +1,19 @@
 -- How far the search for a new page has come, told on the image as it stood before: what it needs there next is the same.
-use Rattle.std.proofs.Common.{◌≡◌, ◌≢◌, ◌⊎◌, inl, inr, ℕ, zero, suc, ◌+◌, ◌-◌, ◌*◌, ◌/◌, ◌<◌, ◌≤◌, List, [], ◌∷◌, ◌++◌, length, refl, sym, ap, subst, ◌∙◌, arith, mul-le-mul_right}
-use Rattle.std.specs.Prelude.{Bool, true, false, ◌==◌, ◌&&◌, nat_lt, IsTrue, Option, Some, None, max}
+use Rattle.std.proofs.Common.{◌≡◌, ◌≢◌, inl, inr, ℕ, suc, ◌+◌, ◌-◌, ◌*◌, ◌/◌, ◌<◌, ◌≤◌, length, refl, sym, ap, subst, ◌∙◌, arith, mul-le-mul_right}
+use Rattle.std.specs.Prelude.{Bool, true, false, ◌==◌, ◌&&◌, nat_lt, IsTrue, max}
 use Rattle.std.proofs.Math.Nat.{div-eq_of_lt, div-mul-le_self}
-use Rattle.std.proofs.lemmas.Bool.{true≢false}
 use Rattle.std.proofs.lemmas.Bool.Decides.{eqb_tells, leb_tells}
-use Rattle.nb_fields.specs.Places.{is_page_size, entries_in, bits_in, inventory_place, scn_place, is_inventory_place, is_scn_place, is_system_place}
+use Rattle.nb_fields.specs.Places.{is_page_size, bits_in, inventory_place, is_inventory_place, is_scn_place}
 use Rattle.nb_fields.specs.Page.{kind_of}
 use Rattle.nb_fields.proofs.PlaceLemmas.{bits-least}
 use Rattle.nb_model.specs.Image.{Image, page_at, image_size}
-use Rattle.nb_model.specs.Forms.{is_kind, inventory_of, scn_page_of, has_entry, is_free_page, lowest_free, free_from, system_kind}
+use Rattle.nb_model.specs.Forms.{is_kind, inventory_of, scn_page_of, is_free_page}
 use Rattle.nb_model.specs.Way.{IsMadeBehind, same_made, made_here, IsFreshBehind, same_fresh, fresh_here}
-use Rattle.nb_model.proofs.SoundLaws.{inventory_place_some, scn_page_there, inventory_there}
+use Rattle.nb_model.proofs.SoundLaws.{inventory_place_some, inventory_there}
 use Rattle.nb_model.proofs.NeedLaws.{HasScnPage}
-use Rattle.nb_model.proofs.NewSound.{inventory_before, places_apart}
-use Rattle.nb_model.proofs.StepLaws.{IsShaped, IsVisited, IsReady, kind_parts, kind_from, kind_moves, scn_page_moves, map_entry_before}
-use Rattle.nb_model.proofs.PlaceOrder.{div_rises, map_places_rise, map_places_from, map_place_is, maps_rise, map_behind, scn_behind}
+use Rattle.nb_model.proofs.NewSound.{inventory_before}
+use Rattle.nb_model.proofs.StepLaws.{IsShaped, IsVisited, kind_from, scn_page_moves, map_entry_before}
+use Rattle.nb_model.proofs.PlaceOrder.{div_rises, map_places_from, map_place_is, map_behind}
 
 -- `now` is the image behind a search that started at `old`, has come up to page `from`, and went past places without their system pages:
 -- the last of an SCN page was `made`, the last of an inventory page `fresh`, 0 for none.

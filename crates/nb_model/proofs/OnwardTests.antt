@@ -1,17 +1,16 @@
 -- What the search for a new page needs next, told on the image as it stood before.
-use Rattle.std.proofs.Common.{◌≡◌, ◌≢◌, inl, inr, ℕ, zero, suc, ◌+◌, ◌-◌, ◌*◌, ◌/◌, ◌<◌, ◌≤◌, List, [], ◌∷◌, ◌++◌, length, refl, sym, ap, subst, ◌∙◌, arith}
-use Rattle.std.specs.Prelude.{Bool, true, false, ◌==◌, ◌||◌, ◌&&◌, nat_lt, IsTrue, Option, Some, None, max}
-use Rattle.std.proofs.lemmas.Bool.{true≢false, eqb-true, eqb-false, and_parts, ltb-true, ltb-false}
+use Rattle.std.proofs.Common.{◌≡◌, ◌≢◌, inl, inr, ℕ, ◌+◌, ◌-◌, ◌/◌, ◌<◌, ◌≤◌, List, [], ◌++◌, length, refl, sym, ap, subst, ◌∙◌, arith}
+use Rattle.std.specs.Prelude.{Bool, true, false, ◌==◌, ◌||◌, ◌&&◌, nat_lt, IsTrue, Option}
+use Rattle.std.proofs.lemmas.Bool.{eqb-true, eqb-false, ltb-true, ltb-false}
 use Rattle.std.proofs.lemmas.Bool.Decides.{eqb_tells, leb_tells}
-use Rattle.nb_fields.specs.Places.{is_page_size, entries_in, bits_in, inventory_place, scn_place, is_inventory_place, is_scn_place, is_system_place}
+use Rattle.nb_fields.specs.Places.{is_page_size, entries_in, bits_in, inventory_place, is_inventory_place, is_scn_place, is_system_place}
 use Rattle.nb_fields.proofs.PlaceLemmas.{bits-least}
-use Rattle.nb_model.specs.Image.{Image, page_at, image_size}
-use Rattle.nb_model.specs.Forms.{is_kind, inventory_of, scn_page_of, has_entry, is_free_page, lowest_free, free_from, system_kind, Need, first_not, maps_from, entry_page, is_kept, needed_at}
-use Rattle.nb_model.specs.Way.{next_place, maps_on, entry_on, map_entry_on, own_entry_on, needed_on}
+use Rattle.nb_model.specs.Image.{Image, image_size}
+use Rattle.nb_model.specs.Forms.{is_kind, inventory_of, scn_page_of, lowest_free, free_from, Need, first_not, maps_from, entry_page, is_kept, needed_at}
+use Rattle.nb_model.specs.Way.{next_place, maps_on, entry_on, map_entry_on, needed_on}
 use Rattle.nb_model.proofs.SoundLaws.{inventory_place_some, scn_place_some, scn_page_there, inventory_there}
 use Rattle.nb_model.proofs.NeedLaws.{HasScnPage, first_behind, first_append, behind_none, maps_found, maps_alike, maps_split, entry_moves, first_none, entry_found, entry_alike, ready_none}
 use Rattle.nb_model.proofs.FirstFree.{IsLowestFree, free_from_is, lowest_one, lowest_is}
-use Rattle.nb_model.proofs.StepLaws.{IsShaped}
 use Rattle.nb_model.proofs.PlaceOrder.{div_rises, map_places_from, map_place_is, maps_rise, map_behind, scn_behind}
 use Rattle.nb_model.proofs.OnwardLaws.{IsOnTheWay}
 

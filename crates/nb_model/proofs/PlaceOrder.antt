@@ -1,13 +1,13 @@
 -- The places of system pages rise with the pages that they have.
-use Rattle.std.proofs.Common.{◌≡◌, ◌≢◌, inl, inr, ℕ, zero, suc, ◌+◌, ◌-◌, ◌*◌, ◌/◌, ◌%◌, ◌<◌, ◌≤◌, refl, sym, ap, ◌∙◌, arith, mul-le-mul_right}
-use Rattle.std.specs.Prelude.{true, false, ◌==◌, IsTrue}
+use Rattle.std.proofs.Common.{◌≡◌, inl, inr, ℕ, zero, suc, ◌+◌, ◌*◌, ◌/◌, ◌%◌, ◌<◌, ◌≤◌, sym, ap, ◌∙◌, arith, mul-le-mul_right}
+use Rattle.std.specs.Prelude.{true, ◌==◌, IsTrue}
 use Rattle.std.proofs.Math.Nat.{div-mul-le_self, div-eq_of_lt}
 use Rattle.std.proofs.lemmas.Nat.{le-div}
 use Rattle.std.proofs.lemmas.Bool.{eqb-true, or_cases}
 use Rattle.std.proofs.lemmas.Bool.Decides.{eqb_tells}
 use Rattle.nb_fields.specs.Places.{is_page_size, entries_in, bits_in, inventory_place, scn_place, is_inventory_place, is_scn_place}
 use Rattle.nb_fields.proofs.PlaceLemmas.{bits-least, entries-least}
-use Rattle.nb_model.proofs.SoundLaws.{inventory_place_some, scn_place_some, scn_place_of}
+use Rattle.nb_model.proofs.SoundLaws.{scn_place_some, scn_place_of}
 
 pub div_rises : (a b n : ℕ) → 0 < n → a ≤ b → a / n ≤ b / n
 div_rises a b n some le = le-div (a / n) b n some (omega (arith, div-mul-le_self a n, le))

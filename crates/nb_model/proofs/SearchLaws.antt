@@ -1,19 +1,17 @@
 -- The search for a new page, try by try: where it ends, and what it goes on with.
-use Rattle.std.proofs.Common.{◌≡◌, ◌≢◌, inl, inr, ℕ, zero, suc, ◌+◌, ◌-◌, ◌*◌, ◌/◌, ◌<◌, ◌≤◌, List, [], ◌∷◌, ◌++◌, length, refl, sym, ap, subst, ◌∙◌, arith}
-use Rattle.std.specs.Prelude.{Bool, true, false, ◌==◌, ◌||◌, ◌&&◌, IsTrue, Option, Some, None}
-use Rattle.std.proofs.lemmas.Bool.{true≢false, eqb-true, eqb-false, or_cases}
+use Rattle.std.proofs.Common.{◌≡◌, ◌≢◌, inl, inr, ℕ, suc, ◌+◌, ◌/◌, ◌≤◌, List, [], ◌∷◌, ◌++◌, refl, sym, ap, subst, ◌∙◌, arith}
+use Rattle.std.specs.Prelude.{Bool, true, false, ◌==◌, ◌||◌, IsTrue, Option, Some, None}
+use Rattle.std.proofs.lemmas.Bool.{true≢false, eqb-true}
 use Rattle.std.proofs.lemmas.List.{append-nil}
 use Rattle.std.proofs.lemmas.Bool.Decides.{eqb_tells}
 use Rattle.nb_fields.specs.Places.{is_page_size, bits_in, inventory_place, is_system_place}
-use Rattle.nb_host.specs.declared.refusals.Refusal.{Refusal}
 use Rattle.nb_host.specs.declared.refusals.Refusal.TheVariants.{NotDatabase, Full}
 use Rattle.nb_model.specs.Image.{Image, image_size}
-use Rattle.nb_model.specs.Forms.{Draft, drafted, is_kind, inventory_of, has_entry, is_free_page, put, take_page, lowest_free, system_kind, system_page, no_page, Need, first_not, maps_from, entry_page, is_kept, needed_at, new_within, new_page}
+use Rattle.nb_model.specs.Forms.{Draft, drafted, is_kind, inventory_of, put, take_page, lowest_free, system_page, no_page, Need, first_not, maps_from, entry_page, is_kept, needed_at, new_within}
 use Rattle.nb_model.specs.Causes.{Cause, first_cause, when, lowest_broken, not_of_form, no_room}
 use Rattle.nb_model.proofs.DraftJoin.{joined, joined_new, join_new}
-use Rattle.nb_model.proofs.NeedLaws.{HasScnPage, first_append, both_none, maps_all, none_ready}
-use Rattle.nb_model.proofs.FirstFree.{IsLowestFree, lowest_is}
-use Rattle.nb_model.proofs.StepLaws.{IsShaped, IsClear, IsReady, IsVisited, Visits, system_visits, plain_visits}
+use Rattle.nb_model.proofs.NeedLaws.{first_append, both_none, maps_all, none_ready}
+use Rattle.nb_model.proofs.StepLaws.{IsClear, IsReady}
 
 -- why a draft isn't made
 abbrev pub draft_cause : Draft → Cause

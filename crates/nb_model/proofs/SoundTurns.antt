@@ -9,7 +9,7 @@ use Rattle.nb_model.specs.Image.{Page, Image, image_size, image_state, image_scn
 use Rattle.nb_model.specs.Outcomes.{Backing, Seen, next_guid, next_time}
 use Rattle.nb_model.specs.Run.{Now, base_now}
 use Rattle.nb_model.specs.Sound.{HasHeader, IsSoundImage}
-use Rattle.nb_model.specs.Strokes.{Stroke, page, begin, ends, finish, on_base, base_after, with_control}
+use Rattle.nb_model.specs.Strokes.{Stroke, begin, ends, finish, on_base, base_after, with_control}
 use Rattle.nb_model.proofs.ControlMay.{may_begin, may_end, may_finish}
 use Rattle.nb_model.proofs.ControlSound.{MayControl, control_sound, control_long, new_size, new_scn, new_state, new_header}
 use Rattle.nb_model.proofs.FitLaws.{IsWhole, AreFitting, Stays, whole_after, all_keep, fitting_stays}

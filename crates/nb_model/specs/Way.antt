@@ -1,5 +1,5 @@
 -- How far a search for new pages has come, told on the image as it stood before, and what a new page needs of the page that it comes to next.
-use Rattle.std.specs.Prelude.{◌≡◌, ℕ, ◌+◌, ◌-◌, ◌/◌, List, [], ◌∷◌, ◌++◌, length, true, false, ◌&&◌, ◌==◌, nat_lt}
+use Rattle.std.specs.Prelude.{◌≡◌, ℕ, ◌+◌, ◌-◌, ◌/◌, List, [], ◌++◌, length, true, false, ◌&&◌, ◌==◌, nat_lt}
 use Rattle.nb_fields.specs.Places.{bits_in, is_inventory_place, is_scn_place}
 use Rattle.nb_model.specs.Image.{Image, image_size}
 use Rattle.nb_model.specs.Forms.{is_kind, inventory_of, scn_page_of, free_from, Need, maps_from, entry_page, is_kept}

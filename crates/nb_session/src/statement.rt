@@ -19,6 +19,7 @@ ghost use Rattle.nb_session.specs.Askers.{GoesByInventories, IsOneTurn, KeepsOth
 ghost use Rattle.nb_session.specs.Ready.{IsReady};
 ghost use Rattle.nb_session.specs.Replies.{some_said, HasEnded, header_of};
 
+use crate::checks::do_checks;
 use crate::tables::do_on_tables;
 use nb_engine::Engine;
 use nb_host::{Fault, Host};
@@ -127,6 +128,7 @@ pub fn do_statement<H: Host>(
             capacity: engine.capacity(),
             held: engine.held(),
         }),
+        Statement::Check | Statement::Reclaim => do_checks(alloc, host, engine, statement),
         Statement::CreateTable { .. }
         | Statement::DropTable { .. }
         | Statement::Insert { .. }

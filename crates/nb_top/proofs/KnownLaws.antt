@@ -10,7 +10,7 @@ use Rattle.nb_host.specs.declared.refusals.Refusal.{Refusal}
 use Rattle.nb_host.specs.declared.refusals.Refusal.TheVariants.{Usage}
 use Rattle.nb_page.specs.Free.{has_delta, is_free_name}
 use Rattle.nb_model.specs.declared.job.Job.{Job}
-use Rattle.nb_model.specs.declared.job.Job.TheVariants.{Run, Stat, Gen, Backup, BackupSince, Restore, Apply, Lock, LockWithSize, Unlock, Fixup, Fold, Plan as PlanOf}
+use Rattle.nb_model.specs.declared.job.Job.TheVariants.{Run, Stat, Check, Reclaim, Gen, Backup, BackupSince, Restore, Apply, Lock, LockWithSize, Unlock, Fixup, Fold, Plan as PlanOf}
 use Rattle.nb_model.specs.declared.statement.Statement.{Statement}
 use Rattle.nb_model.specs.declared.statement.Statement.TheVariants.{OpenDb}
 use Rattle.nb_model.specs.Account.{Base, IsBase, Account}
@@ -28,7 +28,7 @@ use Rattle.nb_top.specs.Performed.{HoldsUnder, Knows, KnowsAsked, KnowsNames, Kn
 use Rattle.nb_top.specs.Requests.{Asked, Runs, FitsJob, request_asked, request_of, script_in, to_plan, to_run}
 use Rattle.nb_top.specs.Worlds.{HaveNames}
 use Rattle.nb_top.proofs.FirstReady.{base_name}
-use Rattle.nb_top.proofs.RequestLaws.{askable_in, backup_askable, since_askable, begin_askable, end_askable, stat_askable, fits_words, plain_file}
+use Rattle.nb_top.proofs.RequestLaws.{askable_in, backup_askable, since_askable, begin_askable, end_askable, stat_askable, check_askable, reclaim_askable, fits_words, plain_file}
 
 module _ (files : Files) (names : HaveNames files) where
   -- no difference file stands beside a long name
@@ -78,6 +78,8 @@ module _ (files : Files) (names : HaveNames files) (account : Account) (same : I
   known_job (Backup level db file) fits = known_first (OpenDb db usual_cache) (backup_askable level db file fits).first.fits
   known_job (BackupSince guid db file) fits = known_first (OpenDb db usual_cache) (since_askable guid db file fits).first.fits
   known_job (Stat db) fits = known_first (OpenDb db usual_cache) (stat_askable db fits).first.fits
+  known_job (Check db) fits = known_first (OpenDb db usual_cache) (check_askable db fits).first.fits
+  known_job (Reclaim db) fits = known_first (OpenDb db usual_cache) (reclaim_askable db fits).first.fits
   known_job (Lock db) fits = known_first (OpenDb db usual_cache) (begin_askable db fits).first.fits
   known_job (LockWithSize db) fits = known_first (OpenDb db usual_cache) (begin_askable db fits).first.fits
   known_job (Unlock db) fits = known_first (OpenDb db usual_cache) (end_askable db fits).first.fits
