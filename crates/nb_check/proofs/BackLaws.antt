@@ -74,21 +74,22 @@ first_by test n a t = cond t (a ∷ filter test (range_with_len (a + 1) n)) (fil
 filter_rest : (test : ℕ → Bool) (n a : ℕ) (ps qs : List ℕ) → filter test (range_with_len a n) ≡ ps ++ qs → filter (without test ps) (range_with_len a n) ≡ qs
 filter_rest test n a [] qs e = filter_same (without test []) test n a (λ q low high. and_true (test q)) ∙ e
 filter_rest test zero a (p ∷ ps) qs e = absurd (none_more p (ps ++ qs) e)
-filter_rest test (suc n) a (p ∷ ps) qs e = by (test a) refl
+filter_rest test (suc n) a (p ∷ ps) qs e = by (test a) refl (filter_rest test n (a + 1) ps qs) (filter_rest test n (a + 1) (p ∷ ps) qs)
   where
     is : (f : ℕ → Bool) (t : Bool) → f a ≡ t → filter f (range_with_len a (suc n)) ≡ first_by f n a t
     is f t same = ap (first_by f n a) same
 
-    by : (t : Bool) → test a ≡ t → filter (without test (p ∷ ps)) (range_with_len a (suc n)) ≡ qs
-    by true holds =
+    by : (t : Bool) → test a ≡ t → (filter test (range_with_len (a + 1) n) ≡ ps ++ qs → filter (without test ps) (range_with_len (a + 1) n) ≡ qs)
+        → (filter test (range_with_len (a + 1) n) ≡ (p ∷ ps) ++ qs → filter (without test (p ∷ ps)) (range_with_len (a + 1) n) ≡ qs) → filter (without test (p ∷ ps)) (range_with_len a (suc n)) ≡ qs
+    by true holds one all =
         let first : a ∷ filter test (range_with_len (a + 1) n) ≡ p ∷ (ps ++ qs) = sym (is test true holds) ∙ e in
         let here : a ≡ p = head_same a p _ _ first in
         let gone : without test (p ∷ ps) a ≡ false = ap (λ (u : Bool). u && not (is_among a (p ∷ ps))) holds ∙ ap (λ (m : ℕ). true && not (is_among a (m ∷ ps))) (sym here) ∙ ap (λ (u : Bool). true && not u) (among_first a ps) in
         is (without test (p ∷ ps)) false gone
         ∙ filter_same (without test (p ∷ ps)) (without test ps) n (a + 1) (λ q low high. ap (λ (u : Bool). test q && not u) (among_rest q p ps (λ same. omega (arith, low, here, same))))
-        ∙ filter_rest test n (a + 1) ps qs (tail_same a p _ _ first)
-    by false fails =
-        is (without test (p ∷ ps)) false (and_left (test a) _ fails) ∙ filter_rest test n (a + 1) (p ∷ ps) qs (sym (is test false fails) ∙ e)
+        ∙ one (tail_same a p _ _ first)
+    by false fails one all =
+        is (without test (p ∷ ps)) false (and_left (test a) _ fails) ∙ all (sym (is test false fails) ∙ e)
 
 -- The image y is x with these pages given back.
 pub record IsBack (x : Image) (ps : List ℕ) (y : Image) : Type 0 where
@@ -159,10 +160,10 @@ module _ (x : Image) (sound : IsSoundImage x) (ps : List ℕ) (y : Image) (back 
 
 -- One page more is given back.
 module _ (x : Image) (header : HasHeader x) (sound : IsSoundImage x) (ps : List ℕ) (p : ℕ) (y : Image) (back : IsBack x ps y) (low : p < length x) (holds : is_leaked x p ≡ true) where
-  two : 2 ≤ p
+  pub two : 2 ≤ p
   two = leaked_two x header sound p low holds
 
-  low_y : p < length y
+  pub low_y : p < length y
   low_y = (let same = back.alike.same in omega (arith, low, same))
 
   among_more : (q : ℕ) → is_among q (ps ++ p ∷ []) ≡ (is_among q ps || is_among q (p ∷ []))

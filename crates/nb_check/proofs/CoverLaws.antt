@@ -20,7 +20,7 @@ use Rattle.nb_check.proofs.FactLaws.{blank_past, place_past, late_past, header_p
 
 -- where these pages break nothing, the first that is broken stays
 pub first_far : (image : Image) (a b : ℕ) (broken : Option Broken) → a ≤ b → ((f : Fact) (p : ℕ) → a ≤ p → p < b → breaks image f p ≡ false) → IsFirstBelow image a broken → IsFirstBelow image b broken
-first_far image a b None few none first f p low = elim (cases_lt p a) [ inl less ↦ first f p less | inr high ↦ none f p (omega (arith, high)) low ]
+first_far image a b None few none first = λ f p low. elim (cases_lt p a) [ inl less ↦ first f p less | inr high ↦ none f p (omega (arith, high)) low ]
 first_far image a b (Some broken) few none first = (
   first.0,
   (let below = first.1 in omega (arith, below, few)),

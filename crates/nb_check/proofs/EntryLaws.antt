@@ -3,7 +3,7 @@ use Rattle.std.proofs.Common.{◌≡◌, ◌≢◌, inl, inr, ℕ, zero, suc, �
 use Rattle.std.specs.Prelude.{IsTrue, Bool, true, false, ◌&&◌, ◌||◌, ◌==◌, nat_lt, nat_le}
 use Rattle.std.proofs.Math.Nat.{mod-lt}
 use Rattle.std.proofs.lemmas.Nat.{div-mul-add, div-add-mod'}
-use Rattle.std.proofs.lemmas.Bool.{and_left, and_parts, or_cases, cases_lt, false_from_ne_true, eqb-true, leb-false}
+use Rattle.std.proofs.lemmas.Bool.{and_left, and_parts, or_cases, cases_Bool, cases_lt, eqb-true, leb-false}
 use Rattle.nb_fields.specs.Page.{stamp_of}
 use Rattle.nb_fields.specs.Payloads.{entry_of}
 use Rattle.nb_fields.specs.Places.{is_page_size, entries_in, scn_place, is_scn_place}
@@ -74,18 +74,21 @@ module _ (size : ℕ) (valid : IsTrue (is_page_size size)) where
   place_few zero n few = few
   place_few (suc k) n few = (let some = least in omega (arith, some, few))
 
-  -- such a page is no SCN page itself
-  pub plain_past : (p n : ℕ) → n ≤ p → 2 < n → p / each ≡ (n - 1) / each → is_scn_place size p ≡ false
+  no_place : (p n : ℕ) → n ≤ p → 2 < n → p / each ≡ (n - 1) / each → is_scn_place size p ≡ true → ⊥
   unfolding is_scn_place
-  plain_past p n past more same = false_from_ne_true _ (λ holds. elim (or_cases _ _ holds) [
-    | inl two ↦ (let at : p ≡ 2 = eqb-true _ _ two in absurd (omega (arith, at, past, more)))
+  no_place p n past more same holds = elim (or_cases (p == 2) (nat_lt 0 p && p % each == 0) holds) [
+    | inl two ↦ (let at : p ≡ 2 = eqb-true p 2 two in omega (arith, at, past, more))
     | inr both ↦
-        (let none : p % each ≡ 0 = eqb-true _ _ (and_parts _ _ both).1 in
+        (let none : p % each ≡ 0 = eqb-true (p % each) 0 (and_parts (nat_lt 0 p) (p % each == 0) both).1 in
         let here = parts p in
         let last = parts (n - 1) in
         let group : (p / each) * each ≡ ((n - 1) / each) * each = ap (λ (k : ℕ). k * each) same in
-        absurd (omega (arith, none, here, last, group, past, more)))
-  ])
+        omega (arith, none, here, last, group, past, more))
+  ]
+
+  -- such a page is no SCN page itself
+  pub plain_past : (p n : ℕ) → n ≤ p → 2 < n → p / each ≡ (n - 1) / each → is_scn_place size p ≡ false
+  plain_past p n past more same = elim (cases_Bool (is_scn_place size p)) [ inl holds ↦ absurd (no_place p n past more same holds) | inr fails ↦ fails ]
 
 module _ (image : Image) (p : ℕ) where
   -- page 0 and the SCN pages have none

@@ -18,12 +18,12 @@ some_none x e = cc
 -- none passes
 pub first_none : (left p : ℕ) (test : ℕ → Bool) → first_from left p test ≡ None → (q : ℕ) → p ≤ q → q < p + left → test q ≡ false
 first_none zero p test none q low high = absurd (omega (arith, low, high))
-first_none (suc left) p test none q low high = by (test p) refl
+first_none (suc left) p test none q low high = by (test p) refl (λ rest less. first_none left (p + 1) test rest q (omega (arith, less)) (omega (arith, high)))
   where
-    by : (t : Bool) → test p ≡ t → test q ≡ false
-    by true e = absurd (some_none p (sym (first_is left p test true e) ∙ none))
-    by false e = elim (cases_lt p q) [
-      | inl less ↦ first_none left (p + 1) test (sym (first_is left p test false e) ∙ none) q (omega (arith, less)) (omega (arith, high))
+    by : (t : Bool) → test p ≡ t → (first_from left (p + 1) test ≡ None → p < q → test q ≡ false) → test q ≡ false
+    by true e later = absurd (some_none p (sym (first_is left p test true e) ∙ none))
+    by false e later = elim (cases_lt p q) [
+      | inl less ↦ later (sym (first_is left p test false e) ∙ none) less
       | inr other ↦ (let same : p ≡ q = omega (arith, low, other) in subst (λ (n : ℕ). test n ≡ false) same e)
     ]
 

@@ -24,22 +24,24 @@ chains_in (s ∷ ss) = elim (is_used s) [ true ↦ RowsFrom (first_in s) ∷ cha
 pub chains_spots : (p slot : ℕ) (ss : List Slot) → table_chains (used (spots_on p slot ss)) ≡ chains_in ss
 unfolding table_chains used spots_on chains_in
 chains_spots p slot [] = refl
-chains_spots p slot (s ∷ ss) = by (is_used s)
+chains_spots p slot (s ∷ ss) = by (is_used s) (chains_spots p (slot + 1) ss)
   where
-    by : (t : Bool) → table_chains (elim t as (λ z. List Spot) [ true ↦ record { page = p; slot = slot; bytes = s } ∷ used (spots_on p (slot + 1) ss) | false ↦ used (spots_on p (slot + 1) ss) ])
+    by : (t : Bool) → table_chains (used (spots_on p (slot + 1) ss)) ≡ chains_in ss
+        → table_chains (elim t as (λ z. List Spot) [ true ↦ record { page = p; slot = slot; bytes = s } ∷ used (spots_on p (slot + 1) ss) | false ↦ used (spots_on p (slot + 1) ss) ])
         ≡ elim t as (λ z. List Chain) [ true ↦ RowsFrom (first_in s) ∷ chains_in ss | false ↦ chains_in ss ]
-    by true = ap (λ (cs : List Chain). RowsFrom (first_in s) ∷ cs) (chains_spots p (slot + 1) ss)
-    by false = chains_spots p (slot + 1) ss
+    by true rest = ap (λ (cs : List Chain). RowsFrom (first_in s) ∷ cs) rest
+    by false rest = rest
 
 used_append : (xs ys : List Spot) → table_chains (used (xs ++ ys)) ≡ table_chains (used xs) ++ table_chains (used ys)
 unfolding table_chains used
 used_append [] ys = refl
-used_append (x ∷ xs) ys = by (is_used x.bytes)
+used_append (x ∷ xs) ys = by (is_used x.bytes) (used_append xs ys)
   where
-    by : (t : Bool) → table_chains (elim t as (λ z. List Spot) [ true ↦ x ∷ used (xs ++ ys) | false ↦ used (xs ++ ys) ])
+    by : (t : Bool) → table_chains (used (xs ++ ys)) ≡ table_chains (used xs) ++ table_chains (used ys)
+        → table_chains (elim t as (λ z. List Spot) [ true ↦ x ∷ used (xs ++ ys) | false ↦ used (xs ++ ys) ])
         ≡ table_chains (elim t as (λ z. List Spot) [ true ↦ x ∷ used xs | false ↦ used xs ]) ++ table_chains (used ys)
-    by true = ap (λ (cs : List Chain). RowsFrom (first_in x.bytes) ∷ cs) (used_append xs ys)
-    by false = used_append xs ys
+    by true rest = ap (λ (cs : List Chain). RowsFrom (first_in x.bytes) ∷ cs) rest
+    by false rest = rest
 
 spots_both : (image : Image) (ps qs : List ℕ) → spots_of image (ps ++ qs) ≡ spots_of image ps ++ spots_of image qs
 unfolding spots_of
@@ -92,16 +94,16 @@ cause_none image = refl
 -- the chains of a list are of the form, and so the first that isn't is behind them
 pub cause_behind : (image : Image) (cs ds : List Chain) → chains_cause image cs ≡ None → chains_cause image (cs ++ ds) ≡ chains_cause image ds
 cause_behind image [] ds none = refl
-cause_behind image (c ∷ cs) ds none = by (broken_at (pages_of c image)) refl
+cause_behind image (c ∷ cs) ds none = by (broken_at (pages_of c image)) refl (cause_behind image cs ds)
   where
     some_none : (r : Refusal) → ◌≡◌ {A = Cause} (Some r) None → ⊥
     some_none r e = cc
 
-    by : (o : Cause) → broken_at (pages_of c image) ≡ o → chains_cause image ((c ∷ cs) ++ ds) ≡ chains_cause image ds
-    by (Some r) e = absurd (some_none r (sym (cause_first image c cs ∙ ap (λ (o : Cause). or_else o (chains_cause image cs)) e) ∙ none))
-    by None e =
+    by : (o : Cause) → broken_at (pages_of c image) ≡ o → (chains_cause image cs ≡ None → chains_cause image (cs ++ ds) ≡ chains_cause image ds) → chains_cause image ((c ∷ cs) ++ ds) ≡ chains_cause image ds
+    by (Some r) e rest = absurd (some_none r (sym (cause_first image c cs ∙ ap (λ (o : Cause). or_else o (chains_cause image cs)) e) ∙ none))
+    by None e rest =
         cause_first image c (cs ++ ds) ∙ ap (λ (o : Cause). or_else o (chains_cause image (cs ++ ds))) e
-        ∙ cause_behind image cs ds (sym (cause_first image c cs ∙ ap (λ (o : Cause). or_else o (chains_cause image cs)) e) ∙ none)
+        ∙ rest (sym (cause_first image c cs ∙ ap (λ (o : Cause). or_else o (chains_cause image cs)) e) ∙ none)
 
 pub cause_here : (image : Image) (c : Chain) (cs : List Chain) (r : Refusal) → broken_at (pages_of c image) ≡ Some r → chains_cause image (c ∷ cs) ≡ Some r
 cause_here image c cs r e = cause_first image c cs ∙ ap (λ (o : Cause). or_else o (chains_cause image cs)) e
@@ -115,11 +117,11 @@ none_some r e = cc
 -- or the first that isn't is among them
 cause_front : (image : Image) (cs ds : List Chain) (r : Refusal) → chains_cause image cs ≡ Some r → chains_cause image (cs ++ ds) ≡ Some r
 cause_front image [] ds r some = absurd (none_some r (sym (cause_none image) ∙ some))
-cause_front image (c ∷ cs) ds r some = by (broken_at (pages_of c image)) refl
+cause_front image (c ∷ cs) ds r some = by (broken_at (pages_of c image)) refl (cause_front image cs ds r)
   where
-    by : (o : Cause) → broken_at (pages_of c image) ≡ o → chains_cause image (c ∷ (cs ++ ds)) ≡ Some r
-    by None e = cause_later image c (cs ++ ds) e ∙ cause_front image cs ds r (sym (cause_later image c cs e) ∙ some)
-    by (Some q) e = cause_here image c (cs ++ ds) q e ∙ sym (cause_here image c cs q e) ∙ some
+    by : (o : Cause) → broken_at (pages_of c image) ≡ o → (chains_cause image cs ≡ Some r → chains_cause image (cs ++ ds) ≡ Some r) → chains_cause image (c ∷ (cs ++ ds)) ≡ Some r
+    by None e rest = cause_later image c (cs ++ ds) e ∙ rest (sym (cause_later image c cs e) ∙ some)
+    by (Some q) e rest = cause_here image c (cs ++ ds) q e ∙ sym (cause_here image c cs q e) ∙ some
 
 -- These chains are of the form, and their pages were taken out of the set, each by one read at most.
 pub record AreOut (image : Image) (cs : List Chain) (before after : List ℕ) (old now : ℕ) : Type 0 where

@@ -19,7 +19,7 @@ below_more p n low = elim (cases_lt p n) [ inl less ↦ inl less | inr other ↦
 
 -- page n breaks nothing
 pub first_still : (image : Image) (n : ℕ) (broken : Option Broken) → IsFirstBelow image n broken → IsLowestAt image n None → IsFirstBelow image (n + 1) broken
-first_still image n None first none f p low = elim (below_more p n low) [ inl less ↦ first f p less | inr same ↦ ap (breaks image f) same ∙ none f ]
+first_still image n None first none = λ f p low. elim (below_more p n low) [ inl less ↦ first f p less | inr same ↦ ap (breaks image f) same ∙ none f ]
 first_still image n (Some b) first none = (
   first.0,
   (let below = first.1 in omega (arith, below)),

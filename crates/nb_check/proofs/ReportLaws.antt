@@ -27,11 +27,11 @@ range_split (suc n) m a =
 -- no more pass than there are
 pub filtered_most : (test : ℕ → Bool) (n a : ℕ) → length (filter test (range_with_len a n)) ≤ n
 filtered_most test zero a = omega arith
-filtered_most test (suc n) a = by (test a)
+filtered_most test (suc n) a = by (test a) (filtered_most test n (a + 1))
   where
-    by : (t : Bool) → length (cond t (a ∷ filter test (range_with_len (a + 1) n)) (filter test (range_with_len (a + 1) n))) ≤ suc n
-    by true = let rest = filtered_most test n (a + 1) in omega (arith, rest)
-    by false = let rest = filtered_most test n (a + 1) in omega (arith, rest)
+    by : (t : Bool) → length (filter test (range_with_len (a + 1) n)) ≤ n → length (cond t (a ∷ filter test (range_with_len (a + 1) n)) (filter test (range_with_len (a + 1) n))) ≤ suc n
+    by true rest = omega (arith, rest)
+    by false rest = omega (arith, rest)
 
 module _ (test : ℕ → Bool) where
   abbrev up_to : ℕ → List ℕ

@@ -78,14 +78,14 @@ module _ (x y : Image) (alike : AreAlike x y) (sx : SoundInventory x) (sy : Soun
   walk_same : (left : ℕ) (chain : Chain) (p : ℕ) → walk left chain y p ≡ walk left chain x p
   unfolding walk
   walk_same zero chain p = refl
-  walk_same (suc left) chain p = walk_by left chain y p ∙ ap (go_by p (next_in (page_at y p)) (walk left chain y (next_in (page_at y p)))) (in_same chain p) ∙ by (is_in_chain chain x p) refl ∙ sym (walk_by left chain x p)
+  walk_same (suc left) chain p = walk_by left chain y p ∙ ap (go_by p (next_in (page_at y p)) (walk left chain y (next_in (page_at y p)))) (in_same chain p) ∙ by (is_in_chain chain x p) refl (walk_same left chain (next_in (page_at x p))) ∙ sym (walk_by left chain x p)
     where
-      by : (t : Bool) → is_in_chain chain x p ≡ t → go_by p (next_in (page_at y p)) (walk left chain y (next_in (page_at y p))) (is_in_chain chain x p) ≡ go_by p (next_in (page_at x p)) (walk left chain x (next_in (page_at x p))) (is_in_chain chain x p)
-      by false e = ap (go_by p (next_in (page_at y p)) (walk left chain y (next_in (page_at y p)))) e ∙ sym (ap (go_by p (next_in (page_at x p)) (walk left chain x (next_in (page_at x p)))) e)
-      by true e =
+      by : (t : Bool) → is_in_chain chain x p ≡ t → walk left chain y (next_in (page_at x p)) ≡ walk left chain x (next_in (page_at x p)) → go_by p (next_in (page_at y p)) (walk left chain y (next_in (page_at y p))) (is_in_chain chain x p) ≡ go_by p (next_in (page_at x p)) (walk left chain x (next_in (page_at x p))) (is_in_chain chain x p)
+      by false e rest = ap (go_by p (next_in (page_at y p)) (walk left chain y (next_in (page_at y p)))) e ∙ sym (ap (go_by p (next_in (page_at x p)) (walk left chain x (next_in (page_at x p)))) e)
+      by true e rest =
           let page : page_at y p ≡ page_at x p = page_same chain p e in
           ap (λ (b : Page). go_by p (next_in b) (walk left chain y (next_in b)) (is_in_chain chain x p)) page
-          ∙ ap (λ (r : Result (List ℕ) ℕ). go_by p (next_in (page_at x p)) r (is_in_chain chain x p)) (walk_same left chain (next_in (page_at x p)))
+          ∙ ap (λ (r : Result (List ℕ) ℕ). go_by p (next_in (page_at x p)) r (is_in_chain chain x p)) rest
 
   pub pages_same : (chain : Chain) → pages_of chain y ≡ pages_of chain x
   unfolding pages_of

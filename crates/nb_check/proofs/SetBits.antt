@@ -40,10 +40,10 @@ module _ (pages : List ℕ) (page byte v : ℕ) (low : page / 8 < length pages) 
 -- zeros have no page
 pub none_has : (n p : ℕ) → has (replicate n 0) p ≡ false
 unfolding has
-none_has n p = ap (λ (b : ℕ). bit_at b (p % 8) == 1) zero ∙ ap (λ (v : ℕ). v == 1) (bit_at-zero (p % 8))
+none_has n p = ap (λ (b : ℕ). bit_at b (p % 8) == 1) none ∙ ap (λ (v : ℕ). v == 1) (bit_at-zero (p % 8))
   where
-    zero : get_or (replicate n 0) (p / 8) 0 ≡ 0
-    zero = elim (cases_lt (p / 8) n) [
+    none : ◌≡◌ {A = ℕ} (get_or (replicate n 0) (p / 8) 0) 0
+    none = elim (cases_lt (p / 8) n) [
       | inl low ↦ get_or-replicate n (p / 8) 0 0 low
       | inr high ↦ get_or_past (replicate n 0) (p / 8) 0 (omega (arith, high, length-replicate {A = ℕ} n 0))
     ]

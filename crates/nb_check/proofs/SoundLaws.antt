@@ -112,10 +112,11 @@ module _ (image : Image) (sound : SoundInventory image) where
   no_taken : (p : ℕ) → breaks image TakenPast p ≡ true → ⊥
   unfolding breaks
   no_taken p holds =
-      let parts = and_parts _ _ holds in
-      let both = and_parts _ _ parts.1 in
-      let high = leb-true _ _ parts.0 in
-      let low = sound.bits p (ltb-true _ _ both.0) (elim (cases_Bool (is_free_page image p)) [ inl e ↦ absurd (true≢false (sym both.1 ∙ ap not e)) | inr e ↦ e ]) in
+      let parts = and_parts (nat_le (length image) p) (nat_lt (inventory_of image p) (length image) && not (is_free_page image p)) holds in
+      let both = and_parts (nat_lt (inventory_of image p) (length image)) (not (is_free_page image p)) parts.1 in
+      let high : length image ≤ p = leb-true (length image) p parts.0 in
+      let taken : is_free_page image p ≡ false = elim (cases_Bool (is_free_page image p)) [ inl e ↦ absurd (true≢false (sym both.1 ∙ ap not e)) | inr e ↦ e ] in
+      let low : p < length image = sound.bits p (ltb-true (inventory_of image p) (length image) both.0) taken in
       omega (arith, high, low)
 
   no_late : (p : ℕ) → breaks image LateStamp p ≡ true → ⊥
@@ -126,24 +127,27 @@ module _ (image : Image) (sound : SoundInventory image) where
       let high = ltb-true _ _ parts.1 in
       omega (arith, high, low)
 
+  no_low : (p : ℕ) → has_entry image p ≡ true → is_entry_low image p ≡ true → ⊥
+  no_low p has w =
+      let both = and_parts (nat_lt p (length image)) (nat_le (length image) (scn_page_of image p) || nat_lt (scn_entry image p) (stamp_of (page_at image p))) w in
+      let low : p < length image = ltb-true p (length image) both.0 in
+      elim (or_cases (nat_le (length image) (scn_page_of image p)) (nat_lt (scn_entry image p) (stamp_of (page_at image p))) both.1) [
+        | inl v ↦ (let past : length image ≤ scn_page_of image p = leb-true _ _ v in let there = sound.entries.there p low has in omega (arith, past, there))
+        | inr v ↦ (let less : scn_entry image p < stamp_of (page_at image p) = ltb-true _ _ v in let least = sound.entries.no_lower p low has in omega (arith, less, least))
+      ]
+
+  no_high : (p : ℕ) → has_entry image p ≡ true → is_entry_late image p ≡ true → ⊥
+  no_high p has w =
+      let both = and_parts (nat_lt (scn_page_of image p) (length image)) (nat_lt (image_scn image) (scn_entry image p)) w in
+      let less : image_scn image < scn_entry image p = ltb-true _ _ both.1 in
+      let most = sound.entries.no_later p (ltb-true (scn_page_of image p) (length image) both.0) has in
+      omega (arith, less, most)
+
   no_entry : (p : ℕ) → breaks image WrongEntry p ≡ true → ⊥
   unfolding breaks
   no_entry p holds =
-      let parts = and_parts _ _ holds in
-      elim (or_cases _ _ parts.1) [
-        | inl w ↦
-            (let both = and_parts _ _ w in
-            let low : p < length image = ltb-true _ _ both.0 in
-            elim (or_cases _ _ both.1) [
-              | inl v ↦ (let past = leb-true _ _ v in let there = sound.entries.there p low parts.0 in omega (arith, past, there))
-              | inr v ↦ (let less = ltb-true _ _ v in let least = sound.entries.no_lower p low parts.0 in omega (arith, less, least))
-            ])
-        | inr w ↦
-            (let both = and_parts _ _ w in
-            let less = ltb-true _ _ both.1 in
-            let most = sound.entries.no_later p (ltb-true _ _ both.0) parts.0 in
-            omega (arith, less, most))
-      ]
+      let parts = and_parts (has_entry image p) (is_entry_low image p || is_entry_late image p) holds in
+      elim (or_cases (is_entry_low image p) (is_entry_late image p) parts.1) [ inl w ↦ no_low p parts.0 w | inr w ↦ no_high p parts.0 w ]
 
   no_head : (p : ℕ) → breaks image HeaderStamp p ≡ true → ⊥
   unfolding breaks
@@ -166,7 +170,7 @@ unsound_part None e = refl
 unsound_part (Some b) e = absurd (some_none (Unsound b.0 b.1) e)
 
 pub no_unsound : (o : Option (ℕ × ℕ)) → unsound_by o ≡ None → IsSome o → ⊥
-no_unsound None e some = some
+no_unsound None e some = true≢false (sym some)
 no_unsound (Some b) e some = some_none (Unsound b.0 b.1) e
 
 pub check_parts : (image : Image) → check_cause image ≡ None → (unsound image ≡ None) × (chains_cause image (chains image) ≡ None)

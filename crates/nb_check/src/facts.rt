@@ -1,5 +1,5 @@
 // The facts that sound inventories have, tested of one page.
-ghost use Rattle.std.specs.Prelude.{◌≡◌, ◌+◌, ◌-◌, ◌*◌, ◌/◌, ◌<◌, ◌≤◌, ℕ, ◌&&◌, ◌||◌, ◌==◌, not, IsTrue, length};
+ghost use Rattle.std.specs.Prelude.{◌≡◌, ◌+◌, ◌-◌, ◌*◌, ◌/◌, ◌<◌, ◌≤◌, ℕ, ◌&&◌, ◌||◌, ◌==◌, not, IsTrue, Some, length};
 ghost use Rattle.nb_fields.specs.Page.{stamp_of};
 ghost use Rattle.nb_fields.specs.Places.{is_page_size, is_inventory_place, is_scn_place, bits_in};
 ghost use Rattle.nb_model.specs.Image.{Image, page_at};
@@ -30,17 +30,23 @@ pub(crate) struct Extent {
 pub(crate) fn first_of(broken: Option<Broken>, fact: Option<Fact>, page: u32) -> Option<Broken>
     ensures { (image : Image) → IsFirstBelow image page broken → IsLowestAt image page fact → IsFirstBelow image (page + 1) result }
 {
-    let Some(fact) = fact else {
-        return broken;
-    };
-    let here = Broken { fact, page };
+    match fact {
+        None => broken,
+        Some(fact) => Some(first_with(broken, Broken { fact, page })),
+    }
+}
+
+/// The first that is broken, where one more is, at a page behind all those of `broken`.
+fn first_with(broken: Option<Broken>, here: Broken) -> Broken
+    ensures { (image : Image) → IsFirstBelow image here.page broken → IsLowestAt image here.page (Some here.fact) → IsFirstBelow image (here.page + 1) (Some result) }
+{
     match broken {
-        None => Some(here),
+        None => here,
         Some(first) => {
-            if first.fact.number() <= fact.number() {
-                Some(first)
+            if first.fact.number() <= here.fact.number() {
+                first
             } else {
-                Some(here)
+                here
             }
         }
     }

@@ -1,4 +1,4 @@
-use Rattle.std.proofs.Common.{◌≡◌, ℕ, List, length, sym, ap, subst, ◌∙◌, arith}
+use Rattle.std.proofs.Common.{◌≡◌, ℕ, List, [], length, sym, ap, subst, ◌∙◌, arith}
 use Rattle.std.specs.Prelude.{IsTrue}
 use Rattle.nb_fields.specs.Places.{is_page_size}
 use Rattle.nb_page.proofs.QuietLemmas.{quiet_joined}
@@ -73,7 +73,7 @@ returns-clause-sound g c t tells is =
     let found = c.in_ok-rest.ensures in
     let free = check_free image (found.test t tells is) (c.in_ok-leave_out_reached.ensures.test t tells (found.open t tells is)) in
     sound_whole image (subst (λ (s : ℕ). IsTrue (is_page_size s)) (c.page_size-size.ensures.value ∙ is.files.agrees.page_size) c.page_size-size.ensures.one_of) free (all_from (λ (page : Page). length page ≡ image_size image) image (found.sizes t tells is))
-    (omega (arith, c.count-_count.ensures.value, c.count-_count.ensures.most, is.files.agrees.count))
+    (omega (arith, c.count-count.ensures.value, c.count-count.ensures.most, is.files.agrees.count))
 
 pub returns-clause-once : goal.returns-clause-once
 returns-clause-once g c t tells is =

@@ -43,7 +43,7 @@ returns-in_err-give_back-clause-turn g c s t tells same is =
     let said = Freed (length (leaked t.base.image)) in
     let xs = (reclaimed t.base.image).strokes in
     tries_passed c.from_residual-in_err-give_back.result fault (λ r. Does Freed r w new c.args.engine.now c.give_back.new.engine t (reclaim_turn s)) c.from_residual-in_err-give_back.ensures
-    (tries_does {T = ℕ} Freed (Err fault) w new c.args.engine.now c.give_back.new.engine t s reclaim_turn None said xs same
+    (tries_does {T = ℕ} Freed (Err fault) w new c.args.engine.now c.give_back.new.engine t s reclaim_turn None said refl xs same
     (reclaim_says now (reclaim_free t.base.image (ap (λ (b : Bool). when b (Access 1)) open_to) (found.test t tells is)) ∙ sym (unless_allowed now None (says now said xs) refl)) tt
     (tries_as (Unit {0}) ℕ fault w new c.args.engine.now c.give_back.new.engine t None xs
     (tries_after {T = Unit {0}} (Err fault) w mid new c.args.engine.now c.check.new.engine c.give_back.new.engine t None xs found.same found.quiet is
@@ -59,7 +59,7 @@ returns-clause-turn g c s t tells same is =
     let now = seeing s t.base in
     let said = Freed (length (leaked t.base.image)) in
     let xs = (reclaimed t.base.image).strokes in
-    tries_does Freed (Ok c.count.result) w new c.args.engine.now c.give_back.new.engine t s reclaim_turn None said xs same
+    tries_does Freed (Ok c.count.result) w new c.args.engine.now c.give_back.new.engine t s reclaim_turn None said refl xs same
     (reclaim_says now (reclaim_free t.base.image (ap (λ (b : Bool). when b (Access 1)) open_to) (found.test t tells is)) ∙ sym (unless_allowed now None (says now said xs) refl))
     (ap Freed (c.count.ensures ∙ ap length (found.leaked t tells is)))
     (tries_value tt c.count.result w new c.args.engine.now c.give_back.new.engine t None xs

@@ -13,15 +13,15 @@ returns-then-extent-le2 c image of page =
     let valid : IsTrue (is_page_size (image_size image)) = subst (λ (s : ℕ). IsTrue (is_page_size s)) of.size c.requires.size in
     sym (wrong_far image p (omega (arith, c.requires.past, of.count)) (place_few (image_size image) valid (p / entries_in (image_size image)) (length image) (omega (arith, c.if-extent-le2.true, of.count))))
 
-pub returns-then-number-extent : goal.returns-then-number-extent
-returns-then-number-extent c image of page =
+pub returns-then-number-each : goal.returns-then-number-each
+returns-then-number-each c image of page =
     let p : ℕ = c.args.number in
     let valid : IsTrue (is_page_size (image_size image)) = subst (λ (s : ℕ). IsTrue (is_page_size s)) of.size c.requires.size in
     let past : length image ≤ p = omega (arith, c.requires.past, of.count) in
     let more : 2 < length image = omega (arith, c.if-extent-le2.false, of.count) in
     let each : c.entries_in-each.result ≡ entries_in (image_size image) = c.entries_in-each.ensures.value ∙ ap entries_in of.size in
     sym (wrong_far image p past (place_other (image_size image) valid p (length image) past more (λ e.
-    c.if-number-extent.true (ap (λ (m : ℕ). p / m) each ∙ e ∙ sym (ap (λ (m : ℕ). (c.args.extent.count - 1) / m) each ∙ ap (λ (k : ℕ). (k - 1) / entries_in (image_size image)) of.count)))))
+    c.if-number-each.true (ap (λ (m : ℕ). p / m) each ∙ e ∙ sym (ap (λ (m : ℕ). (c.args.extent.count - 1) / m) each ∙ ap (λ (k : ℕ). (k - 1) / entries_in (image_size image)) of.count)))))
 
 pub returns : goal.returns
 returns c image of page =
@@ -32,7 +32,7 @@ returns c image of page =
     let each : c.entries_in-each.result ≡ entries_in (image_size image) = c.entries_in-each.ensures.value ∙ ap entries_in of.size in
     let last : (c.args.extent.count - 1) / entries_in (image_size image) ≡ (length image - 1) / entries_in (image_size image) = ap (λ (k : ℕ). (k - 1) / entries_in (image_size image)) of.count in
     let same : p / entries_in (image_size image) ≡ (length image - 1) / entries_in (image_size image) =
-    sym (ap (λ (m : ℕ). p / m) each) ∙ c.if-number-extent.false ∙ ap (λ (m : ℕ). (c.args.extent.count - 1) / m) each ∙ last in
+    sym (ap (λ (m : ℕ). p / m) each) ∙ c.if-number-each.false ∙ ap (λ (m : ℕ). (c.args.extent.count - 1) / m) each ∙ last in
     let at : scn_page_of image (c.args.extent.count - 1) ≡ scn_page_of image p = ap (scn_place (image_size image)) (last ∙ sym same) in
     let read : slice_index (entries c.args.entries.now) (p % c.entries_in-each.result) ≡ scn_entry image p =
     ap (λ (m : ℕ). slice_index (entries c.args.entries.now) (p % m)) c.entries_in-each.ensures.value

@@ -31,7 +31,7 @@ returns-then-entry-stamp c image of stamp page =
     let more : 2 < length image = omega (arith, c.if-extent-le2.false, of.count) in
     let below : n < length image = omega (arith, c.requires.below, of.count) in
     let read : c.entry-entry.result ≡ scn_entry image n =
-    c.entry-entry.ensures ∙ ap (λ (i : ℕ). get_or (entries c.args.entries.now) i 0) c.covers-_k.ensures.index ∙ entry_read image n (length c.args.entries.now) c.args.entries.now c.requires.size of.size refl (page more) in
+    c.entry-entry.ensures ∙ ap (λ (i : ℕ). get_or (entries c.args.entries.now) i 0) c.covers-k.ensures.index ∙ entry_read image n (length c.args.entries.now) c.args.entries.now c.requires.size of.size refl (page more) in
     sym (wrong_here image n has below (place_below (image_size image) valid n (length image) below more)
     ∙ ap (λ (t : Bool). t || nat_lt (image_scn image) (scn_entry image n)) (lt_yes (scn_entry image n) (stamp_of (page_at image n)) (omega (arith, c.if-entry-stamp.true, read, stamp))))
 
@@ -43,7 +43,7 @@ returns c image of stamp page =
     let more : 2 < length image = omega (arith, c.if-extent-le2.false, of.count) in
     let below : n < length image = omega (arith, c.requires.below, of.count) in
     let read : c.entry-entry.result ≡ scn_entry image n =
-    c.entry-entry.ensures ∙ ap (λ (i : ℕ). get_or (entries c.args.entries.now) i 0) c.covers-_k.ensures.index ∙ entry_read image n (length c.args.entries.now) c.args.entries.now c.requires.size of.size refl (page more) in
+    c.entry-entry.ensures ∙ ap (λ (i : ℕ). get_or (entries c.args.entries.now) i 0) c.covers-k.ensures.index ∙ entry_read image n (length c.args.entries.now) c.args.entries.now c.requires.size of.size refl (page more) in
     ap (λ (e : ℕ). nat_lt c.args.extent.scn e) read ∙ ap (λ (m : ℕ). nat_lt m (scn_entry image n)) of.scn
     ∙ sym (wrong_here image n has below (place_below (image_size image) valid n (length image) below more)
     ∙ ap (λ (t : Bool). t || nat_lt (image_scn image) (scn_entry image n)) (lt_no (scn_entry image n) (stamp_of (page_at image n)) (omega (arith, c.if-entry-stamp.false, read, stamp))))

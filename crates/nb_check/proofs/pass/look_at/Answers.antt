@@ -19,13 +19,13 @@ bit_inside : (size p : ℕ) → IsTrue (is_page_size size) → p % bits_in size 
 bit_inside size p valid = mod-lt p {m = bits_in size} (let some = bits-least size valid in omega (arith, some))
 
 pub returns-then-read_head-code-clause-broken : goal.returns-then-read_head-code-clause-broken
-returns-then-read_head-code-clause-broken c image of at entries first = c.first_of.ensures image first (c.fact_at-fact.ensures image of at entries)
+returns-then-read_head-code-clause-broken c image of at entries first = c.first_of-found.ensures image first (c.fact_at-fact.ensures image of at entries)
 
 pub returns-then-not-is_used-clause-broken : goal.returns-then-not-is_used-clause-broken
-returns-then-not-is_used-clause-broken c image of at entries first = c.first_of.ensures image first (c.fact_at-fact.ensures image of at entries)
+returns-then-not-is_used-clause-broken c image of at entries first = c.first_of-found.ensures image first (c.fact_at-fact.ensures image of at entries)
 
 pub returns-clause-broken : goal.returns-clause-broken
-returns-clause-broken c image of at entries first = c.first_of.ensures image first (c.fact_at-fact.ensures image of at entries)
+returns-clause-broken c image of at entries first = c.first_of-found.ensures image first (c.fact_at-fact.ensures image of at entries)
 
 pub returns-then-read_head-code-clause-taken : goal.returns-then-read_head-code-clause-taken
 returns-then-read_head-code-clause-taken c image of at map some held =

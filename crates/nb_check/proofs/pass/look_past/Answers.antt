@@ -15,14 +15,14 @@ overflow_mul-end c =
 pub loop-number-init : goal.loop-number-init
 loop-number-init c = record { broken = λ image of map entries first. first; taken = refl }
 
-pub fact_past-requires-clause-covered : goal.fact_past-requires-clause-covered
-fact_past-requires-clause-covered c = subst (λ (b : ℕ). c.loop-number.number < (c.args.extent.count / b + 1) * b) c.bits_in-bits.ensures.value c.loop-number-test.true
+pub fact_past-fact-requires-clause-covered : goal.fact_past-fact-requires-clause-covered
+fact_past-fact-requires-clause-covered c = subst (λ (b : ℕ). c.loop-number.number < (c.args.extent.count / b + 1) * b) c.bits_in-bits.ensures.value c.loop-number-test.true
 
 pub loop-number-preserved : goal.loop-number-preserved
 loop-number-preserved c = record {
   broken = λ image of map entries first.
       let covered = subst (λ (b : ℕ). c.loop-number.number < (c.args.extent.count / b + 1) * b) c.bits_in-bits.ensures.value c.loop-number-test.true in
-      c.first_of.ensures image (c.loop-number.invariant.broken image of map entries first)
+      c.first_of-found.ensures image (c.loop-number.invariant.broken image of map entries first)
       (c.fact_past-fact.ensures image of (map_on image (length c.args.map.now) c.args.extent c.requires.size of c.loop-number.number c.loop-number.auto.number covered c.args.map.now map) entries);
   taken = c.loop-number.invariant.taken;
 }

@@ -46,7 +46,9 @@ pub returns-then-extent-le1-clause-once : goal.returns-then-extent-le1-clause-on
 returns-then-extent-le1-clause-once g c tells = omega (arith, c.in_ok-read_first.ensures.once tells, c.in_ok-pass_pages.ensures.once tells, ap (λ (h : Held). h.files.count) c.in_ok-read_first.ensures.same)
 
 pub look_past-requires-clause-size : goal.look_past-requires-clause-size
-look_past-requires-clause-size g c = subst (λ (s : ℕ). IsTrue (is_page_size s)) (omega (arith, c.pass_pages.auto.map, c.read_first.auto.map, c.requires.map)) c.requires.size
+look_past-requires-clause-size g c =
+    let same : length c.args.page.now ≡ length c.pass_pages.new.map = omega (arith, c.pass_pages.auto.map, c.read_first.auto.map, c.requires.map) in
+    subst (λ (s : ℕ). IsTrue (is_page_size s)) same c.requires.size
 
 pub look_past-requires-clause-entries : goal.look_past-requires-clause-entries
 look_past-requires-clause-entries g c = omega (arith, c.pass_pages.auto.map, c.read_first.auto.map, c.requires.map, c.pass_pages.auto.entries, c.read_first.auto.entries, c.requires.entries)

@@ -14,5 +14,5 @@ loop-page-preserved c =
 pub returns-clause-ok : goal.returns-clause-ok
 unfolding pages_in
 returns-clause-ok c =
-    let all : c.loop-page.page ≡ room_of c.args.pages.now = omega (arith, c.loop-page-test.false, c.loop-page.auto.page-end, c.room.ensures.value) in
+    let all : c.loop-page.page ≡ room_of c.args.pages.now = omega (arith, c.loop-page-test.false, c.loop-page.auto.page-end, c.room-page-end.ensures.value) in
     c.loop-page.invariant ∙ ap (λ (n : ℕ). filter (has c.args.pages.now) (range_with_len 0 n)) all

@@ -18,7 +18,7 @@ unfolding pages_in
 returns-then-left-eq0 c =
     let test : ℕ → Bool = has c.args.pages.now in
     let at : c.args.i ≡ length (filter test (range_with_len 0 c.loop-page.page)) = omega (arith, c.loop-page.invariant, c.if-left-eq0.true) in
-    let low : c.loop-page.page < room_of c.args.pages.now = omega (arith, c.loop-page-test.true, c.room.ensures.value) in
+    let low : c.loop-page.page < room_of c.args.pages.now = omega (arith, c.loop-page-test.true, c.room-page-end.ensures.value) in
     sym (ap (slice_index (pages_in c.args.pages.now)) at ∙ listed test (room_of c.args.pages.now) c.loop-page.page low (sym c.has.ensures ∙ c.if-not-has.false))
 
 pub loop-page-preserved : goal.loop-page-preserved
@@ -29,6 +29,6 @@ loop-page-preserved c =
 pub returns : goal.returns
 unfolding pages_in
 returns c =
-    let all : c.loop-page.page ≡ room_of c.args.pages.now = omega (arith, c.loop-page-test.false, c.loop-page.auto.page-end, c.room.ensures.value) in
+    let all : c.loop-page.page ≡ room_of c.args.pages.now = omega (arith, c.loop-page-test.false, c.loop-page.auto.page-end, c.room-page-end.ensures.value) in
     let many = ap (λ (n : ℕ). length (filter (has c.args.pages.now) (range_with_len 0 n))) all in
     absurd (omega (arith, c.loop-page.invariant, many, c.requires))

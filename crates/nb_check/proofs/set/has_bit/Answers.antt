@@ -5,8 +5,8 @@ use Rattle.nb_check.specs.Sets.{has}
 use Rattle.nb_check.proofs.SetBits.{past}
 use Rattle.nb_check.proofs.set.has_bit.Goals as goal
 
-pub returns-then-at-len : goal.returns-then-at-len
-returns-then-at-len c = sym (past c.args.bytes.now c.args.page (omega arith))
+pub returns-then-at-bytes : goal.returns-then-at-bytes
+returns-then-at-bytes c = sym (past c.args.bytes.now c.args.page (omega arith))
 
 pub returns : goal.returns
 unfolding has

@@ -34,8 +34,8 @@ loop-slot-init g c = record {
   cause = refl;
 }
 
-pub slot_at-requires : goal.slot_at-requires
-slot_at-requires g c = slot_inside (length c.args.listed.now) c.slot_count-count.result c.loop-slot.slot c.slot_count-count.ensures c.loop-slot-test.true
+pub slot_at-bytes-requires : goal.slot_at-bytes-requires
+slot_at-bytes-requires g c = slot_inside (length c.args.listed.now) c.slot_count-count.result c.loop-slot.slot c.slot_count-count.ensures c.loop-slot-test.true
 
 pub loop-slot-preserved-then-use_of-ne1 : goal.loop-slot-preserved-then-use_of-ne1
 loop-slot-preserved-then-use_of-ne1 g c =

@@ -31,8 +31,8 @@ returns-in_err-leave_out_tables-clause-test g c t tells is =
     tested_on (Unit {0}) (Unit {0}) _ _ (chains_cause image (tables image)) (chains_cause image (chains image)) c.from_residual-in_err-leave_out_tables.ensures
     (λ r e. rest_cause image (first.test t tells is) (second.test t tells one) ∙ e) (c.in_err-leave_out_tables.ensures.test t tells two (first.test t tells is))
 
-pub leave_out-2-requires : goal.leave_out-2-requires
-leave_out-2-requires g c = omega (arith, c.in_ok-leave_out.ensures.sized, c.requires.size, ap (λ (h : Held). h.files.page_size) c.in_ok-leave_out.ensures.same)
+pub leave_out-requires-2 : goal.leave_out-requires-2
+leave_out-requires-2 g c = omega (arith, c.in_ok-leave_out.ensures.sized, c.requires.size, ap (λ (h : Held). h.files.page_size) c.in_ok-leave_out.ensures.same)
 
 pub leave_out_tables-requires-clause-size : goal.leave_out_tables-requires-clause-size
 leave_out_tables-requires-clause-size g c =

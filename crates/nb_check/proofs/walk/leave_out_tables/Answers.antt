@@ -10,7 +10,7 @@ use Rattle.nb_state.specs.Open.{Held}
 use Rattle.nb_engine.proofs.DoesLaws.{tested_on}
 use Rattle.nb_check.specs.Walks.{not_linked, chains_on}
 use Rattle.nb_check.proofs.ListLaws.{AreOut, chains_of_pages, tables, tables_begun, tables_more, tables_are, tables_broken}
-use Rattle.nb_check.proofs.WalkLaws.{walks_first, walks_broken, walks_split, walks_next, walks_all, walks_over}
+use Rattle.nb_check.proofs.WalkLaws.{so, walks_first, walks_broken, walks_split, walks_next, walks_all, walks_over}
 use Rattle.nb_check.proofs.walk.leave_out_tables.Goals as goal
 
 none_some : (r : Refusal) → None ≡ Some r → ⊥
@@ -59,9 +59,10 @@ returns-in_err-leave_out_listed-clause-test g c t tells is formed =
     let image = t.base.image in
     let reads : ℕ = (g.H.Host.world c.args.host.now).reads in
     let still = l.invariant.opened t tells is in
-    let walks = l.invariant.walks t tells is formed in
+    let was = l.invariant.walks t tells is formed in
+    let walks = so Catalogue image (Out image c.args.rest.now l.rest reads (g.H.Host.world l.host).reads) l.left l.number c.loop-left-test.true was in
     let split =
-    walks_split Catalogue image (Out image c.args.rest.now l.rest reads (g.H.Host.world l.host).reads) l.left l.number c.loop-left-test.true walks (c.in_ok-next.ensures.test t tells still) formed in
+    walks_split Catalogue image (Out image c.args.rest.now l.rest reads (g.H.Host.world l.host).reads) l.left l.number c.loop-left-test.true was (c.in_ok-next.ensures.test t tells still) formed in
     tested_on (Unit {0}) (Unit {0}) _ _ (chains_cause image (chains_on c.take_page.new.page)) (chains_cause image (tables image)) c.from_residual-in_err-leave_out_listed.ensures
     (λ r e. tables_broken image walks.seen l.number split.0 c.take_page.new.page r split.1 (c.in_ok-next.ensures.page t tells still) walks.is.formed e)
     (c.in_err-leave_out_listed.ensures.test t tells (c.in_ok-next.ensures.open t tells still))
