@@ -1,6 +1,6 @@
 -- Which facts an image breaks, and the first of them.
 use Rattle.std.proofs.Common.{◌≡◌, inl, inr, ℕ, zero, suc, ◌+◌, ◌-◌, ◌*◌, ◌/◌, ◌<◌, ◌≤◌, List, [], ◌∷◌, length, refl, sym, ap, ◌∙◌, arith}
-use Rattle.std.specs.Prelude.{IsTrue, Bool, true, false, Option, Some, None, ◌&&◌, ◌||◌, ◌==◌, not, nat_lt, nat_le}
+use Rattle.std.specs.Prelude.{IsTrue, true, false, Option, Some, None, ◌&&◌, ◌||◌, not, nat_lt, nat_le}
 use Rattle.std.specs.List.{AllByRecursion}
 use Rattle.std.proofs.Math.Nat.{lt-div-mul-add}
 use Rattle.std.proofs.lemmas.Bool.{and_parts, or_cases, ltb-true, eqb-true}
@@ -12,7 +12,7 @@ use Rattle.nb_model.specs.declared.fact.Fact.{Fact}
 use Rattle.nb_model.specs.declared.fact.Fact.TheVariants.{BlankPage, SystemPlace, TakenPast, LateStamp, WrongEntry, HeaderStamp}
 use Rattle.nb_check.specs.declared.facts.Broken.{Broken}
 use Rattle.nb_model.specs.Facts.{breaks, number_of, facts, first_from, first_broken, covered, unsound, is_entry_low, is_entry_late}
-use Rattle.nb_check.specs.Passes.{IsBefore, IsFirstBelow}
+use Rattle.nb_check.specs.Passes.{IsFirstBelow}
 use Rattle.nb_check.proofs.FirstLaws.{first_none, first_all, first_found, some_none}
 
 abbrev lowest : Image → Fact → Option ℕ

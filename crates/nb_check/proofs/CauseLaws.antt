@@ -1,6 +1,6 @@
 -- What a check and a reclaim do of their turns, by their causes.
-use Rattle.std.proofs.Common.{◌≡◌, ℕ, List, [], ◌∷◌, length, refl, ap, ◌∙◌}
-use Rattle.std.specs.Prelude.{Option, Some, None}
+use Rattle.std.proofs.Common.{◌≡◌, [], ◌∷◌, length, ap, ◌∙◌}
+use Rattle.std.specs.Prelude.{Some, None}
 use Rattle.nb_host.specs.declared.refusals.Refusal.{Refusal}
 use Rattle.nb_model.specs.declared.reply.Reply.TheVariants.{Leaked, Freed, Refused}
 use Rattle.nb_model.specs.Causes.{Cause, first_cause, read_only}

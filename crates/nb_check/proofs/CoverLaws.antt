@@ -1,14 +1,14 @@
 -- No page far behind the end breaks a fact: its bit and its entry stand behind the end too.
 use Rattle.std.proofs.Common.{◌≡◌, inl, inr, ℕ, zero, suc, ◌+◌, ◌-◌, ◌*◌, ◌/◌, ◌%◌, ◌<◌, ◌≤◌, length, refl, sym, ap, subst, ◌∙◌, arith, add-mul, mul-le-mul_right, suc-mul}
-use Rattle.std.specs.Prelude.{IsTrue, Bool, true, false, Option, Some, None, ◌&&◌, ◌||◌, ◌==◌, nat_le, nat_lt}
+use Rattle.std.specs.Prelude.{IsTrue, Bool, true, false, Option, Some, None, ◌&&◌, nat_le}
 use Rattle.std.proofs.Math.Nat.{mod-lt, mul_assoc}
 use Rattle.std.proofs.lemmas.Nat.{div-add-mod', div-mul-add}
 use Rattle.std.proofs.lemmas.Bool.{and_left, cases_lt}
 use Rattle.nb_fields.specs.Places.{is_page_size, bits_in, entries_in, inventory_place, scn_place}
 use Rattle.nb_fields.proofs.PlaceLemmas.{entries-least, bits-least}
 use Rattle.nb_model.specs.Image.{Page, Image, page_at, image_size}
-use Rattle.nb_model.specs.Forms.{inventory_of, scn_page_of, is_free_page}
-use Rattle.nb_model.proofs.ReadLaws.{eq_no, lt_no, le_no}
+use Rattle.nb_model.specs.Forms.{inventory_of, scn_page_of}
+use Rattle.nb_model.proofs.ReadLaws.{lt_no}
 use Rattle.nb_model.specs.declared.fact.Fact.{Fact}
 use Rattle.nb_model.specs.declared.fact.Fact.TheVariants.{BlankPage, SystemPlace, TakenPast, LateStamp, WrongEntry, HeaderStamp}
 use Rattle.nb_check.specs.declared.facts.Broken.{Broken}

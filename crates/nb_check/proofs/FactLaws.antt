@@ -1,7 +1,7 @@
 -- Which is the lowest fact that one page breaks.
-use Rattle.std.proofs.Common.{◌≡◌, ◌↔◌, ℕ, ◌+◌, ◌*◌, ◌/◌, ◌%◌, ◌<◌, ◌≤◌, length, get_or, refl, sym, ap, subst, ◌∙◌, arith}
-use Rattle.std.specs.Prelude.{IsTrue, Bool, true, false, Option, Some, None, ◌&&◌, ◌||◌, ◌==◌, not, nat_lt, nat_le}
-use Rattle.std.proofs.lemmas.Bool.{and_left, and_from}
+use Rattle.std.proofs.Common.{◌≡◌, ◌↔◌, ℕ, ◌%◌, ◌<◌, ◌≤◌, length, get_or, refl, sym, ap, subst, ◌∙◌, arith}
+use Rattle.std.specs.Prelude.{IsTrue, Bool, true, false, Some, None, ◌&&◌, ◌||◌, ◌==◌, not, nat_lt}
+use Rattle.std.proofs.lemmas.Bool.{and_left}
 use Rattle.std.proofs.lemmas.Nat.Bits.{bit_at-lt}
 use Rattle.nb_fields.specs.Bytes.{is_zeros}
 use Rattle.nb_fields.specs.Page.{kind_of, stamp_of}

@@ -1,15 +1,14 @@
 -- A page of a sound image is given back: its bit says free then, and every other bit is as it was, before and behind the entry of its inventory page.
-use Rattle.std.proofs.Common.{◌≡◌, ◌≢◌, inl, inr, ℕ, ◌+◌, ◌/◌, ◌%◌, ◌<◌, ◌≤◌, List, length, drop, refl, sym, ap, subst, ◌∙◌, arith}
-use Rattle.std.specs.Prelude.{Bool, true, false, ◌==◌}
+use Rattle.std.proofs.Common.{◌≡◌, ◌≢◌, inl, inr, ℕ, ◌+◌, ◌/◌, ◌%◌, ◌<◌, ◌≤◌, length, drop, sym, ap, subst, ◌∙◌, arith}
+use Rattle.std.specs.Prelude.{true, false, ◌==◌}
 use Rattle.std.proofs.lemmas.Bool.Decides.{eqb_tells}
 use Rattle.nb_fields.specs.Payloads.{bit_of}
-use Rattle.nb_fields.specs.Places.{bits_in, entries_in, inventory_place, is_inventory_place, is_scn_place, is_system_place}
+use Rattle.nb_fields.specs.Places.{bits_in, entries_in, inventory_place, is_scn_place, is_system_place}
 use Rattle.nb_fields.proofs.PlaceLemmas.{bits-least}
 use Rattle.nb_fields.proofs.SizeLemmas.{SizeFacts, size_facts}
 use Rattle.nb_model.specs.Account.{Base, base_of}
-use Rattle.nb_model.specs.Forms.{Draft, drafted, old_page, put, raised, give_page, is_kind, is_free_page, inventory_of, scn_page_of, bit_number, with_bit}
+use Rattle.nb_model.specs.Forms.{Draft, drafted, old_page, put, raised, give_page, is_free_page, inventory_of, bit_number, with_bit}
 use Rattle.nb_model.specs.Image.{Page, Image, page_at, image_size, image_scn}
-use Rattle.nb_model.specs.Strokes.{Stroke, base_after}
 use Rattle.nb_model.proofs.Along.{Along, put_along}
 use Rattle.nb_model.proofs.BitLaws.{bit_here, bit_else, bit_behind, one_bit, with_bit_length}
 use Rattle.nb_model.proofs.BitSound.{bit_put}
@@ -18,7 +17,7 @@ use Rattle.nb_model.proofs.HeldLaws.{set_bit_is}
 use Rattle.nb_model.proofs.NewSound.{places_apart}
 use Rattle.nb_model.proofs.PutSound.{IsPlace, Raises, is_raised}
 use Rattle.nb_model.proofs.RoomLaws.{old_there}
-use Rattle.nb_model.proofs.RoundLaws.{AnyPage, no_place, bit_by, kind_found, raises, put_here, put_other, put_long, put_inventory}
+use Rattle.nb_model.proofs.RoundLaws.{AnyPage, no_place, bit_by, kind_found, raises, put_here, put_long, put_inventory}
 use Rattle.nb_model.proofs.SoundLaws.{all_at, inventory_there, inventory_place_some, scn_page_there}
 use Rattle.nb_model.proofs.TableDrafts.{bit_inventory, bit_size, bit_plain}
 

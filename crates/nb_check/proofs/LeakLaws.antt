@@ -1,42 +1,35 @@
 -- Leaked pages are given back one after the other, in rising order.
-use Rattle.std.proofs.Common.{◌≡◌, ◌≢◌, inl, inr, ℕ, zero, suc, ◌+◌, ◌-◌, ◌<◌, ◌≤◌, List, [], ◌∷◌, ◌++◌, length, refl, sym, ap, subst, append_assoc, ◌∙◌, arith}
-use Rattle.std.specs.Prelude.{Bool, true, false, not, cond, ◌&&◌, ◌||◌, ◌==◌, Some, None, Ok, Err}
+use Rattle.std.proofs.Common.{◌≡◌, ℕ, zero, suc, ◌+◌, ◌-◌, ◌<◌, ◌≤◌, List, [], ◌∷◌, ◌++◌, length, refl, sym, ap, subst, append_assoc, ◌∙◌, arith}
+use Rattle.std.specs.Prelude.{Bool, true, false, cond, None, Ok, Err}
 use Rattle.std.specs.List.{filter, range_with_len}
-use Rattle.std.proofs.lemmas.Bool.{and_parts, cases_Bool, true≢false, eqb-true, or_cases}
 use Rattle.std.proofs.lemmas.List.{append-nil}
-use Rattle.nb_fields.specs.Page.{kind_of}
-use Rattle.nb_fields.specs.Places.{is_inventory_place, is_scn_place, is_system_place}
+use Rattle.nb_fields.specs.Places.{is_system_place}
 use Rattle.nb_host.specs.World.{World}
 use Rattle.nb_host.specs.declared.faults.Fault.{Fault}
-use Rattle.nb_host.specs.declared.refusals.Refusal.{Refusal}
 use Rattle.nb_page.specs.Quiet.{Quiet}
 use Rattle.nb_change.proofs.ReachedLaws.{after_all-joined}
 use Rattle.nb_model.specs.Account.{base_of}
-use Rattle.nb_model.specs.Causes.{Cause}
 use Rattle.nb_model.specs.Forms.{Draft, drafted, give_page}
-use Rattle.nb_model.specs.Image.{Page, Image, page_at, first_page, image_size}
+use Rattle.nb_model.specs.Image.{Image, image_size}
 use Rattle.nb_model.specs.Sound.{HasHeader, IsSoundImage}
 use Rattle.nb_model.specs.Strokes.{Stroke}
 use Rattle.nb_model.specs.Tables.{all_given}
 use Rattle.nb_model.specs.Trail.{Trail, after_stroke}
 use Rattle.nb_model.proofs.DraftLaws.{IsOf, drafted_is, drafts_are, set_bit_keeps}
-use Rattle.nb_model.proofs.DropTurns.{join_given}
-use Rattle.nb_model.proofs.FitLaws.{IsWhole, Fits, fits_first}
+use Rattle.nb_model.proofs.FitLaws.{IsWhole, fits_first}
 use Rattle.nb_model.proofs.LeakTurns.{leaked_plain, leaked_two, given_first}
 use Rattle.nb_model.proofs.BitSound.{bit_put}
 use Rattle.nb_model.proofs.PutSound.{header_whole}
 use Rattle.nb_model.proofs.RoundLaws.{AnyPage}
-use Rattle.nb_model.proofs.SoundLaws.{header_kind}
 use Rattle.nb_model.proofs.TableDrafts.{bit_inventory, bit_longer, bit_size}
 use Rattle.nb_base.specs.Takes.{after_strokes, IsNoRefusal}
 use Rattle.nb_state.specs.Open.{Held, IsOpen}
-use Rattle.nb_state.specs.Does.{Makes, unless_by}
+use Rattle.nb_state.specs.Does.{Makes}
 use Rattle.nb_state.proofs.MakesLaws.{makes_none, makes_then, makes_front}
 use Rattle.nb_engine.specs.Tries.{Tries}
-use Rattle.nb_engine.proofs.DoesLaws.{unless_none, tries_made}
+use Rattle.nb_engine.proofs.DoesLaws.{tries_made}
 use Rattle.nb_engine.proofs.NewLaws.{image_is}
-use Rattle.nb_engine.proofs.WhereLaws.{sure_of, makes_as, makes_valued}
-use Rattle.nb_model.specs.Leaks.{is_among, is_leaked, leaked, is_taken_data, reached}
+use Rattle.nb_model.specs.Leaks.{is_leaked, leaked}
 
 -- the leaked pages from page n on
 abbrev pub leaked_from : Image → (n : ℕ) → List ℕ

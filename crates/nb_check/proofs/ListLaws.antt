@@ -1,6 +1,6 @@
 -- The chains of the tables that the catalogue names, slot by slot and page by page.
-use Rattle.std.proofs.Common.{◌≡◌, ℕ, suc, ◌+◌, ◌-◌, ◌*◌, ◌/◌, ◌<◌, ◌≤◌, List, [], ◌∷◌, ◌++◌, length, refl, sym, ap, subst, ◌∙◌, arith, append_assoc, length-append}
-use Rattle.std.specs.Prelude.{Bool, true, false, Option, Some, None}
+use Rattle.std.proofs.Common.{◌≡◌, ℕ, ◌+◌, ◌-◌, ◌*◌, ◌/◌, ◌<◌, ◌≤◌, List, [], ◌∷◌, ◌++◌, length, refl, sym, ap, subst, ◌∙◌, arith, append_assoc, length-append}
+use Rattle.std.specs.Prelude.{Bool, true, false, Some, None}
 use Rattle.std.proofs.lemmas.List.{append-nil}
 use Rattle.nb_fields.specs.Bytes.{part}
 use Rattle.nb_host.specs.declared.refusals.Refusal.{Refusal}

@@ -7,7 +7,7 @@ use Rattle.std.proofs.lemmas.Bool.{and_parts, or_cases, leb-true, eqb-true, case
 use Rattle.std.proofs.lemmas.List.{get_or_past}
 use Rattle.std.proofs.lemmas.List.Sums.{AllPass-from_list_all}
 use Rattle.std.proofs.lemmas.Str.{IsUtf8-from_ascii}
-use Rattle.nb_model.specs.TableNames.{is_table_name, is_table_byte, is_letter}
+use Rattle.nb_model.specs.TableNames.{is_table_name, is_table_byte}
 
 between : (b low high : ℕ) → high < 128 → (nat_le low b && nat_le b high) ≡ true → b < 128
 between b low high h e = omega (arith, leb-true b high (and_parts (nat_le low b) (nat_le b high) e).1, h)

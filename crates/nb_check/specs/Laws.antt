@@ -1,5 +1,5 @@
 -- What is true of a check and of a reclaim, whoever asks for them.
-use Rattle.std.specs.Prelude.{◌≡◌, ℕ, ◌<◌, List, [], drop, take, length, None, true, false}
+use Rattle.std.specs.Prelude.{◌≡◌, ℕ, ◌<◌, List, [], drop, take, length, None, false}
 use Rattle.nb_fields.specs.Places.{is_system_place}
 use Rattle.nb_model.specs.Account.{Base}
 use Rattle.nb_model.specs.Chains.{History, spots}

@@ -3,7 +3,7 @@ use Rattle.std.specs.Prelude.{ℕ, List, not}
 use Rattle.nb_host.specs.declared.refusals.Refusal.TheVariants.{NotDatabase}
 use Rattle.nb_model.specs.Image.{Page, Image}
 use Rattle.nb_model.specs.Causes.{Cause, when}
-use Rattle.nb_model.specs.Chains.{Chain, Catalogue, History, RowsFrom, Spot, is_in_chain, slots_in, spots_on}
+use Rattle.nb_model.specs.Chains.{Chain, Catalogue, History, RowsFrom, is_in_chain, slots_in, spots_on}
 use Rattle.nb_model.specs.Rows.{used, table_chains}
 use Rattle.nb_check.specs.declared.walk.Chain as walk
 use Rattle.nb_check.specs.declared.walk.Chain.TheVariants.{Tables, Backups, Rows}

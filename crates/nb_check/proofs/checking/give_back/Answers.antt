@@ -1,5 +1,5 @@
-use Rattle.std.proofs.Common.{◌≡◌, ℕ, ◌<◌, ◌≤◌, List, length, refl, sym, ap, subst, ◌∙◌, arith}
-use Rattle.std.specs.Prelude.{Bool, true, false, None, Ok, Err}
+use Rattle.std.proofs.Common.{◌≡◌, ℕ, ◌<◌, List, length, refl, sym, ap, subst, ◌∙◌, arith}
+use Rattle.std.specs.Prelude.{Bool, None, Ok}
 use Rattle.nb_page.proofs.QuietLemmas.{quiet_begun}
 use Rattle.nb_model.specs.Checks.{reclaimed}
 use Rattle.nb_model.specs.Forms.{drafted, give_page}

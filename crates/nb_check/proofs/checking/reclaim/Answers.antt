@@ -1,11 +1,10 @@
-use Rattle.std.proofs.Common.{◌≡◌, ℕ, List, length, refl, sym, ap, subst, ◌∙◌, arith}
-use Rattle.std.specs.Prelude.{Bool, true, false, Ok, Err, Some, None}
+use Rattle.std.proofs.Common.{ℕ, List, length, refl, sym, ap, ◌∙◌}
+use Rattle.std.specs.Prelude.{Bool, Ok, Err, None}
 use Rattle.nb_host.specs.declared.refusals.Refusal.TheVariants.{Access}
 use Rattle.nb_page.proofs.QuietLemmas.{quiet_begun}
 use Rattle.nb_model.specs.declared.reply.Reply.TheVariants.{Freed}
-use Rattle.nb_model.specs.Causes.{read_only, when}
-use Rattle.nb_model.specs.Image.{is_read_only}
-use Rattle.nb_model.specs.Outcomes.{Seen, says}
+use Rattle.nb_model.specs.Causes.{when}
+use Rattle.nb_model.specs.Outcomes.{says}
 use Rattle.nb_state.proofs.MakesLaws.{goes_on, goes_nowhere}
 use Rattle.nb_engine.proofs.CauseLaws.{unless_allowed}
 use Rattle.nb_engine.proofs.DoesLaws.{seeing, refused_does, tested_does, tries_passed, tries_after, tries_does}

@@ -1,11 +1,11 @@
-use Rattle.std.proofs.Common.{◌≡◌, ℕ, ◌+◌, ◌*◌, ◌/◌, ◌%◌, ◌<◌, ◌≤◌, length, refl, sym, ap, subst, ◌∙◌, arith}
+use Rattle.std.proofs.Common.{◌≡◌, ℕ, ◌%◌, ◌<◌, length, refl, sym, ◌∙◌, arith}
 use Rattle.std.specs.Prelude.{IsTrue, true, false, not}
 use Rattle.std.proofs.Math.Nat.{mod-lt}
 use Rattle.nb_fields.specs.Places.{is_page_size, bits_in}
 use Rattle.nb_fields.proofs.PlaceLemmas.{bits-least}
-use Rattle.nb_model.specs.Image.{Image, image_size}
+use Rattle.nb_model.specs.Image.{Image}
 use Rattle.nb_model.specs.Facts.{breaks}
-use Rattle.nb_model.specs.Forms.{inventory_of, is_free_page}
+use Rattle.nb_model.specs.Forms.{is_free_page}
 use Rattle.nb_model.specs.declared.fact.Fact.TheVariants.{WrongEntry}
 use Rattle.nb_check.specs.declared.facts.Extent.{Extent}
 use Rattle.nb_check.specs.Passes.{IsOf}

@@ -1,6 +1,4 @@
-use Rattle.std.proofs.Common.{◌≡◌, ℕ, ◌+◌, ◌*◌, ◌/◌, ◌<◌, ◌≤◌, length, sym, ap, subst, refl, ◌∙◌, arith}
-use Rattle.nb_fields.specs.Places.{bits_in}
-use Rattle.nb_fields.proofs.PlaceLemmas.{bits-least}
+use Rattle.std.proofs.Common.{◌≡◌, ℕ, ◌+◌, ◌*◌, ◌/◌, ◌<◌, length, ap, subst, refl, ◌∙◌, arith}
 use Rattle.nb_fields.proofs.SizeLemmas.{size_facts}
 use Rattle.nb_check.specs.Passes.{IsFirstBelow}
 use Rattle.nb_check.proofs.CoverLaws.{group_most, map_on}

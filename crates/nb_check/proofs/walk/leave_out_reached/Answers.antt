@@ -1,5 +1,4 @@
-use Rattle.std.proofs.Common.{◌≡◌, ap, ◌∙◌, arith}
-use Rattle.std.specs.Prelude.{None}
+use Rattle.std.proofs.Common.{ap, ◌∙◌, arith}
 use Rattle.nb_model.specs.Causes.{broken_at}
 use Rattle.nb_model.specs.Chains.{Catalogue, History, pages_of}
 use Rattle.nb_model.specs.Checks.{chains_cause}
