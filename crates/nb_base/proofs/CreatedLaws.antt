@@ -5,6 +5,7 @@ use Rattle.std.specs.Result.{IsErrAnd}
 use Rattle.std.proofs.lemmas.Result.{err_from_is_err_and}
 use Rattle.nb_fields.specs.Places.{is_page_size}
 use Rattle.nb_fields.specs.Fresh.{fresh}
+use Rattle.nb_host.specs.Files.{Files}
 use Rattle.nb_host.specs.World.{World}
 use Rattle.nb_host.specs.declared.faults.Fault.{Fault}
 use Rattle.nb_host.specs.declared.faults.Fault.TheVariants.{Device}
@@ -21,7 +22,7 @@ use Rattle.nb_model.proofs.FreshImageLaws.{fresh_main, fresh_size, fresh_state}
 use Rattle.nb_model.proofs.MainLaws.{main_facts}
 use Rattle.nb_base.proofs.FirmLaws.{shows_firm}
 use Rattle.nb_base.specs.Open.{Held}
-use Rattle.nb_base.specs.Beginnings.{CreateLeft, CreatesFile, Creates, IsSettled}
+use Rattle.nb_base.specs.Beginnings.{CreateLeft, CreateReads, CreatesFile, Creates, IsSettled}
 
 -- a test that changed nothing leaves what stood before
 pub quiet_left : (old new : World) (name : List ℕ) (image : Image) → Quiet old new → Changes old new (Only name) (CreateLeft old name image)
@@ -33,6 +34,10 @@ quiet_then old mid new name image quiet so_far =
     composed old mid new (Only name) _ _ _ (quiet_left old mid name image quiet) so_far (λ files left. left)
     (λ files. ⊎_elim (λ was. inl (left_before old mid _ quiet.still.left name (files name) tt was)) inr)
 
+-- so it is of what reads
+pub quiet_then_reads : (old mid : World) (name : List ℕ) (image : Image) (files : Files) → Quiet old mid → CreateReads mid name image files → CreateReads old name image files
+quiet_then_reads old mid name image files quiet = ⊎_elim (λ same. inl (same ∙ ap (λ (f : Files). f name) quiet.still.files)) inr
+
 -- a name that is free isn't taken
 pub not_taken : (old new : World) (name : List ℕ) (free : Bool) → free ≡ true → free ≡ is_free_name old.files name → is_free_name old.files name ≡ false → Quiet old new
 not_taken old new name free told is taken = absurd (true_false (sym told ∙ is ∙ taken))
@@ -42,10 +47,10 @@ not_taken old new name free told is taken = absurd (true_false (sym told ∙ is 
 
 -- the device failed
 pub failed : (result : Result ℕ Fault) (old new : World) (name : List ℕ) (image : Image) → IsErrAnd result (λ fault. fault ≡ Device) → Changes old new (Only name) (CreateLeft old name image)
-    → (is_free_name old.files name ≡ false → Quiet old new) → CreatesFile result old new name image
-failed result old new name image gives so_far taken =
+    → CreateReads old name image new.files → (is_free_name old.files name ≡ false → Quiet old new) → CreatesFile result old new name image
+failed result old new name image gives so_far reads taken =
     let error = err_from_is_err_and {Q = λ (fault : Fault). fault ≡ Device} result gives in
-    subst (λ (r : Result ℕ Fault). CreatesFile r old new name image) (sym (error.1 ∙ ap Err error.2)) (record { answer = tt; left = so_far; taken = taken })
+    subst (λ (r : Result ℕ Fault). CreatesFile r old new name image) (sym (error.1 ∙ ap Err error.2)) (record { answer = tt; left = so_far; reads = reads; taken = taken })
 
 -- what is held of a new database agrees with it
 pub created : (size raw : ℕ) → IsTrue (is_page_size size) → raw ≤ 65535 → (long : ℕ) → long ≡ size → (old new : World) (name : List ℕ) (held : Held) → held.name ≡ name → held.page_size ≡ size → held.state ≡ 0 → held.entries ≡ [] → held.drafted ≡ 0
@@ -74,6 +79,7 @@ created size raw is few long same old new name held named sized normal none none
         },
       );
       left = makes.left;
+      reads = makes.reads;
       gave = gave;
       taken = makes.taken;
     }

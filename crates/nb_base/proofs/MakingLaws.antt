@@ -1,6 +1,6 @@
 -- The file of a new database while it is made: until page 0 is written it has no header, whatever a stop leaves of it.
 use Rattle.std.proofs.Common.{◌≡◌, ◌≢◌, ◌⊎◌, inl, inr, ⊎_elim, ℕ, zero, suc, ◌+◌, ◌-◌, ◌*◌, ◌≤◌, List, [], ◌∷◌, ◌++◌, length, take, drop, replicate, refl, sym, ◌∙◌, ap, subst, arith, length-append}
-use Rattle.std.specs.Prelude.{Bool, true, IsTrue, ◌||◌, ◌==◌, Some, None, Result, Ok, OnOk}
+use Rattle.std.specs.Prelude.{Bool, true, IsTrue, ◌||◌, ◌==◌, Some, None, Result, Ok, Err, OnOk}
 use Rattle.std.proofs.lemmas.Bool.{and_parts, and_from}
 use Rattle.std.proofs.lemmas.List.{take-append-le, take-take, length-take-le, length-replicate}
 use Rattle.nb_fields.specs.Bytes.{is_zeros}
@@ -10,7 +10,7 @@ use Rattle.nb_fields.specs.Free.{is_free_file, is_unfinished}
 use Rattle.nb_host.specs.Files.{File, Files, bytes_of, padded, put_at, with_file, with_page}
 use Rattle.nb_host.specs.World.{World}
 use Rattle.nb_host.specs.Crash.{Leaves, LeavesAll, PageLeft, IsDurable, Untouched}
-use Rattle.nb_host.specs.Calls.{Remakes, WritesPage, Syncs, IsSilent}
+use Rattle.nb_host.specs.Calls.{WholeOrNot, Remakes, WritesPage, Syncs, IsSilent}
 use Rattle.nb_host.specs.Moments.{Passes, IsTimely}
 use Rattle.nb_change.specs.Changes.{Changes, Only}
 use Rattle.nb_change.specs.Gave.{GaveNothing}
@@ -23,7 +23,7 @@ use Rattle.nb_model.specs.Image.{Image}
 use Rattle.nb_model.specs.Account.{base_of}
 use Rattle.nb_model.specs.Owner.{owner, delta_name}
 use Rattle.nb_model.specs.Trail.{ShowsIn}
-use Rattle.nb_base.specs.Beginnings.{CreateLeft, IsSettled}
+use Rattle.nb_base.specs.Beginnings.{CreateLeft, CreateReads, IsSettled}
 use Rattle.nb_base.proofs.CreateLaws.{HasRest, named, whole_shows}
 
 -- the bytes where a header would stand are zeros, or there are fewer
@@ -69,11 +69,18 @@ blank-left at page b c far (inl same) h = blank-same b c same h
 blank-left at page b c far (inr (inl put)) h = blank-same (with_page b at page) c put (blank-put at page b far h)
 blank-left at page b c far (inr (inr (k, fits, grown))) h = blank-grown (k * length page) b c grown h
 
+-- a file that was changed, whole or not, reads as before, or as it was to be
+own_reads : {T E : Type 0} (result : Result T E) (old new : Files) (name : List ℕ) (file : File) → WholeOrNot result old (with_file old name file) new → (new name ≡ old name) ⊎ (new name ≡ file)
+own_reads (Ok value) old new name file is = inr (named old new name file is)
+own_reads (Err e) old new name file (inl same) = inl (ap (λ (f : Files). f name) same)
+own_reads (Err e) old new name file (inr done) = inr (named old new name file done)
+
 -- The new file has no header yet, and is the only one that was touched.
 pub record Making (old w : World) (name : List ℕ) (image : Image) : Type 0 where
   pub so_far : Changes old w (Only name) (CreateLeft old name image)
   pub back : (c : File) → w.back name c → Leaves old name c
   pub blank : (c : File) → w.now name c → IsBlank c
+  pub reads : IsBlank (w.files name)
 
 module _ (name : List ℕ) (image : Image) where
   -- one call more that touches the new file alone
@@ -83,11 +90,12 @@ module _ (name : List ℕ) (image : Image) where
 
   -- one call more that leaves it blank
   blank_more : (old mid new : World) → Changes old mid (Only name) (CreateLeft old name image) → Passes mid new → IsSilent mid new → Untouched mid new (λ m. m ≢ name)
-      → ((n : List ℕ) → n ≢ name → new.files n ≡ mid.files n) → ((c : File) → new.back name c → Leaves old name c) → ((c : File) → new.now name c → IsBlank c) → Making old new name image
-  blank_more old mid new so_far time silent others read back blank = record {
+      → ((n : List ℕ) → n ≢ name → new.files n ≡ mid.files n) → ((c : File) → new.back name c → Leaves old name c) → ((c : File) → new.now name c → IsBlank c) → IsBlank (new.files name) → Making old new name image
+  blank_more old mid new so_far time silent others read back blank reads = record {
     so_far = call_more old mid new so_far time silent others read (λ files left. ⊎_elim (λ b. inl (back (files name) b)) (λ n. inr (inl (blank-free (files name) (blank (files name) n)))) (left name));
     back = back;
     blank = blank;
+    reads = reads;
   }
 
   not_begun : (old : World) → IsTimely old → Changes old old (Only name) (CreateLeft old name image)
@@ -100,11 +108,19 @@ module _ (name : List ℕ) (image : Image) where
       call_more old old new (not_begun old timely) time silent is.others (whole-other result old.files new.files name (Some []) (is.files so))
       (λ files left. ⊎_elim (λ b. inl (is.back (files name) b)) (λ n. ⊎_elim (λ l. inl l) (λ e. inr (inl (blank-free (files name) (blank-empty (files name) e)))) (is.now (files name) n)) (left name))
 
+  -- and so it reads
+  pub made_reads : {T E : Type 0} (tells : Bool) (result : Result T E) (old new : World) → IsTrue tells → Remakes tells result old new name (Some []) → CreateReads old name image new.files
+  made_reads tells result old new so is = ⊎_elim inl (λ e. inr (inl (blank-free (new.files name) (blank-empty (new.files name) e)))) (own_reads result old.files new.files name (Some []) (is.files so))
+
+  -- a file without a header reads as one whose name is free
+  pub making_reads : (old w : World) → Making old w name image → CreateReads old name image w.files
+  making_reads old w making = inr (inl (blank-free (w.files name) making.reads))
+
   -- and the making has begun
   pub making_begun : {T E : Type 0} (tells : Bool) (value : T) (old new : World) → IsTrue tells → IsTimely old → Remakes {T = T} {E = E} tells (Ok value) old new name (Some []) → IsSilent old new → Passes old new → Making old new name image
   making_begun {T} {E} tells value old new so timely is silent time =
       blank_more old old new (not_begun old timely) time silent is.others (whole-other {T = T} {E = E} (Ok value) old.files new.files name (Some []) (is.files so)) is.back
-      (λ c n. blank-empty c (is.done c n))
+      (λ c n. blank-empty c (is.done c n)) (blank-empty (new.files name) (named old.files new.files name (Some []) (is.files so)))
 
   -- a page behind page 0 is written, also where that fails
   pub page_more : {T E : Type 0} (tells : Bool) (result : Result T E) (old mid new : World) (at : ℕ) (page : List ℕ) → IsTrue tells → 64 ≤ at → Making old mid name image → WritesPage tells result mid new name at page → IsSilent mid new
@@ -112,12 +128,17 @@ module _ (name : List ℕ) (image : Image) where
   page_more tells result old mid new at page so far making is silent time =
       blank_more old mid new making.so_far time silent is.left.others (whole-other result mid.files new.files name _ (is.files so)) (λ c b. making.back c (is.left.back c b))
       (λ c n. let from = is.left.now c n in blank-left at page from.0 c far from.2 (making.blank from.0 from.1))
+      (⊎_elim
+      (λ same. blank-same (mid.files name) (new.files name) same making.reads)
+      (λ put. blank-same (with_page (mid.files name) at page) (new.files name) put (blank-put at page (mid.files name) far making.reads))
+      (own_reads result mid.files new.files name (with_page (mid.files name) at page) (is.files so)))
 
   -- the file is synced, also where that fails
   pub synced : {T E : Type 0} (tells : Bool) (result : Result T E) (old mid new : World) → Making old mid name image → Syncs tells result mid new name → IsSilent mid new → Passes mid new → Making old new name image
   synced tells result old mid new making is silent time =
       blank_more old mid new making.so_far time silent (untouched_fewer mid new _ _ is.still.left (λ n other. tt)) (λ n other. ap (λ (f : Files). f n) is.still.files)
       (λ c b. making.back c (is.still.left.back name c tt b)) (λ c n. making.blank c (is.still.left.now name c tt n))
+      (blank-same (mid.files name) (new.files name) (ap (λ (f : Files). f name) is.still.files) making.reads)
 
   -- the whole file is synced, also where that fails
   pub synced_whole : {T E : Type 0} (tells : Bool) (result : Result T E) (old mid new : World) → Changes old mid (Only name) (CreateLeft old name image) → Syncs tells result mid new name → IsSilent mid new → Passes mid new
@@ -163,6 +184,22 @@ first_page tells result old mid new name size raw page so page_is kept is silent
     by b c d n (inl same) = inl (blank-free c (blank-same b c same (kept.making.blank b n)))
     by b c d n (inr (inl put)) = inr (subst (λ (x : File). owner name x d ≡ Ok (base_of (fresh size raw))) (sym (put ∙ ap (λ (x : File). with_page x (0 * length page) page) (kept.durable.only b n))) (kept.whole page page_is d))
     by b c d n (inr (inr (k, fits, grown))) = inl (blank-free c (blank-grown (k * length page) b c grown (kept.making.blank b n)))
+
+-- and so it reads
+pub first_page_reads : {T E : Type 0} (tells : Bool) (result : Result T E) (old mid new : World) (name : List ℕ) (size raw : ℕ) (page : List ℕ) → IsTrue tells → page ≡ fresh_page size raw 0 → KeepsRest old mid name size raw
+    → WritesPage tells result mid new name (0 * length page) page → CreateReads old name (fresh size raw) new.files
+first_page_reads tells result old mid new name size raw page so page_is kept is = by (own_reads result mid.files new.files name (with_page (mid.files name) (0 * length page) page) (is.files so))
+  where
+    whole : new.files name ≡ with_page kept.file (0 * length page) page → ShowsIn name (base_of (fresh size raw)) new.files
+    whole put = subst (λ (x : File). owner name x (new.files (delta_name name)) ≡ Ok (base_of (fresh size raw))) (sym put) (kept.whole page page_is (new.files (delta_name name)))
+
+    by : (new.files name ≡ mid.files name) ⊎ (new.files name ≡ with_page (mid.files name) (0 * length page) page) → CreateReads old name (fresh size raw) new.files
+    by (inl same) = inr (inl (blank-free (new.files name) (blank-same (mid.files name) (new.files name) same kept.making.reads)))
+    by (inr put) = inr (inr (whole (put ∙ ap (λ (x : File). with_page x (0 * length page) page) kept.reads)))
+
+-- a sync changes nothing of that
+pub synced_reads : {T E : Type 0} (tells : Bool) (result : Result T E) (old mid new : World) (name : List ℕ) (image : Image) → CreateReads old name image mid.files → Syncs tells result mid new name → CreateReads old name image new.files
+synced_reads tells result old mid new name image reads is = subst (CreateReads old name image) (sym is.still.files) reads
 
 -- after the last sync nothing but the new database is left
 pub settled : {T E : Type 0} (tells : Bool) (result : Result T E) (old mid written new : World) (name : List ℕ) (size raw : ℕ) (page : List ℕ) → IsTrue tells → page ≡ fresh_page size raw 0 → KeepsRest old mid name size raw

@@ -35,6 +35,10 @@ Attaches (Err Memory) old new name = Unit {0}
 abbrev pub CreateLeft : (old : World) (name : List ℕ) (image : Image) → Files → Type 0
 CreateLeft old name image files = Leaves old name (files name) ⊎ (is_free_file (files name) ≡ true) ⊎ ShowsIn name (base_of image) files
 
+-- so it reads, however the creation ended: as before, or unfinished so that its name is free, or whole
+abbrev pub CreateReads : (old : World) (name : List ℕ) (image : Image) → Files → Type 0
+CreateReads old name image files = (files name ≡ old.files name) ⊎ (is_free_file (files name) ≡ true) ⊎ ShowsIn name (base_of image) files
+
 -- it answers the new database, or that the name is not free
 abbrev pub CreateAnswers : Result Held Fault → (old new : World) (name : List ℕ) (image : Image) → Type 0
 CreateAnswers (Ok held) old new name image = (is_free_name old.files name ≡ true) × (held.name ≡ name) × IsOpen new held (settled (base_of image))
@@ -45,6 +49,7 @@ CreateAnswers (Err Memory) old new name image = Unit {0}
 pub record Creates (result : Result Held Fault) (old new : World) (name : List ℕ) (image : Image) : Type 0 where
   pub answer : CreateAnswers result old new name image
   pub left : Changes old new (Only name) (CreateLeft old name image)
+  pub reads : CreateReads old name image new.files
   pub gave : GaveNothing old new
   -- where the name isn't free, nothing changes
   pub taken : is_free_name old.files name ≡ false → Quiet old new
@@ -64,4 +69,5 @@ FileAnswers (Err Memory) old new name image = ⊥
 pub record CreatesFile (result : Result ℕ Fault) (old new : World) (name : List ℕ) (image : Image) : Type 0 where
   pub answer : FileAnswers result old new name image
   pub left : Changes old new (Only name) (CreateLeft old name image)
+  pub reads : CreateReads old name image new.files
   pub taken : is_free_name old.files name ≡ false → Quiet old new

@@ -9,7 +9,7 @@ ghost use Rattle.nb_change.specs.Counts.{CountsDevice};
 ghost use Rattle.nb_change.specs.Gave.{GaveNothing};
 ghost use Rattle.nb_page.specs.Quiet.{Quiet};
 ghost use Rattle.nb_model.specs.Account.{base_of};
-ghost use Rattle.nb_base.specs.Beginnings.{CreateLeft, CreatesFile, Attaches, Creates, IsSettled};
+ghost use Rattle.nb_base.specs.Beginnings.{CreateLeft, CreateReads, CreatesFile, Attaches, Creates, IsSettled};
 ghost use Rattle.nb_base.specs.Reads.{opening_reads};
 
 use crate::TwoFiles;
@@ -32,6 +32,7 @@ fn make_file<H: Host>(
     requires few { raw ≤ 65535 }
     requires count { count ≡ fresh_count (length page.old) raw }
     ensures left { IsTrue H.tells → Changes (H.world host.old) (H.world host.new) (Only name.now) (CreateLeft (H.world host.old) name.now (fresh (length page.old) raw)) }
+    ensures reads { IsTrue H.tells → CreateReads (H.world host.old) name.now (fresh (length page.old) raw) (H.world host.new).files }
     ensures made { IsTrue H.tells → OnOk result (IsSettled (H.world host.new) name.now (base_of (fresh (length page.old) raw))) }
     ensures gave { GaveNothing (H.world host.old) (H.world host.new) }
     ensures cause { CountsFault result (H.faults host.old) (H.faults host.new) }

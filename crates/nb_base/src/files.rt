@@ -129,7 +129,7 @@ impl TwoFiles {
     /// database longer, and where it is page 0 or an SCN inventory page. In the normal state the difference file isn't touched, and in
     /// the stalled state the main file isn't.
     ///
-    /// Where it wants memory nothing has changed.
+    /// It wants memory in the stalled state alone, and then nothing has changed.
     pub fn write<H: Host>(
         &mut self,
         host: &mut H,
@@ -155,6 +155,7 @@ impl TwoFiles {
         ensures cause { CountsDevice result (H.faults host.old) (H.faults host.new) }
         ensures not_refused { IfErr result IsNoRefusal }
         ensures on_memory { result ≡ Err Fault.Memory → (self.new ≡ self.old) × (host.new ≡ host.old) }
+        ensures takes_none { self.old.state ≢ 1 → IfErr result (λ fault. fault ≢ Fault.Memory) }
     {
         let synced = is_synced(forced, self.page.len() as u32, self.count, number);
         self.put(host, number, page, synced)?;
@@ -187,6 +188,7 @@ impl TwoFiles {
         ensures cause { CountsDevice result (H.faults host.old) (H.faults host.new) }
         ensures not_refused { IfErr result IsNoRefusal }
         ensures on_memory { result ≡ Err Fault.Memory → (self.new ≡ self.old) × (host.new ≡ host.old) }
+        ensures takes_none { self.old.state ≢ 1 → IfErr result (λ fault. fault ≢ Fault.Memory) }
     {
         if is_diverted(self.state) {
             write_stalled(host, &mut self.delta, number, page, synced)?;

@@ -1,6 +1,6 @@
 -- The turns of a backup: the file alone is touched, and then the two files of the database.
-use Rattle.std.proofs.Common.{◌≡◌, ◌≢◌, ◌⊎◌, inl, inr, ⊎_elim, ℕ, ◌<◌, List, [], ◌∷◌, ◌++◌, length, drop, refl, sym, ap, subst, ◌∙◌, arith, length-append, drop_at}
-use Rattle.std.specs.Prelude.{None, Some, Result, Ok, Err, OnOk}
+use Rattle.std.proofs.Common.{◌≡◌, ◌≢◌, ◌⊎◌, inl, inr, ⊎_elim, ℕ, List, [], ◌∷◌, ◌++◌, length, drop, refl, sym, ap, subst, ◌∙◌, arith, length-append, drop_at}
+use Rattle.std.specs.Prelude.{Bool, true, false, not, None, Some, Result, Ok, Err, OnOk}
 use Rattle.nb_host.specs.Files.{File, Files, with_file}
 use Rattle.nb_host.specs.World.{World}
 use Rattle.nb_host.specs.Crash.{Leaves, LeavesAll}
@@ -8,6 +8,7 @@ use Rattle.nb_host.specs.Calls.{IsStill}
 use Rattle.nb_host.specs.Moments.{IsTimely, Passes}
 use Rattle.nb_host.specs.declared.faults.Fault.{Fault}
 use Rattle.nb_host.specs.declared.faults.Fault.TheVariants.{Device}
+use Rattle.nb_host.specs.declared.refusals.Refusal.TheVariants.{NotDatabase}
 use Rattle.nb_change.specs.Changes.{Changes, Only, Reached, Remade}
 use Rattle.nb_change.specs.Gave.{GaveNothing}
 use Rattle.nb_change.proofs.MomentLaws.{left_before}
@@ -19,15 +20,15 @@ use Rattle.nb_change.proofs.SettledLaws.{durable_is, durable_other}
 use Rattle.nb_model.specs.Account.{Base}
 use Rattle.nb_model.specs.Backups.{close_backup}
 use Rattle.nb_model.specs.Chains.{backup_slot, put_slot}
-use Rattle.nb_model.specs.Forms.{drafted}
-use Rattle.nb_model.specs.Image.{Image, image_scn}
+use Rattle.nb_model.specs.Causes.{when}
+use Rattle.nb_model.specs.Forms.{drafted, has_entry, scn_page_of}
+use Rattle.nb_model.specs.Forms.{HasItsEntry}
+use Rattle.nb_model.specs.Image.{Image}
 use Rattle.nb_model.specs.Levels.{file_of, count_in}
 use Rattle.nb_model.specs.Outcomes.{Backing, Seen, next_time}
 use Rattle.nb_model.specs.Owner.{delta_name}
-use Rattle.nb_model.specs.Sound.{IsSoundImage}
 use Rattle.nb_model.specs.Strokes.{Stroke}
 use Rattle.nb_model.specs.Trail.{Trail, StandsIn, StandsOn, after_stroke}
-use Rattle.nb_model.proofs.PutSound.{header_whole}
 use Rattle.nb_base.specs.Open.{OfFiles}
 use Rattle.nb_base.specs.Takes.{Strikes, after_strokes}
 use Rattle.nb_state.specs.Open.{Held, IsOpen, name_of}
@@ -38,7 +39,7 @@ use Rattle.nb_state.proofs.TurnLaws.{still_struck, struck_front}
 use Rattle.nb_engine.specs.Put.{entry_cause}
 use Rattle.nb_engine.specs.Tries.{Tries}
 use Rattle.nb_engine.proofs.DoesLaws.{unless_none}
-use Rattle.nb_engine.proofs.MakeLaws.{entry_none, from_well}
+use Rattle.nb_engine.proofs.PutLaws.{no_entry_cause, entry_cause-is}
 use Rattle.nb_engine.proofs.WhereLaws.{sure_of}
 use Rattle.nb_model.specs.Making.{kept_of}
 use Rattle.nb_gather.specs.Making.{IsKept, IsUnfinishedOr}
@@ -72,6 +73,14 @@ ended_ok : {T : Type 0} (result : Result T Fault) (P : Type 0) → WhereEnded re
 ended_ok (Ok value) P is = is
 ended_ok (Err fault) P is = tt
 
+-- the SCN page that the row needs is there
+entry_there : (image : Image) (p : ℕ) → HasItsEntry image p → entry_cause image p ≡ None
+entry_there image p there = by (has_entry image p) refl
+  where
+    by : (t : Bool) → has_entry image p ≡ t → entry_cause image p ≡ None
+    by false e = no_entry_cause image p e
+    by true e = entry_cause-is image p e ∙ ap (λ (b : Bool). when (not b) (NotDatabase (scn_page_of image p))) (there e)
+
 -- The close: the clock, and then the row.
 module _ (old mid : World) (a : Held) (t : Trail) (is : IsOpen old a t) (timely : IsTimely old) (still : IsStill old mid) (silent : mid.said ≡ old.said) (passes : Passes old mid) (guids : mid.guids ≡ old.guids) where
   -- the clock failed
@@ -85,9 +94,9 @@ module _ (old mid : World) (a : Held) (t : Trail) (is : IsOpen old a t) (timely 
   }
 
   -- the row is written
-  pub close_row : (result : Result (Unit {0}) Fault) (new : World) (b : Held) (time p : ℕ) (xs : List Stroke) → mid.times ≡ old.times ++ time ∷ [] → IsSoundImage t.base.image → 0 < p → p < 1048576 → p < length t.base.image
+  pub close_row : (result : Result (Unit {0}) Fault) (new : World) (b : Held) (time p : ℕ) (xs : List Stroke) → mid.times ≡ old.times ++ time ∷ [] → HasItsEntry t.base.image p
       → Tries result mid new a b t (entry_cause t.base.image p) xs → Closes result old new a b t time xs
-  close_row result new b time p xs gave sound low high there tries = record {
+  close_row result new b time p xs gave entry tries = record {
     left = still_struck old mid new a t xs is timely still silent passes (subst (λ (ss : List Stroke). Strikes mid new (name_of a) t ss) made tries.makes.left);
     opened = ended_ok result _ (subst (λ (ss : List Stroke). WhereEnded result (IsOpen new b (after_strokes t ss))) made tries.makes.opened);
     times = on_ok result (tries.makes.gave.times ∙ gave);
@@ -95,13 +104,8 @@ module _ (old mid : World) (a : Held) (t : Trail) (is : IsOpen old a t) (timely 
     sure = sure_of result (entry_cause t.base.image p) none tries.test;
   }
     where
-      four : image_scn t.base.image < 4294967296
-      four = omega (arith, is.agrees.scn, is.agrees.four)
-
       none : entry_cause t.base.image p ≡ None
-      none =
-          entry_none t.base.image p (from_well t.base.image (header_whole t.base.image (record { header = is.files.agrees.header; scn = four }) sound))
-          (record { behind = omega (arith, low); there = omega (arith, there); most = high })
+      none = entry_there t.base.image p entry
 
       made : unless_by (entry_cause t.base.image p) xs ≡ xs
       made = unless_none (entry_cause t.base.image p) xs none

@@ -20,6 +20,7 @@ use Rattle.nb_copy.specs.FileStarting.{IsNewFile, IsStartedFile}
 use Rattle.nb_copy.specs.FileCopying.{file_count, file_next}
 use Rattle.nb_copy.specs.Starting.{Backed, IsBackingUp, ask_by}
 use Rattle.nb_copy.proofs.CopyLaws.{begun_made}
+use Rattle.nb_copy.proofs.FileCopyLaws.{IsFrozenOf}
 
 -- it was never dealt with, and knows how many pages are frozen
 pub file_first : (name : List ℕ) (bare head : LevelHead) (count : ℕ) (f g : FileCopy) → IsNewFile name bare f → IsStartedFile f g head count → (file_count g ≡ count) × (file_next g ≡ 0)
@@ -65,7 +66,7 @@ level_count level scn previous_scn guid previous frozen some =
     ap (λ (t : Bool). elim t as (λ z. ℕ) [ true ↦ length frozen | false ↦ length (taken previous_scn frozen) ]) (sym (ne_eqb level 0 (not_zero level some)))
 
 module _ (w : World) (name : List ℕ) (bare head : LevelHead) (guid : List ℕ) (scn count : ℕ) (frozen : Image) (page slot : ℕ) (head_is : head ≡ record bare { guid = guid; scn = scn }) (nine : bare.level ≤ 9) (sixteen : length guid ≡ 16) (previous : length bare.previous ≡ 16)
-    (four : scn < 4294967296) (wide : IsTrue (is_page_size bare.page_size)) (size : bare.page_size ≡ image_size frozen) (counted : count ≡ length frozen) (sound : IsSoundImage frozen) (made : IsMade w name) where
+    (four : scn < 4294967296) (wide : IsTrue (is_page_size bare.page_size)) (size : bare.page_size ≡ image_size frozen) (counted : count ≡ length frozen) (is : IsFrozenOf (image_size frozen) frozen) (sound : 1 ≤ bare.level → IsSoundImage frozen) (made : IsMade w name) where
   abbrev backing : Backing
   backing = record { name = name; ask = ask_by head; scn = head.scn; guid = head.guid; page = page; slot = slot }
 
@@ -93,9 +94,9 @@ module _ (w : World) (name : List ℕ) (bare head : LevelHead) (guid : List ℕ)
         goes = record {
           of = record {
             long = sym (ap (λ (c : Copying). c.count) started ∙ counted);
-            least = omega (arith, sound.least);
-            most = sound.most;
-            sizes = subst (λ (n : ℕ). IsOfSize n frozen) sized sound.sizes;
+            least = is.least;
+            most = is.most;
+            sizes = subst (λ (n : ℕ). IsOfSize n frozen) sized is.sizes;
           };
           begun = begun_made w g frozen next (subst (IsMade w) (sym (ap (λ (c : Copying). c.name) started ∙ new.0)) made);
         };
@@ -117,7 +118,7 @@ module _ (w : World) (name : List ℕ) (bare head : LevelHead) (guid : List ℕ)
         goes = record {
           of = record {
             long = sym (ap (λ (c : LevelCopying). c.count) started ∙ counted);
-            sound = sound;
+            sound = sound some;
             size = ap (λ (h : LevelHead). h.page_size) headed ∙ sized;
             formed = subst (λ (h : LevelHead). IsHeaded (head_of h)) (sym headed) formed;
           };

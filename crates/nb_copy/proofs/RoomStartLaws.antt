@@ -36,16 +36,18 @@ use Rattle.nb_engine.specs.Turns.{starting_cause}
 use Rattle.nb_engine.proofs.CauseLaws.{first_none, first_next}
 use Rattle.nb_engine.proofs.DoesLaws.{unless_none, unless_some, tries_opened}
 use Rattle.nb_engine.proofs.StaysLaws.{open_aside}
-use Rattle.nb_copy.specs.Starting.{Backed, StartMakes, HasNotBegun, StartsBackup, IsStarted, BeginsFor, earlier_cause, file_cause, ask_in, ask_by, turn_since}
+use Rattle.nb_copy.specs.Starting.{Backed, StartMakes, HasNotBegun, StartsBackup, IsStarted, BeginsFor, GoesByEntries, IsItsLevel, earlier_cause, file_cause, ask_in, ask_by, turn_since}
 use Rattle.nb_copy.specs.declared.since.Since.{Since}
+use Rattle.nb_copy.specs.declared.since.Since.TheVariants.{Level, Guid}
 use Rattle.nb_copy.specs.declared.file_copy.FileCopy.{FileCopy}
 use Rattle.nb_copy.specs.FileStarting.{IsNewFile, IsStartedFile}
 use Rattle.nb_copy.specs.FileCopying.{file_count}
 use Rattle.nb_gather.specs.Making.{IsEmpty, IsMade}
 use Rattle.nb_copy.proofs.StartCauses.{scn_room}
 use Rattle.nb_copy.proofs.BegunLaws.{begun_image, begun_frozen, begun_long, begun_size, begun_state}
+use Rattle.nb_copy.proofs.FileCopyLaws.{IsFrozenOf, frozen_parts}
 use Rattle.nb_copy.proofs.FileStartLaws.{file_first, file_starts}
-use Rattle.nb_copy.proofs.RoomedLaws.{IsLike, roomed_is, roomed_like}
+use Rattle.nb_copy.proofs.RoomedLaws.{roomed_is, roomed_first, roomed_sound}
 use Rattle.nb_copy.proofs.BesideLaws.{starts_struck, starts_made, starts_then, starts_more, made_kept}
 use Rattle.nb_copy.proofs.StartLaws.{early, strokes, started, struck_some, struck_most, turn_late, turn_told, turn_strokes, turn_started}
 
@@ -54,8 +56,13 @@ abbrev starting_of : Page → Cause
 starting_of p =
     first_cause (when (not (number_in 65 1 p == 0)) (Access 1) ∷ when (not (state_of p == 0)) (WrongState (state_of p)) ∷ when (nat_lt 4294967293 (scn_of p)) (ScnExhausted (scn_of p)) ∷ [])
 
+-- a backup whose level isn't 0 goes by SCN entries
+goes_by : (since : Since) (level : ℕ) → IsItsLevel since level → 1 ≤ level → GoesByEntries since
+goes_by (Level asked) level its some = omega (arith, its, some)
+goes_by (Guid guid) level its some = tt
+
 -- Behind the tests.
-module _ (old mid : World) (a b : Held) (t : Trail) (s : Seen) (session : ℕ) (since : Since) (name : List ℕ) (runs : a.running ≡ s.running) (at : t.base ≡ s.base) (is : IsOpen old a t) (sound : IsSoundImage t.base.image) (apart : OfFiles (name_of a) name → ⊥)
+module _ (old mid : World) (a b : Held) (t : Trail) (s : Seen) (session : ℕ) (since : Since) (name : List ℕ) (runs : a.running ≡ s.running) (at : t.base ≡ s.base) (is : IsOpen old a t) (apart : OfFiles (name_of a) name → ⊥)
     (none : early s session since name ≡ None) where
   abbrev image : Image
   image = s.base.image
@@ -151,17 +158,14 @@ module _ (old mid : World) (a b : Held) (t : Trail) (s : Seen) (session : ℕ) (
         (no_first (no_scn image) []
         (no_first (no_room (room_in image).draft) (no_scn image ∷ []) (no_first (not_of_form (room_in image).draft) (no_room (room_in image).draft ∷ no_scn image ∷ []) decided.1).1).1).0
 
-    like : IsLike image (room_in image).draft.image
-    like = roomed_like image header (subst (λ (x : Base). IsSoundImage x.image) at sound) decided.0
-
     pub seen : u.base.image ≡ (room_in image).draft.image
     seen = subst (λ (x : Base). (after_strokes t (room_in x.image).draft.strokes).base.image ≡ (room_in x.image).draft.image) at (roomed_is t)
 
     pub same_first : first_page u.base.image ≡ first_page image
-    same_first = ap first_page seen ∙ like.first
+    same_first = ap first_page seen ∙ roomed_first image header decided.0
 
-    pub still_sound : IsSoundImage u.base.image
-    still_sound = subst IsSoundImage (sym seen) like.sound
+    pub still_sound : IsSoundImage t.base.image → IsSoundImage u.base.image
+    still_sound sound = subst IsSoundImage (sym seen) (roomed_sound image header decided.0 (subst (λ (x : Base). IsSoundImage x.image) at sound))
 
     starts_here : starting_cause image ≡ None
     starts_here =
@@ -263,7 +267,7 @@ module _ (old mid : World) (a b : Held) (t : Trail) (s : Seen) (session : ℕ) (
               })
 
           -- its copier
-          module _ (kept : Kept) (f g : FileCopy) (count : ℕ) (sixteen : length guid ≡ 16) (asked : ask_by bare ≡ ask) (roomed : IsRoomIn image kept) (low : kept.page < length (room_in image).draft.image) (is_new : IsNewFile name bare f) (file : IsStartedFile f g begun count)
+          module _ (kept : Kept) (f g : FileCopy) (count : ℕ) (sixteen : length guid ≡ 16) (its_level : IsItsLevel since bare.level) (sound : GoesByEntries since → IsSoundImage t.base.image) (asked : ask_by bare ≡ ask) (roomed : IsRoomIn image kept) (low : kept.page < length (room_in image).draft.image) (is_new : IsNewFile name bare f) (file : IsStartedFile f g begun count)
               (counted : count ≡ d.files.count) (nine : bare.level ≤ 9) (previous : length bare.previous ≡ 16) (wide : IsTrue (is_page_size bare.page_size)) (size : bare.page_size ≡ a.files.page_size) where
             abbrev its : Backing
             its = record { name = name; ask = ask_by begun; scn = begun.scn; guid = begun.guid; page = kept.page; slot = kept.slot }
@@ -290,10 +294,17 @@ module _ (old mid : World) (a b : Held) (t : Trail) (s : Seen) (session : ℕ) (
             sized =
                 size ∙ is.files.agrees.page_size ∙ ap (λ (x : Base). image_size x.image) at ∙ sym (ap size_of same_first) ∙ sym (begun_size u guid (Some ask) u_header.header sixteen) ∙ ap image_size (sym (begun_frozen u guid (Some ask)))
 
-            frozen_sound : IsSoundImage v.base.frozen
-            frozen_sound =
+            now_stalled : d.files.state ≡ 1
+            now_stalled = begins.opened.files.agrees.state ∙ begun_state u guid (Some ask) u_header.header sixteen
+
+            frozen_is : IsFrozenOf (image_size v.base.frozen) v.base.frozen
+            frozen_is =
+                subst (λ (n : ℕ). IsFrozenOf n v.base.frozen) (begins.opened.files.agrees.page_size ∙ ap image_size (sym (begun_frozen u guid (Some ask)))) (frozen_parts new d v begins.opened now_stalled)
+
+            frozen_sound : 1 ≤ bare.level → IsSoundImage v.base.frozen
+            frozen_sound some =
                 subst IsSoundImage (sym (begun_frozen u guid (Some ask) ∙ begun_image u guid (Some ask)))
-                (control_sound 1 (image_scn u.base.image + 1) guid u.base.image u_header still_sound (may_begin u.base.image u_header guid sixteen (scn_room u.base.image starts_there)))
+                (control_sound 1 (image_scn u.base.image + 1) guid u.base.image u_header (still_sound (sound (goes_by since bare.level its_level some))) (may_begin u.base.image u_header guid sixteen (scn_room u.base.image starts_there)))
 
             pub started_is : IsStarted new d v (record { backing = its; page_size = begun.page_size; file = g }) (started s session since name)
             started_is =
@@ -302,8 +313,8 @@ module _ (old mid : World) (a b : Held) (t : Trail) (s : Seen) (session : ℕ) (
                   turns = ap (λ (n : ℕ). replicate n Copies ++ ClosesBackup (record { name = name; ask = ask; scn = image_scn image; guid = guid; page = (room_in image).page; slot = (room_in image).slot }) ∷ []) (sym (firsts.0 ∙ count_is ∙ long))
                       ∙ ap (λ (x : Backing). replicate (file_count g) Copies ++ ClosesBackup x ∷ []) backing_is;
                   first = firsts.1;
-                  stalled = begins.opened.files.agrees.state ∙ begun_state u guid (Some ask) u_header.header sixteen;
+                  stalled = now_stalled;
                   below = omega (arith, low, long);
                   goes =
-                      file_starts new name bare begun guid (image_scn u.base.image) count v.base.frozen kept.page kept.slot begins.head nine sixteen previous u_header.scn wide sized (count_is ∙ ap length (sym (begun_frozen u guid (Some ask)))) frozen_sound (still_made (Ok begun) begins) f g is_new file;
+                      file_starts new name bare begun guid (image_scn u.base.image) count v.base.frozen kept.page kept.slot begins.head nine sixteen previous u_header.scn wide sized (count_is ∙ ap length (sym (begun_frozen u guid (Some ask)))) frozen_is frozen_sound (still_made (Ok begun) begins) f g is_new file;
                 }

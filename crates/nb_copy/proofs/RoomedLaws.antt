@@ -20,6 +20,7 @@ use Rattle.nb_model.proofs.DraftLaws.{IsKept, IsOf, either, drafts_are, drafted_
 use Rattle.nb_model.proofs.DraftJoin.{join_put}
 use Rattle.nb_model.proofs.FitLaws.{IsWhole, fits_first}
 use Rattle.nb_model.proofs.HeaderLaws.{header-size}
+use Rattle.nb_model.proofs.MainLaws.{some_page}
 use Rattle.nb_model.proofs.PutSound.{IsPlain, needs_image, header_whole, plain_put}
 use Rattle.nb_model.proofs.SoundLaws.{all_at, header_kind}
 use Rattle.nb_base.specs.Takes.{after_strokes}
@@ -78,12 +79,7 @@ taken_same image s =
     taken_image s.page (needs 10 (scn_page_of image s.page) (needs 2 (inventory_of image s.page) (drafted image)))
     ∙ needs_image 10 (scn_page_of image s.page) (needs 2 (inventory_of image s.page) (drafted image)) ∙ needs_image 2 (inventory_of image s.page) (drafted image)
 
--- page 0 stays, and the inventories agree with the pages
-pub record IsLike (image x : Image) : Type 0 where
-  pub first : first_page x ≡ first_page image
-  pub sound : IsSoundImage x
-
-module _ (image : Image) (h : HasHeader image) (is : IsSoundImage image) (linked : broken_at (pages_of History image) ≡ None) where
+module _ (image : Image) (h : HasHeader image) (linked : broken_at (pages_of History image) ≡ None) where
   abbrev last : ℕ
   last = last_of (found_pages History image)
 
@@ -103,60 +99,11 @@ module _ (image : Image) (h : HasHeader image) (is : IsSoundImage image) (linked
   abbrev y : Image
   y = (new_link image).0.image
 
-  y_whole : IsWhole y
-  y_whole = whole 5 (told no_rows) refl (λ p. no_rows_short) (length image + 4) image (header_whole image h is)
-
   y_starts : Starts (first_page image) y
-  y_starts =
-      let least = is.least in
-      new_begins (first_page image) (header-size (first_page image) h.header) (length image + 4) 5 (told no_rows) (drafted image) (starts_itself image (omega (arith, least)))
-
-  y_size : image_size y ≡ image_size image
-  y_size = ap image_size y_starts.is
-
-  y_long : length image ≤ length y
-  y_long = new_longer 5 (told no_rows) image
+  y_starts = new_begins (first_page image) (header-size (first_page image) h.header) (length image + 4) 5 (told no_rows) (drafted image) (starts_itself image (some_page image h.header))
 
   abbrev payload : List ℕ
   payload = linked_payload y last (new_link image).1
-
-  two_five : ◌≡◌ {A = ℕ} 2 5 → ⊥
-  two_five e = absurd (omega (arith, e))
-
-  ten_five : ◌≡◌ {A = ℕ} 10 5 → ⊥
-  ten_five e = absurd (omega (arith, e))
-
-  not_inventory : (t : Bool) → is_inventory_place (image_size image) last ≡ t → t ≡ false
-  not_inventory true e = absurd (two_five (sym (is.sound.system.inventories last data_page.low e) ∙ data_page.kind))
-  not_inventory false e = refl
-
-  not_scn_page : (t : Bool) → is_scn_place (image_size image) last ≡ t → t ≡ false
-  not_scn_page true e = absurd (ten_five (sym (is.sound.system.scn_pages last data_page.low e) ∙ data_page.kind))
-  not_scn_page false e = refl
-
-  y_plain : IsPlain y last
-  y_plain =
-      let low = data_page.low in
-      let most = y_whole.sound.most in
-      record {
-        place = record { behind = behind; there = omega (arith, low, y_long); most = omega (arith, low, y_long, most) };
-        no_inventory = ap (λ (n : ℕ). is_inventory_place n last) y_size ∙ not_inventory _ refl;
-        no_scn_page = ap (λ (n : ℕ). is_scn_place n last) y_size ∙ not_scn_page _ refl;
-      }
-
-  payload_fits : 16 + length payload ≤ image_size y
-  payload_fits =
-      let low = data_page.low in
-      let long : length (page_at y last) ≡ image_size y = all_at (λ (page : Page). length page ≡ image_size y) y y_whole.sound.sizes last (omega (arith, low, y_long)) in
-      let facts = size_facts (image_size y) y_whole.fields.size in
-      let kept = length-with_part 16 (bytes_of 4 (new_link image).1) (page_at y last) (omega (arith, length-bytes_of 4 (new_link image).1, long, facts.at_least)) in
-      omega (arith, length-drop 16 (with_part 16 (bytes_of 4 (new_link image).1) (page_at y last)), kept, long, facts.at_least)
-
-  abbrev b : Base
-  b = record { image = y; frozen = []; diverted = [] }
-
-  link_whole : IsWhole (put last 5 payload (drafted y)).image
-  link_whole = (plain_put (λ bytes. Unit {0}) (λ bytes e. tt) b last 5 payload (drafted y) (fits_first (λ bytes. Unit {0}) b y_whole) y_plain refl payload_fits (λ bytes e. tt)).fits.whole
 
   link_starts : Starts (first_page image) (put last 5 payload (drafted y)).image
   link_starts = put_begins (first_page image) (header-size (first_page image) h.header) last 5 payload (drafted y) behind y_starts
@@ -165,12 +112,66 @@ module _ (image : Image) (h : HasHeader image) (is : IsSoundImage image) (linked
   unfolding grown
   grown_image = ap (λ (d : Draft). d.image) (join_put last 5 payload (new_link image).0)
 
-  room_like : (o : Option Spot) → IsLike image (room_by image o).draft.image
-  room_like (Some s) = record { first = ap first_page (taken_same image s); sound = subst IsSoundImage (sym (taken_same image s)) is }
-  room_like None = record {
-    first = ap first_page grown_image ∙ first_is (first_page image) _ link_starts;
-    sound = subst IsSoundImage (sym grown_image) link_whole.sound;
-  }
+  first_by : (o : Option Spot) → first_page (room_by image o).draft.image ≡ first_page image
+  first_by (Some s) = ap first_page (taken_same image s)
+  first_by None = ap first_page grown_image ∙ first_is (first_page image) _ link_starts
 
-  pub roomed_like : IsLike image (room_in image).draft.image
-  roomed_like = subst (λ (r : Room). IsLike image r.draft.image) (sym (room_is image)) (room_like (free_spot (spots History image)))
+  -- page 0 stays
+  pub roomed_first : first_page (room_in image).draft.image ≡ first_page image
+  roomed_first = subst (λ (r : Room). first_page r.draft.image ≡ first_page image) (sym (room_is image)) (first_by (free_spot (spots History image)))
+
+  -- where the inventories agree with the pages, they do behind it
+  module _ (is : IsSoundImage image) where
+    y_whole : IsWhole y
+    y_whole = whole 5 (told no_rows) refl (λ p. no_rows_short) (length image + 4) image (header_whole image h is)
+
+    y_size : image_size y ≡ image_size image
+    y_size = ap image_size y_starts.is
+
+    y_long : length image ≤ length y
+    y_long = new_longer 5 (told no_rows) image
+
+    two_five : ◌≡◌ {A = ℕ} 2 5 → ⊥
+    two_five e = absurd (omega (arith, e))
+
+    ten_five : ◌≡◌ {A = ℕ} 10 5 → ⊥
+    ten_five e = absurd (omega (arith, e))
+
+    not_inventory : (t : Bool) → is_inventory_place (image_size image) last ≡ t → t ≡ false
+    not_inventory true e = absurd (two_five (sym (is.sound.system.inventories last data_page.low e) ∙ data_page.kind))
+    not_inventory false e = refl
+
+    not_scn_page : (t : Bool) → is_scn_place (image_size image) last ≡ t → t ≡ false
+    not_scn_page true e = absurd (ten_five (sym (is.sound.system.scn_pages last data_page.low e) ∙ data_page.kind))
+    not_scn_page false e = refl
+
+    y_plain : IsPlain y last
+    y_plain =
+        let low = data_page.low in
+        let most = y_whole.sound.most in
+        record {
+          place = record { behind = behind; there = omega (arith, low, y_long); most = omega (arith, low, y_long, most) };
+          no_inventory = ap (λ (n : ℕ). is_inventory_place n last) y_size ∙ not_inventory _ refl;
+          no_scn_page = ap (λ (n : ℕ). is_scn_place n last) y_size ∙ not_scn_page _ refl;
+        }
+
+    payload_fits : 16 + length payload ≤ image_size y
+    payload_fits =
+        let low = data_page.low in
+        let long : length (page_at y last) ≡ image_size y = all_at (λ (page : Page). length page ≡ image_size y) y y_whole.sound.sizes last (omega (arith, low, y_long)) in
+        let facts = size_facts (image_size y) y_whole.fields.size in
+        let kept = length-with_part 16 (bytes_of 4 (new_link image).1) (page_at y last) (omega (arith, length-bytes_of 4 (new_link image).1, long, facts.at_least)) in
+        omega (arith, length-drop 16 (with_part 16 (bytes_of 4 (new_link image).1) (page_at y last)), kept, long, facts.at_least)
+
+    abbrev b : Base
+    b = record { image = y; frozen = []; diverted = [] }
+
+    link_whole : IsWhole (put last 5 payload (drafted y)).image
+    link_whole = (plain_put (λ bytes. Unit {0}) (λ bytes e. tt) b last 5 payload (drafted y) (fits_first (λ bytes. Unit {0}) b y_whole) y_plain refl payload_fits (λ bytes e. tt)).fits.whole
+
+    sound_by : (o : Option Spot) → IsSoundImage (room_by image o).draft.image
+    sound_by (Some s) = subst IsSoundImage (sym (taken_same image s)) is
+    sound_by None = subst IsSoundImage (sym grown_image) link_whole.sound
+
+    pub roomed_sound : IsSoundImage (room_in image).draft.image
+    roomed_sound = subst (λ (r : Room). IsSoundImage r.draft.image) (sym (room_is image)) (sound_by (free_spot (spots History image)))

@@ -8,6 +8,7 @@ ghost use Rattle.nb_page.specs.Quiet.{Quiet};
 ghost use Rattle.nb_model.specs.Account.{Ask};
 ghost use Rattle.nb_model.specs.Backups.{backup_turn, since_turn, close_backup};
 ghost use Rattle.nb_model.specs.Causes.{first_cause};
+ghost use Rattle.nb_model.specs.Forms.{HasItsEntry};
 ghost use Rattle.nb_model.specs.Outcomes.{Seen, next_guid, next_time};
 ghost use Rattle.nb_model.specs.Owner.{delta_name};
 ghost use Rattle.nb_model.specs.Sound.{IsSoundImage};
@@ -20,7 +21,7 @@ ghost use Rattle.nb_engine.specs.Stays.{StaysOpen};
 ghost use Rattle.nb_copy.specs.FileCopying.{file_count, file_next, file_written};
 ghost use Rattle.nb_gather.specs.Making.{IsMade};
 ghost use Rattle.nb_copy.specs.Reading.{asked_scn, page_reads};
-ghost use Rattle.nb_copy.specs.Starting.{StartsBackup, BeginsFor, IsBackingUp, IsNotMemory, KnowsFree, IsNineAtMost, IsItsLevel, ask_by, ask_in, earlier_cause, file_cause, turn_since};
+ghost use Rattle.nb_copy.specs.Starting.{StartsBackup, BeginsFor, IsBackingUp, IsNotMemory, KnowsFree, GoesByEntries, IsNineAtMost, IsItsLevel, ask_by, ask_in, earlier_cause, file_cause, turn_since};
 ghost use Rattle.nb_copy.specs.Closing.{BackupTurn, BackupCounts, Closes, GaveTimeAtMost, ReadsTwo};
 
 use crate::file_copy::FileCopy;
@@ -157,7 +158,7 @@ fn start_from<H: Host>(
     name: &Name,
 ) -> Result<Copier, Fault>
     requires level { IsNineAtMost since }
-    ensures turn { (s : Seen) (t : Trail) → IsTrue H.tells → t.base ≡ s.base → engine.old.running ≡ s.running → IsOpen (H.world host.old) engine.old t → IsSoundImage t.base.image
+    ensures turn { (s : Seen) (t : Trail) → IsTrue H.tells → t.base ≡ s.base → engine.old.running ≡ s.running → IsOpen (H.world host.old) engine.old t → (GoesByEntries since → IsSoundImage t.base.image)
         → KnowsFree 0 (H.world host.old).files s name.now → (name.now ≡ delta_name engine.old.files.name → ⊥) → GaveAtMost (H.world host.old) (H.world host.new) (next_guid s.given)
         → StartsBackup result (H.world host.old) (H.world host.new) engine.old engine.new t name.now (next_guid s.given) (turn_since s session since name.now) }
     ensures asks { (t : Trail) → IsTrue H.tells → IsOpen (H.world host.old) engine.old t → (guid : List ℕ) × (length guid ≡ 16) × GaveAtMost (H.world host.old) (H.world host.new) guid }
@@ -197,9 +198,8 @@ impl Copier {
     /// The refusals are `Access`, `WrongState`, `FileExists`, `NotDatabase` of the first page of the history that breaks the form,
     /// `NoHistory`, `NotDatabase` of a database of fewer than five pages, by its length, where the history has no free slot, `NotDatabase` of
     /// an inventory page that isn't of its kind or of a page of the history whose bit is free, `Full` and `ScnExhausted`, in this order. All
-    /// is tested before the first write, and the memory is taken before it. Where the inventories agree with the pages, a refused call
-    /// changes nothing. What else fails leaves the file as it was, or empty, so that its name is free. Where memory is short nothing has
-    /// begun.
+    /// is tested before the first write, and the memory is taken before it: a refused call changes nothing. What else fails leaves the file
+    /// as it was, or empty, so that its name is free. Where memory is short nothing has begun.
     pub fn start<H: Host>(
         alloc: Global,
         host: &mut H,
@@ -209,7 +209,7 @@ impl Copier {
         name: &Name,
     ) -> Result<Copier, Fault>
         requires level { level ≤ 9 }
-        ensures turn { (s : Seen) (t : Trail) → IsTrue H.tells → t.base ≡ s.base → engine.old.running ≡ s.running → IsOpen (H.world host.old) engine.old t → IsSoundImage t.base.image
+        ensures turn { (s : Seen) (t : Trail) → IsTrue H.tells → t.base ≡ s.base → engine.old.running ≡ s.running → IsOpen (H.world host.old) engine.old t → (0 < level → IsSoundImage t.base.image)
             → KnowsFree 0 (H.world host.old).files s name.now → (name.now ≡ delta_name engine.old.files.name → ⊥) → GaveAtMost (H.world host.old) (H.world host.new) (next_guid s.given)
             → StartsBackup result (H.world host.old) (H.world host.new) engine.old engine.new t name.now (next_guid s.given) (backup_turn s session level name.now) }
         ensures asks { (t : Trail) → IsTrue H.tells → IsOpen (H.world host.old) engine.old t → (guid : List ℕ) × (length guid ≡ 16) × GaveAtMost (H.world host.old) (H.world host.new) guid }
@@ -307,7 +307,7 @@ impl Copier {
     /// Asks the clock, and writes the row of the history.
     fn close<H: Host>(&self, host: &mut H, engine: &mut Engine) -> Result<(), Fault>
         requires size { self.now.page_size ≡ engine.old.files.page_size }
-        ensures closes { (s : Seen) (t : Trail) → IsTrue H.tells → t.base ≡ s.base → IsOpen (H.world host.old) engine.old t → IsSoundImage t.base.image → self.now.backing.page < length t.base.image
+        ensures closes { (s : Seen) (t : Trail) → IsTrue H.tells → t.base ≡ s.base → IsOpen (H.world host.old) engine.old t → HasItsEntry t.base.image self.now.backing.page → self.now.backing.page < length t.base.image
             → GaveTimeAtMost (H.world host.old) (H.world host.new) (next_time s.given)
             → Closes result (H.world host.old) (H.world host.new) engine.old engine.new t (next_time s.given) (close_backup s self.now.backing).strokes }
         ensures asks { (t : Trail) → IsTrue H.tells → IsOpen (H.world host.old) engine.old t → self.now.backing.page < length t.base.image → (time : ℕ) × GaveTimeAtMost (H.world host.old) (H.world host.new) time }
@@ -334,7 +334,7 @@ impl Copier {
     /// A copier that has answered `Finished` or a fault isn't used again.
     pub fn turn<H: Host>(&mut self, host: &mut H, engine: &mut Engine) -> Result<Progress, Fault>
         requires size { self.old.page_size ≡ engine.old.files.page_size }
-        ensures turn { (s : Seen) (t : Trail) → IsTrue H.tells → t.base ≡ s.base → IsOpen (H.world host.old) engine.old t → engine.old.files.state ≡ 1 → IsSoundImage t.base.image
+        ensures turn { (s : Seen) (t : Trail) → IsTrue H.tells → t.base ≡ s.base → IsOpen (H.world host.old) engine.old t → engine.old.files.state ≡ 1 → HasItsEntry t.base.image self.old.backing.page
             → IsBackingUp (H.world host.old) self.old t.base.frozen → self.old.backing.page < length t.base.image → (OfFiles engine.old.files.name self.old.backing.name → ⊥)
             → GaveTimeAtMost (H.world host.old) (H.world host.new) (next_time s.given)
             → BackupTurn result (H.world host.old) (H.world host.new) engine.old engine.new self.old self.new t (next_time s.given) (close_backup s self.old.backing).strokes }

@@ -18,7 +18,7 @@ use Rattle.nb_base.specs.Takes.{after_strokes, IsNoRefusal}
 use Rattle.nb_state.specs.Open.{Held, IsOpen, but_pages}
 use Rattle.nb_state.specs.Does.{Tested, Answers, only_tells, unless_by, Makes, Does}
 use Rattle.nb_change.proofs.ResultLaws.{passed_on}
-use Rattle.nb_state.proofs.MakesLaws.{never_refused, makes_none, makes_not, makes_then, makes_front, makes_after}
+use Rattle.nb_state.proofs.MakesLaws.{makes_none, makes_not, makes_then, makes_front, makes_after}
 use Rattle.nb_engine.specs.Tries.{Tries}
 use Rattle.nb_engine.proofs.CauseLaws.{told_some}
 

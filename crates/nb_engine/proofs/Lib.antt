@@ -19,6 +19,7 @@ pub mod NewTurn
 pub mod BehindLaws
 pub mod NeedReads
 pub mod PassLaws
+pub mod WantLaws
 pub mod WayLaws
 pub mod RoomsLaws
 pub mod NotedLaws

@@ -16,8 +16,6 @@ use Rattle.nb_model.specs.Causes.{Cause, not_kind}
 use Rattle.nb_model.proofs.DraftLaws.{IsOf, drafts_are, drafted_is, put_keeps, set_bit_keeps, system_keeps}
 use Rattle.nb_model.proofs.DraftJoin.{join_set_bit}
 use Rattle.nb_model.proofs.NewSound.{inventory_before}
-use Rattle.nb_model.proofs.RoundLaws as rounds
-use Rattle.nb_model.proofs.RoundLaws.{found}
 use Rattle.nb_base.specs.Takes.{after_strokes}
 use Rattle.nb_state.specs.Open.{Held, IsOpen}
 use Rattle.nb_state.specs.Does.{Makes}
@@ -27,8 +25,8 @@ use Rattle.nb_engine.specs.Put.{entry_cause}
 use Rattle.nb_engine.specs.Mark.{mark_cause, mark_strokes}
 use Rattle.nb_engine.specs.Find.{IsMap, HoldsMap}
 use Rattle.nb_engine.specs.Make.{IsSupplied, GoesOn, IsOnward, MakesWhere, page_strokes, new_of, round, behind}
+use Rattle.nb_engine.specs.Search.{IsSearchable}
 use Rattle.nb_engine.proofs.RestLaws.{Rest, all_left, here, Onward, onward, AtLast, at_last}
-use Rattle.nb_model.proofs.StepLaws.{IsShaped}
 use Rattle.nb_model.proofs.SearchLaws.{draft_cause}
 use Rattle.nb_engine.proofs.CauseLaws.{first_here}
 use Rattle.nb_engine.proofs.DoesLaws.{tries_passed}
@@ -124,7 +122,7 @@ pub record SoFar (kind : ℕ) (payload : ℕ → List ℕ) (P : Type 0) (old now
   pub rest : P → RestOf kind payload (after_strokes t done).base.image place done strokes number
 
 pub so_far_begun : (kind : ℕ) (payload : ℕ → List ℕ) (w : World) (a : Held) (t : Trail) (place : ℕ) (map : Page) → Quiet w w → IsOpen w a t → length t.base.image ≤ 1048576 → place ≡ lowest_free t.base.image → place ≤ length t.base.image
-    → HoldsMap t.base.image place map → SoFar kind payload (IsShaped t.base.image × (draft_cause (new_of kind payload t.base.image).0 ≡ None)) w w a a t place (new_of kind payload t.base.image).0.strokes (new_of kind payload t.base.image).1 map
+    → HoldsMap t.base.image place map → SoFar kind payload (IsSearchable t.base.image × (draft_cause (new_of kind payload t.base.image).0 ≡ None)) w w a a t place (new_of kind payload t.base.image).0.strokes (new_of kind payload t.base.image).1 map
 so_far_begun kind payload w a t place map quiet is most at low holds = record {
   done = [];
   makes = makes_none (Ok tt) w w a a t refl quiet is is;

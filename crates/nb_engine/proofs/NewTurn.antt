@@ -1,5 +1,5 @@
 -- What making a new page does of its turn.
-use Rattle.std.proofs.Common.{◌≡◌, ◌<◌, ◌≤◌, ℕ, List, [], ◌∷◌, length, refl, sym, ap, subst, ◌∙◌}
+use Rattle.std.proofs.Common.{◌≡◌, ◌<◌, ◌≤◌, ℕ, List, [], ◌∷◌, length, refl, sym, ap, subst, ◌∙◌, arith}
 use Rattle.std.specs.Prelude.{true, false, IsTrue, Some, None, Result, Ok, Err, IfOk, IfErr}
 use Rattle.nb_fields.specs.Bytes.{bytes_of}
 use Rattle.nb_fields.specs.Places.{is_page_size}
@@ -26,6 +26,7 @@ use Rattle.nb_state.specs.Open.{Held, IsOpen}
 use Rattle.nb_state.specs.Does.{Makes, Does}
 use Rattle.nb_engine.specs.Make.{IsWell, new_raw}
 use Rattle.nb_engine.specs.Replies.{page_made}
+use Rattle.nb_engine.specs.Search.{IsSearchable}
 use Rattle.nb_engine.proofs.TestLaws.{applies, rests}
 use Rattle.nb_engine.proofs.CauseLaws.{unless_refused, unless_allowed, first_none, first_next, first_here, refused_by, judged_by}
 use Rattle.nb_engine.proofs.DoesLaws.{seeing, tries_made, tries_does}
@@ -42,8 +43,11 @@ header_of w held t is scn = record { header = is.files.agrees.header; scn = scn 
 pub well_of : (w : World) (held : Held) (t : Trail) → IsOpen w held t → IsTrue (is_page_size held.files.page_size) → image_scn t.base.image < 4294967296 → IsSoundImage t.base.image → IsWell t.base.image
 well_of w held t is size scn sound = record { sound = sound; size = subst (λ (n : ℕ). IsTrue (is_page_size n)) is.files.agrees.page_size size; scn = scn }
 
-pub shaped_of : (w : World) (held : Held) (t : Trail) → IsOpen w held t → IsTrue (is_page_size held.files.page_size) → 5 ≤ length t.base.image → IsOfSize (image_size t.base.image) t.base.image → IsShaped t.base.image
-shaped_of w held t is size long sizes = record { size = subst (λ (n : ℕ). IsTrue (is_page_size n)) is.files.agrees.page_size size; least = long; sizes = sizes }
+pub shaped_of : (w : World) (held : Held) (t : Trail) → IsOpen w held t → IsTrue (is_page_size held.files.page_size) → 3 ≤ length t.base.image → IsOfSize (image_size t.base.image) t.base.image → IsShaped t.base.image
+shaped_of w held t is size least sizes = record { size = subst (λ (n : ℕ). IsTrue (is_page_size n)) is.files.agrees.page_size size; least = least; sizes = sizes }
+
+pub searchable_of : (w : World) (held : Held) (t : Trail) → IsOpen w held t → IsTrue (is_page_size held.files.page_size) → 5 ≤ length t.base.image → IsOfSize (image_size t.base.image) t.base.image → IsSearchable t.base.image
+searchable_of w held t is size long sizes = record { shaped = shaped_of w held t is size (omega (arith, long)) sizes; long = long }
 
 -- the turn, by its causes
 module _ (s : Seen) where

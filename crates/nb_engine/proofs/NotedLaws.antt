@@ -13,11 +13,10 @@ use Rattle.nb_fields.proofs.SizeLemmas.{SizeFacts, size_facts}
 use Rattle.nb_host.specs.declared.refusals.Refusal.TheVariants.{NotDatabase}
 use Rattle.nb_model.specs.Causes.{not_kind, when, lowest_of, lowest_broken}
 use Rattle.nb_model.specs.Image.{Page, Image, page_at, image_size, image_scn}
-use Rattle.nb_model.specs.Forms.{Draft, drafted, is_kind, other_kind, needs, has_entry, inventory_of, scn_page_of, bit_number, entry_number, scn_entry, entry_written, entry_raised, raised, written, wrote, put, with_bit, set_bit, give_page}
+use Rattle.nb_model.specs.Forms.{HasItsEntry, Draft, drafted, is_kind, other_kind, needs, has_entry, inventory_of, scn_page_of, bit_number, entry_number, scn_entry, entry_written, entry_raised, raised, written, wrote, put, with_bit, set_bit, give_page}
 use Rattle.nb_model.proofs.BitLaws.{with_bit_length}
 use Rattle.nb_model.proofs.PutSound.{needs_image}
 use Rattle.nb_model.proofs.SoundLaws.{all_at, inventory_place_some, scn_place_some, scn_place_before}
-use Rattle.nb_model.proofs.NeedLaws.{HasScnPage}
 use Rattle.nb_model.proofs.StepLaws.{IsShaped, IsWritten, Puts, form_written, kind_parts, kind_from, written_size, written_shaped, inventory_has, needs_found, put_on}
 use Rattle.nb_engine.specs.Behind.{entry_broken, give_broken}
 use Rattle.nb_engine.specs.Put.{entry_cause}
@@ -342,7 +341,7 @@ module _ (x : Image) (shaped : IsShaped x) (q : ℕ) (some : 1 ≤ q) (below : q
     kind_kept : (kind r : ℕ) → is_kind (give_page q (drafted x)).image kind r ≡ is_kind x kind r
     kind_kept kind r = elim (notes.kinds kind r) [ inl same ↦ same | inr found ↦ absurd (subst (λ (ps : List ℕ). In r (ps ++ [])) none (notes.to r found)) ]
 
-    entry_there : HasScnPage x i
+    entry_there : HasItsEntry x i
     entry_there has = none_broken x 10 (scn_page_of x i) (sym (ap (λ (t : Bool). elim t as (λ z. List ℕ) [ true ↦ other_kind x 10 (scn_page_of x i) | false ↦ [] ]) has) ∙ parts.0)
 
     data_kept : (r : ℕ) → is_kind x 5 r ≡ true → page_at (give_page q (drafted x)).image r ≡ page_at x r

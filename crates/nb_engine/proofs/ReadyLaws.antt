@@ -12,14 +12,13 @@ use Rattle.nb_host.specs.declared.refusals.Refusal.TheVariants.{NotDatabase}
 use Rattle.nb_model.specs.Image.{Page, Image, page_at, image_size, image_scn}
 use Rattle.nb_model.specs.Account.{Base}
 use Rattle.nb_model.specs.Strokes.{Stroke, page, base_after}
-use Rattle.nb_model.specs.Forms.{Draft, drafted, first_not, old_page, is_kind, inventory_of, scn_page_of, has_entry, raised, put, written, wrote, system_kind, system_payload, system_page}
+use Rattle.nb_model.specs.Forms.{HasItsEntry, Draft, drafted, first_not, old_page, is_kind, inventory_of, scn_page_of, has_entry, raised, put, written, wrote, system_kind, system_payload, system_page}
 use Rattle.nb_model.specs.Causes.{Cause, when, not_kind}
 use Rattle.nb_model.specs.Way.{maps_up_to}
 use Rattle.nb_model.proofs.FirstFree.{free_from_is}
 use Rattle.nb_model.proofs.PlaceOrder.{div_rises}
 use Rattle.nb_fields.proofs.PlaceLemmas.{bits-least}
 use Rattle.nb_base.specs.Takes.{IsNoRefusal}
-use Rattle.nb_model.proofs.NeedLaws.{HasScnPage}
 use Rattle.nb_model.proofs.NewSound.{inventory_before}
 use Rattle.nb_model.proofs.SoundLaws.{scn_page_there, scn_place_some}
 use Rattle.nb_model.proofs.StepLaws.{IsShaped, IsReady, IsPutOn, put_on, kind_moves, scn_page_moves, map_entry_before}
@@ -35,7 +34,7 @@ use Rattle.nb_engine.proofs.MakeLaws.{RaisesAlone, raise_alone, system_there, sy
 use Rattle.nb_engine.proofs.PassLaws.{kept_there}
 
 -- its SCN page is of its kind
-pub entry_ready : (x : Image) (p : ℕ) → HasScnPage x p → entry_cause x p ≡ None
+pub entry_ready : (x : Image) (p : ℕ) → HasItsEntry x p → entry_cause x p ≡ None
 entry_ready x p has = by (has_entry x p) refl
   where
     by : (t : Bool) → has_entry x p ≡ t → entry_cause x p ≡ None
@@ -43,13 +42,13 @@ entry_ready x p has = by (has_entry x p) refl
     by true e = entry_cause-is x p e ∙ ap (λ (t : Bool). when (not t) (NotDatabase (scn_page_of x p))) (has e)
 
 -- so are its inventory page and the SCN page of that
-pub mark_ready : (x : Image) (p : ℕ) → is_kind x 2 (inventory_of x p) ≡ true → HasScnPage x (inventory_of x p) → mark_cause x p ≡ None
+pub mark_ready : (x : Image) (p : ℕ) → is_kind x 2 (inventory_of x p) ≡ true → HasItsEntry x (inventory_of x p) → mark_cause x p ≡ None
 mark_ready x p map entry =
     first_next (not_kind x 2 (inventory_of x p)) (entry_cause x (inventory_of x p) ∷ []) (ap (λ (t : Bool). when (not t) (NotDatabase (inventory_of x p))) map)
     ∙ first_next (entry_cause x (inventory_of x p)) [] (entry_ready x (inventory_of x p) entry) ∙ first_none
 
 -- they are so behind a page that is put there
-pub mark_put : (x : Image) (p kind : ℕ) (payload : List ℕ) → IsShaped x → IsReady x p → HasScnPage x p → 5 ≤ p → p ≤ length x → 16 + length payload ≤ image_size x → mark_cause (put p kind payload (drafted x)).image p ≡ None
+pub mark_put : (x : Image) (p kind : ℕ) (payload : List ℕ) → IsShaped x → IsReady x p → HasItsEntry x p → 5 ≤ p → p ≤ length x → 16 + length payload ≤ image_size x → mark_cause (put p kind payload (drafted x)).image p ≡ None
 mark_put x p kind payload shaped ready own five below room =
     let y : Image = (put p kind payload (drafted x)).image in
     let on : IsPutOn x y p kind payload = (put_on x p kind payload shaped own (omega (arith, five)) below room).on in
@@ -61,7 +60,7 @@ mark_put x p kind payload shaped ready own five below room =
     let longer : length x ≤ length y = omega (arith, long) in
     mark_ready y p
     (subst (λ (q : ℕ). is_kind y 2 q ≡ true) (sym same) (kind_moves x y 2 i longer (on.kinds i (λ e. absurd (omega (arith, e, before)))) ready.map))
-    (subst (HasScnPage y) (sym same)
+    (subst (HasItsEntry y) (sym same)
     (scn_page_moves x y i on.size (kind_moves x y 10 (scn_page_of x i) longer (on.kinds (scn_page_of x i) (λ e. absurd (omega (arith, e, entry_before))))) ready.map_entry))
 
 -- where the entry isn't refused, the strokes of a page are those of the draft
@@ -110,7 +109,7 @@ module _ (b : Base) (p : ℕ) (shaped : IsShaped b.image) (ready : IsReady b.ima
   abbrev kind : ℕ
   kind = system_kind b.image p
 
-  own : is_kind b.image kind p ≡ false → HasScnPage b.image p
+  own : is_kind b.image kind p ≡ false → HasItsEntry b.image p
   own e = ready.entry (kept_there b.image p false system e)
 
   pub system_clear : system_cause b.image p ≡ None

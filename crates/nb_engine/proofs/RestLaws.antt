@@ -15,6 +15,7 @@ use Rattle.nb_model.proofs.RoundLaws.{lowest_behind}
 use Rattle.nb_model.proofs.StepLaws.{IsShaped, IsReady, Visits, system_visits}
 use Rattle.nb_model.proofs.SearchLaws.{draft_cause, Met, met, try_stops, try_full, try_more, try_last, joined_cause}
 use Rattle.nb_engine.specs.Make.{new_of, round, behind}
+use Rattle.nb_engine.specs.Search.{IsSearchable}
 use Rattle.nb_engine.proofs.WayLaws.{stopped_cause, full_cause, cause_some}
 
 -- A try that isn't refused has all that it needs, and finds a page.
@@ -38,15 +39,16 @@ tried kind payload image (suc left) clear = by (first_not image (needed_at image
 pub record Rest (kind : ℕ) (payload : ℕ → List ℕ) (image : Image) (place : ℕ) (strokes : List Stroke) (number : ℕ) : Type 0 where
   pub left : ℕ
   pub shaped : IsShaped image
+  pub long : 5 ≤ length image
   pub most : length image ≤ 1048576
   pub at : lowest_free image ≡ place
   pub clear : draft_cause (new_within left kind payload (drafted image)).0 ≡ None
   pub strokes_are : (new_within left kind payload (drafted image)).0.strokes ≡ strokes
   pub number_is : (new_within left kind payload (drafted image)).1 ≡ number
 
-pub all_left : (kind : ℕ) (payload : ℕ → List ℕ) (image : Image) (place : ℕ) → IsShaped image → length image ≤ 1048576 → place ≡ lowest_free image → draft_cause (new_of kind payload image).0 ≡ None
+pub all_left : (kind : ℕ) (payload : ℕ → List ℕ) (image : Image) (place : ℕ) → IsSearchable image → length image ≤ 1048576 → place ≡ lowest_free image → draft_cause (new_of kind payload image).0 ≡ None
     → Rest kind payload image place (new_of kind payload image).0.strokes (new_of kind payload image).1
-all_left kind payload image place shaped most at clear = record { left = length image + 4; shaped = shaped; most = most; at = sym at; clear = clear; strokes_are = refl; number_is = refl }
+all_left kind payload image place may most at clear = record { left = length image + 4; shaped = may.shaped; long = may.long; most = most; at = sym at; clear = clear; strokes_are = refl; number_is = refl }
 
 -- where its search is
 pub record Here (image : Image) (place : ℕ) : Type 0 where
@@ -66,7 +68,7 @@ here kind payload image place strokes number rest = subst (Here image) rest.at (
 })
   where
     found : IsLowestFree image 5 (length image) (lowest_free image)
-    found = lowest_is image rest.shaped.least
+    found = lowest_is image rest.long
 
     try : Tried image rest.left
     try = tried kind payload image rest.left rest.clear
@@ -91,7 +93,7 @@ onward kind payload image place strokes number rest system = subst (λ (n : ℕ)
 
     at_lowest : is_system_place (image_size image) (lowest_free image) ≡ true → Onward kind payload image (lowest_free image) strokes number
     at_lowest there =
-        let found : IsLowestFree image 5 (length image) (lowest_free image) = lowest_is image rest.shaped.least in
+        let found : IsLowestFree image 5 (length image) (lowest_free image) = lowest_is image rest.long in
         let at : Here image (lowest_free image) = subst (Here image) (sym rest.at) (here kind payload image place strokes number rest) in
         let try : Tried image rest.left = tried kind payload image rest.left rest.clear in
         let after : Image = (round image (lowest_free image)).image in
@@ -99,6 +101,7 @@ onward kind payload image place strokes number rest system = subst (λ (n : ℕ)
         let more : new_within rest.left kind payload (drafted image) ≡ joined_new (round image (lowest_free image)) (new_within try.rest kind payload (drafted after)) =
         ap (λ (n : ℕ). new_within n kind payload (drafted image)) try.left_is ∙ try_more image kind payload try.rest try.none try.page there in
         let long = visits.on.long in
+        let least = rest.long in
         let below = at.below in
         let most = rest.most in
         record {
@@ -107,6 +110,7 @@ onward kind payload image place strokes number rest system = subst (λ (n : ℕ)
           rest = record {
             left = try.rest;
             shaped = visits.on.shaped;
+            long = omega (arith, long, least);
             most = omega (arith, long, below, most);
             at = lowest_behind after (lowest_free image) at.five (omega (arith, long)) (λ q five le. elim (eqb_tells q (lowest_free image)) [
               | inl w ↦ ap (is_free_page after) w.1 ∙ visits.on.here

@@ -1,6 +1,6 @@
 -- How calls go on that leave a database open, whatever stands in it.
 use Rattle.std.proofs.Common.{◌≡◌, inl, inr, ℕ, List, [], ◌∷◌, refl, sym, ap, subst, ◌∙◌}
-use Rattle.std.specs.Prelude.{Bool, true, false, ◌==◌, Option, Some, None, Result, Ok, Err, IsErr, IsErrAnd, IfErr}
+use Rattle.std.specs.Prelude.{Option, Result, Ok, Err, IsErr, IsErrAnd, IfErr}
 use Rattle.nb_host.specs.Files.{File, Files, with_file}
 use Rattle.nb_host.specs.World.{World}
 use Rattle.nb_host.specs.Crash.{Leaves, LeavesAll}
@@ -17,12 +17,10 @@ use Rattle.nb_change.proofs.NameLaws.{with_file-same, with_file-other}
 use Rattle.nb_model.specs.declared.reply.Reply.{Reply}
 use Rattle.nb_model.specs.Account.{Ask, Base}
 use Rattle.nb_model.specs.Causes.{Cause}
-use Rattle.nb_model.specs.Image.{Image, image_state}
-use Rattle.nb_model.specs.Outcomes.{Outcome, Seen, unless}
+use Rattle.nb_model.specs.Outcomes.{Outcome, Seen}
 use Rattle.nb_model.specs.Owner.{delta_name, owner}
-use Rattle.nb_model.specs.Pages.{end_strokes, end_turn, ends_by}
-use Rattle.nb_model.specs.Strokes.{Stroke, begin, ends, finish}
-use Rattle.nb_model.specs.Sound.{HasNoZeros}
+use Rattle.nb_model.specs.Pages.{end_turn}
+use Rattle.nb_model.specs.Strokes.{Stroke, begin, finish}
 use Rattle.nb_model.specs.Trail.{Trail, StandsIn, after_stroke}
 use Rattle.nb_base.specs.Open.{OfFiles}
 use Rattle.nb_base.specs.Takes.{Strikes, after_strokes, IsNoRefusal}
@@ -32,19 +30,17 @@ use Rattle.nb_state.specs.Does.{WhereEnded, unless_by, Makes, Does}
 use Rattle.nb_state.specs.Turns.{Merges}
 use Rattle.nb_state.specs.declared.turns.Progress.{Progress}
 use Rattle.nb_state.specs.declared.turns.Progress.TheVariants.{More, Finished}
-use Rattle.nb_state.specs.Whole.{StaysWhole}
-use Rattle.nb_state.proofs.MakesLaws.{ended_both, ended_more, open_running, open_still, still_open, where_ended}
+use Rattle.nb_state.proofs.MakesLaws.{ended_more, open_running, open_still, still_open, where_ended}
 use Rattle.nb_state.proofs.ShownLaws.{open_beside}
-use Rattle.nb_state.proofs.WholeLaws.{whole_same, whole_then, begin_whole, ends_whole, finish_whole}
 use Rattle.nb_engine.specs.Make.{MakesSome}
 use Rattle.nb_engine.specs.Stays.{CanBeOpened, OfFilesOr, StaysOpen}
 use Rattle.nb_engine.specs.Tries.{Tries}
 use Rattle.nb_engine.specs.Turns.{DoesEnd, Starts, starting_cause}
 use Rattle.nb_engine.proofs.DoesLaws.{tries_passed}
 
--- The database is open, and its image has gone on whole.
-abbrev GoesOpen : (w : World) (held : Held) (before : Trail) → Type 0
-GoesOpen w held before = (u : Trail) × IsOpen w held u × StaysWhole before.base.image u.base.image
+-- the database is open
+abbrev GoesOpen : (w : World) (held : Held) → Type 0
+GoesOpen w held = (u : Trail) × IsOpen w held u
 
 -- What a stop leaves of an open database can be opened, and so can what it leaves behind a front of strokes.
 pub opens_left : (w : World) (held : Held) (t : Trail) → IsOpen w held t → (files : Files) → LeavesAll w files → CanBeOpened (name_of held) files
@@ -57,16 +53,16 @@ opens_behind name t (x ∷ xs) files (inr rest) = opens_behind name (after_strok
 
 -- A call that makes strokes, whatever they are, and leaves the database open.
 module _ {T : Type 0} (result : Result T Fault) (old new : World) (a b : Held) (t : Trail) (others : Names) where
-  pub stays_struck : (u : Trail) (xs : List Stroke) → Strikes old new (name_of a) t xs → WhereEnded result (IsOpen new b u) → WhereEnded result (StaysWhole t.base.image u.base.image) → name_of b ≡ name_of a
+  pub stays_struck : (u : Trail) (xs : List Stroke) → Strikes old new (name_of a) t xs → WhereEnded result (IsOpen new b u) → name_of b ≡ name_of a
       → StaysOpen result old new a b t others
-  stays_struck u xs struck opened whole name = record {
+  stays_struck u xs struck opened name = record {
     touched = weakened old new (OfFiles (name_of a)) (OfFilesOr (name_of a) others) (Reached after_stroke (StandsIn (name_of a)) t xs) (CanBeOpened (name_of a)) struck (λ m own. inl own) (λ files rest has. opens_behind (name_of a) t xs files has);
-    opened = ended_both result (IsOpen new b u) (StaysWhole t.base.image u.base.image) (GoesOpen new b t) (λ is goes. (u, is, goes)) opened whole;
+    opened = ended_more result (IsOpen new b u) (GoesOpen new b) (λ is. (u, is)) opened;
     name = name;
   }
 
   pub stays_makes : (xs : List Stroke) → Makes result old new a b t xs → StaysOpen result old new a b t others
-  stays_makes xs makes = stays_struck (after_strokes t xs) xs makes.left makes.opened makes.whole makes.goes.name
+  stays_makes xs makes = stays_struck (after_strokes t xs) xs makes.left makes.opened makes.goes.name
 
   pub stays_some : MakesSome result old new a b t → StaysOpen result old new a b t others
   stays_some some = stays_makes some.made some.makes
@@ -81,7 +77,7 @@ module _ {T : Type 0} (result : Result T Fault) (old new : World) (a b : Held) (
   pub stays_quiet : Quiet old new → IsOpen old a t → IsOpen new b t → name_of b ≡ name_of a → StaysOpen result old new a b t others
   stays_quiet quiet is opened name = record {
     touched = rested old new (OfFilesOr (name_of a) others) (CanBeOpened (name_of a)) quiet.still quiet.said quiet.moments (opens_left old a t is);
-    opened = where_ended result (GoesOpen new b t) (t, opened, whole_same t.base.image);
+    opened = where_ended result (GoesOpen new b) (t, opened);
     name = name;
   }
 
@@ -93,50 +89,28 @@ module _ {T : Type 0} (result : Result T Fault) (old new : World) (a b : Held) (
 pub stays_passing : {T : Type 0} (result : Result T Fault) (old new : World) (a : Held) (t : Trail) (others : Names) → IsTimely old → IsStill old new → new.said ≡ old.said → Passes old new → IsOpen old a t → StaysOpen result old new a a t others
 stays_passing result old new a t others timely still silent time is = record {
   touched = still_alone old new (OfFilesOr (name_of a) others) (CanBeOpened (name_of a)) timely still silent time (opens_left old a t is);
-  opened = where_ended result (GoesOpen new a t) (t, still_open old new a t still is, whole_same t.base.image);
+  opened = where_ended result (GoesOpen new a) (t, still_open old new a t still is);
   name = refl;
 }
 
 -- the calls of a backup
 pub stays_starts : (result : Result ℕ Fault) (old new : World) (a b : Held) (t : Trail) (guid : List ℕ) (ask : Option Ask) (others : Names) → IsOpen old a t → Starts result old new a b t guid ask → StaysOpen result old new a b t others
-stays_starts (Ok scn) old new a b t guid ask others is starts = stays_struck (Ok scn) old new a b t others (after_strokes t (begin guid ask ∷ [])) (unless_by (starting_cause t.base.image) (begin guid ask ∷ [])) starts.left starts.opened
-    (begin_whole new b t guid ask starts.opened) starts.name
+stays_starts (Ok scn) old new a b t guid ask others is starts = stays_struck (Ok scn) old new a b t others (after_strokes t (begin guid ask ∷ [])) (unless_by (starting_cause t.base.image) (begin guid ask ∷ [])) starts.left starts.opened starts.name
 stays_starts (Err (Refused refusal)) old new a b t guid ask others is starts =
-    stays_struck (Err (Refused refusal)) old new a b t others t (unless_by (starting_cause t.base.image) (begin guid ask ∷ [])) starts.left (open_still old new a b t starts.refused.0 starts.refused.1 is) (whole_same t.base.image) starts.name
-stays_starts (Err Device) old new a b t guid ask others is starts = stays_struck (Err Device) old new a b t others t (unless_by (starting_cause t.base.image) (begin guid ask ∷ [])) starts.left tt tt starts.name
-stays_starts (Err Memory) old new a b t guid ask others is starts = stays_struck (Err Memory) old new a b t others t (unless_by (starting_cause t.base.image) (begin guid ask ∷ [])) starts.left tt tt starts.name
-
-unless_either : (s : Seen) (cause : Cause) (o : Outcome) (P : List Stroke → Type 0) → P [] → P o.strokes → P (unless s cause o).strokes
-unfolding unless
-unless_either s (Some refusal) o P none some = none
-unless_either s None o P none some = some
-
--- the end makes one stroke or none
-end_either : (x : Image) (P : List Stroke → Type 0) → P [] → P (ends ∷ []) → P (end_strokes x)
-unfolding end_strokes
-end_either x P none some = by (image_state x == 1)
-  where
-    by : (stalled : Bool) → P (elim stalled as (λ z. List Stroke) [ true ↦ ends ∷ [] | false ↦ [] ])
-    by true = some
-    by false = none
-
-end_strokes_are : (s : Seen) (session : ℕ) (P : List Stroke → Type 0) → P [] → P (ends ∷ []) → P (end_turn s session).strokes
-unfolding end_turn ends_by
-end_strokes_are s session P none some = unless_either s _ _ P none (end_either s.base.image P none some)
+    stays_struck (Err (Refused refusal)) old new a b t others t (unless_by (starting_cause t.base.image) (begin guid ask ∷ [])) starts.left (open_still old new a b t starts.refused.0 starts.refused.1 is) starts.name
+stays_starts (Err Device) old new a b t guid ask others is starts = stays_struck (Err Device) old new a b t others t (unless_by (starting_cause t.base.image) (begin guid ask ∷ [])) starts.left tt starts.name
+stays_starts (Err Memory) old new a b t guid ask others is starts = stays_struck (Err Memory) old new a b t others t (unless_by (starting_cause t.base.image) (begin guid ask ∷ [])) starts.left tt starts.name
 
 pub stays_ends : (result : Result ℕ Fault) (old new : World) (a b : Held) (t : Trail) (scn : ℕ) (s : Seen) (session : ℕ) (others : Names) → DoesEnd result old new a b t scn (end_turn s session) → StaysOpen result old new a b t others
 stays_ends result old new a b t scn s session others is_ended =
-    stays_struck result old new a b t others (after_strokes t (end_turn s session).strokes) (end_turn s session).strokes is_ended.left is_ended.opened
-    (ended_more result _ _
-    (end_strokes_are s session (λ (xs : List Stroke). IsOpen new b (after_strokes t xs) → StaysWhole t.base.image (after_strokes t xs).base.image) (λ is. whole_same t.base.image) (ends_whole new b t)) is_ended.opened)
-    is_ended.name
+    stays_struck result old new a b t others (after_strokes t (end_turn s session).strokes) (end_turn s session).strokes is_ended.left is_ended.opened is_ended.name
 
-pub stays_merges : (result : Result Progress Fault) (old new : World) (a b : Held) (t : Trail) (others : Names) → IfErr result IsNoRefusal → HasNoZeros t.base.image → Merges result old new a b t → StaysOpen result old new a b t others
-stays_merges (Ok More) old new a b t others sure full merges = stays_struck (Ok More) old new a b t others t (finish ∷ []) merges.left merges.on.3 (whole_same t.base.image) merges.name
-stays_merges (Ok Finished) old new a b t others sure full merges = stays_struck (Ok Finished) old new a b t others (after_strokes t (finish ∷ [])) (finish ∷ []) merges.left merges.on.2 (finish_whole new b t full merges.on.2) merges.name
-stays_merges (Err (Refused refusal)) old new a b t others sure full merges = absurd sure
-stays_merges (Err Device) old new a b t others sure full merges = stays_struck (Err Device) old new a b t others t (finish ∷ []) merges.left tt tt merges.name
-stays_merges (Err Memory) old new a b t others sure full merges = stays_struck (Err Memory) old new a b t others t (finish ∷ []) merges.left tt tt merges.name
+pub stays_merges : (result : Result Progress Fault) (old new : World) (a b : Held) (t : Trail) (others : Names) → IfErr result IsNoRefusal → Merges result old new a b t → StaysOpen result old new a b t others
+stays_merges (Ok More) old new a b t others sure merges = stays_struck (Ok More) old new a b t others t (finish ∷ []) merges.left merges.on.3 merges.name
+stays_merges (Ok Finished) old new a b t others sure merges = stays_struck (Ok Finished) old new a b t others (after_strokes t (finish ∷ [])) (finish ∷ []) merges.left merges.on.2 merges.name
+stays_merges (Err (Refused refusal)) old new a b t others sure merges = absurd sure
+stays_merges (Err Device) old new a b t others sure merges = stays_struck (Err Device) old new a b t others t (finish ∷ []) merges.left tt merges.name
+stays_merges (Err Memory) old new a b t others sure merges = stays_struck (Err Memory) old new a b t others t (finish ∷ []) merges.left tt merges.name
 
 module _ (old new : World) (a b : Held) where
   -- more files are allowed for
@@ -160,7 +134,7 @@ module _ (old new : World) (a b : Held) where
     pub stays_running : {S T : Type 0} {t : Trail} (value : S) (other : T) (by : Option ℕ) (later : Held) → later ≡ record b { running = by } → StaysOpen (Ok value) old new a b t others → StaysOpen (Ok other) old new a later t others
     stays_running {t = t} value other by later same stays = subst (λ (h : Held). StaysOpen (Ok other) old new a h t others) (sym same) (record {
       touched = stays.touched;
-      opened = (stays.opened.0, open_running new b stays.opened.0 by stays.opened.1, stays.opened.2);
+      opened = (stays.opened.0, open_running new b stays.opened.0 by stays.opened.1);
       name = stays.name;
     })
 
@@ -168,7 +142,7 @@ module _ (old new : World) (a b : Held) where
     pub stays_failed : {t : Trail} (S T : Type 0) (fault : Fault) → StaysOpen {T = S} (Err fault) old new a b t others → StaysOpen {T = T} (Err fault) old new a b t others
     stays_failed {t} S T fault stays = record { touched = stays.touched; opened = by fault stays.opened; name = stays.name }
       where
-        by : (f : Fault) → WhereEnded {T = S} (Err f) (GoesOpen new b t) → WhereEnded {T = T} (Err f) (GoesOpen new b t)
+        by : (f : Fault) → WhereEnded {T = S} (Err f) (GoesOpen new b) → WhereEnded {T = T} (Err f) (GoesOpen new b)
         by (Refused refusal) is = is
         by Device is = tt
         by Memory is = tt
@@ -185,7 +159,7 @@ stays_then {t = t} value result old mid new a b c others first second =
     record {
       touched = composed old mid new (OfFilesOr (name_of a) others) (CanBeOpened (name_of a)) (CanBeOpened (name_of a)) (CanBeOpened (name_of a)) first.touched
           (subst (λ (n : List ℕ). Changes mid new (OfFilesOr n others) (CanBeOpened n)) first.name rest.touched) (λ files has. has) (λ files has. has);
-      opened = ended_more result (GoesOpen new c first.opened.0) (GoesOpen new c t) (λ is. (is.0, is.1, whole_then t.base.image first.opened.0.base.image is.0.base.image first.opened.2 is.2)) rest.opened;
+      opened = rest.opened;
       name = rest.name ∙ first.name;
     }
 
@@ -229,6 +203,6 @@ module _ (old new : World) (a : Held) (t : Trail) (is : IsOpen old a t) (reads :
   pub stays_aside : {T : Type 0} (result : Result T Fault) (b : Held) → b ≡ a → StaysOpen result old new a b t others
   stays_aside result b same = subst (λ (h : Held). StaysOpen result old new a h t others) (sym same) (record {
     touched = weakened old new others (OfFilesOr main others) P (CanBeOpened main) changes (λ m one. inr one) (λ files left has. own_left (λ m d. (x : Base) × (owner main m d ≡ Ok x)) (opens_left old a t is) files left);
-    opened = where_ended result (GoesOpen new a t) (t, open_aside, whole_same t.base.image);
+    opened = where_ended result (GoesOpen new a) (t, open_aside);
     name = refl;
   })

@@ -30,7 +30,7 @@ use Rattle.nb_engine.specs.Find.{need_cause}
 use Rattle.nb_engine.specs.Way.{way_cause}
 use Rattle.nb_engine.specs.declared.behind.Behind.{Behind}
 use Rattle.nb_engine.specs.Behind.{IsKnown, gone}
-use Rattle.nb_engine.specs.Search.{Searches, AtPlace, AtKnown, GoesTo, IsShort, Finds, Refuses, EndsBy}
+use Rattle.nb_engine.specs.Search.{IsSearchable, Searches, AtPlace, AtKnown, GoesTo, IsShort, Finds, Refuses, EndsBy}
 use Rattle.nb_engine.proofs.BehindLaws.{known_plain, known_gone}
 use Rattle.nb_engine.proofs.PassLaws.{place_free}
 use Rattle.nb_engine.proofs.CauseLaws.{first_none as first_none_cause, first_next, first_here}
@@ -70,7 +70,7 @@ module _ (old start now : Image) (first from made fresh left : ℕ) (s : Searche
   lowest = next_is old now from made fresh way ∙ sym at
 
   found : IsLowestFree now 5 (length now) p
-  found = subst (IsLowestFree now 5 (length now)) lowest (lowest_is now way.shaped.least)
+  found = subst (IsLowestFree now 5 (length now)) lowest (lowest_is now (let five = way.five in let long = way.long in omega (arith, five, long)))
 
   pub from_p : from ≤ p
   from_p = by (inventory_of old from == fresh) at
@@ -473,9 +473,9 @@ goes_failed S T result fault old start first from made fresh a b d before after 
     by Memory e = tt
 
 -- a search that begins
-pub begins_at : (x : Image) (from made fresh : ℕ) → from ≡ 5 → made ≡ 0 → fresh ≡ 0 → IsShaped x → IsOnTheWay x x from made fresh
-begins_at x from made fresh a b c shaped =
-    subst (λ (n : ℕ). IsOnTheWay x x n made fresh) (sym a) (subst (λ (m : ℕ). IsOnTheWay x x 5 m fresh) (sym b) (subst (λ (f : ℕ). IsOnTheWay x x 5 0 f) (sym c) (way_begins x shaped)))
+pub begins_at : (x : Image) (from made fresh : ℕ) → from ≡ 5 → made ≡ 0 → fresh ≡ 0 → IsSearchable x → IsOnTheWay x x from made fresh
+begins_at x from made fresh a b c may =
+    subst (λ (n : ℕ). IsOnTheWay x x n made fresh) (sym a) (subst (λ (m : ℕ). IsOnTheWay x x 5 m fresh) (sym b) (subst (λ (f : ℕ). IsOnTheWay x x 5 0 f) (sym c) (way_begins x may.shaped may.long)))
 
 pub place_begins : (x : Image) (from fresh : ℕ) → from ≡ 5 → fresh ≡ 0 → IsTrue (is_page_size (image_size x)) → (inventory_of x from ≢ fresh) × (next_place x from fresh ≡ lowest_free x)
 unfolding lowest_free

@@ -8,9 +8,15 @@ use Rattle.nb_model.specs.Image.{Image, image_size}
 use Rattle.nb_model.specs.Forms.{drafted, first_not, new_within, new_page}
 use Rattle.nb_model.specs.Way.{next_place, needed_on, IsMadeBehind, IsFreshBehind}
 use Rattle.nb_model.proofs.OnwardLaws.{IsOnTheWay}
+use Rattle.nb_model.proofs.StepLaws.{IsShaped}
 use Rattle.nb_model.proofs.SearchLaws.{draft_cause}
 use Rattle.nb_engine.specs.declared.behind.Behind.{Behind}
 use Rattle.nb_engine.specs.Behind.{IsKnown}
+
+-- A new page may be looked for in it: it has the first five pages, which no search takes.
+pub record IsSearchable (image : Image) : Type 0 where
+  pub shaped : IsShaped image
+  pub long : 5 ≤ length image
 
 -- what is left of a new page goes as the whole
 pub record Rests (start now : Image) (tries kind : ℕ) (payload : ℕ → List ℕ) : Type 0 where

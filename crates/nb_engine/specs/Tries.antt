@@ -1,5 +1,5 @@
 -- What a call does that may be refused before its strokes.
-use Rattle.std.specs.Prelude.{◌≡◌, List, Some, Result}
+use Rattle.std.specs.Prelude.{◌≡◌, List, ◌++◌, Some, Result}
 use Rattle.nb_host.specs.World.{World}
 use Rattle.nb_host.specs.declared.faults.Fault.{Fault}
 use Rattle.nb_host.specs.declared.refusals.Refusal.{Refusal}
@@ -7,7 +7,8 @@ use Rattle.nb_page.specs.Quiet.{Quiet}
 use Rattle.nb_model.specs.Causes.{Cause}
 use Rattle.nb_model.specs.Strokes.{Stroke}
 use Rattle.nb_model.specs.Trail.{Trail}
-use Rattle.nb_state.specs.Open.{Held}
+use Rattle.nb_base.specs.Takes.{Strikes, after_strokes}
+use Rattle.nb_state.specs.Open.{Held, IsOpen, name_of}
 use Rattle.nb_state.specs.Does.{Tested, unless_by, Makes}
 
 -- The call is refused where there is this cause, and changes nothing then, whatever is answered. Otherwise it makes these strokes.
@@ -15,3 +16,11 @@ pub record Tries {T : Type 0} (result : Result T Fault) (old new : World) (befor
   pub test : Tested result cause
   pub makes : Makes result old new before after t (unless_by cause strokes)
   pub idle : (r : Refusal) → cause ≡ Some r → Quiet old new
+
+-- The call has wanted memory: it has made a front of these strokes and no other, and the database is open behind it.
+pub record StopsBehind (old new : World) (before after : Held) (t : Trail) (strokes : List Stroke) : Type 0 where
+  pub made : List Stroke
+  pub rest : List Stroke
+  pub front : made ++ rest ≡ strokes
+  pub left : Strikes old new (name_of before) t made
+  pub opened : IsOpen new after (after_strokes t made)

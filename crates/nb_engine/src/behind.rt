@@ -1,6 +1,7 @@
 // A page that is written behind a search for new pages: the page of a slot, or the last of a chain. The search may make a system page where it
 // stands, or the SCN page with its entry, so whether it may be written is known once the search has ended.
-ghost use Rattle.std.specs.Prelude.{◌≡◌, ◌<◌, ◌++◌, ◌∷◌, ◌==◌, ◌||◌, ℕ, List, [], Bool, true, false, Some, None, IsTrue, IfOk, OnOk, IfSome, Ok, length, nat_lt};
+ghost use Rattle.std.specs.Prelude.{◌≡◌, ◌≢◌, ◌<◌, ◌++◌, ◌∷◌, ◌==◌, ◌||◌, ℕ, List, [], Bool, true, false, Some, None, IsTrue, IfErr, IfOk, OnOk, IfSome, Ok, length, nat_lt};
+ghost use Rattle.nb_host.specs.declared.faults.Fault.TheVariants.{Memory};
 ghost use Rattle.nb_change.specs.Counts.{CountsDevice};
 ghost use Rattle.nb_page.specs.Quiet.{Quiet};
 ghost use Rattle.nb_host.specs.declared.refusals.Refusal.TheVariants.{NotDatabase};
@@ -60,6 +61,7 @@ impl Behind {
         ensures same { but_pages store.new ≡ but_pages store.old }
         ensures quiet { Quiet (H.world host.old) (H.world host.new) }
         ensures cause { CountsDevice result (H.faults host.old) (H.faults host.new) }
+        ensures takes_none { IfErr result (λ fault. fault ≢ Memory) }
     {
         // Contracts ask for it.
         let _page_size = store.page_size();
@@ -93,6 +95,7 @@ impl Behind {
         ensures kept { OnOk result (self.now.lost ≡ false) }
         ensures ended { EndsAlike found result }
         ensures cause { (old new : ℕ) → CountsDevice found old new → CountsDevice result old new }
+        ensures takes_none { IfErr found (λ fault. fault ≢ Memory) → IfErr result (λ fault. fault ≢ Memory) }
     {
         let of_entry = with_page(found, self.entry > 0, self.entry);
         with_page(of_entry, self.lost, self.page)
@@ -120,6 +123,7 @@ pub(crate) fn find_lacking<H: Host>(
     ensures same { but_pages store.new ≡ but_pages store.old }
     ensures quiet { Quiet (H.world host.old) (H.world host.new) }
     ensures cause { CountsDevice result (H.faults host.old) (H.faults host.new) }
+    ensures takes_none { IfErr result (λ fault. fault ≢ Memory) }
 {
     let page_size = store.page_size();
     if nb_scn::is_place(page_size, number) {
@@ -181,6 +185,7 @@ fn with_page(found: Result<u32, Fault>, counts: bool, page: u32) -> Result<u32, 
     ensures none { OnOk result (counts ≡ false) }
     ensures ended { EndsAlike found result }
     ensures cause { (old new : ℕ) → CountsDevice found old new → CountsDevice result old new }
+    ensures takes_none { IfErr found (λ fault. fault ≢ Memory) → IfErr result (λ fault. fault ≢ Memory) }
 {
     if !counts {
         return found;

@@ -63,6 +63,7 @@ fn write_data<H: Host>(
     ensures goes { Goes store.old store.new }
     ensures scn_room { length scn_page.new ≡ length scn_page.old }
     ensures cause { CountsDevice result (H.faults host.old) (H.faults host.new) }
+    ensures takes_none { store.old.files.state ≢ 1 → IfErr result (λ fault. fault ≢ Memory) }
 {
     // A page that is read is below the length, and so below the most pages that there may be.
     let _count = store.count();
@@ -109,7 +110,7 @@ impl Engine {
 
     /// Writes page `number`, a data page. Of the bytes that are given those behind the head count: the next page, the owner and the slots.
     /// The head is that of the page as it stands, with its generation raised and the current SCN. The SCN entry of the page is raised before,
-    /// where that is below the current SCN.
+    /// where that is below the current SCN. It wants memory in the stalled state alone.
     ///
     /// The refusals are `NotDatabase` of the page, where it is past the end or no data page, and of its SCN page, in this order. A refused
     /// call changes nothing.
@@ -126,6 +127,7 @@ impl Engine {
         ensures sure { (t : Trail) → IsTrue H.tells → IsOpen (H.world host.old) self.old t → IsSoundImage t.base.image → not_kind t.base.image 5 number ≡ None → IfErr result IsNoRefusal }
         ensures goes { Goes self.old self.new }
         ensures cause { CountsDevice result (H.faults host.old) (H.faults host.new) }
+        ensures takes_none { self.old.files.state ≢ 1 → IfErr result (λ fault. fault ≢ Memory) }
     {
         write_data(
             &mut self.store,
@@ -139,7 +141,8 @@ impl Engine {
     }
 
     /// Gives page `number` back: its inventory page says from then on that it is free. The page itself stays as it is. The SCN entry of the
-    /// inventory page is raised before, where that is below the current SCN.
+    /// inventory page is raised before, where that is below the current SCN. It takes two reads at most, and wants memory in the stalled
+    /// state alone.
     ///
     /// The refusals are `NotDatabase` of the inventory page and of the SCN page of that, in this order. A refused call changes nothing.
     pub fn data_free<H: Host>(&mut self, host: &mut H, number: u32) -> Result<(), Fault>
@@ -148,7 +151,9 @@ impl Engine {
             → Tries result (H.world host.old) (H.world host.new) self.old self.new t (mark_cause t.base.image number) (give_page number (drafted t.base.image)).strokes }
         ensures sure { (t : Trail) → IsTrue H.tells → IsOpen (H.world host.old) self.old t → IsSoundImage t.base.image → 2 ≤ number → number < length t.base.image → IfErr result IsNoRefusal }
         ensures goes { Goes self.old self.new }
+        ensures once { IsTrue H.tells → (H.world host.new).reads ≤ (H.world host.old).reads + 2 }
         ensures cause { CountsDevice result (H.faults host.old) (H.faults host.new) }
+        ensures takes_none { self.old.files.state ≢ 1 → IfErr result (λ fault. fault ≢ Memory) }
     {
         mark(
             &mut self.store,
@@ -161,8 +166,8 @@ impl Engine {
         Ok(())
     }
 
-    /// The SCN page that writing page `number` changes, where that isn't of its kind. It changes nothing but which pages are in memory, and
-    /// refuses nothing.
+    /// The SCN page that writing page `number` changes, where that isn't of its kind. It changes nothing but which pages are in memory,
+    /// refuses nothing, and wants no memory.
     pub fn data_ready<H: Host>(&mut self, host: &mut H, number: u32) -> Result<Option<u32>, Fault>
         requires low { 0 < number }
         requires high { number < 1048576 }
@@ -172,6 +177,7 @@ impl Engine {
         ensures same { but_pages self.new ≡ but_pages self.old }
         ensures quiet { Quiet (H.world host.old) (H.world host.new) }
         ensures cause { CountsDevice result (H.faults host.old) (H.faults host.new) }
+        ensures takes_none { IfErr result (λ fault. fault ≢ Memory) }
     {
         find_lacking(
             &mut self.store,
@@ -183,7 +189,7 @@ impl Engine {
     }
 
     /// The lowest page that isn't of its kind, of those that giving page `number` back changes: its inventory page, and the SCN page of that. It
-    /// changes nothing but which pages are in memory, and refuses nothing.
+    /// changes nothing but which pages are in memory, refuses nothing, and wants no memory.
     pub fn free_ready<H: Host>(&mut self, host: &mut H, number: u32) -> Result<Option<u32>, Fault>
         requires high { number < 1048576 }
         ensures test { Tested result None }
@@ -192,6 +198,7 @@ impl Engine {
         ensures same { but_pages self.new ≡ but_pages self.old }
         ensures quiet { Quiet (H.world host.old) (H.world host.new) }
         ensures cause { CountsDevice result (H.faults host.old) (H.faults host.new) }
+        ensures takes_none { IfErr result (λ fault. fault ≢ Memory) }
     {
         let page_size = self.store.page_size();
         let (k, _) = covers(page_size, number);

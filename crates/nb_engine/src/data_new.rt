@@ -1,6 +1,7 @@
 // New data pages: the first of a chain, and one behind its last.
-ghost use Rattle.std.specs.Prelude.{◌≡◌, ◌+◌, ◌<◌, ◌≤◌, ℕ, List, true, IsTrue, IfOk, OnOk, length};
+ghost use Rattle.std.specs.Prelude.{◌≡◌, ◌≢◌, ◌+◌, ◌<◌, ◌≤◌, ℕ, List, true, IsTrue, IfErr, IfOk, OnOk, length};
 ghost use Rattle.nb_fields.specs.Payloads.{data_payload};
+ghost use Rattle.nb_host.specs.declared.faults.Fault.TheVariants.{Memory};
 ghost use Rattle.nb_change.specs.Counts.{CountsDevice};
 ghost use Rattle.nb_page.specs.Quiet.{Quiet};
 ghost use Rattle.nb_model.specs.Chains.{Chain, owner_of, last_of, grown};
@@ -44,7 +45,8 @@ fn fill_payload(into: &mut [u8], owner: u32, slots: &[u8])
 
 impl Engine {
     /// Makes a data page with these slots, and answers its number, which is found as that of a new raw page. It leads to no other page. Its
-    /// owner is the one that is named, or, where none is, the page itself: so begins the chain of a table.
+    /// owner is the one that is named, or, where none is, the page itself: so begins the chain of a table. It wants memory in the stalled
+    /// state alone.
     ///
     /// The refusals are `NotDatabase` of a database of fewer than five pages, by its length, or of the lowest page that the new page needs and
     /// that isn't of its kind, and `Full`, where no page is left, in this order. All that the new page changes is tested before the first
@@ -68,6 +70,7 @@ impl Engine {
         ensures most { IfOk result (λ number. number < 1048576) }
         ensures goes { Goes self.old self.new }
         ensures cause { CountsDevice result (H.faults host.old) (H.faults host.new) }
+        ensures takes_none { self.old.files.state ≢ 1 → IfErr result (λ fault. fault ≢ Memory) }
     {
         let count = self.store.count();
         if count < FIRST_TO_GIVE {
@@ -92,7 +95,7 @@ impl Engine {
     }
 
     /// Makes a data page with these slots behind `last`, the last page of a chain of that owner, which is linked to it once it stands. It
-    /// answers the number of the new page.
+    /// answers the number of the new page. It wants memory in the stalled state alone.
     ///
     /// The refusals are `NotDatabase` of a database of fewer than five pages, by its length, or of the lowest page that isn't of its kind: one
     /// that the new page needs, the SCN page of the last page, or the last page itself, where the search for the new page makes a system page
@@ -116,6 +119,7 @@ impl Engine {
         ensures most { IfOk result (λ number. number < 1048576) }
         ensures goes { Goes self.old self.new }
         ensures cause { CountsDevice result (H.faults host.old) (H.faults host.new) }
+        ensures takes_none { self.old.files.state ≢ 1 → IfErr result (λ fault. fault ≢ Memory) }
     {
         let count = self.store.count();
         if count < FIRST_TO_GIVE {
@@ -146,7 +150,7 @@ impl Engine {
     }
 
     /// Tests that `pages` new data pages, one or two, may be made, one right behind the other, and that page `behind`, a data page, may be
-    /// written behind them. It changes nothing but which pages are in memory.
+    /// written behind them. It changes nothing but which pages are in memory, and wants no memory.
     ///
     /// The refusals are `NotDatabase` of a database of fewer than five pages, by its length, or of the lowest page that isn't of its kind: one
     /// that the new pages need, the SCN page of page `behind`, or that page itself, where the search for the new pages makes a system page of
@@ -166,6 +170,7 @@ impl Engine {
         ensures same { but_pages self.new ≡ but_pages self.old }
         ensures quiet { Quiet (H.world host.old) (H.world host.new) }
         ensures cause { CountsDevice result (H.faults host.old) (H.faults host.new) }
+        ensures takes_none { IfErr result (λ fault. fault ≢ Memory) }
     {
         let count = self.store.count();
         if count < FIRST_TO_GIVE {

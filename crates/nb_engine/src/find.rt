@@ -1,6 +1,7 @@
 // The search for a free page, which reads inventory pages one after the other. Nothing changes.
-ghost use Rattle.std.specs.Prelude.{◌≡◌, ◌+◌, ◌-◌, ◌*◌, ◌/◌, ◌<◌, ◌≤◌, true, IsTrue, IfOk, OnOk, IfSome, MatchOption, length};
+ghost use Rattle.std.specs.Prelude.{◌≡◌, ◌≢◌, ◌+◌, ◌-◌, ◌*◌, ◌/◌, ◌<◌, ◌≤◌, true, IsTrue, IfErr, IfOk, OnOk, IfSome, MatchOption, length};
 ghost use Rattle.nb_fields.specs.Places.{is_page_size, bits_in, is_system_place};
+ghost use Rattle.nb_host.specs.declared.faults.Fault.TheVariants.{Memory};
 ghost use Rattle.nb_change.specs.Counts.{CountsDevice};
 ghost use Rattle.nb_page.specs.Quiet.{Quiet};
 ghost use Rattle.nb_model.specs.Image.{Page, Image, image_size};
@@ -78,6 +79,7 @@ fn free_near<H: Host>(
     ensures quiet { Quiet (H.world host.old) (H.world host.new) }
     ensures once { IsTrue H.tells → (H.world host.new).reads ≤ (H.world host.old).reads + 1 }
     ensures cause { CountsDevice result (H.faults host.old) (H.faults host.new) }
+    ensures takes_none { IfErr result (λ fault. fault ≢ Memory) }
 {
     let page_size = store.page_size();
     let count = store.count();
@@ -117,6 +119,7 @@ pub(crate) fn next_free<H: Host>(
     ensures once { IsTrue H.tells → (H.world host.new).reads ≤ (H.world host.old).reads + (store.old.files.count / bits_in store.old.files.page_size + 1 - from / bits_in store.old.files.page_size) }
     ensures up_to { IsTrue H.tells → IfOk result (λ page. (H.world host.new).reads ≤ (H.world host.old).reads + (page / bits_in store.old.files.page_size + 1 - from / bits_in store.old.files.page_size)) }
     ensures cause { CountsDevice result (H.faults host.old) (H.faults host.new) }
+    ensures takes_none { IfErr result (λ fault. fault ≢ Memory) }
 {
     let page_size = store.page_size();
     let count = store.count();
@@ -149,6 +152,7 @@ pub(crate) fn hold_map<H: Host>(
     ensures quiet { Quiet (H.world host.old) (H.world host.new) }
     ensures once { IsTrue H.tells → (H.world host.new).reads ≤ (H.world host.old).reads + 1 }
     ensures cause { CountsDevice result (H.faults host.old) (H.faults host.new) }
+    ensures takes_none { IfErr result (λ fault. fault ≢ Memory) }
 {
     let page_size = store.page_size();
     let count = store.count();

@@ -1,14 +1,16 @@
 // The flags in page 0: whether writes are forced, and whether the database may be changed.
-ghost use Rattle.std.specs.Prelude.{◌≡◌, ◌<◌, ◌≤◌, IsTrue, None, OnOk, true, length};
+ghost use Rattle.std.specs.Prelude.{◌≡◌, ◌≢◌, ◌<◌, ◌≤◌, [], IsTrue, IfErr, Err, None, OnOk, true, length};
 ghost use Rattle.nb_fields.specs.Header.{is_header};
 ghost use Rattle.nb_fields.specs.Places.{is_page_size};
+ghost use Rattle.nb_host.specs.declared.faults.Fault.TheVariants.{Memory};
 ghost use Rattle.nb_change.specs.Counts.{CountsDevice};
 ghost use Rattle.nb_page.specs.Quiet.{Quiet};
 ghost use Rattle.nb_model.specs.Lines.{flag};
 ghost use Rattle.nb_model.specs.Trail.{Trail};
 ghost use Rattle.nb_model.specs.Outcomes.{Seen};
 ghost use Rattle.nb_model.specs.Pages.{byte_strokes, forced_turn, access_turn};
-ghost use Rattle.nb_state.specs.Open.{IsOpen, but_pages};
+ghost use Rattle.nb_base.specs.Takes.{Strikes};
+ghost use Rattle.nb_state.specs.Open.{IsOpen, but_pages, name_of};
 ghost use Rattle.nb_state.specs.Does.{Goes, Does};
 ghost use Rattle.nb_engine.specs.Tries.{Tries};
 ghost use Rattle.nb_engine.specs.Put.{Reads};
@@ -32,6 +34,7 @@ fn read_first<H: Host>(store: &mut Store, host: &mut H, page: &mut [u8]) -> Resu
     ensures same { but_pages store.new ≡ but_pages store.old }
     ensures quiet { Quiet (H.world host.old) (H.world host.new) }
     ensures cause { CountsDevice result (H.faults host.old) (H.faults host.new) }
+    ensures takes_none { IfErr result (λ fault. fault ≢ Memory) }
 {
     store.read(host, 0, page)?;
     if read_header(page).is_none() {
@@ -56,6 +59,11 @@ fn put_flag<H: Host>(
         → Tries result (H.world host.old) (H.world host.new) store.old store.new t None (byte_strokes at (flag on) t.base.image) }
     ensures goes { Goes store.old store.new }
     ensures cause { CountsDevice result (H.faults host.old) (H.faults host.new) }
+    ensures takes_none { store.old.files.state ≢ 1 → IfErr result (λ fault. fault ≢ Memory) }
+    ensures on_memory { (t : Trail) → IsTrue H.tells → IsOpen (H.world host.old) store.old t → result ≡ Err Memory
+        → Strikes (H.world host.old) (H.world host.new) (name_of store.old) t [] × IsOpen (H.world host.new) store.new t }
+    ensures forced { (t : Trail) → IsTrue H.tells → IsOpen (H.world host.old) store.old t → store.old.forced ≡ true → result ≡ Err Memory
+        → (but_pages store.new ≡ but_pages store.old) × Quiet (H.world host.old) (H.world host.new) }
 {
     read_first(store, host, page)?;
     put_number(page, at, 1, u64::from(on));
@@ -64,7 +72,8 @@ fn put_flag<H: Host>(
 }
 
 impl Engine {
-    /// Forces writes from now on, or lets them wait for a sync. It is kept for good.
+    /// Forces writes from now on, or lets them wait for a sync. It is kept for good. It wants memory in the stalled state alone, and has
+    /// changed no page then; where writes are forced it has made no call then but to read.
     ///
     /// The refusals are `Access`, where no statement may change a page, and `NotDatabase` of page 0, where the host gives another
     /// page for it than the header that it was. A refused call changes nothing.
@@ -73,6 +82,11 @@ impl Engine {
             → Does done result (H.world host.old) (H.world host.new) self.old self.new t (forced_turn s on) }
         ensures goes { Goes self.old self.new }
         ensures cause { CountsDevice result (H.faults host.old) (H.faults host.new) }
+        ensures takes_none { self.old.files.state ≢ 1 → IfErr result (λ fault. fault ≢ Memory) }
+        ensures on_memory { (t : Trail) → IsTrue H.tells → IsOpen (H.world host.old) self.old t → result ≡ Err Memory
+            → Strikes (H.world host.old) (H.world host.new) (name_of self.old) t [] × IsOpen (H.world host.new) self.new t }
+        ensures forced { (t : Trail) → IsTrue H.tells → IsOpen (H.world host.old) self.old t → self.old.forced ≡ true → result ≡ Err Memory
+            → (but_pages self.new ≡ but_pages self.old) × Quiet (H.world host.old) (H.world host.new) }
     {
         if self.store.is_read_only() {
             return Err(Fault::Refused(Refusal::Access { found: 1 }));
@@ -82,7 +96,7 @@ impl Engine {
         Ok(())
     }
 
-    /// Lets no statement change a page from now on, or lets statements change pages again. It is kept for good.
+    /// Lets no statement change a page from now on, or lets statements change pages again. It is kept for good, and wants no memory.
     ///
     /// The refusals are `WrongState`, where the backup state isn't 0, and `NotDatabase` of page 0, where the host gives another page
     /// for it than the header that it was. A refused call changes nothing.
@@ -91,6 +105,7 @@ impl Engine {
             → Does done result (H.world host.old) (H.world host.new) self.old self.new t (access_turn s closed) }
         ensures goes { Goes self.old self.new }
         ensures cause { CountsDevice result (H.faults host.old) (H.faults host.new) }
+        ensures takes_none { IfErr result (λ fault. fault ≢ Memory) }
     {
         let state = self.store.state();
         if case_of(state, Event::Access) == Case::WrongState {

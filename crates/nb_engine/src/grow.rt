@@ -1,12 +1,12 @@
 // A chain of data pages grows by a page, which is made behind its last one and then linked.
-ghost use Rattle.std.specs.Prelude.{◌≡◌, ◌<◌, ◌≤◌, ℕ, List, None, IsTrue, IfOk, length};
+ghost use Rattle.std.specs.Prelude.{◌≡◌, ◌≢◌, ◌<◌, ◌≤◌, ℕ, List, None, IsTrue, IfErr, IfOk, length};
 ghost use Rattle.nb_fields.specs.Payloads.{data_payload};
 ghost use Rattle.nb_fields.specs.Places.{is_page_size};
+ghost use Rattle.nb_host.specs.declared.faults.Fault.TheVariants.{Memory};
 ghost use Rattle.nb_change.specs.Counts.{CountsDevice};
 ghost use Rattle.nb_model.specs.Chains.{Chain, owner_of, last_of, grown};
 ghost use Rattle.nb_model.specs.Forms.{drafted, lowest_free};
 ghost use Rattle.nb_model.specs.Trail.{Trail};
-ghost use Rattle.nb_model.proofs.StepLaws.{IsShaped};
 ghost use Rattle.nb_state.specs.Open.{IsOpen};
 ghost use Rattle.nb_state.specs.Does.{Goes};
 ghost use Rattle.nb_engine.specs.Behind.{behind_cause};
@@ -14,6 +14,7 @@ ghost use Rattle.nb_engine.specs.Data.{new_behind};
 ghost use Rattle.nb_engine.specs.Find.{HoldsMap};
 ghost use Rattle.nb_engine.specs.Make.{MakesSome, page_strokes};
 ghost use Rattle.nb_engine.specs.Room.{linked_payload, link_cause};
+ghost use Rattle.nb_engine.specs.Search.{IsSearchable};
 ghost use Rattle.nb_engine.specs.Tries.{Tries};
 
 use crate::make::{make_new, put_page};
@@ -42,6 +43,7 @@ fn link<H: Host>(
     ensures goes { Goes store.old store.new }
     ensures scn_room { length scn_page.new ≡ length scn_page.old }
     ensures cause { CountsDevice result (H.faults host.old) (H.faults host.new) }
+    ensures takes_none { store.old.files.state ≢ 1 → IfErr result (λ fault. fault ≢ Memory) }
 {
     if last >= store.count() {
         return Err(Fault::Refused(Refusal::NotDatabase { page: last }));
@@ -74,13 +76,13 @@ pub(crate) fn grow_from<H: Host>(
     requires high { last < 1048576 }
     requires short { length payload.now ≤ 1008 }
     ensures tries { (t : Trail) (chain : Chain) (pages slots : List ℕ) → IsTrue H.tells → IsOpen (H.world host.old) store.old t → first ≡ lowest_free t.base.image → HoldsMap t.base.image first map.old
-        → IsShaped t.base.image → behind_cause (new_behind chain slots t.base.image).0 last ≡ None → payload.now ≡ data_payload 0 (owner_of chain) slots → last ≡ last_of pages
+        → IsSearchable t.base.image → behind_cause (new_behind chain slots t.base.image).0 last ≡ None → payload.now ≡ data_payload 0 (owner_of chain) slots → last ≡ last_of pages
         → Tries result (H.world host.old) (H.world host.new) store.old store.new t None (grown chain pages slots (drafted t.base.image)).0.strokes }
     ensures value { (t : Trail) (chain : Chain) (pages slots : List ℕ) → IsTrue H.tells → IsOpen (H.world host.old) store.old t → first ≡ lowest_free t.base.image → HoldsMap t.base.image first map.old
-        → IsShaped t.base.image → behind_cause (new_behind chain slots t.base.image).0 last ≡ None → payload.now ≡ data_payload 0 (owner_of chain) slots
+        → IsSearchable t.base.image → behind_cause (new_behind chain slots t.base.image).0 last ≡ None → payload.now ≡ data_payload 0 (owner_of chain) slots
         → IfOk result (λ number. number ≡ (grown chain pages slots (drafted t.base.image)).1) }
     ensures below { (t : Trail) (chain : Chain) (pages slots : List ℕ) → IsTrue H.tells → IsOpen (H.world host.old) store.old t → first ≡ lowest_free t.base.image → HoldsMap t.base.image first map.old
-        → IsShaped t.base.image → behind_cause (new_behind chain slots t.base.image).0 last ≡ None → payload.now ≡ data_payload 0 (owner_of chain) slots
+        → IsSearchable t.base.image → behind_cause (new_behind chain slots t.base.image).0 last ≡ None → payload.now ≡ data_payload 0 (owner_of chain) slots
         → IfOk result (λ number. number < length (grown chain pages slots (drafted t.base.image)).0.image) }
     ensures some { (t : Trail) → IsTrue H.tells → IsOpen (H.world host.old) store.old t → first ≡ lowest_free t.base.image → HoldsMap t.base.image first map.old → 5 ≤ length t.base.image
         → MakesSome result (H.world host.old) (H.world host.new) store.old store.new t }
@@ -90,6 +92,7 @@ pub(crate) fn grow_from<H: Host>(
     ensures map_room { length map.new ≡ length map.old }
     ensures scn_room { length scn_page.new ≡ length scn_page.old }
     ensures cause { CountsDevice result (H.faults host.old) (H.faults host.new) }
+    ensures takes_none { store.old.files.state ≢ 1 → IfErr result (λ fault. fault ≢ Memory) }
 {
     let number = make_new(
         store,

@@ -1,6 +1,7 @@
 // The backup history: what it has, and what is added.
-ghost use Rattle.std.specs.Prelude.{◌≡◌, ◌+◌, ◌<◌, ◌≤◌, IsTrue, IfErr, IfOk, OnOk, length, nat_eq};
+ghost use Rattle.std.specs.Prelude.{◌≡◌, ◌≢◌, ◌+◌, ◌<◌, ◌≤◌, IsTrue, IfErr, IfOk, OnOk, length, nat_eq};
 ghost use Rattle.nb_host.specs.Names.{same_name};
+ghost use Rattle.nb_host.specs.declared.faults.Fault.TheVariants.{Memory};
 ghost use Rattle.nb_change.specs.Counts.{CountsDevice};
 ghost use Rattle.nb_page.specs.Quiet.{Quiet};
 ghost use Rattle.nb_model.specs.Causes.{broken_at};
@@ -26,7 +27,8 @@ use crate::walk::{Room, walk};
 use nb_host::{Fault, Host, Refusal};
 
 impl Engine {
-    /// The latest backup of that level in the history, and none exactly where it has none. Each page of the history is read once.
+    /// The latest backup of that level in the history, and none exactly where it has none. Each page of the history is read once, and no memory is
+    /// wanted.
     ///
     /// The refusal is `NotDatabase` of the first page of the history that breaks the form.
     pub fn history_last<H: Host>(
@@ -42,12 +44,14 @@ impl Engine {
         ensures once { (t : Trail) → IsTrue H.tells → IsOpen (H.world host.old) self.old t → OnOk result ((H.world host.new).reads ≤ (H.world host.old).reads + length (found_pages History t.base.image)) }
         ensures most { IsTrue H.tells → (H.world host.new).reads ≤ (H.world host.old).reads + self.old.files.count }
         ensures cause { CountsDevice result (H.faults host.old) (H.faults host.new) }
+        ensures takes_none { IfErr result (λ fault. fault ≢ Memory) }
     {
         let (walked, _) = walk(&mut self.store, host, &mut self.page, &Wanted::Level(level))?;
         Ok(walked.row)
     }
 
-    /// The latest backup of that GUID in the history, and none exactly where it has none. Each page of the history is read once.
+    /// The latest backup of that GUID in the history, and none exactly where it has none. Each page of the history is read once, and no memory is
+    /// wanted.
     ///
     /// The refusal is `NotDatabase` of the first page of the history that breaks the form.
     pub fn history_find<H: Host>(
@@ -63,13 +67,14 @@ impl Engine {
         ensures once { (t : Trail) → IsTrue H.tells → IsOpen (H.world host.old) self.old t → OnOk result ((H.world host.new).reads ≤ (H.world host.old).reads + length (found_pages History t.base.image)) }
         ensures most { IsTrue H.tells → (H.world host.new).reads ≤ (H.world host.old).reads + self.old.files.count }
         ensures cause { CountsDevice result (H.faults host.old) (H.faults host.new) }
+        ensures takes_none { IfErr result (λ fault. fault ≢ Memory) }
     {
         let (walked, _) = walk(&mut self.store, host, &mut self.page, &Wanted::Guid(*guid))?;
         Ok(walked.row)
     }
 
     /// Makes sure that the history has a free slot, and answers the first. Where there is none a new page is made, and the last page of the
-    /// history is linked to it behind that.
+    /// history is linked to it behind that. It wants memory in the stalled state alone.
     ///
     /// The refusals are `NotDatabase` of the first page of the history that breaks the form, `NotDatabase` of the lowest page that isn't of its
     /// kind, `Full` and `ScnExhausted`, in this order. For a free slot these pages are the inventory page and the SCN page of its page, and that
@@ -86,6 +91,7 @@ impl Engine {
         ensures placed { IfOk result (IsPlaced self.old.files.page_size) }
         ensures goes { Goes self.old self.new }
         ensures cause { CountsDevice result (H.faults host.old) (H.faults host.new) }
+        ensures takes_none { self.old.files.state ≢ 1 → IfErr result (λ fault. fault ≢ Memory) }
     {
         // Contracts ask for its range, which is known of what was read.
         let _scn = self.store.scn();
@@ -118,7 +124,8 @@ impl Engine {
         }
     }
 
-    /// Writes a row into a slot that was kept for it. The SCN entry of its page is raised before, where that is below the current SCN.
+    /// Writes a row into a slot that was kept for it. The SCN entry of its page is raised before, where that is below the current SCN. It wants
+    /// memory in the stalled state alone.
     ///
     /// The refusals are `NotDatabase` of that page, where it is past the end, and of its SCN page, in this order. A refused call changes
     /// nothing.
@@ -138,6 +145,7 @@ impl Engine {
         ensures some { (t : Trail) → IsTrue H.tells → IsOpen (H.world host.old) self.old t → MakesSome result (H.world host.old) (H.world host.new) self.old self.new t }
         ensures goes { Goes self.old self.new }
         ensures cause { CountsDevice result (H.faults host.old) (H.faults host.new) }
+        ensures takes_none { self.old.files.state ≢ 1 → IfErr result (λ fault. fault ≢ Memory) }
     {
         // Contracts ask for its range, which is known of what was read.
         let _scn = self.store.scn();

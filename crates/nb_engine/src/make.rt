@@ -1,15 +1,15 @@
 // A new page is made, and the system pages that the search for it comes to.
-ghost use Rattle.std.specs.Prelude.{◌≡◌, ℕ, ◌+◌, ◌-◌, ◌*◌, ◌<◌, ◌≤◌, List, true, false, None, IsTrue, IfOk, OnOk, length};
+ghost use Rattle.std.specs.Prelude.{◌≡◌, ◌≢◌, ℕ, ◌+◌, ◌-◌, ◌*◌, ◌<◌, ◌≤◌, List, true, false, None, IsTrue, IfErr, IfOk, OnOk, length};
 ghost use Rattle.nb_fields.specs.Kinds.{code_of};
 ghost use Rattle.nb_fields.specs.Page.{with_payload};
 ghost use Rattle.nb_fields.specs.Places.{is_page_size, is_system_place};
 ghost use Rattle.nb_host.specs.Causes.{CountsFault};
+ghost use Rattle.nb_host.specs.declared.faults.Fault.TheVariants.{Memory};
 ghost use Rattle.nb_change.specs.Counts.{CountsDevice};
 ghost use Rattle.nb_page.specs.Quiet.{Quiet};
 ghost use Rattle.nb_model.specs.Image.{Image, image_size, image_scn};
 ghost use Rattle.nb_model.specs.Trail.{Trail};
 ghost use Rattle.nb_model.specs.Forms.{drafted, old_page, put, is_kind, system_kind, system_payload, take_page, lowest_free};
-ghost use Rattle.nb_model.proofs.StepLaws.{IsShaped};
 ghost use Rattle.nb_model.proofs.SearchLaws.{draft_cause};
 ghost use Rattle.nb_state.specs.Open.{IsOpen, but_pages};
 ghost use Rattle.nb_state.specs.Does.{Goes};
@@ -17,6 +17,7 @@ ghost use Rattle.nb_engine.specs.Tries.{Tries};
 ghost use Rattle.nb_engine.specs.Put.{entry_cause};
 ghost use Rattle.nb_engine.specs.Find.{HoldsMap};
 ghost use Rattle.nb_engine.specs.Make.{IsSupplied, GoesOn, IsOnward, MakesWhere, page_strokes, system_strokes, system_cause, content, new_of, round};
+ghost use Rattle.nb_engine.specs.Search.{IsSearchable};
 
 use crate::find::{MOST_PAGES, hold_map, is_system_place, next_free};
 use crate::mark::{mark, put_map};
@@ -127,6 +128,7 @@ pub(crate) fn put_page<H: Host>(
     ensures scn_room { length scn_page.new ≡ length scn_page.old }
     ensures once { IsTrue H.tells → (H.world host.new).reads ≤ (H.world host.old).reads + 1 }
     ensures cause { CountsDevice result (H.faults host.old) (H.faults host.new) }
+    ensures takes_none { store.old.files.state ≢ 1 → IfErr result (λ fault. fault ≢ Memory) }
 {
     stamp(page, kind.code(), store.scn(), number);
     raise_entry(store, host, number, scn_page)?;
@@ -153,6 +155,7 @@ fn make_system<H: Host>(
     ensures scn_room { length scn_page.new ≡ length scn_page.old }
     ensures once { IsTrue H.tells → (H.world host.new).reads ≤ (H.world host.old).reads + 2 }
     ensures cause { CountsDevice result (H.faults host.old) (H.faults host.new) }
+    ensures takes_none { store.old.files.state ≢ 1 → IfErr result (λ fault. fault ≢ Memory) }
 {
     let kind = system_kind(store.page_size(), place);
     if has_page(store, host, place, kind, page)? {
@@ -212,6 +215,7 @@ fn make_page<H: Host>(
     ensures scn_room { length scn_page.new ≡ length scn_page.old }
     ensures once { IsTrue H.tells → (H.world host.new).reads ≤ (H.world host.old).reads + 2 }
     ensures cause { CountsDevice result (H.faults host.old) (H.faults host.new) }
+    ensures takes_none { store.old.files.state ≢ 1 → IfErr result (λ fault. fault ≢ Memory) }
 {
     take_old(store, host, number, page)?;
     put_content(page, payload, own, number);
@@ -242,6 +246,7 @@ fn take_place<H: Host>(
     ensures scn_room { length scn_page.new ≡ length scn_page.old }
     ensures once { IsTrue H.tells → (H.world host.new).reads ≤ (H.world host.old).reads + 4 }
     ensures cause { CountsDevice result (H.faults host.old) (H.faults host.new) }
+    ensures takes_none { store.old.files.state ≢ 1 → IfErr result (λ fault. fault ≢ Memory) }
 {
     make_system(store, host, place, page, scn_page)?;
     mark(store, host, place, false, map, scn_page)?;
@@ -276,6 +281,7 @@ fn take_new<H: Host>(
     ensures scn_room { length scn_page.new ≡ length scn_page.old }
     ensures once { IsTrue H.tells → (H.world host.new).reads ≤ (H.world host.old).reads + 3 }
     ensures cause { CountsDevice result (H.faults host.old) (H.faults host.new) }
+    ensures takes_none { store.old.files.state ≢ 1 → IfErr result (λ fault. fault ≢ Memory) }
 {
     make_page(store, host, number, kind, payload, own, page, scn_page)?;
     put_map(store, host, number, false, map, scn_page)?;
@@ -309,6 +315,7 @@ fn pass_place<H: Host>(
     ensures scn_room { length scn_page.new ≡ length scn_page.old }
     ensures once { IsTrue H.tells → IfOk result (λ next. (H.world host.new).reads ≤ (H.world host.old).reads + 5 + (next - place)) }
     ensures cause { CountsDevice result (H.faults host.old) (H.faults host.new) }
+    ensures takes_none { store.old.files.state ≢ 1 → IfErr result (λ fault. fault ≢ Memory) }
 {
     take_place(store, host, place, page, map, scn_page)?;
     let next = next_free(store, host, place + 1, map)?;
@@ -342,9 +349,9 @@ pub(crate) fn make_new<H: Host>(
     requires short { length payload.now ≤ 1008 }
     requires owner { own ≡ true → 8 ≤ length payload.now }
     ensures makes { (t : Trail) → IsTrue H.tells → IsOpen (H.world host.old) store.old t → first ≡ lowest_free t.base.image → first ≤ length t.base.image → HoldsMap t.base.image first map.old
-        → MakesWhere (IsShaped t.base.image × (draft_cause (new_of (code_of kind) (content own payload.now) t.base.image).0 ≡ None)) (λ number image. number < length image) result (H.world host.old) (H.world host.new) store.old store.new t (new_of (code_of kind) (content own payload.now) t.base.image).0.strokes }
+        → MakesWhere (IsSearchable t.base.image × (draft_cause (new_of (code_of kind) (content own payload.now) t.base.image).0 ≡ None)) (λ number image. number < length image) result (H.world host.old) (H.world host.new) store.old store.new t (new_of (code_of kind) (content own payload.now) t.base.image).0.strokes }
     ensures value { (t : Trail) → IsTrue H.tells → IsOpen (H.world host.old) store.old t → first ≡ lowest_free t.base.image → first ≤ length t.base.image → HoldsMap t.base.image first map.old
-        → IsShaped t.base.image → draft_cause (new_of (code_of kind) (content own payload.now) t.base.image).0 ≡ None → IfOk result (λ number. number ≡ (new_of (code_of kind) (content own payload.now) t.base.image).1) }
+        → IsSearchable t.base.image → draft_cause (new_of (code_of kind) (content own payload.now) t.base.image).0 ≡ None → IfOk result (λ number. number ≡ (new_of (code_of kind) (content own payload.now) t.base.image).1) }
     ensures least { IfOk result (λ number. 5 ≤ number) }
     ensures most { IfOk result (λ number. number < 1048576) }
     ensures goes { Goes store.old store.new }
@@ -352,6 +359,7 @@ pub(crate) fn make_new<H: Host>(
     ensures scn_room { length scn_page.new ≡ length scn_page.old }
     ensures once { IsTrue H.tells → IfOk result (λ number. (H.world host.new).reads ≤ (H.world host.old).reads + 3 + 6 * (number - first)) }
     ensures cause { CountsDevice result (H.faults host.old) (H.faults host.new) }
+    ensures takes_none { store.old.files.state ≢ 1 → IfErr result (λ fault. fault ≢ Memory) }
 {
     let page_size = store.page_size();
     // Contracts ask for its range.

@@ -1,15 +1,17 @@
 // The bit of a page is written into its inventory page, whose SCN entry is raised first where that is below the current SCN.
-ghost use Rattle.std.specs.Prelude.{◌≡◌, ◌+◌, ◌<◌, ◌≤◌, [], ◌∷◌, IsTrue, IfErr, None, length};
+ghost use Rattle.std.specs.Prelude.{◌≡◌, ◌≢◌, ◌+◌, ◌<◌, ◌≤◌, [], ◌∷◌, IsTrue, IfErr, Err, None, length};
 ghost use Rattle.nb_fields.specs.Places.{bits_in};
+ghost use Rattle.nb_host.specs.declared.faults.Fault.TheVariants.{Memory};
 ghost use Rattle.nb_change.specs.Counts.{CountsDevice};
 ghost use Rattle.nb_model.specs.Image.{page_at};
 ghost use Rattle.nb_model.specs.Forms.{inventory_of};
 ghost use Rattle.nb_model.specs.Causes.{not_kind};
 ghost use Rattle.nb_model.specs.Trail.{Trail};
-ghost use Rattle.nb_base.specs.Takes.{IsNoRefusal};
-ghost use Rattle.nb_state.specs.Open.{IsOpen};
+ghost use Rattle.nb_base.specs.Takes.{Strikes, IsNoRefusal};
+ghost use Rattle.nb_state.specs.Open.{IsOpen, name_of};
 ghost use Rattle.nb_state.specs.Does.{Goes, Makes};
-ghost use Rattle.nb_engine.specs.Tries.{Tries};
+ghost use Rattle.nb_engine.specs.Tries.{Tries, StopsBehind};
+ghost use Rattle.nb_engine.specs.Put.{raise_strokes};
 ghost use Rattle.nb_engine.specs.Mark.{bit_for, bit_stroke, mark_cause, mark_strokes};
 
 use crate::pages::{InventoryPage, ScnPage};
@@ -38,6 +40,9 @@ fn write_bit<H: Host>(
     ensures reads { (H.world host.new).reads ≡ (H.world host.old).reads }
     ensures cause { CountsDevice result (H.faults host.old) (H.faults host.new) }
     ensures not_refused { IfErr result IsNoRefusal }
+    ensures takes_none { store.old.files.state ≢ 1 → IfErr result (λ fault. fault ≢ Memory) }
+    ensures on_memory { (t : Trail) → IsTrue H.tells → IsOpen (H.world host.old) store.old t → result ≡ Err Memory
+        → Strikes (H.world host.old) (H.world host.new) (name_of store.old) t [] × IsOpen (H.world host.new) store.new t }
 {
     map.set(index, free, store.scn(), place);
     store.write(host, place, map.as_slice())
@@ -64,6 +69,9 @@ pub(crate) fn put_map<H: Host>(
     ensures scn_room { length scn_page.new ≡ length scn_page.old }
     ensures once { IsTrue H.tells → (H.world host.new).reads ≤ (H.world host.old).reads + 1 }
     ensures cause { CountsDevice result (H.faults host.old) (H.faults host.new) }
+    ensures takes_none { store.old.files.state ≢ 1 → IfErr result (λ fault. fault ≢ Memory) }
+    ensures on_memory { (t : Trail) → IsTrue H.tells → IsOpen (H.world host.old) store.old t → result ≡ Err Memory
+        → StopsBehind (H.world host.old) (H.world host.new) store.old store.new t (raise_strokes t.base.image (inventory_of t.base.image number)) }
 {
     let page_size = store.page_size();
     let (k, index) = covers(page_size, number);
@@ -93,6 +101,9 @@ pub(crate) fn mark<H: Host>(
     ensures scn_room { length scn_page.new ≡ length scn_page.old }
     ensures once { IsTrue H.tells → (H.world host.new).reads ≤ (H.world host.old).reads + 2 }
     ensures cause { CountsDevice result (H.faults host.old) (H.faults host.new) }
+    ensures takes_none { store.old.files.state ≢ 1 → IfErr result (λ fault. fault ≢ Memory) }
+    ensures on_memory { (t : Trail) → IsTrue H.tells → IsOpen (H.world host.old) store.old t → result ≡ Err Memory
+        → StopsBehind (H.world host.old) (H.world host.new) store.old store.new t (raise_strokes t.base.image (inventory_of t.base.image number)) }
 {
     let page_size = store.page_size();
     let (k, _) = covers(page_size, number);

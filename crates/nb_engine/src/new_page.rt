@@ -1,7 +1,8 @@
 // A new page.
-ghost use Rattle.std.specs.Prelude.{◌≡◌, ◌+◌, ◌<◌, ◌≤◌, IsTrue, IfOk, Err, true, false};
+ghost use Rattle.std.specs.Prelude.{◌≡◌, ◌≢◌, ◌+◌, ◌<◌, ◌≤◌, IsTrue, IfErr, IfOk, Err, true, false};
 ghost use Rattle.nb_host.specs.declared.faults.Fault.TheVariants.{Refused};
 ghost use Rattle.nb_host.specs.declared.refusals.Refusal.TheVariants.{Access, NotDatabase};
+ghost use Rattle.nb_host.specs.declared.faults.Fault.TheVariants.{Memory};
 ghost use Rattle.nb_change.specs.Counts.{CountsDevice};
 ghost use Rattle.nb_page.specs.Quiet.{Quiet};
 ghost use Rattle.nb_model.specs.Trail.{Trail};
@@ -28,7 +29,8 @@ impl Engine {
     /// Makes a raw page with the empty text, and answers its number: the lowest free page, or a page at the end where none is free. Where
     /// the search for it comes to the place of a system page, that page is made, is taken, and the search goes on behind it. Each page is
     /// written before it is taken, and its SCN entry is raised before, where that is below the current SCN. It reads each inventory page up
-    /// to that of the lowest free page once, and few pages more for each page that the search went on.
+    /// to that of the lowest free page once, and few pages more for each page that the search went on. It wants memory in the stalled state
+    /// alone.
     ///
     /// The refusals are `Access`, `NotDatabase` of a database of fewer than five pages, by its length, or of the lowest page that the new page
     /// needs and that isn't of its kind, and `Full`, where no page is left, in this order. All that the new page changes is tested before the
@@ -45,6 +47,7 @@ impl Engine {
         ensures once { (t : Trail) → IsTrue H.tells → IsOpen (H.world host.old) self.old t → IsOfSize (image_size t.base.image) t.base.image
             → IfOk result (λ page. (H.world host.new).reads ≤ (H.world host.old).reads + new_reads t.base.image page) }
         ensures cause { CountsDevice result (H.faults host.old) (H.faults host.new) }
+        ensures takes_none { self.old.files.state ≢ 1 → IfErr result (λ fault. fault ≢ Memory) }
     {
         // Contracts ask for its range, which is known of what was read.
         let _scn = self.store.scn();

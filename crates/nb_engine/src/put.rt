@@ -1,13 +1,14 @@
 // A raw page is written, its SCN entry first where that is below the current SCN.
-ghost use Rattle.std.specs.Prelude.{◌≡◌, ◌+◌, ◌<◌, ◌≤◌, [], ◌∷◌, true, IsTrue, IfErr, None, length};
+ghost use Rattle.std.specs.Prelude.{◌≡◌, ◌≢◌, ◌+◌, ◌<◌, ◌≤◌, [], ◌∷◌, true, IsTrue, IfErr, Err, None, length};
 ghost use Rattle.nb_fields.specs.Places.{is_page_size};
+ghost use Rattle.nb_host.specs.declared.faults.Fault.TheVariants.{Memory};
 ghost use Rattle.nb_change.specs.Counts.{CountsDevice};
 ghost use Rattle.nb_page.specs.Quiet.{Quiet};
 ghost use Rattle.nb_model.specs.Image.{page_at};
 ghost use Rattle.nb_model.specs.Forms.{scn_page_of};
 ghost use Rattle.nb_model.specs.Trail.{Trail};
-ghost use Rattle.nb_base.specs.Takes.{IsNoRefusal};
-ghost use Rattle.nb_state.specs.Open.{IsOpen, but_pages};
+ghost use Rattle.nb_base.specs.Takes.{Strikes, IsNoRefusal};
+ghost use Rattle.nb_state.specs.Open.{IsOpen, but_pages, name_of};
 ghost use Rattle.nb_state.specs.Does.{Goes, Makes};
 ghost use Rattle.nb_engine.specs.Tries.{Tries};
 ghost use Rattle.nb_engine.specs.Put.{TellsRaise, entry_cause, must_raise, raise_stroke, raise_strokes, raw_stroke};
@@ -36,6 +37,7 @@ pub(crate) fn must_raise<H: Host>(
     ensures quiet { Quiet (H.world host.old) (H.world host.new) }
     ensures once { IsTrue H.tells → (H.world host.new).reads ≤ (H.world host.old).reads + 1 }
     ensures cause { CountsDevice result (H.faults host.old) (H.faults host.new) }
+    ensures takes_none { IfErr result (λ fault. fault ≢ Memory) }
 {
     let page_size = store.page_size();
     if number == 0 || nb_scn::is_place(page_size, number) {
@@ -63,6 +65,9 @@ fn raise<H: Host>(
     ensures reads { (H.world host.new).reads ≡ (H.world host.old).reads }
     ensures cause { CountsDevice result (H.faults host.old) (H.faults host.new) }
     ensures not_refused { IfErr result IsNoRefusal }
+    ensures takes_none { store.old.files.state ≢ 1 → IfErr result (λ fault. fault ≢ Memory) }
+    ensures on_memory { (t : Trail) → IsTrue H.tells → IsOpen (H.world host.old) store.old t → result ≡ Err Memory
+        → Strikes (H.world host.old) (H.world host.new) (name_of store.old) t [] × IsOpen (H.world host.new) store.new t }
 {
     let page_size = store.page_size();
     let (k, index) = nb_scn::covers(page_size, number);
@@ -86,6 +91,9 @@ pub(crate) fn raise_entry<H: Host>(
     ensures room { length scn_page.new ≡ length scn_page.old }
     ensures once { IsTrue H.tells → (H.world host.new).reads ≤ (H.world host.old).reads + 1 }
     ensures cause { CountsDevice result (H.faults host.old) (H.faults host.new) }
+    ensures takes_none { store.old.files.state ≢ 1 → IfErr result (λ fault. fault ≢ Memory) }
+    ensures on_memory { (t : Trail) → IsTrue H.tells → IsOpen (H.world host.old) store.old t → result ≡ Err Memory
+        → Strikes (H.world host.old) (H.world host.new) (name_of store.old) t [] × IsOpen (H.world host.new) store.new t }
 {
     if must_raise(store, host, number, scn_page)? {
         raise(store, host, number, scn_page)?;
@@ -109,8 +117,12 @@ pub(crate) fn write_raw<H: Host>(
     ensures makes { (t : Trail) → IsTrue H.tells → IsOpen (H.world host.old) store.old t → number < length t.base.image → page.old ≡ page_at t.base.image number
         → Makes result (H.world host.old) (H.world host.new) store.old store.new t (raw_stroke t.base.image number text.now ∷ []) }
     ensures goes { Goes store.old store.new }
+    ensures reads { (H.world host.new).reads ≡ (H.world host.old).reads }
     ensures cause { CountsDevice result (H.faults host.old) (H.faults host.new) }
     ensures not_refused { IfErr result IsNoRefusal }
+    ensures takes_none { store.old.files.state ≢ 1 → IfErr result (λ fault. fault ≢ Memory) }
+    ensures on_memory { (t : Trail) → IsTrue H.tells → IsOpen (H.world host.old) store.old t → result ≡ Err Memory
+        → Strikes (H.world host.old) (H.world host.new) (name_of store.old) t [] × IsOpen (H.world host.new) store.new t }
 {
     put_text(page, text);
     stamp(page, PageKind::Raw.code(), store.scn(), number);

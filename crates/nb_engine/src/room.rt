@@ -1,6 +1,7 @@
 // Room for a row of the history: a free slot whose page is taken, or a new page behind the last.
-ghost use Rattle.std.specs.Prelude.{◌≡◌, ◌<◌, ◌≤◌, ℕ, List, [], ◌∷◌, true, IsTrue, IfOk, length};
+ghost use Rattle.std.specs.Prelude.{◌≡◌, ◌≢◌, ◌<◌, ◌≤◌, ℕ, List, [], ◌∷◌, true, IsTrue, IfErr, IfOk, length};
 ghost use Rattle.nb_fields.specs.Places.{is_page_size};
+ghost use Rattle.nb_host.specs.declared.faults.Fault.TheVariants.{Memory};
 ghost use Rattle.nb_change.specs.Counts.{CountsDevice};
 ghost use Rattle.nb_page.specs.Quiet.{Quiet};
 ghost use Rattle.nb_fields.specs.Page.{kind_of};
@@ -9,13 +10,13 @@ ghost use Rattle.nb_model.specs.Causes.{first_cause, not_kind, not_of_form, no_s
 ghost use Rattle.nb_model.specs.Chains.{History, last_of, put_slot, backup_slot, grown};
 ghost use Rattle.nb_model.specs.Forms.{drafted, is_kind, inventory_of, scn_page_of, is_free_page};
 ghost use Rattle.nb_model.specs.Trail.{Trail};
-ghost use Rattle.nb_model.proofs.StepLaws.{IsShaped};
 ghost use Rattle.nb_state.specs.Open.{IsOpen, but_pages};
 ghost use Rattle.nb_state.specs.Does.{Tested, Goes};
 ghost use Rattle.nb_engine.specs.History.{IsPlaced};
 ghost use Rattle.nb_engine.specs.Make.{MakesSome};
 ghost use Rattle.nb_engine.specs.Put.{entry_cause};
 ghost use Rattle.nb_engine.specs.Room.{taken_draft, grow_cause};
+ghost use Rattle.nb_engine.specs.Search.{IsSearchable};
 ghost use Rattle.nb_engine.specs.Tries.{Tries};
 
 use crate::grow::grow_from;
@@ -39,6 +40,7 @@ const NO_ROWS: [u8; 16] = [0, 0, 0, 0, 1, 0, 0, 0, 0, 0, 0, 0, 0, 0, 0, 0];
 fn check_scn(scn: u32) -> Result<(), Fault>
     ensures test { (image : Image) → scn ≡ image_scn image → Tested result (no_scn image) }
     ensures cause { (faults : ℕ) → CountsDevice result faults faults }
+    ensures takes_none { IfErr result (λ fault. fault ≢ Memory) }
 {
     if scn > LAST_SCN {
         return Err(Fault::Refused(Refusal::ScnExhausted { scn }));
@@ -62,6 +64,7 @@ fn is_free<H: Host>(
     ensures same { but_pages store.new ≡ but_pages store.old }
     ensures quiet { Quiet (H.world host.old) (H.world host.new) }
     ensures cause { CountsDevice result (H.faults host.old) (H.faults host.new) }
+    ensures takes_none { IfErr result (λ fault. fault ≢ Memory) }
 {
     let page_size = store.page_size();
     let (k, bit) = nb_pip::covers(page_size, number);
@@ -87,6 +90,7 @@ fn check_scn_page<H: Host>(
     ensures same { but_pages store.new ≡ but_pages store.old }
     ensures quiet { Quiet (H.world host.old) (H.world host.new) }
     ensures cause { CountsDevice result (H.faults host.old) (H.faults host.new) }
+    ensures takes_none { IfErr result (λ fault. fault ≢ Memory) }
 {
     let page_size = store.page_size();
     let (k, _) = nb_scn::covers(page_size, number);
@@ -118,6 +122,7 @@ pub(crate) fn check_room<H: Host>(
     ensures same { but_pages store.new ≡ but_pages store.old }
     ensures quiet { Quiet (H.world host.old) (H.world host.new) }
     ensures cause { CountsDevice result (H.faults host.old) (H.faults host.new) }
+    ensures takes_none { IfErr result (λ fault. fault ≢ Memory) }
 {
     let scn = store.scn();
     let free = is_free(store, host, number, map)?;
@@ -147,10 +152,10 @@ pub(crate) fn grow<H: Host>(
     requires scn_room { length scn_page.old ≡ store.old.files.page_size }
     requires low { 0 < last }
     requires high { last < 1048576 }
-    ensures makes { (t : Trail) (pages : List ℕ) → IsTrue H.tells → IsOpen (H.world host.old) store.old t → IsShaped t.base.image → last ≡ last_of pages → is_kind t.base.image 5 last ≡ true
+    ensures makes { (t : Trail) (pages : List ℕ) → IsTrue H.tells → IsOpen (H.world host.old) store.old t → IsSearchable t.base.image → last ≡ last_of pages → is_kind t.base.image 5 last ≡ true
         → Tries result (H.world host.old) (H.world host.new) store.old store.new t (grow_cause t.base.image pages) (grown History pages [] (drafted t.base.image)).0.strokes }
-    ensures value { (t : Trail) (pages : List ℕ) → IsTrue H.tells → IsOpen (H.world host.old) store.old t → IsShaped t.base.image → is_kind t.base.image 5 last ≡ true → IfOk result (λ number. number ≡ (grown History pages [] (drafted t.base.image)).1) }
-    ensures below { (t : Trail) (pages : List ℕ) → IsTrue H.tells → IsOpen (H.world host.old) store.old t → IsShaped t.base.image → is_kind t.base.image 5 last ≡ true → IfOk result (λ number. number < length (grown History pages [] (drafted t.base.image)).0.image) }
+    ensures value { (t : Trail) (pages : List ℕ) → IsTrue H.tells → IsOpen (H.world host.old) store.old t → IsSearchable t.base.image → is_kind t.base.image 5 last ≡ true → IfOk result (λ number. number ≡ (grown History pages [] (drafted t.base.image)).1) }
+    ensures below { (t : Trail) (pages : List ℕ) → IsTrue H.tells → IsOpen (H.world host.old) store.old t → IsSearchable t.base.image → is_kind t.base.image 5 last ≡ true → IfOk result (λ number. number < length (grown History pages [] (drafted t.base.image)).0.image) }
     ensures some { (t : Trail) → IsTrue H.tells → IsOpen (H.world host.old) store.old t → 5 ≤ length t.base.image → MakesSome result (H.world host.old) (H.world host.new) store.old store.new t }
     ensures least { IfOk result (λ number. 5 ≤ number) }
     ensures most { IfOk result (λ number. number < 1048576) }
@@ -158,6 +163,7 @@ pub(crate) fn grow<H: Host>(
     ensures map_room { length map.new ≡ length map.old }
     ensures scn_room { length scn_page.new ≡ length scn_page.old }
     ensures cause { CountsDevice result (H.faults host.old) (H.faults host.new) }
+    ensures takes_none { store.old.files.state ≢ 1 → IfErr result (λ fault. fault ≢ Memory) }
 {
     let scn = store.scn();
     let first = check_rooms(store, host, 1, last, map, scn_page)?;
@@ -185,6 +191,7 @@ pub(crate) fn add_row<H: Host>(
     ensures goes { Goes store.old store.new }
     ensures scn_room { length scn_page.new ≡ length scn_page.old }
     ensures cause { CountsDevice result (H.faults host.old) (H.faults host.new) }
+    ensures takes_none { store.old.files.state ≢ 1 → IfErr result (λ fault. fault ≢ Memory) }
 {
     store.read(host, room.page, page)?;
     put_slot(page, room.slot, row);

@@ -1,6 +1,7 @@
 // The tests before new pages, on a database to which nothing was written yet. Nothing changes.
-ghost use Rattle.std.specs.Prelude.{◌≡◌, ◌+◌, ◌-◌, ◌*◌, ◌/◌, ◌<◌, ◌≤◌, ℕ, List, true, false, IsTrue, IfOk, OnOk, length};
+ghost use Rattle.std.specs.Prelude.{◌≡◌, ◌≢◌, ◌+◌, ◌-◌, ◌*◌, ◌/◌, ◌<◌, ◌≤◌, ℕ, List, true, false, IsTrue, IfErr, IfOk, OnOk, length};
 ghost use Rattle.nb_fields.specs.Places.{bits_in};
+ghost use Rattle.nb_host.specs.declared.faults.Fault.TheVariants.{Memory};
 ghost use Rattle.nb_change.specs.Counts.{CountsDevice};
 ghost use Rattle.nb_page.specs.Quiet.{Quiet};
 ghost use Rattle.nb_model.specs.Image.{image_size};
@@ -14,7 +15,7 @@ ghost use Rattle.nb_engine.specs.Behind.{IsKnown, Judges, behind_cause};
 ghost use Rattle.nb_engine.specs.Data.{second_data};
 ghost use Rattle.nb_engine.specs.Find.{HoldsMap};
 ghost use Rattle.nb_engine.specs.Make.{new_of};
-ghost use Rattle.nb_engine.specs.Search.{IsShort};
+ghost use Rattle.nb_engine.specs.Search.{IsSearchable, IsShort};
 
 use crate::behind::Behind;
 use crate::pages::{InventoryPage, ScnPage};
@@ -34,8 +35,8 @@ pub(crate) fn check_new<H: Host>(
 ) -> Result<u32, Fault>
     requires map_room { length map.old ≡ store.old.files.page_size }
     requires scn_room { length scn_page.old ≡ store.old.files.page_size }
-    ensures test { (t : Trail) (kind : ℕ) (payload : ℕ → List ℕ) → IsTrue H.tells → IsOpen (H.world host.old) store.old t → IsShaped t.base.image → IsShort payload → Tested result (draft_cause (new_of kind payload t.base.image).0) }
-    ensures shaped { (t : Trail) (kind : ℕ) (payload : ℕ → List ℕ) → IsTrue H.tells → IsOpen (H.world host.old) store.old t → IsShaped t.base.image → IsShort payload → OnOk result (IsShaped (new_of kind payload t.base.image).0.image) }
+    ensures test { (t : Trail) (kind : ℕ) (payload : ℕ → List ℕ) → IsTrue H.tells → IsOpen (H.world host.old) store.old t → IsSearchable t.base.image → IsShort payload → Tested result (draft_cause (new_of kind payload t.base.image).0) }
+    ensures shaped { (t : Trail) (kind : ℕ) (payload : ℕ → List ℕ) → IsTrue H.tells → IsOpen (H.world host.old) store.old t → IsSearchable t.base.image → IsShort payload → OnOk result (IsShaped (new_of kind payload t.base.image).0.image) }
     ensures value { (t : Trail) → IsTrue H.tells → IsOpen (H.world host.old) store.old t → IfOk result (λ page. page ≡ lowest_free t.base.image) }
     ensures map { (t : Trail) → IsTrue H.tells → IsOpen (H.world host.old) store.old t → IfOk result (λ page. HoldsMap t.base.image page map.new) }
     ensures least { IfOk result (λ page. 5 ≤ page) }
@@ -45,9 +46,10 @@ pub(crate) fn check_new<H: Host>(
     ensures open { (t : Trail) → IsTrue H.tells → IsOpen (H.world host.old) store.old t → IsOpen (H.world host.new) store.new t }
     ensures same { but_pages store.new ≡ but_pages store.old }
     ensures quiet { Quiet (H.world host.old) (H.world host.new) }
-    ensures once { (t : Trail) (kind : ℕ) (payload : ℕ → List ℕ) → IsTrue H.tells → IsOpen (H.world host.old) store.old t → IsShaped t.base.image → IsShort payload
+    ensures once { (t : Trail) (kind : ℕ) (payload : ℕ → List ℕ) → IsTrue H.tells → IsOpen (H.world host.old) store.old t → IsSearchable t.base.image → IsShort payload
         → IfOk result (λ page. (H.world host.new).reads ≤ (H.world host.old).reads + page / bits_in (image_size t.base.image) + 4 + 5 * ((new_of kind payload t.base.image).1 - page)) }
     ensures cause { CountsDevice result (H.faults host.old) (H.faults host.new) }
+    ensures takes_none { IfErr result (λ fault. fault ≢ Memory) }
 {
     // Contracts ask for it.
     let _page_size = store.page_size();
@@ -69,11 +71,11 @@ fn find_rooms<H: Host>(
     requires scn_room { length scn_page.old ≡ store.old.files.page_size }
     requires some { 1 ≤ pages }
     requires few { pages ≤ 2 }
-    ensures one { (t : Trail) (first : ℕ → List ℕ) → IsTrue H.tells → IsOpen (H.world host.old) store.old t → IsShaped t.base.image → IsShort first → IsKnown t.base.image t.base.image behind.old → pages ≡ 1
+    ensures one { (t : Trail) (first : ℕ → List ℕ) → IsTrue H.tells → IsOpen (H.world host.old) store.old t → IsSearchable t.base.image → IsShort first → IsKnown t.base.image t.base.image behind.old → pages ≡ 1
         → Judges result (new_of 5 first t.base.image).0 t.base.image behind.new }
-    ensures two { (t : Trail) (first second : ℕ → List ℕ) → IsTrue H.tells → IsOpen (H.world host.old) store.old t → IsShaped t.base.image → IsShort first → IsShort second → IsKnown t.base.image t.base.image behind.old → pages ≡ 2
+    ensures two { (t : Trail) (first second : ℕ → List ℕ) → IsTrue H.tells → IsOpen (H.world host.old) store.old t → IsSearchable t.base.image → IsShort first → IsShort second → IsKnown t.base.image t.base.image behind.old → pages ≡ 2
         → Judges result (second_data first second t.base.image).0 t.base.image behind.new }
-    ensures still { (t : Trail) (first : ℕ → List ℕ) → IsTrue H.tells → IsOpen (H.world host.old) store.old t → IsShaped t.base.image → IsShort first → IsKnown t.base.image t.base.image behind.old → pages ≡ 2
+    ensures still { (t : Trail) (first : ℕ → List ℕ) → IsTrue H.tells → IsOpen (H.world host.old) store.old t → IsSearchable t.base.image → IsShort first → IsKnown t.base.image t.base.image behind.old → pages ≡ 2
         → OnOk result (behind.new.lost ≡ false → is_kind (new_of 5 first t.base.image).0.image 5 behind.old.page ≡ true) }
     ensures value { (t : Trail) → IsTrue H.tells → IsOpen (H.world host.old) store.old t → IfOk result (λ page. page ≡ lowest_free t.base.image) }
     ensures map { (t : Trail) → IsTrue H.tells → IsOpen (H.world host.old) store.old t → pages ≡ 1 → IfOk result (λ page. HoldsMap t.base.image page map.new) }
@@ -86,6 +88,7 @@ fn find_rooms<H: Host>(
     ensures same { but_pages store.new ≡ but_pages store.old }
     ensures quiet { Quiet (H.world host.old) (H.world host.new) }
     ensures cause { CountsDevice result (H.faults host.old) (H.faults host.new) }
+    ensures takes_none { IfErr result (λ fault. fault ≢ Memory) }
 {
     // Contracts ask for it.
     let _page_size = store.page_size();
@@ -119,11 +122,11 @@ pub(crate) fn check_rooms<H: Host>(
     requires few { pages ≤ 2 }
     requires low { 0 < number }
     requires high { number < 1048576 }
-    ensures one { (t : Trail) (first : ℕ → List ℕ) → IsTrue H.tells → IsOpen (H.world host.old) store.old t → IsShaped t.base.image → IsShort first → is_kind t.base.image 5 number ≡ true → pages ≡ 1
+    ensures one { (t : Trail) (first : ℕ → List ℕ) → IsTrue H.tells → IsOpen (H.world host.old) store.old t → IsSearchable t.base.image → IsShort first → is_kind t.base.image 5 number ≡ true → pages ≡ 1
         → Tested result (behind_cause (new_of 5 first t.base.image).0 number) }
-    ensures two { (t : Trail) (first second : ℕ → List ℕ) → IsTrue H.tells → IsOpen (H.world host.old) store.old t → IsShaped t.base.image → IsShort first → IsShort second → is_kind t.base.image 5 number ≡ true → pages ≡ 2
+    ensures two { (t : Trail) (first second : ℕ → List ℕ) → IsTrue H.tells → IsOpen (H.world host.old) store.old t → IsSearchable t.base.image → IsShort first → IsShort second → is_kind t.base.image 5 number ≡ true → pages ≡ 2
         → Tested result (behind_cause (second_data first second t.base.image).0 number) }
-    ensures still { (t : Trail) (first : ℕ → List ℕ) → IsTrue H.tells → IsOpen (H.world host.old) store.old t → IsShaped t.base.image → IsShort first → is_kind t.base.image 5 number ≡ true → pages ≡ 2
+    ensures still { (t : Trail) (first : ℕ → List ℕ) → IsTrue H.tells → IsOpen (H.world host.old) store.old t → IsSearchable t.base.image → IsShort first → is_kind t.base.image 5 number ≡ true → pages ≡ 2
         → OnOk result (is_kind (new_of 5 first t.base.image).0.image 5 number ≡ true) }
     ensures value { (t : Trail) → IsTrue H.tells → IsOpen (H.world host.old) store.old t → IfOk result (λ page. page ≡ lowest_free t.base.image) }
     ensures map { (t : Trail) → IsTrue H.tells → IsOpen (H.world host.old) store.old t → pages ≡ 1 → IfOk result (λ page. HoldsMap t.base.image page map.new) }
@@ -135,6 +138,7 @@ pub(crate) fn check_rooms<H: Host>(
     ensures same { but_pages store.new ≡ but_pages store.old }
     ensures quiet { Quiet (H.world host.old) (H.world host.new) }
     ensures cause { CountsDevice result (H.faults host.old) (H.faults host.new) }
+    ensures takes_none { IfErr result (λ fault. fault ≢ Memory) }
 {
     let mut behind = Behind::at(store, host, number, map, scn_page)?;
     let found = find_rooms(store, host, pages, &mut behind, map, scn_page);

@@ -1,7 +1,8 @@
 // A walk over the backup history, page by page along its links. Nothing changes.
-ghost use Rattle.std.specs.Prelude.{◌≡◌, ◌+◌, ◌<◌, ◌≤◌, ◌*◌, ℕ, List, [], ◌∷◌, ◌++◌, true, IsTrue, IfOk, IfSome, OnOk, length};
+ghost use Rattle.std.specs.Prelude.{◌≡◌, ◌≢◌, ◌+◌, ◌<◌, ◌≤◌, ◌*◌, ℕ, List, [], ◌∷◌, ◌++◌, true, IsTrue, IfErr, IfOk, IfSome, OnOk, length};
 ghost use Rattle.std.specs.List.{list_all};
 ghost use Rattle.nb_fields.specs.Places.{is_page_size};
+ghost use Rattle.nb_host.specs.declared.faults.Fault.TheVariants.{Memory};
 ghost use Rattle.nb_change.specs.Counts.{CountsDevice};
 ghost use Rattle.nb_page.specs.Quiet.{Quiet};
 ghost use Rattle.nb_model.specs.Image.{page_at};
@@ -115,6 +116,7 @@ fn take_link<H: Host>(
     ensures quiet { Quiet (H.world host.old) (H.world host.new) }
     ensures once { IsTrue H.tells → (H.world host.new).reads ≤ (H.world host.old).reads + 1 }
     ensures cause { CountsDevice result (H.faults host.old) (H.faults host.new) }
+    ensures takes_none { IfErr result (λ fault. fault ≢ Memory) }
 {
     // A page that is read is below the length, and so below the most pages that there may be.
     let _count = store.count();
@@ -150,6 +152,7 @@ pub(crate) fn walk<H: Host>(
     ensures once { (t : Trail) → IsTrue H.tells → IsOpen (H.world host.old) store.old t → OnOk result ((H.world host.new).reads ≤ (H.world host.old).reads + length (found_pages History t.base.image)) }
     ensures most { IsTrue H.tells → (H.world host.new).reads ≤ (H.world host.old).reads + store.old.files.count }
     ensures cause { CountsDevice result (H.faults host.old) (H.faults host.new) }
+    ensures takes_none { IfErr result (λ fault. fault ≢ Memory) }
 {
     let mut walked = Walked {
         row: None,

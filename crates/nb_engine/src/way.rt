@@ -1,6 +1,7 @@
 // The search for new pages, told before the first of them is made. Nothing changes.
-ghost use Rattle.std.specs.Prelude.{◌≡◌, ◌≢◌, ℕ, ◌+◌, ◌-◌, ◌*◌, ◌/◌, ◌<◌, ◌≤◌, ◌==◌, ◌&&◌, nat_lt, true, false, None, IsTrue, IfOk, OnOk, length};
+ghost use Rattle.std.specs.Prelude.{◌≡◌, ◌≢◌, ℕ, ◌+◌, ◌-◌, ◌*◌, ◌/◌, ◌<◌, ◌≤◌, ◌==◌, ◌&&◌, nat_lt, true, false, None, IsTrue, IfErr, IfOk, OnOk, length};
 ghost use Rattle.nb_fields.specs.Places.{is_page_size, bits_in, inventory_place, is_system_place};
+ghost use Rattle.nb_host.specs.declared.faults.Fault.TheVariants.{Memory};
 ghost use Rattle.nb_change.specs.Counts.{CountsDevice};
 ghost use Rattle.nb_page.specs.Quiet.{Quiet};
 ghost use Rattle.nb_model.specs.Image.{Image};
@@ -68,6 +69,7 @@ fn hold_last<H: Host>(
     ensures quiet { Quiet (H.world host.old) (H.world host.new) }
     ensures once { IsTrue H.tells → (H.world host.new).reads ≤ (H.world host.old).reads + 1 }
     ensures cause { CountsDevice result (H.faults host.old) (H.faults host.new) }
+    ensures takes_none { IfErr result (λ fault. fault ≢ Memory) }
 {
     let page_size = store.page_size();
     let count = store.count();
@@ -101,6 +103,7 @@ fn find_place<H: Host>(
     ensures quiet { Quiet (H.world host.old) (H.world host.new) }
     ensures once { IsTrue H.tells → IfOk result (λ page. (H.world host.new).reads ≤ (H.world host.old).reads + (page / bits_in store.old.files.page_size + 1 - way.now.from / bits_in store.old.files.page_size) + 1) }
     ensures cause { CountsDevice result (H.faults host.old) (H.faults host.new) }
+    ensures takes_none { IfErr result (λ fault. fault ≢ Memory) }
 {
     let page_size = store.page_size();
     let from = way.from;
@@ -136,6 +139,7 @@ fn check_unless<H: Host>(
     ensures quiet { Quiet (H.world host.old) (H.world host.new) }
     ensures once { IsTrue H.tells → (H.world host.new).reads ≤ (H.world host.old).reads + 1 }
     ensures cause { CountsDevice result (H.faults host.old) (H.faults host.new) }
+    ensures takes_none { IfErr result (λ fault. fault ≢ Memory) }
 {
     let page_size = store.page_size();
     let (k, _) = nb_scn::covers(page_size, number);
@@ -183,6 +187,7 @@ fn check_map_entry<H: Host>(
     ensures quiet { Quiet (H.world host.old) (H.world host.new) }
     ensures once { IsTrue H.tells → (H.world host.new).reads ≤ (H.world host.old).reads + 1 }
     ensures cause { CountsDevice result (H.faults host.old) (H.faults host.new) }
+    ensures takes_none { IfErr result (λ fault. fault ≢ Memory) }
 {
     let page_size = store.page_size();
     let (k, _) = covers(page_size, number);
@@ -198,6 +203,7 @@ fn was_there(read: Result<(), Fault>) -> Result<bool, Fault>
     ensures test { Tested result None }
     ensures value { (image : Image) (kind place : ℕ) → Tested read (not_kind image kind place) → IfOk result (λ there. there ≡ is_kind image kind place) }
     ensures cause { (old new : ℕ) → CountsDevice read old new → CountsDevice result old new }
+    ensures takes_none { IfErr read (λ fault. fault ≢ Memory) → IfErr result (λ fault. fault ≢ Memory) }
 {
     match read {
         Ok(()) => Ok(true),
@@ -229,6 +235,7 @@ pub(crate) fn is_there<H: Host>(
     ensures quiet { Quiet (H.world host.old) (H.world host.new) }
     ensures once { IsTrue H.tells → 0 < place → (H.world host.new).reads ≤ (H.world host.old).reads + 1 }
     ensures cause { CountsDevice result (H.faults host.old) (H.faults host.new) }
+    ensures takes_none { IfErr result (λ fault. fault ≢ Memory) }
 {
     let page_size = store.page_size();
     if nb_pip::is_place(page_size, place) {
@@ -265,6 +272,7 @@ fn pass<H: Host>(
     ensures quiet { Quiet (H.world host.old) (H.world host.new) }
     ensures once { IsTrue H.tells → (H.world host.new).reads ≤ (H.world host.old).reads + 2 }
     ensures cause { CountsDevice result (H.faults host.old) (H.faults host.new) }
+    ensures takes_none { IfErr result (λ fault. fault ≢ Memory) }
 {
     let page_size = store.page_size();
     let there = is_there(store, host, place, map, scn_page)?;
@@ -312,6 +320,7 @@ fn visit<H: Host>(
     ensures once { IsTrue H.tells → IfOk result (λ page. (H.world host.new).reads ≤ (H.world host.old).reads + (page / bits_in store.old.files.page_size + 1 - way.old.from / bits_in store.old.files.page_size) + 4) }
     ensures fewer { IsTrue H.tells → IfOk result (λ page. is_system_place store.old.files.page_size page ≡ false → (H.world host.new).reads ≤ (H.world host.old).reads + (page / bits_in store.old.files.page_size + 1 - way.old.from / bits_in store.old.files.page_size) + 3) }
     ensures cause { CountsDevice result (H.faults host.old) (H.faults host.new) }
+    ensures takes_none { IfErr result (λ fault. fault ≢ Memory) }
 {
     let page_size = store.page_size();
     let place = find_place(store, host, way, map)?;
@@ -362,6 +371,7 @@ fn go_on<H: Host>(
     ensures once { IsTrue H.tells → OnOk result (is_system_place store.old.files.page_size first ≡ true → (H.world host.new).reads + 1 ≤ (H.world host.old).reads + 5 * (way.new.from - way.old.from)) }
     ensures none { IsTrue H.tells → OnOk result (is_system_place store.old.files.page_size first ≡ false → ((H.world host.new).reads ≡ (H.world host.old).reads) × (way.new.from ≡ way.old.from)) }
     ensures cause { CountsDevice result (H.faults host.old) (H.faults host.new) }
+    ensures takes_none { IfErr result (λ fault. fault ≢ Memory) }
 {
     let page_size = store.page_size();
     // Contracts ask for its range.
@@ -413,6 +423,7 @@ pub(crate) fn find_room<H: Host>(
     ensures quiet { Quiet (H.world host.old) (H.world host.new) }
     ensures once { IsTrue H.tells → IfOk result (λ first. (H.world host.new).reads ≤ (H.world host.old).reads + (first / bits_in store.old.files.page_size + 1 - way.old.from / bits_in store.old.files.page_size) + 3 + 5 * (way.new.from - (first + 1))) }
     ensures cause { CountsDevice result (H.faults host.old) (H.faults host.new) }
+    ensures takes_none { IfErr result (λ fault. fault ≢ Memory) }
 {
     // Contracts ask for its range.
     let _count = store.count();

@@ -1,5 +1,5 @@
 // Raw pages are written and read.
-ghost use Rattle.std.specs.Prelude.{◌≡◌, ◌≢◌, ◌≤◌, [], ◌∷◌, ℕ, IsTrue, IfErr, OnOk, length};
+ghost use Rattle.std.specs.Prelude.{◌≡◌, ◌≢◌, ◌≤◌, [], ◌∷◌, ◌+◌, ℕ, IsTrue, IfErr, Err, OnOk, length};
 ghost use Rattle.nb_host.specs.declared.faults.Fault.TheVariants.{Memory};
 ghost use Rattle.nb_change.specs.Counts.{CountsDevice};
 ghost use Rattle.nb_page.specs.Quiet.{Quiet};
@@ -10,6 +10,8 @@ ghost use Rattle.nb_model.specs.Outcomes.{Seen};
 ghost use Rattle.nb_model.specs.Pages.{write_turn, read_turn};
 ghost use Rattle.nb_state.specs.Open.{IsOpen, but_pages};
 ghost use Rattle.nb_state.specs.Does.{Tested, Goes, Does};
+ghost use Rattle.nb_engine.specs.Tries.{StopsBehind};
+ghost use Rattle.nb_engine.specs.Put.{raise_strokes};
 ghost use Rattle.nb_engine.specs.Replies.{done, valued};
 
 use crate::Engine;
@@ -25,6 +27,7 @@ fn check_write(closed: bool, text: &[u8]) -> Result<(), Fault>
     ensures test { (image : Image) → closed ≡ is_read_only image → Tested result (first_cause (read_only image ∷ too_long text.now ∷ [])) }
     ensures short { OnOk result (length text.now ≤ 200) }
     ensures cause { (faults : ℕ) → CountsDevice result faults faults }
+    ensures takes_none { IfErr result (λ fault. fault ≢ Memory) }
 {
     if closed {
         return Err(Fault::Refused(Refusal::Access { found: 1 }));
@@ -39,7 +42,8 @@ fn check_write(closed: bool, text: &[u8]) -> Result<(), Fault>
 
 impl Engine {
     /// Gives page `number`, a taken raw page, a text of at most 200 bytes. Its SCN entry is raised before, where that is below the
-    /// current SCN. Where writes are forced both are kept for good.
+    /// current SCN. Where writes are forced both are kept for good. It takes three reads at most, and wants memory in the stalled state
+    /// alone, and has not written the page then.
     ///
     /// The refusals are `PageRange`, `NotDatabase` of its inventory page, `NotAllocated`, `SystemPage`, `Access`, `TextLong` and
     /// `NotDatabase` of its SCN page, in this order. A refused write changes nothing.
@@ -52,7 +56,11 @@ impl Engine {
         ensures turn { (s : Seen) (t : Trail) → IsTrue H.tells → t.base ≡ s.base → IsOpen (H.world host.old) self.old t
             → Does done result (H.world host.old) (H.world host.new) self.old self.new t (write_turn s number text.now) }
         ensures goes { Goes self.old self.new }
+        ensures once { IsTrue H.tells → (H.world host.new).reads ≤ (H.world host.old).reads + 3 }
         ensures cause { CountsDevice result (H.faults host.old) (H.faults host.new) }
+        ensures takes_none { self.old.files.state ≢ 1 → IfErr result (λ fault. fault ≢ Memory) }
+        ensures on_memory { (t : Trail) → IsTrue H.tells → IsOpen (H.world host.old) self.old t → result ≡ Err Memory
+            → StopsBehind (H.world host.old) (H.world host.new) self.old self.new t (raise_strokes t.base.image number) }
     {
         take_raw(&mut self.store, host, number, &mut self.page, &mut self.map)?;
         // Page 0 is the header, whatever the host gave for it.
@@ -65,7 +73,7 @@ impl Engine {
         Ok(())
     }
 
-    /// The text of page `number`, a taken raw page.
+    /// The text of page `number`, a taken raw page. It takes three reads at most, and no memory.
     ///
     /// The refusals are `PageRange`, `NotDatabase` of its inventory page, `NotAllocated`, `SystemPage`, and `NotDatabase` of the page
     /// where it says that its text is longer than 200 bytes, in this order.
@@ -80,6 +88,7 @@ impl Engine {
         ensures goes { Goes self.old self.new }
         ensures same { but_pages self.new ≡ but_pages self.old }
         ensures quiet { Quiet (H.world host.old) (H.world host.new) }
+        ensures once { IsTrue H.tells → (H.world host.new).reads ≤ (H.world host.old).reads + 3 }
         ensures cause { CountsDevice result (H.faults host.old) (H.faults host.new) }
         ensures takes_none { IfErr result (λ fault. fault ≢ Memory) }
     {

@@ -372,7 +372,7 @@ module _ (kept : List Kept) (t : Trail) (w : IsWellTrail kept t) (b : Backing) (
       (rows_written IsKnown b.slot its_slot recorded.page.bytes slot_long long (λ used. slot_known) scn number recorded.page.rows)
     where
       long : 32 + 256 * b.slot + 256 ≤ length recorded.page.bytes
-      long = omega (arith, place.room.within, ap length recorded.page.held.is, all_at (λ x. length x ≡ image_size t.base.image) t.base.image w.base.well.sound.sizes b.page place.room.below)
+      long = omega (arith, place.room.plain.within, ap length recorded.page.held.is, all_at (λ x. length x ≡ image_size t.base.image) t.base.image w.base.well.sound.sizes b.page place.room.below)
 
   pub close_well : KeepsAlong kept t (made (put_slot b.page b.slot its_slot (drafted t.base.image)).strokes)
   close_well =

@@ -45,6 +45,35 @@ pub record MayControl (state scn : ℕ) (guid : List ℕ) (image : Image) : Type
   pub known : state ≤ 2
   pub sound : is_sound state (image_size image) scn ≡ true
 
+-- What page 0 says then, whatever else stands in the image.
+module _ (state scn : ℕ) (guid : List ℕ) (image : Image) (h : HasHeader image) (may : MayControl state scn guid image) where
+  abbrev then : Image
+  then = with_control state scn guid image
+
+  header_long : 64 ≤ length (first_page image)
+  header_long = header-long (first_page image) h.header
+
+  first_then : first_page then ≡ controlled state scn guid (first_page image)
+  first_then = control_first state scn guid image (some_page image h.header)
+
+  state_low : state < 65536
+  state_low = omega (arith, may.known)
+
+  pub size_then : image_size then ≡ image_size image
+  size_then = ap size_of first_then ∙ control_size state scn guid (first_page image) header_long may.sixteen
+
+  pub state_then : image_state then ≡ state
+  state_then = ap state_of first_then ∙ control_state state scn guid (first_page image) header_long may.sixteen state_low
+
+  pub scn_then : image_scn then ≡ scn
+  scn_then = ap scn_of first_then ∙ control_scn state scn guid (first_page image) header_long may.sixteen may.four
+
+  pub header_then : HasHeader then
+  header_then = record {
+    header = ap is_header first_then ∙ control_header state scn guid (first_page image) header_long may.sixteen h.header may.sound state_low may.four;
+    scn = subst (λ (n : ℕ). n < 4294967296) (sym scn_then) may.four;
+  }
+
 module _ (state scn : ℕ) (guid : List ℕ) (image : Image) (h : HasHeader image) (is : IsSoundImage image) (may : MayControl state scn guid image) where
   abbrev new : Image
   new = with_control state scn guid image
@@ -64,17 +93,14 @@ module _ (state scn : ℕ) (guid : List ℕ) (image : Image) (h : HasHeader imag
   same_length : length new ≡ length image
   same_length = control_long state scn guid image
 
-  low_state : state < 65536
-  low_state = omega (arith, may.known)
-
   pub new_size : image_size new ≡ image_size image
-  new_size = ap size_of first ∙ control_size state scn guid (first_page image) long may.sixteen
+  new_size = size_then state scn guid image h may
 
   pub new_state : image_state new ≡ state
-  new_state = ap state_of first ∙ control_state state scn guid (first_page image) long may.sixteen low_state
+  new_state = state_then state scn guid image h may
 
   pub new_scn : image_scn new ≡ scn
-  new_scn = ap scn_of first ∙ control_scn state scn guid (first_page image) long may.sixteen may.four
+  new_scn = scn_then state scn guid image h may
 
   pub new_guid : image_guid new ≡ guid
   new_guid = ap guid_of first ∙ control_guid state scn guid (first_page image) long may.sixteen
@@ -83,7 +109,7 @@ module _ (state scn : ℕ) (guid : List ℕ) (image : Image) (h : HasHeader imag
   new_stamp = ap stamp_of first ∙ control_stamp state scn guid (first_page image) long may.sixteen may.four
 
   pub new_header : is_header (first_page new) ≡ true
-  new_header = ap is_header first ∙ control_header state scn guid (first_page image) long may.sixteen h.header may.sound low_state may.four
+  new_header = (header_then state scn guid image h may).header
 
   -- bits and entries stay
   new_entry : (p : ℕ) → scn_entry new p ≡ scn_entry image p

@@ -122,7 +122,7 @@ pub record Stays (old new : Base) : Type 0 where
 pub stays_still : (b : Base) → Stays b b
 stays_still b = record { size = refl; longer = omega arith; state = refl; scn = refl; frozen = refl }
 
-stays_both : (a b c : Base) → Stays a b → Stays b c → Stays a c
+pub stays_both : (a b c : Base) → Stays a b → Stays b c → Stays a c
 stays_both a b c x y = record { size = y.size ∙ x.size; longer = omega (arith, x.longer, y.longer); state = y.state ∙ x.state; scn = y.scn ∙ x.scn; frozen = y.frozen ∙ x.frozen }
 
 pub stays_one : (K : Page → Type 0) (s : Stroke) (b : Base) → IsFitting K b.image s → IsWhole b.image → Stays b (on_base s b)

@@ -118,6 +118,9 @@ pub mod RawRows
 pub mod ControlRows
 pub mod RowLaws
 pub mod FreshNeat
+pub mod PagesOnly
+pub mod EntryStays
+pub mod RoomThere
 pub mod GoingLaws
 pub mod MakingLaws
 pub mod CoveredLaws

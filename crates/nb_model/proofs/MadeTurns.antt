@@ -1,6 +1,6 @@
 -- The files that turns make are those of records that are kept: of the backup that is under way, or of the one that stands stalled.
 use Rattle.std.proofs.Common.{◌≡◌, ⊎_elim, ℕ, zero, suc, ◌-◌, List, [], ◌∷◌, ◌++◌, map, take, get_or, refl, sym, ap, subst, ◌∙◌, arith}
-use Rattle.std.specs.Prelude.{Contains}
+use Rattle.std.specs.Prelude.{Contains, true}
 use Rattle.std.proofs.lemmas.List.Elements.{Contains-append_left, Contains-append_cases}
 use Rattle.nb_model.specs.declared.statement.Statement.{Statement}
 use Rattle.nb_model.specs.Account.{Kept, Base}
@@ -59,7 +59,7 @@ of_turns kept t (Ends reply ∷ turns) recorded pages f there = of_turns kept t 
 of_turns kept t (Merges ∷ turns) recorded pages f there = of_turns kept t turns recorded.1 pages f there
 of_turns kept t (Finishes reply ∷ turns) recorded pages f there = of_turns kept t turns recorded.1 pages f there
 
-module _ (kept : List Kept) (t : Trail) (now : Now) (base : t.base ≡ base_now now) (w : IsWellTrail kept t) (going : IsGoing now) (recorded : AllRecorded kept t now) where
+module _ (kept : List Kept) (t : Trail) (now : Now) (base : t.base ≡ base_now now) (w : IsWellTrail kept t) (going : IsGoing true now) (recorded : AllRecorded kept t now) where
   -- What a session is still to make is of a record.
   place_of_kept : (place : ℕ) (f : MadeFile) → Contains (making (base_now now).frozen (get_or now.todo place [])) f → IsOfKept kept f.1
   place_of_kept place f there =
@@ -77,7 +77,7 @@ unfolding files_made
 none_made = refl
 
 -- So is all that turns in an order make.
-pub play_of_kept : (order : List ℕ) (kept : List Kept) (t : Trail) (now : Now) → t.base ≡ base_now now → IsWellTrail kept t → IsGoing now → AreNamed now → AllRecorded kept t now
+pub play_of_kept : (order : List ℕ) (kept : List Kept) (t : Trail) (now : Now) → t.base ≡ base_now now → IsWellTrail kept t → IsGoing true now → AreNamed now → AllRecorded kept t now
     → (f : MadeFile) → Contains (files_made (play order now).0) f → IsOfKept (kept_along kept t (steps_of (play order now).0)) f.1
 unfolding play
 play_of_kept [] kept t now base w going named recorded f there = absurd (none_there f (subst (λ (fs : List MadeFile). Contains fs f) none_made there))
@@ -95,7 +95,7 @@ play_of_kept (x ∷ xs) kept t now base w going named recorded f there =
     (Contains-append_cases (files_made es) (files_made later.0) f (subst (λ (fs : List MadeFile). Contains fs f) (made_append es later.0) there)))
 
 -- At each front of its steps what a run has seen is well.
-pub front_well : (kept : List Kept) (now : Now) (order : List ℕ) (k : ℕ) → IsGoing now → AreNamed now → ((place : ℕ) → AreBeginnings (get_or now.todo place [])) → IsWellTrail kept (settled (base_now now))
+pub front_well : (kept : List Kept) (now : Now) (order : List ℕ) (k : ℕ) → IsGoing true now → AreNamed now → ((place : ℕ) → AreBeginnings (get_or now.todo place [])) → IsWellTrail kept (settled (base_now now))
     → IsWellTrail (kept ++ records_after (base_now now) (strokes_in (take k (steps_of (play order now).0)))) (after_steps (settled (base_now now)) (take k (steps_of (play order now).0)))
 front_well kept now order k going named waits w =
     let t : Trail = settled (base_now now) in
@@ -104,7 +104,7 @@ front_well kept now order k going named waits w =
     subst (λ (rs : List Kept). IsWellTrail rs (after_steps t (take k steps))) (kept_is kept t (take k steps)) (along_last kept t (take k steps) (along_front kept t steps along k))
 
 -- and all that it makes is of the records that it has kept by then.
-pub files_of_kept : (kept : List Kept) (now : Now) (order : List ℕ) (f : MadeFile) → IsGoing now → AreNamed now → ((place : ℕ) → AreBeginnings (get_or now.todo place [])) → IsWellTrail kept (settled (base_now now))
+pub files_of_kept : (kept : List Kept) (now : Now) (order : List ℕ) (f : MadeFile) → IsGoing true now → AreNamed now → ((place : ℕ) → AreBeginnings (get_or now.todo place [])) → IsWellTrail kept (settled (base_now now))
     → Contains (files_made (play order now).0) f → IsOfKept (kept ++ records_after (base_now now) (strokes_of (play order now).0)) f.1
 files_of_kept kept now order f going named waits w there =
     let t : Trail = settled (base_now now) in

@@ -104,7 +104,7 @@ module _ (now : Now) (place : ℕ) where
   abbrev frozen_now : Image
   frozen_now = (base_now now).frozen
 
-  at_makes : (ts : List Turn) → IsAt now place ts → (making frozen_now ts ≡ []) ⊎ ((f : MadeFile) × IsToMake now place ts f)
+  at_makes : {sound : Bool} (ts : List Turn) → IsAt sound now place ts → (making frozen_now ts ≡ []) ⊎ ((f : MadeFile) × IsToMake now place ts f)
   at_makes ts (waits all) = inl (beginnings_make frozen_now ts all)
   at_makes ts (backs_up left b tail e all runs room free) = inr (
     (b.name, file_of 102 (kept_of b frozen_now)),
@@ -125,12 +125,12 @@ module _ (now : Now) (place : ℕ) where
   at_makes ts (ending reply tail e all runs) = inl (ap (making frozen_now) e ∙ ending_makes frozen_now tail reply ∙ beginnings_make frozen_now tail all)
   at_makes ts (merges turns runs) = inl (merging_makes frozen_now ts turns)
 
-  pub to_make : (ts : List Turn) (f : MadeFile) → IsAt now place ts → Contains (making frozen_now ts) f → IsToMake now place ts f
+  pub to_make : {sound : Bool} (ts : List Turn) (f : MadeFile) → IsAt sound now place ts → Contains (making frozen_now ts) f → IsToMake now place ts f
   to_make ts f at held = ⊎_elim (λ none. absurd (none_held f (held_as (making frozen_now ts) [] f none held)))
       (λ one. subst (IsToMake now place ts) (one_held one.0 f (held_as (making frozen_now ts) (one.0 ∷ []) f one.1.only held)) one.1) (at_makes ts at)
 
   -- where one is to be made behind the next turn, that one copies a page
-  copies_before : (u : Turn) (rest : List Turn) (f : MadeFile) → IsAt now place (u ∷ rest) → Contains (making frozen_now rest) f → u ≡ Copies
+  copies_before : {sound : Bool} (u : Turn) (rest : List Turn) (f : MadeFile) → IsAt sound now place (u ∷ rest) → Contains (making frozen_now rest) f → u ≡ Copies
   copies_before u rest f (waits all) held = absurd (none_held f (held_as (making frozen_now rest) [] f (beginnings_make frozen_now rest all.1) held))
   copies_before u rest f (backs_up left b tail e all runs room free) held = by left e
     where
@@ -261,7 +261,7 @@ module _ (frozen : Image) (header : is_header (first_page frozen) ≡ true) (sta
   turn_used (Finishes reply) f held = absurd (none_held f held)
 
 -- The entries behind an outcome.
-module _ (session : ℕ) (rest : List Turn) (o : Outcome) (now : Now) (going : IsGoing now) where
+module _ {sound : Bool} (session : ℕ) (rest : List Turn) (o : Outcome) (now : Now) (going : IsGoing sound now) where
   abbrev last : Now
   last = stands_then session rest o now
 
@@ -294,15 +294,15 @@ module _ (session : ℕ) (rest : List Turn) (o : Outcome) (now : Now) (going : I
       ∙ used
 
 -- The next turn of a session.
-module _ (session : ℕ) (now : Now) (going : IsGoing now) (u : Turn) (rest : List Turn) (is : get_or now.todo (session - 1) [] ≡ u ∷ rest) where
+module _ {sound : Bool} (session : ℕ) (now : Now) (going : IsGoing sound now) (u : Turn) (rest : List Turn) (is : get_or now.todo (session - 1) [] ≡ u ∷ rest) where
   abbrev o : Outcome
   o = outcome session u now
 
   abbrev frozen_then : Image
   frozen_then = (base_now now).frozen
 
-  at : IsAt now (session - 1) (u ∷ rest)
-  at = subst (IsAt now (session - 1)) is (going.each (session - 1))
+  at : IsAt sound now (session - 1) (u ∷ rest)
+  at = subst (IsAt sound now (session - 1)) is (going.each (session - 1))
 
   made_is : of_made o.made ≡ making frozen_then (u ∷ [])
   made_is = turn_makes u session now
@@ -330,7 +330,7 @@ module _ (session : ℕ) (now : Now) (going : IsGoing now) (u : Turn) (rest : Li
       by (Some g) h = ap Some (one_held g f h)
 
 -- One turn makes what its session was to make.
-pub made_among : (session : ℕ) (now : Now) → IsGoing now → AreAmong (files_made (one_turn session now).0) (making_by session now)
+pub made_among : {sound : Bool} (session : ℕ) (now : Now) → IsGoing sound now → AreAmong (files_made (one_turn session now).0) (making_by session now)
 made_among session now going = one_cases (λ p. AreAmong (files_made p.0) (making_by session now)) session now (λ f held. absurd (none_held f (held_as (files_made []) [] f none_made held)))
     (λ u rest is f held. subst (λ (ts : List Turn). Contains (making (base_now now).frozen ts) f) (sym is) (own_held session now going u rest is f (event_held session now going u rest is f held)))
 
@@ -343,8 +343,8 @@ unfolding outcome turn
 copying_next session now = refl
 
 -- What is under way was made, or is under way still.
-pub under_among : (session : ℕ) (now : Now) → AreNamed now → IsGoing now → AreAmong (under_way now) (files_made (one_turn session now).0 ++ under_way (one_turn session now).1)
-under_among session now named going f held = by (under_place (base_now now).frozen now.todo f held)
+pub under_among : {sound : Bool} (session : ℕ) (now : Now) → AreNamed now → IsGoing sound now → AreAmong (under_way now) (files_made (one_turn session now).0 ++ under_way (one_turn session now).1)
+under_among {sound = sound} session now named going f held = by (under_place (base_now now).frozen now.todo f held)
   where
     frozen : Image
     frozen = (base_now now).frozen
@@ -372,7 +372,7 @@ under_among session now named going f held = by (under_place (base_now now).froz
           where
             left : (u : Turn) (rest : List Turn) → get_or now.todo (session - 1) [] ≡ u ∷ rest → Contains (making frozen rest) f → Contains (under_way (stands_then session rest (outcome session u now) now)) f
             left u rest is later =
-                let copies : u ≡ Copies = copies_before now (session - 1) u rest f (subst (IsAt now (session - 1)) is (going.each (session - 1))) later in
+                let copies : u ≡ Copies = copies_before now (session - 1) u rest f (subst (IsAt sound now (session - 1)) is (going.each (session - 1))) later in
                 subst (λ (x : Turn). Contains (under_way (stands_then session rest (outcome session x now) now)) f) (sym copies)
                 (under_at (base_now (stands_then session rest (outcome session Copies now) now)).frozen (stands_then session rest (outcome session Copies now) now).todo (session - 1) f
                 (subst (λ (b : Base). Contains (making b.frozen (get_or (stands_then session rest (outcome session Copies now) now).todo (session - 1) [])) f) (sym (copying_base session rest now))
@@ -380,13 +380,13 @@ under_among session now named going f held = by (under_place (base_now now).froz
                 (sym (own_todo session now u rest is (outcome session Copies now) ∙ ap (λ (ts : List Turn). ts ++ rest) (copying_next session now))) later)))
 
 -- What is under way has a free name,
-pub under_free : (now : Now) → IsGoing now → (f : MadeFile) → Contains (under_way now) f → is_free_entry (now.account.entry f.0) ≡ true
+pub under_free : {sound : Bool} (now : Now) → IsGoing sound now → (f : MadeFile) → Contains (under_way now) f → is_free_entry (now.account.entry f.0) ≡ true
 under_free now going f held =
     let at = under_place (base_now now).frozen now.todo f held in
     (to_make now at.0 (get_or now.todo at.0 []) f (going.each at.0) at.1).free
 
 -- and is one file at most.
-pub under_one : (now : Now) → IsGoing now → (f g : MadeFile) → Contains (under_way now) f → Contains (under_way now) g → f ≡ g
+pub under_one : {sound : Bool} (now : Now) → IsGoing sound now → (f g : MadeFile) → Contains (under_way now) f → Contains (under_way now) g → f ≡ g
 under_one now going f g a b =
     let at = under_place (base_now now).frozen now.todo f a in
     let by = under_place (base_now now).frozen now.todo g b in
@@ -396,28 +396,28 @@ under_one now going f g a b =
     one_held f g (held_as _ (f ∷ []) g first.only (subst (λ (p : ℕ). Contains (making (base_now now).frozen (get_or now.todo p [])) g) same by.1))
 
 -- A name that isn't free stays so,
-pub used_turn : (session : ℕ) (now : Now) → IsGoing now → (n : List ℕ) → is_free_entry (now.account.entry n) ≡ false → is_free_entry ((one_turn session now).1.account.entry n) ≡ false
+pub used_turn : {sound : Bool} (session : ℕ) (now : Now) → IsGoing sound now → (n : List ℕ) → is_free_entry (now.account.entry n) ≡ false → is_free_entry ((one_turn session now).1.account.entry n) ≡ false
 used_turn session now going n used = one_cases (λ p. is_free_entry (p.1.account.entry n) ≡ false) session now used (λ u rest is.
     used_then session rest (outcome session u now) now going (λ f made. (own_to_make session now going u rest is f (made_held session now going u rest is f made)).free) n used)
 
-pub used_play : (order : List ℕ) (now : Now) → AreNamed now → IsGoing now → (n : List ℕ) → is_free_entry (now.account.entry n) ≡ false → is_free_entry ((play order now).1.account.entry n) ≡ false
+pub used_play : {sound : Bool} (order : List ℕ) (now : Now) → AreNamed now → IsGoing sound now → (n : List ℕ) → is_free_entry (now.account.entry n) ≡ false → is_free_entry ((play order now).1.account.entry n) ≡ false
 unfolding play
 used_play [] now named going n used = used
 used_play (x ∷ xs) now named going n used = used_play xs (one_turn x now).1 (named_turn x now named going) (going_turn x now named going) n (used_turn x now going n used)
 
 -- so one that is free was so before.
-free_before : (session : ℕ) (now : Now) → IsGoing now → (n : List ℕ) → is_free_entry ((one_turn session now).1.account.entry n) ≡ true → is_free_entry (now.account.entry n) ≡ true
+free_before : {sound : Bool} (session : ℕ) (now : Now) → IsGoing sound now → (n : List ℕ) → is_free_entry ((one_turn session now).1.account.entry n) ≡ true → is_free_entry (now.account.entry n) ≡ true
 free_before session now going n free = by (is_free_entry (now.account.entry n)) refl
   where
     by : (t : Bool) → is_free_entry (now.account.entry n) ≡ t → is_free_entry (now.account.entry n) ≡ true
     by true is = is
     by false is = absurd (true≢false (sym free ∙ used_turn session now going n is))
 
-made_free : (session : ℕ) (now : Now) → IsGoing now → (f : MadeFile) → Contains (files_made (one_turn session now).0) f → is_free_entry (now.account.entry f.0) ≡ true
+made_free : {sound : Bool} (session : ℕ) (now : Now) → IsGoing sound now → (f : MadeFile) → Contains (files_made (one_turn session now).0) f → is_free_entry (now.account.entry f.0) ≡ true
 made_free session now going f held = (to_make now (session - 1) (get_or now.todo (session - 1) []) f (going.each (session - 1)) (made_among session now going f held)).free
 
 -- Each file that turns make, and each that is under way then, has a name that was free before.
-pub free_turn : (session : ℕ) (now : Now) → AreNamed now → IsGoing now → (f : MadeFile) → Contains (files_made (one_turn session now).0 ++ under_way (one_turn session now).1) f → is_free_entry (now.account.entry f.0) ≡ true
+pub free_turn : {sound : Bool} (session : ℕ) (now : Now) → AreNamed now → IsGoing sound now → (f : MadeFile) → Contains (files_made (one_turn session now).0 ++ under_way (one_turn session now).1) f → is_free_entry (now.account.entry f.0) ≡ true
 free_turn session now named going f held =
     let q : Played = one_turn session now in
     ⊎_elim (made_free session now going f) (λ under. free_before session now going f.0 (under_free q.1 (going_turn session now named going) f under)) (Contains-append_cases (files_made q.0) (under_way q.1) f held)
@@ -435,7 +435,7 @@ no_turn : (now : Now) → files_made (play [] now).0 ++ under_way (play [] now).
 unfolding play
 no_turn now = ap (λ (fs : List MadeFile). fs ++ under_way now) none_made
 
-pub free_play : (order : List ℕ) (now : Now) → AreNamed now → IsGoing now → (f : MadeFile) → Contains (files_made (play order now).0 ++ under_way (play order now).1) f → is_free_entry (now.account.entry f.0) ≡ true
+pub free_play : {sound : Bool} (order : List ℕ) (now : Now) → AreNamed now → IsGoing sound now → (f : MadeFile) → Contains (files_made (play order now).0 ++ under_way (play order now).1) f → is_free_entry (now.account.entry f.0) ≡ true
 free_play [] now named going f held = under_free now going f (held_as _ (under_way now) f (no_turn now) held)
 free_play (x ∷ xs) now named going f held =
     let q : Played = one_turn x now in
@@ -443,7 +443,7 @@ free_play (x ∷ xs) now named going f held =
     (Contains-append_cases (files_made q.0) _ f (held_as _ _ f (parts x xs now) held))
 
 -- What is under way was made behind turns in an order, or is under way still.
-pub under_play : (order : List ℕ) (now : Now) → AreNamed now → IsGoing now → AreAmong (under_way now) (files_made (play order now).0 ++ under_way (play order now).1)
+pub under_play : {sound : Bool} (order : List ℕ) (now : Now) → AreNamed now → IsGoing sound now → AreAmong (under_way now) (files_made (play order now).0 ++ under_way (play order now).1)
 under_play [] now named going f held = held_as (under_way now) _ f (sym (no_turn now)) held
 under_play (x ∷ xs) now named going f held =
     let q : Played = one_turn x now in
@@ -472,7 +472,7 @@ played_used (x ∷ xs) now m f held =
     (Contains-append_cases (files_made q.0) (files_made (play xs q.1).0) f (held_as _ (files_made q.0 ++ files_made (play xs q.1).0) f (made_append q.0 (play xs q.1).0) held))
 
 -- and so no name comes twice.
-made_one : (session : ℕ) (now : Now) → IsGoing now → (f g : MadeFile) → Contains (files_made (one_turn session now).0) f → Contains (files_made (one_turn session now).0) g → f ≡ g
+made_one : {sound : Bool} (session : ℕ) (now : Now) → IsGoing sound now → (f g : MadeFile) → Contains (files_made (one_turn session now).0) f → Contains (files_made (one_turn session now).0) g → f ≡ g
 made_one session now going f g = one_cases (λ p. Contains (files_made p.0) f → Contains (files_made p.0) g → f ≡ g) session now
     (λ a b. absurd (none_held f (held_as (files_made []) [] f none_made a)))
     (λ u rest is a b. one_making (base_now now).frozen u f g (event_held session now going u rest is f a) (event_held session now going u rest is g b))

@@ -4,11 +4,7 @@ use Rattle.std.specs.Prelude.{Bool, true, false, ◌==◌, ◌||◌, Option, Som
 use Rattle.std.proofs.lemmas.Bool.Decides.{eqb_tells}
 use Rattle.nb_fields.specs.Places.{entries_in, inventory_place, scn_place, is_scn_place}
 use Rattle.nb_model.specs.Image.{Image, image_size}
-use Rattle.nb_model.specs.Forms.{is_kind, scn_page_of, has_entry, Need, first_not, maps_from, entry_page}
-
--- the SCN page of page p is of its kind, if it has one
-abbrev pub HasScnPage : Image → ℕ → Type 0
-HasScnPage x p = has_entry x p ≡ true → is_kind x 10 (scn_page_of x p) ≡ true
+use Rattle.nb_model.specs.Forms.{HasItsEntry, is_kind, scn_page_of, has_entry, Need, first_not, maps_from, entry_page}
 
 -- the first that isn't of its kind, of pages behind others
 pub first_behind : Option ℕ → Option ℕ → Option ℕ
@@ -104,7 +100,7 @@ entry_found x y q is = entry_first x y q true is ∙ either_none (has_entry y q)
 pub entry_alike : (x y : Image) (q : ℕ) → is_kind x 10 (scn_page_of y q) ≡ is_kind y 10 (scn_page_of y q) → first_not x (entry_page y q) ≡ first_not y (entry_page y q)
 entry_alike x y q same = entry_first x y q (is_kind y 10 (scn_page_of y q)) same ∙ sym (entry_first y y q (is_kind y 10 (scn_page_of y q)) refl)
 
-pub ready_none : (x : Image) (q : ℕ) → HasScnPage x q → first_not x (entry_page x q) ≡ None
+pub ready_none : (x : Image) (q : ℕ) → HasItsEntry x q → first_not x (entry_page x q) ≡ None
 ready_none x q there = by (has_entry x q) refl
   where
     by : (t : Bool) → has_entry x q ≡ t → first_not x (entry_page x q) ≡ None
@@ -113,7 +109,7 @@ ready_none x q there = by (has_entry x q) refl
         ∙ ap (λ (t : Bool). elim t as (λ z. Option ℕ) [ true ↦ elim (is_kind x 10 (scn_page_of x q)) as (λ z. Option ℕ) [ true ↦ None | false ↦ Some (scn_page_of x q) ] | false ↦ None ]) e
 
 -- and back
-pub none_ready : (x : Image) (q : ℕ) → first_not x (entry_page x q) ≡ None → HasScnPage x q
+pub none_ready : (x : Image) (q : ℕ) → first_not x (entry_page x q) ≡ None → HasItsEntry x q
 none_ready x q none has = by (is_kind x 10 (scn_page_of x q)) refl
   where
     some_none : (r : ℕ) → Some r ≡ None → ⊥

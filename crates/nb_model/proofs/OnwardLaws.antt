@@ -7,10 +7,9 @@ use Rattle.nb_fields.specs.Places.{is_page_size, bits_in, inventory_place, is_in
 use Rattle.nb_fields.specs.Page.{kind_of}
 use Rattle.nb_fields.proofs.PlaceLemmas.{bits-least}
 use Rattle.nb_model.specs.Image.{Image, page_at, image_size}
-use Rattle.nb_model.specs.Forms.{is_kind, inventory_of, scn_page_of, is_free_page}
+use Rattle.nb_model.specs.Forms.{HasItsEntry, is_kind, inventory_of, scn_page_of, is_free_page}
 use Rattle.nb_model.specs.Way.{IsMadeBehind, same_made, made_here, IsFreshBehind, same_fresh, fresh_here}
 use Rattle.nb_model.proofs.SoundLaws.{inventory_place_some, inventory_there}
-use Rattle.nb_model.proofs.NeedLaws.{HasScnPage}
 use Rattle.nb_model.proofs.NewSound.{inventory_before}
 use Rattle.nb_model.proofs.StepLaws.{IsShaped, IsVisited, kind_from, scn_page_moves, map_entry_before}
 use Rattle.nb_model.proofs.PlaceOrder.{div_rises, map_places_from, map_place_is, map_behind}
@@ -35,13 +34,12 @@ pub record IsOnTheWay (old now : Image) (from made fresh : ℕ) : Type 0 where
   pub ahead : (k : ℕ) → from / bits_in (image_size old) ≤ k → inventory_place (image_size old) k ≢ fresh → is_kind now 2 (inventory_place (image_size old) k) ≡ is_kind old 2 (inventory_place (image_size old) k)
   pub made_page : made ≢ 0 → is_kind now 10 made ≡ true
   pub entries : (s : ℕ) → is_scn_place (image_size old) s ≡ true → made < s → is_kind now 10 s ≡ is_kind old 10 s
-  pub asked : 5 < from → HasScnPage now (inventory_of now (from - 1))
+  pub asked : 5 < from → HasItsEntry now (inventory_of now (from - 1))
   pub read : 5 < from → is_kind now 2 (inventory_of now (from - 1)) ≡ true
 
 -- at the start
-pub way_begins : (x : Image) → IsShaped x → IsOnTheWay x x 5 0 0
-way_begins x h =
-    let least = h.least in
+pub way_begins : (x : Image) → IsShaped x → 5 ≤ length x → IsOnTheWay x x 5 0 0
+way_begins x h least =
     let bits_least = bits-least (image_size x) h.size in
     let small : 5 < bits_in (image_size x) = omega (arith, bits_least) in
     let none : 5 / bits_in (image_size x) ≡ 0 = div-eq_of_lt small in
@@ -85,7 +83,7 @@ module _ (old now next : Image) (from made fresh p kind m f : ℕ) (way : IsOnTh
     (lowest : (q : ℕ) → from ≤ q → q < p → is_free_page now q ≡ false) (from_p : from ≤ p) (there : p ≤ length now)
     (of_map : is_inventory_place (image_size old) p ≡ true → kind ≡ 2) (of_entries : is_scn_place (image_size old) p ≡ true → kind ≡ 10)
     (tested : (k : ℕ) → k ≤ p / bits_in (image_size old) → is_kind now 2 (inventory_place (image_size old) k) ≡ true)
-    (entry : HasScnPage now (inventory_of now p)) (made_is : IsMadeBehind now p made m) (fresh_is : IsFreshBehind now p fresh f) where
+    (entry : HasItsEntry now (inventory_of now p)) (made_is : IsMadeBehind now p made m) (fresh_is : IsFreshBehind now p fresh f) where
   abbrev size : ℕ
   size = image_size old
 
@@ -148,13 +146,13 @@ module _ (old now next : Image) (from made fresh p kind m f : ℕ) (way : IsOnTh
   inventory_same : (q : ℕ) → inventory_of now q ≡ inventory_of old q
   inventory_same q = ap (λ (s : ℕ). inventory_place s (q / bits_in s)) way.size
 
-  asked : HasScnPage next (inventory_of next (p + 1 - 1))
+  asked : HasItsEntry next (inventory_of next (p + 1 - 1))
   asked =
       let e : p + 1 - 1 ≡ p = omega arith in
       let five = way.five in
       let same : inventory_of next (p + 1 - 1) ≡ inventory_of now p = ap (λ (q : ℕ). inventory_of next q) e ∙ ap (λ (s : ℕ). inventory_place s (p / bits_in s)) on.size in
       let before = map_entry_before now p way.shaped.size (omega (arith, five, from_p)) in
-      subst (HasScnPage next) (sym same) (scn_page_moves now next (inventory_of now p) on.size
+      subst (HasItsEntry next) (sym same) (scn_page_moves now next (inventory_of now p) on.size
       (λ is. same_kind 10 (scn_page_of now (inventory_of now p)) (λ e. absurd (omega (arith, e, before))) ∙ is) entry)
 
   read : is_kind next 2 (inventory_of next (p + 1 - 1)) ≡ true

@@ -6,10 +6,10 @@ use Rattle.std.proofs.lemmas.Bool.Decides.{eqb_tells, leb_tells}
 use Rattle.nb_fields.specs.Places.{is_page_size, entries_in, bits_in, inventory_place, is_inventory_place, is_scn_place, is_system_place}
 use Rattle.nb_fields.proofs.PlaceLemmas.{bits-least}
 use Rattle.nb_model.specs.Image.{Image, image_size}
-use Rattle.nb_model.specs.Forms.{is_kind, inventory_of, scn_page_of, lowest_free, free_from, Need, first_not, maps_from, entry_page, is_kept, needed_at}
+use Rattle.nb_model.specs.Forms.{HasItsEntry, is_kind, inventory_of, scn_page_of, lowest_free, free_from, Need, first_not, maps_from, entry_page, is_kept, needed_at}
 use Rattle.nb_model.specs.Way.{next_place, maps_on, entry_on, map_entry_on, needed_on}
 use Rattle.nb_model.proofs.SoundLaws.{inventory_place_some, scn_place_some, scn_page_there, inventory_there}
-use Rattle.nb_model.proofs.NeedLaws.{HasScnPage, first_behind, first_append, behind_none, maps_found, maps_alike, maps_split, entry_moves, first_none, entry_found, entry_alike, ready_none}
+use Rattle.nb_model.proofs.NeedLaws.{first_behind, first_append, behind_none, maps_found, maps_alike, maps_split, entry_moves, first_none, entry_found, entry_alike, ready_none}
 use Rattle.nb_model.proofs.FirstFree.{IsLowestFree, free_from_is, lowest_one, lowest_is}
 use Rattle.nb_model.proofs.PlaceOrder.{div_rises, map_places_from, map_place_is, maps_rise, map_behind, scn_behind}
 use Rattle.nb_model.proofs.OnwardLaws.{IsOnTheWay}
@@ -62,7 +62,7 @@ module _ (old now : Image) (from made fresh : ℕ) (way : IsOnTheWay old now fro
       }
 
   pub next_is : lowest_free now ≡ next_place old from fresh
-  next_is = lowest_one now 5 (length now) (lowest_free now) (next_place old from fresh) (lowest_is now way.shaped.least) (next_lowest (inventory_of old from == fresh) refl)
+  next_is = lowest_one now 5 (length now) (lowest_free now) (next_place old from fresh) (lowest_is now (let five = way.five in let long = way.long in omega (arith, five, long))) (next_lowest (inventory_of old from == fresh) refl)
 
   -- an entry's SCN page is of its kind in both, or in neither
   pub entry_same : (q : ℕ) → made ≤ q → first_not now (entry_page now q) ≡ first_not old (entry_on old made q)
@@ -101,8 +101,8 @@ module _ (old now : Image) (from made fresh : ℕ) (way : IsOnTheWay old now fro
       i = inventory_of old p
 
       -- asked for
-      there : 5 < from → i ≡ inventory_of old (from - 1) → HasScnPage now i
-      there more e = subst (HasScnPage now) (ap (λ (s : ℕ). inventory_place s ((from - 1) / bits_in s)) way.size ∙ sym e) (way.asked more)
+      there : 5 < from → i ≡ inventory_of old (from - 1) → HasItsEntry now i
+      there more e = subst (HasItsEntry now) (ap (λ (s : ℕ). inventory_place s ((from - 1) / bits_in s)) way.size ∙ sym e) (way.asked more)
 
       -- or new
       made_low : (5 < from → i ≢ inventory_of old (from - 1)) → made ≤ i

@@ -18,7 +18,7 @@ use Rattle.nb_model.specs.Backups.{Room, needs_taken, room_in}
 use Rattle.nb_model.specs.Causes.{broken_at}
 use Rattle.nb_model.specs.Chains.{Chain, History, Slot, Spot, first_of, owner_of, owner_in, slots_from, slots_in, spots_on, spots_of, spots, is_in_chain, next_in, linked, walk, pages_of, found_pages, first_such, free_spot, put_slot, last_of, grown, backup_slot}
 use Rattle.nb_model.specs.Forms.{Draft, drafted, old_page, needs, put, written, wrote, inventory_of, scn_page_of, is_free_page, new_page, wants}
-use Rattle.nb_model.specs.Going.{HasRoom}
+use Rattle.nb_model.specs.Going.{IsPlainRoom}
 use Rattle.nb_model.specs.Image.{Page, Image, page_at, image_size, image_scn}
 use Rattle.nb_model.specs.Sound.{HasHeader, IsSoundImage}
 use Rattle.nb_model.specs.Strokes.{begin, on_base, base_after}
@@ -208,38 +208,47 @@ pub data_short : (p : ℕ) → length (data_payload 0 1 []) ≤ 1008
 unfolding data_payload bytes_of
 data_short p = omega arith
 
+-- a place for a row of the history in a sound image
+pub record HasPlainRoom (image : Image) (page slot : ℕ) : Type 0 where
+  pub below : page < length image
+  pub plain : IsPlainRoom image page slot
+
 -- a place for a row stays one, where the image keeps its page size and gets no shorter
-pub room_with : (image new : Image) (p slot : ℕ) → image_size new ≡ image_size image → length image ≤ length new → HasRoom image p slot → HasRoom new p slot
+pub room_with : (image new : Image) (p slot : ℕ) → image_size new ≡ image_size image → length image ≤ length new → HasPlainRoom image p slot → HasPlainRoom new p slot
 room_with image new p slot size longer room = record {
-  behind = room.behind;
   below = omega (arith, room.below, longer);
-  no_inventory = ap (λ (s : ℕ). is_inventory_place s p) size ∙ room.no_inventory;
-  no_scn_page = ap (λ (s : ℕ). is_scn_place s p) size ∙ room.no_scn_page;
-  within = omega (arith, room.within, size);
+  plain = record {
+    behind = room.plain.behind;
+    no_inventory = ap (λ (s : ℕ). is_inventory_place s p) size ∙ room.plain.no_inventory;
+    no_scn_page = ap (λ (s : ℕ). is_scn_place s p) size ∙ room.plain.no_scn_page;
+    within = omega (arith, room.plain.within, size);
+  };
 }
 
-pub room_stays : (old new : Base) (p slot : ℕ) → Stays old new → HasRoom old.image p slot → HasRoom new.image p slot
+pub room_stays : (old new : Base) (p slot : ℕ) → Stays old new → HasPlainRoom old.image p slot → HasPlainRoom new.image p slot
 room_stays old new p slot stays = room_with old.image new.image p slot stays.size stays.longer
 
 -- so where a backup begins
-pub room_begun : (b : Base) (guid : List ℕ) (ask : Option Ask) (p slot : ℕ) → HasHeader b.image → IsSoundImage b.image → length guid ≡ 16 → image_scn b.image ≤ 4294967293 → HasRoom b.image p slot
-    → HasRoom (on_base (begin guid ask) b).image p slot
+pub room_begun : (b : Base) (guid : List ℕ) (ask : Option Ask) (p slot : ℕ) → HasHeader b.image → IsSoundImage b.image → length guid ≡ 16 → image_scn b.image ≤ 4294967293 → HasPlainRoom b.image p slot
+    → HasPlainRoom (on_base (begin guid ask) b).image p slot
 unfolding on_base
 room_begun b guid ask p slot h is sixteen scn =
     room_with b.image _ p slot (new_size 1 (image_scn b.image + 1) guid b.image h is (may_begin b.image h guid sixteen scn)) (omega (arith, control_long 1 (image_scn b.image + 1) guid b.image))
 
 -- A slot that is found is a place for a row.
-pub spot_room : (image : Image) (s : Spot) → HasHeader image → IsSoundImage image → IsSpotOf History image s → HasRoom image s.page s.slot
+pub spot_room : (image : Image) (s : Spot) → HasHeader image → IsSoundImage image → IsSpotOf History image s → HasPlainRoom image s.page s.slot
 spot_room image s h is spot =
     let plain : IsPlain image s.page = chain_plain History image s.page h is spot.page in
     let low : s.page < length image = (in_chain History image s.page spot.page).0 in
     let long : length (page_at image s.page) ≡ image_size image = all_at (λ page. length page ≡ image_size image) image is.sizes s.page low in
     record {
-      behind = plain.place.behind;
       below = low;
-      no_inventory = plain.no_inventory;
-      no_scn_page = plain.no_scn_page;
-      within = let most = div-mul-le_self (length (page_at image s.page) - 32) 256 in let inside = spot.within in omega (arith, most, inside, long);
+      plain = record {
+        behind = plain.place.behind;
+        no_inventory = plain.no_inventory;
+        no_scn_page = plain.no_scn_page;
+        within = let most = div-mul-le_self (length (page_at image s.page) - 32) 256 in let inside = spot.within in omega (arith, most, inside, long);
+      };
     }
 
 -- The room for a row: the strokes that make it fit, and it is a place for one.
@@ -328,13 +337,15 @@ module _ (b : Base) (h : HasHeader b.image) (is : IsSoundImage b.image) (unbroke
       d_stays : Stays b (base_after b d.strokes)
       d_stays = fitting_stays K d.strokes b link_put.fits.each whole
 
-      link_room : HasRoom d.image made.1 0
+      link_room : HasPlainRoom d.image made.1 0
       link_room = record {
-        behind = new.behind;
         below = omega (arith, new.below, ap length link_put.is, with_page_length last (form_page last 5 link link_put.between) link_put.between (omega (arith, last_low, made_long, link_put.raises.long)), link_put.raises.long);
-        no_inventory = ap (λ (s : ℕ). is_inventory_place s made.1) d_size ∙ (plain_place (image_size b.image) made.1 new.plain).0;
-        no_scn_page = ap (λ (s : ℕ). is_scn_place s made.1) d_size ∙ (plain_place (image_size b.image) made.1 new.plain).1;
-        within = omega (arith, size.at_least, made_size, d_size);
+        plain = record {
+          behind = new.behind;
+          no_inventory = ap (λ (s : ℕ). is_inventory_place s made.1) d_size ∙ (plain_place (image_size b.image) made.1 new.plain).0;
+          no_scn_page = ap (λ (s : ℕ). is_scn_place s made.1) d_size ∙ (plain_place (image_size b.image) made.1 new.plain).1;
+          within = omega (arith, size.at_least, made_size, d_size);
+        };
       }
         where
           d_size : image_size d.image ≡ image_size b.image
@@ -351,7 +362,7 @@ module _ (b : Base) (h : HasHeader b.image) (is : IsSoundImage b.image) (unbroke
     -- What the room for a row is.
     record IsRoom (room : Room) : Type 0 where
       fits : Fits K b room.draft
-      there : HasRoom (base_after b room.draft.strokes).image room.page room.slot
+      there : HasPlainRoom (base_after b room.draft.strokes).image room.page room.slot
 
     room_is : (room_in b.image).draft.full ≡ false → IsRoom (room_in b.image)
     unfolding room_in grown
@@ -372,14 +383,14 @@ module _ (b : Base) (h : HasHeader b.image) (is : IsSoundImage b.image) (unbroke
         }
         by None found left =
             let some : made.0.full ≡ false = put_full last 5 link made.0 left in
-            record { fits = fits_broken K b _ d (link_put some).fits; there = subst (λ (x : Image). HasRoom x made.1 0) (sym (link_put some).fits.is.is) (link_room some) }
+            record { fits = fits_broken K b _ d (link_put some).fits; there = subst (λ (x : Image). HasPlainRoom x made.1 0) (sym (link_put some).fits.is.is) (link_room some) }
 
   -- Each stroke fits, for any K that holds of such pages.
   pub room_fits : (K : Page → Type 0) → HoldsOfHistory K → HoldsOfChain K b.image → (room_in b.image).draft.full ≡ false → Fits K b (room_in b.image).draft
   room_fits K holds chain left = (room_is K holds chain left).fits
 
   -- and there is a place for the row then
-  pub room_there : (room_in b.image).draft.full ≡ false → HasRoom (base_after b (room_in b.image).draft.strokes).image (room_in b.image).page (room_in b.image).slot
+  pub room_there : (room_in b.image).draft.full ≡ false → HasPlainRoom (base_after b (room_in b.image).draft.strokes).image (room_in b.image).page (room_in b.image).slot
   room_there left = (room_is AnyPage any_history (λ p is. tt) left).there
 
 -- The slot of a row has 256 bytes, where the name has 224 at most.
@@ -388,7 +399,7 @@ unfolding backup_slot bytes_of
 backup_length level scn time guid name sixteen short = length-padded 256 _ (omega (arith, sixteen, short, length-append guid name))
 
 -- A row is written at its place.
-pub slot_fits : (K : Page → Type 0) → ((bytes : Page) → kind_of bytes ≡ 10 → K bytes) → (b : Base) (p slot : ℕ) (row : Slot) → HasHeader b.image → IsSoundImage b.image → HasRoom b.image p slot → length row ≡ 256
+pub slot_fits : (K : Page → Type 0) → ((bytes : Page) → kind_of bytes ≡ 10 → K bytes) → (b : Base) (p slot : ℕ) (row : Slot) → HasHeader b.image → IsSoundImage b.image → HasPlainRoom b.image p slot → length row ≡ 256
     → K (stamped (page_at b.image p) 5 (drop 16 (with_part (32 + 256 * slot) row (page_at b.image p))) (image_scn b.image) p) → Fits K b (put_slot p slot row (drafted b.image))
 unfolding put_slot
 slot_fits K scn_pages b p slot row h is room long holds =
@@ -397,6 +408,6 @@ slot_fits K scn_pages b p slot row h is room long holds =
     let whole : length page ≡ image_size b.image = all_at (λ x. length x ≡ image_size b.image) b.image is.sizes p low in
     let size : SizeFacts (image_size b.image) = size_facts (image_size b.image) (header_fields b.image h).size in
     (plain_here K scn_pages b p 5 (drop 16 (with_part (32 + 256 * slot) row page)) (drafted b.image) (fits_first K b (header_whole b.image h is))
-    (record { place = record { behind = room.behind; there = omega (arith, low); most = omega (arith, low, is.most) }; no_inventory = room.no_inventory; no_scn_page = room.no_scn_page }) refl
-    (omega (arith, size.at_least, whole, room.within, long, length-drop 16 (with_part (32 + 256 * slot) row page), length-with_part (32 + 256 * slot) row page (omega (arith, whole, room.within, long))))
+    (record { place = record { behind = room.plain.behind; there = omega (arith, low); most = omega (arith, low, is.most) }; no_inventory = room.plain.no_inventory; no_scn_page = room.plain.no_scn_page }) refl
+    (omega (arith, size.at_least, whole, room.plain.within, long, length-drop 16 (with_part (32 + 256 * slot) row page), length-with_part (32 + 256 * slot) row page (omega (arith, whole, room.plain.within, long))))
     (subst (λ (old : Page). K (stamped old 5 (drop 16 (with_part (32 + 256 * slot) row page)) (image_scn b.image) p)) (sym (old_there b.image p low)) holds)).fits

@@ -4,7 +4,6 @@ use Rattle.std.specs.Prelude.{Option, Some}
 use Rattle.nb_model.specs.Account.{Ask, Base}
 use Rattle.nb_model.specs.Backups.{room_in, close_backup}
 use Rattle.nb_model.specs.Chains.{backup_slot}
-use Rattle.nb_model.specs.Going.{HasRoom}
 use Rattle.nb_model.specs.Image.{Page, Image, image_size, image_state, image_scn, image_guid}
 use Rattle.nb_model.specs.Outcomes.{Backing, Seen, next_guid, next_time}
 use Rattle.nb_model.specs.Run.{Now, base_now}
@@ -14,7 +13,7 @@ use Rattle.nb_model.proofs.ControlMay.{may_begin, may_end, may_finish}
 use Rattle.nb_model.proofs.ControlSound.{MayControl, control_sound, control_long, new_size, new_scn, new_state, new_header}
 use Rattle.nb_model.proofs.FitLaws.{IsWhole, AreFitting, Stays, whole_after, all_keep, fitting_stays}
 use Rattle.nb_model.proofs.PutSound.{header_whole}
-use Rattle.nb_model.proofs.RoomLaws.{AnyPage, any_history, room_fits, room_there, room_begun, backup_length, slot_fits}
+use Rattle.nb_model.proofs.RoomLaws.{HasPlainRoom, AnyPage, any_history, room_fits, room_there, room_begun, backup_length, slot_fits}
 use Rattle.nb_model.proofs.SoundLaws.{header_stays, fields_stay}
 use Rattle.nb_model.proofs.StrokeLaws.{base_after-append}
 use Rattle.nb_model.proofs.TrimLaws.{finish_full}
@@ -77,7 +76,7 @@ pub record IsStarted (b new : Base) (page slot : ℕ) : Type 0 where
   pub keeps : StaysSound b new
   pub state : image_state new.image ≡ 1
   pub frozen : new.frozen ≡ new.image
-  pub room : HasRoom new.image page slot
+  pub room : HasPlainRoom new.image page slot
 
 pub start_keeps : (s : Seen) (session : ℕ) (name : List ℕ) (ask : Ask) → HasHeader s.base.image → IsSoundImage s.base.image → MayStart s name → length (next_guid s.given) ≡ 16
     → IsStarted s.base (base_after s.base (started s session name ask).strokes) (room_in s.base.image).page (room_in s.base.image).slot
@@ -102,13 +101,13 @@ start_keeps s session name ask header sound may sixteen =
     frozen_then : (mid : Base) (guid : List ℕ) → (base_after mid (begin guid (Some ask) ∷ [])).frozen ≡ (base_after mid (begin guid (Some ask) ∷ [])).image
     frozen_then mid guid = refl
 
-    room_then : (mid : Base) (guid : List ℕ) → HasRoom (on_base (begin guid (Some ask)) mid).image (room_in s.base.image).page (room_in s.base.image).slot
-        → HasRoom (base_after mid (begin guid (Some ask) ∷ [])).image (room_in s.base.image).page (room_in s.base.image).slot
+    room_then : (mid : Base) (guid : List ℕ) → HasPlainRoom (on_base (begin guid (Some ask)) mid).image (room_in s.base.image).page (room_in s.base.image).slot
+        → HasPlainRoom (base_after mid (begin guid (Some ask) ∷ [])).image (room_in s.base.image).page (room_in s.base.image).slot
     room_then mid guid room = room
 
 -- its close: the row is written
 pub record HasPlace (image : Image) (b : Backing) : Type 0 where
-  pub room : HasRoom image b.page b.slot
+  pub room : HasPlainRoom image b.page b.slot
   pub sixteen : length b.guid ≡ 16
   pub short : length b.name ≤ 224
 

@@ -29,6 +29,7 @@ use Rattle.nb_model.proofs.LeadLaws.{strokes_lead}
 use Rattle.nb_model.proofs.PagesFit.{pages_fit}
 use Rattle.nb_model.proofs.PutSound.{header_whole}
 use Rattle.nb_model.proofs.OutputLaws.{strokes_one}
+use Rattle.nb_model.proofs.RoomLaws.{HasPlainRoom}
 use Rattle.nb_model.proofs.SoundTurns.{HasPlace}
 use Rattle.nb_model.proofs.SteadyLaws.{WellAlong, KeepsAlong, kept_along, pages_along, begin_along, ends_along, finish_along, settling_along, along_append, along_last, kept_append}
 use Rattle.nb_model.proofs.StepsLaws.{steps_one, steps_append, steps_seen, after_steps_append}
@@ -82,7 +83,7 @@ record IsTurn (kept : List Kept) (t : Trail) (now : Now) (session : ℕ) (stroke
   own : AreRecorded (kept_along kept t (made strokes)) (after_steps t (made strokes)) turns
   others : (place : ℕ) (b : Backing) → place ≢ session - 1 → Runs now place 1 → IsRecorded kept t b → IsRecorded (kept_along kept t (made strokes)) (after_steps t (made strokes)) b
 
-module _ (kept : List Kept) (t : Trail) (now : Now) (session : ℕ) (base : t.base ≡ base_now now) (w : IsWellTrail kept t) (going : IsGoing now) where
+module _ (kept : List Kept) (t : Trail) (now : Now) (session : ℕ) (base : t.base ≡ base_now now) (w : IsWellTrail kept t) (going : IsGoing true now) where
   abbrev seen : Base → Seen
   seen b = record { base = b; cache = now.cache; running = now.running; entry = now.account.entry; given = now.given }
 
@@ -219,11 +220,11 @@ module _ (kept : List Kept) (t : Trail) (now : Now) (session : ℕ) (base : t.ba
   copying_turn rest recorded = no_stroke rest recorded
 
   backup_turn_is : (left : ℕ) (b : Backing) (u : Turn) (rest tail : List Turn) → u ∷ rest ≡ replicate left Copies ++ ClosesBackup b ∷ tail → AllByRecursion IsNamed (u ∷ rest) → AreRecorded kept t (u ∷ rest) → AreBeginnings tail
-      → Runs now (session - 1) 1 → HasRoom (base_now now).image b.page b.slot → Turns u rest
+      → Runs now (session - 1) 1 → HasRoom true (base_now now).image b.page b.slot → Turns u rest
   unfolding turn
   backup_turn_is zero b u rest tail e named recorded all runs room =
       let is : IsNamed (ClosesBackup b) = (subst (AllByRecursion IsNamed) e named).0 in
-      let place : HasPlace t.base.image b = record { room = subst (λ (x : Base). HasRoom x.image b.page b.slot) (sym base) room; sixteen = is.1; short = omega (arith, name_short b.name is.0) } in
+      let place : HasPlace t.base.image b = record { room = subst (λ (x : Base). HasPlainRoom x.image b.page b.slot) (sym base) (record { below = room.below; plain = room.plain refl }); sixteen = is.1; short = omega (arith, name_short b.name is.0) } in
       turn_as u (ClosesBackup b) rest tail e (closed_turn 1 runs b tail all place (subst (AreRecorded kept t) e recorded).0)
   backup_turn_is (suc left) b u rest tail e named recorded all runs room =
       let behind : List Turn = replicate left Copies ++ ClosesBackup b ∷ tail in
@@ -246,7 +247,7 @@ module _ (kept : List Kept) (t : Trail) (now : Now) (session : ℕ) (base : t.ba
   unfolding turn
   ending_turn reply tail all runs = ended_turn tail all reply (λ none. absurd (omega (arith, none, same_state, runs.state))) (only_one 1 runs)
 
-  turn_is : (u : Turn) (rest : List Turn) → IsAt now (session - 1) (u ∷ rest) → AllByRecursion IsNamed (u ∷ rest) → AreRecorded kept t (u ∷ rest) → Turns u rest
+  turn_is : (u : Turn) (rest : List Turn) → IsAt true now (session - 1) (u ∷ rest) → AllByRecursion IsNamed (u ∷ rest) → AreRecorded kept t (u ∷ rest) → Turns u rest
   turn_is u rest (waits all) named recorded = beginning_turn u rest all named
   turn_is u rest (backs_up left b tail e all runs room free) named recorded = backup_turn_is left b u rest tail e named recorded all runs room
   turn_is u rest (copies left name tail e all runs free) named recorded = copy_turn_is left name u rest tail e recorded
@@ -276,7 +277,7 @@ unfolding after_steps after_step
 settling_recorded kept t now true all place = settled_recorded kept t (get_or now.todo place []) (all place)
 settling_recorded kept t now false all place = all place
 
-module _ (kept : List Kept) (t : Trail) (now : Now) (session : ℕ) (base : t.base ≡ base_now now) (w : IsWellTrail kept t) (going : IsGoing now) (named : AreNamed now) (recorded : AllRecorded kept t now) where
+module _ (kept : List Kept) (t : Trail) (now : Now) (session : ℕ) (base : t.base ≡ base_now now) (w : IsWellTrail kept t) (going : IsGoing true now) (named : AreNamed now) (recorded : AllRecorded kept t now) where
   module _ (u : Turn) (rest : List Turn) (is : get_or now.todo (session - 1) [] ≡ u ∷ rest) where
     abbrev o : Outcome
     o = outcome session u now
@@ -287,7 +288,7 @@ module _ (kept : List Kept) (t : Trail) (now : Now) (session : ℕ) (base : t.ba
     one : IsTurn kept t now session o.strokes (o.next ++ rest)
     unfolding outcome
     one = subst (λ (b : Base). IsTurn kept t now session (turn (seen kept t now session base w going b) session u).strokes ((turn (seen kept t now session base w going b) session u).next ++ rest)) base
-        (turn_is kept t now session base w going u rest (subst (IsAt now (session - 1)) is (going.each (session - 1))) (subst (AllByRecursion IsNamed) is (named (session - 1))) (subst (AreRecorded kept t) is (recorded (session - 1))))
+        (turn_is kept t now session base w going u rest (subst (IsAt true now (session - 1)) is (going.each (session - 1))) (subst (AllByRecursion IsNamed) is (named (session - 1))) (subst (AreRecorded kept t) is (recorded (session - 1))))
 
     -- another session's turns
     abbrev kept_then : List Kept
@@ -296,7 +297,7 @@ module _ (kept : List Kept) (t : Trail) (now : Now) (session : ℕ) (base : t.ba
     abbrev t_then : Trail
     t_then = after_steps t (made o.strokes)
 
-    others_recorded : (place : ℕ) → place ≢ session - 1 → (turns : List Turn) → IsAt now place turns → AreRecorded kept t turns → AreRecorded kept_then t_then turns
+    others_recorded : (place : ℕ) → place ≢ session - 1 → (turns : List Turn) → IsAt true now place turns → AreRecorded kept t turns → AreRecorded kept_then t_then turns
     others_recorded place off turns (waits all) before = beginnings_recorded kept_then t_then turns all
     others_recorded place off turns (backs_up left b tail e all runs room free) before =
         subst (AreRecorded kept_then t_then) (sym e) (copies_recorded kept_then t_then left (ClosesBackup b ∷ tail)
@@ -337,7 +338,7 @@ module _ (kept : List Kept) (t : Trail) (now : Now) (session : ℕ) (base : t.ba
   one_well = one_cases (StaysWell kept t) session now idle_well taken_well
 
 -- Turns in an order: what was seen is well along all of their steps, and each backup that is under way is recorded.
-pub play_well : (order : List ℕ) (kept : List Kept) (t : Trail) (now : Now) → t.base ≡ base_now now → IsWellTrail kept t → IsGoing now → AreNamed now → AllRecorded kept t now → StaysWell kept t (play order now)
+pub play_well : (order : List ℕ) (kept : List Kept) (t : Trail) (now : Now) → t.base ≡ base_now now → IsWellTrail kept t → IsGoing true now → AreNamed now → AllRecorded kept t now → StaysWell kept t (play order now)
 unfolding play
 play_well [] kept t now base w going named recorded = idle_well kept t now 0 base w going named recorded
 play_well (x ∷ xs) kept t now base w going named recorded =
@@ -355,5 +356,5 @@ play_well (x ∷ xs) kept t now base w going named recorded =
       base = ap (λ (ss : List Step). (after_steps t ss).base) (steps_append es later.0) ∙ ap (λ (v : Trail). v.base) (after_steps_append t (steps_of es) (steps_of later.0)) ∙ rest.base;
     }
 
-pub play_along : (order : List ℕ) (kept : List Kept) (t : Trail) (now : Now) → t.base ≡ base_now now → IsWellTrail kept t → IsGoing now → AreNamed now → AllRecorded kept t now → WellAlong kept t (steps_of (play order now).0)
+pub play_along : (order : List ℕ) (kept : List Kept) (t : Trail) (now : Now) → t.base ≡ base_now now → IsWellTrail kept t → IsGoing true now → AreNamed now → AllRecorded kept t now → WellAlong kept t (steps_of (play order now).0)
 play_along order kept t now base w going named recorded = (play_well order kept t now base w going named recorded).along

@@ -16,21 +16,20 @@ use Rattle.nb_fields.proofs.PartLemmas.{length-with_part}
 use Rattle.nb_fields.proofs.PageLemmas.{length-page_of}
 use Rattle.nb_fields.proofs.FreshLaws.{taken_bits-free, bit_of-inventory}
 use Rattle.nb_model.specs.Image.{Page, Image, page_at, image_size, image_scn}
-use Rattle.nb_model.specs.Forms.{Draft, drafted, old_page, wrote, written, needs, is_kind, inventory_of, scn_page_of, bit_number, entry_number, has_entry, scn_entry, is_free_page, entry_written, entry_raised, raised, put, with_bit, set_bit, take_page, system_kind, system_payload, system_page, is_kept}
+use Rattle.nb_model.specs.Forms.{HasItsEntry, Draft, drafted, old_page, wrote, written, needs, is_kind, inventory_of, scn_page_of, bit_number, entry_number, has_entry, scn_entry, is_free_page, entry_written, entry_raised, raised, put, with_bit, set_bit, take_page, system_kind, system_payload, system_page, is_kept}
 use Rattle.nb_model.specs.Sound.{IsOfSize}
 use Rattle.nb_model.proofs.DraftJoin.{join_set_bit}
 use Rattle.nb_model.proofs.StrokeLaws.{with_page_same, with_page_other}
 use Rattle.nb_model.proofs.SoundLaws.{all_at, all_from, inventory_there, inventory_place_some, scn_page_there, scn_place_some, scn_place_before, with_page_length}
 use Rattle.nb_model.proofs.FitLaws.{form_page, written_image}
-use Rattle.nb_model.proofs.NeedLaws.{HasScnPage}
 use Rattle.nb_model.proofs.NewSound.{places_apart, inventory_before, stamped_kind, plain_place, system_is}
 use Rattle.nb_model.proofs.FreshSound.{inventory_length, scn_length}
 use Rattle.nb_model.proofs.BitLaws.{bit_else, bit_here, with_bit_length, bit_behind, one_bit}
 
--- long enough for a new page, of whole pages
+-- long enough for the first page of the SCN inventory, of whole pages
 pub record IsShaped (x : Image) : Type 0 where
   pub size : IsTrue (is_page_size (image_size x))
-  pub least : 5 ≤ length x
+  pub least : 3 ≤ length x
   pub sizes : IsOfSize (image_size x) x
 
 -- y is x with page p written, of that kind
@@ -193,7 +192,7 @@ raising x p h e = either_raised x p (nat_lt (scn_entry x p) (image_scn x)) (entr
     (record { clear = entry_clear p x; on = entry_on (drafted x) p h e })
     (record { clear = (refl, refl); on = raised_same x p h })
 
-pub raised_on : (x : Image) (p : ℕ) → IsShaped x → HasScnPage x p → Raised x p (raised p (drafted x))
+pub raised_on : (x : Image) (p : ℕ) → IsShaped x → HasItsEntry x p → Raised x p (raised p (drafted x))
 unfolding raised
 raised_on x p h there = by (has_entry x p) refl
   where
@@ -222,7 +221,7 @@ written_clear : (p kind : ℕ) (payload : List ℕ) (e : Draft) → IsClear e �
 unfolding written wrote
 written_clear p kind payload e c = c
 
-pub put_on : (x : Image) (p kind : ℕ) (payload : List ℕ) → IsShaped x → HasScnPage x p → 1 ≤ p → p ≤ length x → 16 + length payload ≤ image_size x → Puts x p kind payload (put p kind payload (drafted x))
+pub put_on : (x : Image) (p kind : ℕ) (payload : List ℕ) → IsShaped x → HasItsEntry x p → 1 ≤ p → p ≤ length x → 16 + length payload ≤ image_size x → Puts x p kind payload (put p kind payload (drafted x))
 unfolding put
 put_on x p kind payload h there behind below room = record {
   clear = written_clear p kind payload d r.clear;
@@ -274,7 +273,7 @@ pub record Takes (x : Image) (p : ℕ) (d : Draft) : Type 0 where
   pub clear : IsClear d
   pub on : IsTakenOn x d.image p
 
-module _ (x : Image) (p : ℕ) (h : IsShaped x) (found : is_kind x 2 (inventory_of x p) ≡ true) (there : HasScnPage x (inventory_of x p)) where
+module _ (x : Image) (p : ℕ) (h : IsShaped x) (found : is_kind x 2 (inventory_of x p) ≡ true) (there : HasItsEntry x (inventory_of x p)) where
   abbrev i : ℕ
   i = inventory_of x p
 
@@ -363,7 +362,7 @@ has_moves : (x y : Image) (q : ℕ) → image_size y ≡ image_size x → has_en
 unfolding has_entry
 has_moves x y q same = ap (λ (s : ℕ). elim (q == 0 || is_scn_place s q) as (λ z. Bool) [ true ↦ false | false ↦ true ]) same
 
-pub scn_page_moves : (x y : Image) (q : ℕ) → image_size y ≡ image_size x → (is_kind x 10 (scn_page_of x q) ≡ true → is_kind y 10 (scn_page_of x q) ≡ true) → HasScnPage x q → HasScnPage y q
+pub scn_page_moves : (x y : Image) (q : ℕ) → image_size y ≡ image_size x → (is_kind x 10 (scn_page_of x q) ≡ true → is_kind y 10 (scn_page_of x q) ≡ true) → HasItsEntry x q → HasItsEntry y q
 scn_page_moves x y q same keeps there has = subst (λ (s : ℕ). is_kind y 10 (scn_place s (q / entries_in s)) ≡ true) (sym same) (keeps (there (sym (has_moves x y q same) ∙ has)))
 
 -- a page that is of a kind stays so
@@ -436,8 +435,8 @@ pub record IsStood (x y : Image) (p kind : ℕ) : Type 0 where
 -- what a new page at p needs is of its kind
 pub record IsReady (x : Image) (p : ℕ) : Type 0 where
   pub map : is_kind x 2 (inventory_of x p) ≡ true
-  pub map_entry : HasScnPage x (inventory_of x p)
-  pub entry : is_kept x p ≡ false → HasScnPage x p
+  pub map_entry : HasItsEntry x (inventory_of x p)
+  pub entry : is_kept x p ≡ false → HasItsEntry x p
 
 module _ (x : Image) (p kind : ℕ) (h : IsShaped x) (five : 5 ≤ p) (ready : IsReady x p) (d : Draft) (clear : IsClear d) (on : IsStood x d.image p kind) where
   abbrev m : Image
@@ -455,8 +454,8 @@ module _ (x : Image) (p kind : ℕ) (h : IsShaped x) (five : 5 ≤ p) (ready : I
   map_there : is_kind m 2 (inventory_of m p) ≡ true
   map_there = ap (is_kind m 2) map_is ∙ moves 2 (inventory_of x p) (λ e. absurd (omega (arith, e, map_before))) ready.map
 
-  entry_there : HasScnPage m (inventory_of m p)
-  entry_there = subst (HasScnPage m) (sym map_is) (scn_page_moves x m (inventory_of x p) on.size (moves 10 (scn_page_of x (inventory_of x p)) (λ e. absurd (let before = map_entry_before x p h.size (omega (arith, five)) in omega (arith, e, before)))) ready.map_entry)
+  entry_there : HasItsEntry m (inventory_of m p)
+  entry_there = subst (HasItsEntry m) (sym map_is) (scn_page_moves x m (inventory_of x p) on.size (moves 10 (scn_page_of x (inventory_of x p)) (λ e. absurd (let before = map_entry_before x p h.size (omega (arith, five)) in omega (arith, e, before)))) ready.map_entry)
 
   taken : Takes m p (take_page p (drafted m))
   taken = take_on m p on.shaped map_there entry_there
@@ -546,7 +545,7 @@ entries_payload x p map = ap (λ (t : Bool). elim t as (λ z. List ℕ) [ true �
 -- A system page, made where none of its kind stands, and taken.
 module _ (x : Image) (p : ℕ) (h : IsShaped x) (five : 5 ≤ p) (below : p ≤ length x) (ready : IsReady x p) (place : is_system_place (image_size x) p ≡ true) where
   -- it is written only where it isn't kept
-  unkept : (kind : ℕ) → system_kind x p ≡ kind → is_kind x kind p ≡ false → HasScnPage x p
+  unkept : (kind : ℕ) → system_kind x p ≡ kind → is_kind x kind p ≡ false → HasItsEntry x p
   unkept kind e none = ready.entry (unkept_is x p kind e none)
 
   of_map : is_inventory_place (image_size x) p ≡ true → Visits x p (system_kind x p) (take_page p (system_page p (drafted x)))

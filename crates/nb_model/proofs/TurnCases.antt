@@ -122,6 +122,7 @@ pub record MayStart (s : Seen) (name : List ℕ) : Type 0 where
   pub may : MayBegin s.base.image
   pub free : is_free_entry (s.entry name) ≡ true
   pub unbroken : broken_at (pages_of History s.base.image) ≡ None
+  pub short : short_for (free_spot (spots History s.base.image)) s.base.image ≡ None
   pub formed : not_of_form (room_in s.base.image).draft ≡ None
   pub left : (room_in s.base.image).draft.full ≡ false
 
@@ -154,6 +155,7 @@ start_facts s name missing none =
         may = record { writable = not_when (is_read_only image) _ a.0; normal = is_not (image_state image) 0 _ b.0; scn = not_more 4294967293 (image_scn image) _ (no_first (no_scn image) _ h.1).0 };
         free = is_so (is_free_entry (s.entry name)) _ c.0;
         unbroken = e.0;
+        short = short.0;
         formed = g.0;
         left = not_when d.full _ h.0;
       },

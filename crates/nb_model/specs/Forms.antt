@@ -2,7 +2,7 @@
 --
 -- Each form goes on from a draft to a draft, and writes by `written` alone. So what one write keeps, every form keeps, and it
 -- holds after each of their strokes: at each moment at which the program may stop.
-use Rattle.std.specs.Prelude.{ℕ, zero, suc, ◌+◌, ◌-◌, ◌*◌, ◌/◌, ◌%◌, ◌^◌, List, [], ◌∷◌, ◌++◌, length, drop, replicate, slice_set, slice_index, Option, Some, None, Bool, true, false, ◌&&◌, ◌||◌, ◌==◌, nat_lt}
+use Rattle.std.specs.Prelude.{◌≡◌, ℕ, zero, suc, ◌+◌, ◌-◌, ◌*◌, ◌/◌, ◌%◌, ◌^◌, List, [], ◌∷◌, ◌++◌, length, drop, replicate, slice_set, slice_index, Option, Some, None, Bool, true, false, ◌&&◌, ◌||◌, ◌==◌, nat_lt}
 use Rattle.std.specs.Int.{bit_at}
 use Rattle.nb_fields.specs.Bytes.{bytes_of, with_part}
 use Rattle.nb_fields.specs.Places.{entries_in, bits_in, inventory_place, scn_place, is_inventory_place, is_scn_place, is_system_place}
@@ -75,6 +75,10 @@ is_free_page image p = bit_of (page_at image (inventory_of image p)) (bit_number
 -- Page 0 and the SCN pages go by their own stamp: their entries aren't used.
 unfoldable pub has_entry : Image → ℕ → Bool
 has_entry image p = elim (p == 0 || is_scn_place (image_size image) p) [ true ↦ false | false ↦ true ]
+
+-- the SCN page that has the entry of page p is there, if it has one
+abbrev pub HasItsEntry : Image → ℕ → Type 0
+HasItsEntry image p = has_entry image p ≡ true → is_kind image 10 (scn_page_of image p) ≡ true
 
 -- the SCN page of page p with the current SCN as that entry
 unfoldable pub entry_written : ℕ → Draft → Draft

@@ -266,9 +266,9 @@ pub fn control_strokes_keep_well()
 /// What turns have seen of their database is well behind each of their steps, whatever backups and copies are under way, with the records of
 /// the backups that have begun by then. The files that they make are those of kept records.
 pub fn turns_keep_well()
-    ensures well { (kept : List Kept) (now : Now) (order : List ℕ) (k : ℕ) → IsGoing now → AreNamed now → ((place : ℕ) → AreBeginnings (slice_index_or now.todo place [])) → IsWellTrail kept (settled (base_now now))
+    ensures well { (kept : List Kept) (now : Now) (order : List ℕ) (k : ℕ) → IsGoing true now → AreNamed now → ((place : ℕ) → AreBeginnings (slice_index_or now.todo place [])) → IsWellTrail kept (settled (base_now now))
         → IsWellTrail (kept ++ records_after (base_now now) (strokes_in (take k (steps_of (play order now).0)))) (after_steps (settled (base_now now)) (take k (steps_of (play order now).0))) }
-    ensures files { (kept : List Kept) (now : Now) (order : List ℕ) (f : MadeFile) → IsGoing now → AreNamed now → ((place : ℕ) → AreBeginnings (slice_index_or now.todo place [])) → IsWellTrail kept (settled (base_now now))
+    ensures files { (kept : List Kept) (now : Now) (order : List ℕ) (f : MadeFile) → IsGoing true now → AreNamed now → ((place : ℕ) → AreBeginnings (slice_index_or now.todo place [])) → IsWellTrail kept (settled (base_now now))
         → Contains (files_made (play order now).0) f → IsOfKept (kept ++ records_after (base_now now) (strokes_of (play order now).0)) f.1 }
 {}
 

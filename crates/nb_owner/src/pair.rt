@@ -177,7 +177,7 @@ impl Pair {
     /// makes the database longer, and where it is page 0 or an SCN inventory page. In the normal state the difference file isn't touched, and
     /// in the stalled state the main file isn't.
     ///
-    /// Where it wants memory it has changed no page. It has made no call then but to write out what waited, so none in the merge state, and none
+    /// It wants memory in the stalled state alone, and has changed no page then. It has made no call then but to write out what waited, so none
     /// where writes are forced.
     pub fn write<H: Host>(
         &mut self,
@@ -210,9 +210,9 @@ impl Pair {
         ensures not_refused { IfErr result IsNoRefusal }
         ensures on_memory { (t : Trail) → IsTrue H.tells → IsOpen (H.world host.old) self.old t → result ≡ Err Fault.Memory
             → Strikes (H.world host.old) (H.world host.new) self.old.files.name t [] × IsOpen (H.world host.new) self.new t }
-        ensures stays { self.old.files.state ≡ 2 → result ≡ Err Fault.Memory → (self.new ≡ self.old) × (host.new ≡ host.old) }
         ensures forced { (t : Trail) → IsTrue H.tells → IsOpen (H.world host.old) self.old t → is_forced t.base.image ≡ true → result ≡ Err Fault.Memory → (self.new ≡ self.old) × (host.new ≡ host.old) }
         ensures idle { NoneWaits self.old.pages → self.old.files.drafted ≡ 0 → result ≡ Err Fault.Memory → (self.new ≡ self.old) × (host.new ≡ host.old) }
+        ensures takes_none { self.old.files.state ≢ 1 → IfErr result (λ fault. fault ≢ Fault.Memory) }
     {
         if self.may_wait(number, forced) {
             self.hold(host, number, page)?;
@@ -254,6 +254,7 @@ impl Pair {
         ensures cause { CountsDevice result (H.faults host.old) (H.faults host.new) }
         ensures not_refused { IfErr result IsNoRefusal }
         ensures on_memory { result ≡ Err Fault.Memory → (self.new ≡ self.old) × (host.new ≡ host.old) }
+        ensures takes_none { self.old.files.state ≢ 1 → IfErr result (λ fault. fault ≢ Fault.Memory) }
     {
         self.files.write(host, number, page, forced)?;
         self.cache.keep(number, page);

@@ -1,7 +1,7 @@
 -- The turns of a backup.
 use Rattle.std.proofs.Common.{◌≡◌, ◌⊎◌, inl, inr, ⊎_elim, ℕ, zero, suc, ◌-◌, ◌<◌, List, [], ◌∷◌, ◌++◌, length, replicate, refl, sym, ap, subst, ◌∙◌, arith}
-use Rattle.std.specs.Prelude.{Result, Ok, Err, IfErr, Some, None, true, false, Contains}
-use Rattle.std.specs.List.{slice_index_or}
+use Rattle.std.specs.Prelude.{Bool, Result, Ok, Err, IfErr, Some, None, true, false, Contains}
+use Rattle.std.specs.List.{AllByRecursion, slice_index_or}
 use Rattle.std.proofs.lemmas.List.{append-nil}
 use Rattle.nb_fields.specs.Free.{is_free_file}
 use Rattle.nb_host.specs.Files.{Files}
@@ -22,7 +22,8 @@ use Rattle.nb_model.specs.Account.{Base}
 use Rattle.nb_model.specs.Backups.{Room, room_in, close_backup}
 use Rattle.nb_model.specs.Causes.{is_free_entry}
 use Rattle.nb_model.specs.Gifts.{Foretells, WasGiven}
-use Rattle.nb_model.specs.Going.{IsAt, IsGoing}
+use Rattle.nb_model.specs.Forms.{HasItsEntry}
+use Rattle.nb_model.specs.Going.{IsAt, IsGoing, goes_by_entries}
 use Rattle.nb_model.specs.Image.{Image, image_scn}
 use Rattle.nb_model.specs.Levels.{file_of, count_in}
 use Rattle.nb_model.specs.Making.{MadeFile, kept_of, making}
@@ -150,7 +151,7 @@ pub no_delta : (held : Held) (name : List ℕ) → is_delta name ≡ false → n
 no_delta held name plain same = no_main (name_of held) name plain (sym same)
 
 -- in the normal state the account knows of each name whether it is free
-pub knows_free : (w : World) (held : Held) (t : Trail) (now : Now) (name : List ℕ) → IsReady w held t now → IsGoing now → is_delta name ≡ false → KnowsFree 0 w.files (seen_now now) name
+pub knows_free : {sound : Bool} (w : World) (held : Held) (t : Trail) (now : Now) (name : List ℕ) → IsReady w held t now → IsGoing sound now → is_delta name ≡ false → KnowsFree 0 w.files (seen_now now) name
 knows_free w held t now name ready going plain normal = ready.known name plain (none_runs now going (λ place number some runs. omega (arith, some, sym normal ∙ runs.state)) name)
 
 -- The start of a backup, by its turn.
@@ -480,22 +481,27 @@ module _ (old new : World) (a b : Held) (t : Trail) (now : Now) (session : ℕ) 
           goes = goes.running ∙ runs;
         }
 
+-- Where a level of 1 to 9 begins the inventories are sound.
+pub level_sound : {sound : Bool} (session : ℕ) (now : Now) → IsGoing sound now → (u : Turn) (rest : List Turn) → slice_index_or now.todo (session - 1) [] ≡ u ∷ rest → goes_by_entries u ≡ true → IsSoundImage (base_now now).image
+level_sound {sound = sound} session now going u rest here goes =
+    going.sure ((subst (AllByRecursion (λ (turn : Turn). goes_by_entries turn ≡ true → sound ≡ true)) here (going.levels (session - 1))).0 goes)
+
 -- What a further turn may rely on.
 pub record MayGoOn (held : Held) (t : Trail) (copier : Backed) : Type 0 where
   pub stalled : held.files.state ≡ 1
-  pub sound : IsSoundImage t.base.image
+  pub entry : HasItsEntry t.base.image copier.backing.page
   pub below : copier.backing.page < length t.base.image
   pub apart : OfFiles (name_of held) copier.backing.name → ⊥
 
-pub may_go_on : (w : World) (held : Held) (t : Trail) (now : Now) (session : ℕ) (copier : Backed) (more : List Turn) → IsReady w held t now → IsGoing now
+pub may_go_on : {sound : Bool} (w : World) (held : Held) (t : Trail) (now : Now) (session : ℕ) (copier : Backed) (more : List Turn) → IsReady w held t now → IsGoing sound now
     → slice_index_or now.todo (session - 1) [] ≡ copy_first (file_count copier.file - file_next copier.file) (ClosesBackup copier.backing) ∷ (copy_rest (file_count copier.file - file_next copier.file) (ClosesBackup copier.backing) ++ more)
     → IsApart held copier.backing.name → MayGoOn held t copier
-may_go_on w held t now session copier more ready going here apart =
+may_go_on {sound = sound} w held t now session copier more ready going here apart =
     let backs : BacksUp now (session - 1) copier.backing =
-    backing_at now (session - 1) (file_count copier.file - file_next copier.file) copier.backing more (subst (IsAt now (session - 1)) here (going.each (session - 1))) in
+    backing_at now (session - 1) (file_count copier.file - file_next copier.file) copier.backing more (subst (IsAt sound now (session - 1)) here (going.each (session - 1))) in
     record {
       stalled = stalled_now w held t now (session - 1) ready backs.runs;
-      sound = subst (λ (x : Base). IsSoundImage x.image) (sym ready.base) going.sound;
-      below = subst (λ (x : Base). copier.backing.page < length x.image) (sym ready.base) backs.room.below;
+      entry = subst (λ (x : Base). HasItsEntry x.image copier.backing.page) (sym ready.base) backs.entry;
+      below = subst (λ (x : Base). copier.backing.page < length x.image) (sym ready.base) backs.below;
       apart = apart_files held copier.backing.name apart;
     }

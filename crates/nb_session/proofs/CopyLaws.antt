@@ -1,6 +1,6 @@
 -- The turns of a copy of the frozen file.
 use Rattle.std.proofs.Common.{◌≡◌, inr, ℕ, zero, suc, ◌-◌, ◌≤◌, List, [], ◌∷◌, ◌++◌, length, replicate, refl, sym, ap, subst, ◌∙◌, arith, true≢false}
-use Rattle.std.specs.Prelude.{Result, Ok, Err, Option, Some, None, Contains, true, false}
+use Rattle.std.specs.Prelude.{Bool, Result, Ok, Err, Option, Some, None, Contains, true, false}
 use Rattle.std.specs.List.{slice_index_or}
 use Rattle.std.proofs.lemmas.List.{append-nil}
 use Rattle.nb_host.specs.Files.{Files}
@@ -132,7 +132,7 @@ unfolding first_turn
 begin_is session name now = sym (outcome_is session (CopyTo name) now)
 
 -- where nobody runs the account knows of each name whether it is free
-pub knows_unused : (w : World) (held : Held) (t : Trail) (now : Now) (name : List ℕ) → IsReady w held t now → IsGoing now → is_delta name ≡ false → KnowsUnused w.files (seen_now now) name
+pub knows_unused : {sound : Bool} (w : World) (held : Held) (t : Trail) (now : Now) (name : List ℕ) → IsReady w held t now → IsGoing sound now → is_delta name ≡ false → KnowsUnused w.files (seen_now now) name
 knows_unused w held t now name ready going plain nobody = ready.known name plain (none_runs now going (λ place number some runs. none_some runs.by (sym nobody ∙ runs.running)) name)
   where
     none_some : (by : ℕ) → None ≡ Some by → ⊥
@@ -368,7 +368,7 @@ module _ (old mid : World) (a b : Held) (t : Trail) (now : Now) (session : ℕ) 
   end_behind w (suc left) none = absurd (omega (arith, none))
 
 -- the session whose copy it is has it to do in the stalled state
-pub copying_stalled : (w : World) (held : Held) (t : Trail) (now : Now) (session : ℕ) (left : ℕ) (name : List ℕ) (more : List Turn) → IsReady w held t now → IsGoing now
+pub copying_stalled : {sound : Bool} (w : World) (held : Held) (t : Trail) (now : Now) (session : ℕ) (left : ℕ) (name : List ℕ) (more : List Turn) → IsReady w held t now → IsGoing sound now
     → slice_index_or now.todo (session - 1) [] ≡ copy_first left (ClosesCopy name) ∷ (copy_rest left (ClosesCopy name) ++ more) → held.files.state ≡ 1
-copying_stalled w held t now session left name more ready going here =
-    stalled_now w held t now (session - 1) ready (copying_at now (session - 1) left name more (subst (IsAt now (session - 1)) here (going.each (session - 1)))).0
+copying_stalled {sound = sound} w held t now session left name more ready going here =
+    stalled_now w held t now (session - 1) ready (copying_at now (session - 1) left name more (subst (IsAt sound now (session - 1)) here (going.each (session - 1)))).0

@@ -1,5 +1,5 @@
 -- The turns of a script come to an end.
-use Rattle.std.proofs.Common.{◌≡◌, ℕ, zero, suc, ◌+◌, ◌≤◌, List, ◌++◌, map, length, sym, ap, subst, ◌∙◌, arith, append_assoc}
+use Rattle.std.proofs.Common.{Bool, ◌≡◌, ℕ, zero, suc, ◌+◌, ◌≤◌, List, ◌++◌, map, length, sym, ap, subst, ◌∙◌, arith, append_assoc}
 use Rattle.std.proofs.lemmas.List.{length-map}
 use Rattle.nb_model.specs.Going.{IsGoing}
 use Rattle.nb_model.specs.Outcomes.{Begins}
@@ -26,7 +26,7 @@ pub record HasEnd (schedule : List ℕ) (now : Now) (front : ℕ) : Type 0 where
   pub is : schedule ++ rounds how_often ≡ (schedule ++ rounds front) ++ more
   pub finished : AreFinished (play (schedule ++ rounds how_often) now).1.todo
 
-pub turns_end : (plan : Plan) → IsAskable plan → (now : Now) → IsGoing now → now.todo ≡ begun plan.sessions → (front : ℕ) → HasEnd plan.schedule now front
+pub turns_end : {sound : Bool} (plan : Plan) → IsAskable plan → (now : Now) → IsGoing sound now → now.todo ≡ begun plan.sessions → (front : ℕ) → HasEnd plan.schedule now front
 turns_end plan askable now going todo front =
     let end = order_ends (plan.schedule ++ rounds front) now (begun_length plan askable now todo) in
     let same : plan.schedule ++ rounds (front + end.0) ≡ (plan.schedule ++ rounds front) ++ rounds end.0 =

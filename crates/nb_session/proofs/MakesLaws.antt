@@ -1,6 +1,6 @@
 -- Which turns make a file of which name.
 use Rattle.std.proofs.Common.{◌≡◌, ◌≢◌, inl, inr, ℕ, zero, suc, ◌-◌, ◌<◌, ◌≤◌, List, [], ◌∷◌, ◌++◌, length, get_or, set, refl, sym, ap, subst, arith, get_or-set_same}
-use Rattle.std.specs.Prelude.{Contains}
+use Rattle.std.specs.Prelude.{Bool, Contains}
 use Rattle.std.specs.List.{AllByRecursion, slice_index_or}
 use Rattle.std.proofs.lemmas.List.Elements.{Contains-append_left, Contains-append_right, Contains-append_cases}
 use Rattle.nb_model.specs.Backups.{close_backup, close_copy}
@@ -154,10 +154,10 @@ begin_none (Merges ∷ ts) name all = absurd all.0
 begin_none (Finishes reply ∷ ts) name all = absurd all.0
 
 -- where no copy and no merge is under way, no file is in the making
-pub none_runs : (now : Now) → IsGoing now → ((place number : ℕ) → 1 ≤ number → Runs now place number → ⊥) → (name : List ℕ) → IsNoneOf (under_way now) name
-none_runs now going none name = make_none_all (base_now now).frozen now.todo name (all_places (MakeNo name) now.todo (λ place. at place (slice_index_or now.todo place []) (going.each place)))
+pub none_runs : {sound : Bool} (now : Now) → IsGoing sound now → ((place number : ℕ) → 1 ≤ number → Runs now place number → ⊥) → (name : List ℕ) → IsNoneOf (under_way now) name
+none_runs {sound = sound} now going none name = make_none_all (base_now now).frozen now.todo name (all_places (MakeNo name) now.todo (λ place. at place (slice_index_or now.todo place []) (going.each place)))
   where
-    at : (place : ℕ) (ts : List Turn) → IsAt now place ts → MakeNo name ts
+    at : (place : ℕ) (ts : List Turn) → IsAt sound now place ts → MakeNo name ts
     at place ts (waits all) = begin_none ts name all
     at place ts (backs_up left b rest is all runs room free) = absurd (none place 1 (omega arith) runs)
     at place ts (copies left n rest is all runs free) = absurd (none place 1 (omega arith) runs)

@@ -9,7 +9,6 @@ use Rattle.nb_host.specs.declared.faults.Fault.{Fault}
 use Rattle.nb_host.specs.declared.faults.Fault.TheVariants.{Refused, Device, Memory}
 use Rattle.nb_host.specs.declared.refusals.Refusal.{Refusal}
 use Rattle.nb_host.specs.declared.refusals.Refusal.TheVariants.{WrongState, BackupRunning}
-use Rattle.nb_page.specs.Quiet.{Quiet}
 use Rattle.nb_model.specs.declared.reply.Reply.{Reply}
 use Rattle.nb_model.specs.declared.reply.Reply.TheVariants.{Refused as RefusedBy, Scn}
 use Rattle.nb_model.specs.declared.statement.Statement.TheVariants.{EndBackup}
@@ -240,12 +239,12 @@ module _ (old new : World) (a b : Held) (t : Trail) (now : Now) (session : ℕ) 
     }
 
 -- The stalled state ends behind a backup whose session runs: it isn't refused.
-pub ends_quiet : (w : World) (held : Held) (t : Trail) (now : Now) (session : ℕ) → IsReady w held t now → IsGoing now → (reply : Reply) (more : List Turn) → slice_index_or now.todo (session - 1) [] ≡ Ends reply ∷ more
+pub ends_quiet : {sound : Bool} (w : World) (held : Held) (t : Trail) (now : Now) (session : ℕ) → IsReady w held t now → IsGoing sound now → (reply : Reply) (more : List Turn) → slice_index_or now.todo (session - 1) [] ≡ Ends reply ∷ more
     → held.running ≡ Some session → (end_turn (seen_now now) session).reply ≡ None
-ends_quiet w held t now session ready going reply more here runs =
-    end_quiet (seen_now now) session (ending_at now (session - 1) reply more (subst (IsAt now (session - 1)) here (going.each (session - 1)))).state (sym ready.running ∙ runs)
+ends_quiet {sound = sound} w held t now session ready going reply more here runs =
+    end_quiet (seen_now now) session (ending_at now (session - 1) reply more (subst (IsAt sound now (session - 1)) here (going.each (session - 1)))).state (sym ready.running ∙ runs)
 
-pub ends_unrefused : (old new : World) (a b : Held) (t : Trail) (now : Now) (session : ℕ) → IsReady old a t now → IsGoing now → (reply : Reply) (more : List Turn) → slice_index_or now.todo (session - 1) [] ≡ Ends reply ∷ more
+pub ends_unrefused : {sound : Bool} (old new : World) (a b : Held) (t : Trail) (now : Now) (session : ℕ) → IsReady old a t now → IsGoing sound now → (reply : Reply) (more : List Turn) → slice_index_or now.todo (session - 1) [] ≡ Ends reply ∷ more
     → a.running ≡ Some session → (refusal : Refusal) → DoesEnd (Err (Refused refusal)) old new a b t (end_scn t.base.image) (end_turn (seen_now now) session) → ⊥
 ends_unrefused old new a b t now session ready going reply more here runs refusal does = some_none refusal (sym does.says ∙ ends_quiet old a t now session ready going reply more here runs)
 

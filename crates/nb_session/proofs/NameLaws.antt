@@ -79,7 +79,7 @@ module _ (P : List ℕ → Type 0) where
     next_names Merges named = tt
     next_names (Finishes reply) named = tt
 
-  one_names : (session : ℕ) (now : Now) → IsGoing now → HaveNames P now → HaveNames P (one_turn session now).1
+  one_names : {sound : Bool} (session : ℕ) (now : Now) → IsGoing sound now → HaveNames P now → HaveNames P (one_turn session now).1
   unfolding outcome
   one_names session now going named = one_cases (λ p. HaveNames P p.1) session now named (λ u rest is place.
       let o : Outcome = outcome session u now in
@@ -104,7 +104,7 @@ module _ (P : List ℕ → Type 0) where
   making_names frozen (Finishes reply ∷ ts) all f there = making_names frozen ts all.1 f there
 
   -- so P holds of the names of all files that turns make
-  pub made_named : (order : List ℕ) (now : Now) → AreNamed now → IsGoing now → HaveNames P now → (f : MadeFile) → Contains (files_made (play order now).0) f → P f.0
+  pub made_named : {sound : Bool} (order : List ℕ) (now : Now) → AreNamed now → IsGoing sound now → HaveNames P now → (f : MadeFile) → Contains (files_made (play order now).0) f → P f.0
   unfolding play files_made
   made_named [] now are going named f there = absurd (omega (arith, there.1))
   made_named (x ∷ xs) now are going named f there =

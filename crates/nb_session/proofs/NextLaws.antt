@@ -1,6 +1,6 @@
 -- What stands behind one number more of an order, and what is made then.
 use Rattle.std.proofs.Common.{◌≡◌, ◌≢◌, ℕ, ◌-◌, List, [], ◌∷◌, ◌++◌, length, drop, get_or, refl, sym, ap, subst, ◌∙◌, get_or-set_other, length-set}
-use Rattle.std.specs.Prelude.{Contains}
+use Rattle.std.specs.Prelude.{Bool, Contains}
 use Rattle.std.specs.List.{slice_index_or}
 use Rattle.std.proofs.lemmas.Bool.{true≢false}
 use Rattle.std.proofs.lemmas.List.{append-nil}
@@ -56,7 +56,7 @@ play_more front session now =
 abbrev pub giving : Now → Given → Now
 giving now given = record now { given = given }
 
-at_giving : (now : Now) (given : Given) (place : ℕ) (todo : List Turn) → IsAt now place todo → IsAt (giving now given) place todo
+at_giving : {sound : Bool} (now : Now) (given : Given) (place : ℕ) (todo : List Turn) → IsAt sound now place todo → IsAt sound (giving now given) place todo
 at_giving now given place todo (waits all) = waits all
 at_giving now given place todo (backs_up left b rest is all runs room free) = backs_up left b rest is all (record { by = runs.by; running = runs.running; its = runs.its; state = runs.state }) room free
 at_giving now given place todo (copies left name rest is all runs free) = copies left name rest is all (record { by = runs.by; running = runs.running; its = runs.its; state = runs.state }) free
@@ -65,12 +65,14 @@ at_giving now given place todo (merges turns runs) = merges turns (record { by =
 
 pub making_giving : (now : Now) (given : Given) → AreSixteen given.guids → IsMaking now → IsMaking (giving now given)
 making_giving now given sixteen making = record {
+  sound = making.sound;
   going = record {
     header = making.going.header;
-    sound = making.going.sound;
+    sure = making.going.sure;
     state = making.going.state;
     frozen = making.going.frozen;
     each = λ place. at_giving now given place (slice_index_or now.todo place []) (making.going.each place);
+    levels = making.going.levels;
     sixteen = sixteen;
   };
   named = making.named;

@@ -1,7 +1,6 @@
 -- The turns of a script's sessions leave the database open whatever stands in it, and other files alone.
 use Rattle.std.proofs.Common.{◌≡◌, inl, inr, ℕ, zero, suc, ◌-◌, List, [], ◌∷◌, get_or, map, refl, sym, ap, subst, ◌∙◌}
 use Rattle.std.specs.Prelude.{Bool, true, false, ◌||◌, IsTrue, Result, Ok, Err, Some}
-use Rattle.std.specs.List.{AllByRecursion, list_any}
 use Rattle.std.proofs.lemmas.Bool.{or_cases, true≢false}
 use Rattle.nb_host.specs.World.{World}
 use Rattle.nb_host.specs.Moments.{IsTimely}
@@ -22,35 +21,13 @@ use Rattle.nb_session.specs.Askers.{Asker, any_refused, fresh_asker, first_asker
 use Rattle.nb_session.specs.MadeNames.{AnyAsks, AnySessionAsks, MayMake, ScriptMakes}
 use Rattle.nb_session.specs.Others.{LeavesOthers, SaysRefusal}
 use Rattle.nb_session.specs.Steps.{Steps}
-use Rattle.nb_session.specs.StillOpen.{AskerStays, AskerTurnStays, IsAllowed, IsStillOpen, ScriptStays, merges, script_merges}
+use Rattle.nb_session.specs.StillOpen.{AskerTurnStays, IsStillOpen, ScriptStays, TaskStays}
 use Rattle.nb_session.specs.declared.stop.Stop.{Stop}
 use Rattle.nb_session.specs.declared.told.Told.{Told}
-use Rattle.nb_session.proofs.AskerStays.{asker_kept}
+use Rattle.nb_session.proofs.AskerStays.{task_kept}
 use Rattle.nb_session.proofs.OthersLaws.{leaves_among, leaves_changes, leaves_quiet, leaves_then, refusal_then, then_refusal}
 use Rattle.nb_session.proofs.SceneLaws.{sessions_kind, any_set}
 use Rattle.nb_session.proofs.WholeLaws.{first_agent}
-
-or_first : (a b : Bool) → a ≡ true → (a || b) ≡ true
-or_first true b is = refl
-or_first false b is = absurd (true≢false (sym is))
-
-or_second : (a b : Bool) → b ≡ true → (a || b) ≡ true
-or_second true b is = refl
-or_second false b is = is
-
--- a merge may come wherever a statement of the script ends in one
-allowed_all : (may_merge : Bool) (statements : List Statement) → (list_any merges statements ≡ true → may_merge ≡ true) → AllByRecursion (IsAllowed may_merge) statements
-allowed_all may_merge [] may = tt
-allowed_all may_merge (x ∷ xs) may = (λ is. may (or_first (merges x) (list_any merges xs) is), allowed_all may_merge xs (λ is. may (or_second (merges x) (list_any merges xs) is)))
-
-abbrev one_merges : List Statement → Bool
-one_merges statements = list_any merges statements
-
-allowed_session : (may_merge : Bool) (sessions : List (List Statement)) (i : ℕ) → (list_any one_merges sessions ≡ true → may_merge ≡ true) → AllByRecursion (IsAllowed may_merge) (get_or sessions i [])
-allowed_session may_merge [] zero may = tt
-allowed_session may_merge [] (suc i) may = tt
-allowed_session may_merge (ss ∷ sessions) zero may = allowed_all may_merge ss (λ is. may (or_first (one_merges ss) (list_any one_merges sessions) is))
-allowed_session may_merge (ss ∷ sessions) (suc i) may = allowed_session may_merge sessions i (λ is. may (or_second (one_merges ss) (list_any one_merges sessions) is))
 
 -- what a session asks for a session of the script does
 session_asks : (sessions : List (List Statement)) (i : ℕ) (m : List ℕ) → AnyAsks (get_or sessions i []) m → AnySessionAsks sessions m
@@ -65,9 +42,6 @@ none_refused told plan [] = refl
 none_refused told plan (n ∷ numbers) = none_refused told plan numbers
 
 module _ {H : Type 0} (tells : Bool) (told : IsTrue tells) (world : H → World) (faults : H → ℕ) (old : H) (before : Held) (plan : Plan) where
-  abbrev may_merge : Bool
-  may_merge = script_merges plan
-
   -- the two files of the database, and those that the sessions may make
   abbrev names : List ℕ → Type 0
   names = OfFilesOr (name_of before) (ScriptMakes plan)
@@ -76,8 +50,8 @@ module _ {H : Type 0} (tells : Bool) (told : IsTrue tells) (world : H → World)
   record StaysAt (s : Scene Asker H Held) : Type 0 where
     leaves : LeavesOthers (world old) (world s.host) names
     name : name_of s.shared ≡ name_of before
-    opened : IsStillOpen may_merge (world s.host) s.shared
-    goes : (session : ℕ) (asker : Asker) → agent_of s.agents session ≡ Some asker → AskerStays may_merge s.shared asker
+    opened : IsStillOpen (world s.host) s.shared
+    goes : (session : ℕ) (asker : Asker) → agent_of s.agents session ≡ Some asker → TaskStays s.shared asker.task
     makes : (session : ℕ) (asker : Asker) → agent_of s.agents session ≡ Some asker → (m : List ℕ) → MayMake asker m → ScriptMakes plan m
     says : any_refused s.agents ≡ true → SaysRefusal (world old) (world s.host)
 
@@ -87,8 +61,8 @@ module _ {H : Type 0} (tells : Bool) (told : IsTrue tells) (world : H → World)
   -- a turn touches what may be touched
   module _ (s s' : Scene Asker H Held) (here : StaysAt s) (asker moved : Asker) (session : ℕ) (there : agent_of s.agents session ≡ Some asker) (answer : Result (Unit {0}) Fault)
       (made : Steps tells answer (world s.host) (world s'.host) (faults s.host) (faults s'.host) s.shared s'.shared asker moved) where
-    turn : AskerTurnStays may_merge made.refused answer (world s.host) (world s'.host) s.shared s'.shared asker moved
-    turn = made.stays_open may_merge told here.opened (here.goes session asker there)
+    turn : AskerTurnStays made.refused answer (world s.host) (world s'.host) s.shared s'.shared asker moved
+    turn = made.stays_open told here.opened (here.goes session asker there)
 
     among : (m : List ℕ) → OfFilesOr (name_of s.shared) (MayMake asker) m → names m
     among m (inl own) = inl (subst (λ (n : List ℕ). OfFiles n m) here.name own)
@@ -102,7 +76,7 @@ module _ {H : Type 0} (tells : Bool) (told : IsTrue tells) (world : H → World)
 
   moves_stay : (session : ℕ) (s s' : Scene Asker H Held) → StaysAt s → Moves (sessions_kind tells world faults) session s (Ok tt) s' → StaysAt s'
   moves_stay session s s' here move =
-      let took : AskerTurnStays may_merge move.made.refused (Ok tt) (world s.host) (world s'.host) s.shared s'.shared move.agent move.moved = turn s s' here move.agent move.moved session move.there (Ok tt) move.made in
+      let took : AskerTurnStays move.made.refused (Ok tt) (world s.host) (world s'.host) s.shared s'.shared move.agent move.moved = turn s s' here move.agent move.moved session move.there (Ok tt) move.made in
       let at = agent_there s.agents session move.agent move.there in
       let refused : any_refused s'.agents ≡ any_refused s.agents || move.made.refused = ap any_refused move.agents ∙ any_set s.agents (session - 1) move.agent move.moved move.made.refused at.1 move.made.noted in
       let each = λ (n : ℕ) (a : Asker) (there : agent_of s'.agents n ≡ Some a). agent_of_set s.agents session n move.moved a at.0 (subst (λ (list : List Asker). agent_of list n ≡ Some a) move.agents there) in
@@ -111,8 +85,8 @@ module _ {H : Type 0} (tells : Bool) (told : IsTrue tells) (world : H → World)
         name = took.name ∙ here.name;
         opened = took.opened;
         goes = λ n a there. elim (each n a there) [
-          | inl this ↦ subst (λ (x : Asker). AskerStays may_merge s'.shared x) (sym this.1) took.goes
-          | inr other ↦ asker_kept may_merge s.shared s'.shared a took.name (here.goes n a other.1)
+          | inl this ↦ subst (λ (x : Asker). TaskStays s'.shared x.task) (sym this.1) took.goes
+          | inr other ↦ task_kept s.shared s'.shared a.task took.name (here.goes n a other.1)
         ];
         makes = λ n a there m makes. elim (each n a there) [
           | inl this ↦ here.makes session move.agent move.there m (took.makes m (subst (λ (x : Asker). MayMake x m) this.1 makes))
@@ -125,13 +99,13 @@ module _ {H : Type 0} (tells : Bool) (told : IsTrue tells) (world : H → World)
       }
 
   -- before the first turn
-  module _ (how : Told) (timely : IsTimely (world old)) (still : IsStillOpen (script_merges plan) (world old) before) where
+  module _ (how : Told) (timely : IsTimely (world old)) (still : IsStillOpen (world old) before) where
     begun_stays : StaysAt (scene (first_askers how plan) old before)
     begun_stays = record {
       leaves = leaves_quiet (world old) (world old) names (quiet_begun (world old) timely);
       name = refl;
       opened = still;
-      goes = λ session asker there. subst (λ (x : Asker). AskerStays may_merge before x) (sym (first_agent how plan session asker there)) (record { task = tt; statements = allowed_session may_merge plan.sessions (session - 1) (λ is. is) });
+      goes = λ session asker there. subst (λ (x : Asker). TaskStays before x.task) (sym (first_agent how plan session asker there)) tt;
       makes = λ session asker there m makes. by session m (subst (λ (x : Asker). MayMake x m) (first_agent how plan session asker there) makes);
       says = λ yes. absurd (true≢false (sym yes ∙ none_refused how plan all_sessions));
     }
@@ -175,7 +149,7 @@ module _ (old mid new : World) (a b c : Held) (plan : Plan) (refused : Bool) (fi
   script_out opened = record {
     leaves = all_leave;
     name = ap (λ (h : Held). name_of h) same ∙ first.name;
-    opened = record { trail = first.opened.trail; opened = opened; no_zeros = first.opened.no_zeros };
+    opened = record { trail = first.opened.trail; opened = opened };
     says = λ yes. refusal_then old mid new (first.says yes) out_leaves.added;
   }
 

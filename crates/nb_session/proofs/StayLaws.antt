@@ -26,8 +26,7 @@ use Rattle.nb_base.specs.Open.{OfFiles}
 use Rattle.nb_base.specs.Takes.{Strikes}
 use Rattle.nb_state.specs.Open.{Held, IsOpen, but_pages, name_of}
 use Rattle.nb_state.specs.Does.{WhereEnded}
-use Rattle.nb_state.proofs.MakesLaws.{open_running, still_open, where_ended}
-use Rattle.nb_state.proofs.WholeLaws.{whole_same}
+use Rattle.nb_state.proofs.MakesLaws.{open_running, still_open}
 use Rattle.nb_engine.specs.Stays.{CanBeOpened, OfFilesOr, StaysOpen}
 use Rattle.nb_engine.proofs.StaysLaws.{stays_struck}
 use Rattle.nb_session.specs.Askers.{IsBackup, file_asked}
@@ -35,7 +34,7 @@ use Rattle.nb_session.specs.MadeNames.{Asks, TaskMakes}
 use Rattle.nb_session.specs.Others.{LeavesOthers, SaysRefusal}
 use Rattle.nb_session.specs.Replies.{HasEnded, is_refusal}
 use Rattle.nb_session.specs.Says.{SaysLine}
-use Rattle.nb_session.specs.StillOpen.{IsAside, IsStillOpen, TaskStays, TurnStays, merges}
+use Rattle.nb_session.specs.StillOpen.{IsAside, IsStillOpen, TaskStays, TurnStays}
 use Rattle.nb_session.specs.Told.{told_line, told_reply}
 use Rattle.nb_session.specs.declared.task.Taken.{Taken}
 use Rattle.nb_session.specs.declared.task.Task.{Task}
@@ -65,7 +64,7 @@ seen_of t running = record { base = t.base; cache = 0; running = running; entry 
 
 -- a call that makes no stroke
 pub stays_out : {T : Type 0} (result : Result T Fault) (old new : World) (a b : Held) (t : Trail) (others : Names) → but_pages b ≡ but_pages a → Strikes old new (name_of a) t [] → WhereEnded result (IsOpen new b t) → StaysOpen result old new a b t others
-stays_out result old new a b t others same struck opened = stays_struck result old new a b t others t [] struck opened (where_ended result _ (whole_same t.base.image)) (ap (λ (h : Held). name_of h) same)
+stays_out result old new a b t others same struck opened = stays_struck result old new a b t others t [] struck opened (ap (λ (h : Held). name_of h) same)
 
 -- The names of files that are made.
 aside : (w : World) (held : Held) (t : Trail) (name : List ℕ) → IsOpen w held t → is_free_name w.files name ≡ true → is_delta name ≡ false → IsAside held name
@@ -91,17 +90,16 @@ refusal_told how session (RefusedBy refusal) old new is said = refusal_said old 
 refusal_told how session other old new is said = absurd (true≢false (sym is))
 
 -- A call was made on an open database.
-module _ (may_merge : Bool) (old mid : World) (a b : Held) (names : Names) (still : IsStillOpen may_merge old a) {T : Type 0} (result : Result T Fault) (stays : StaysOpen result old mid a b still.trail names) where
+module _ (old mid : World) (a b : Held) (names : Names) (still : IsStillOpen old a) {T : Type 0} (result : Result T Fault) (stays : StaysOpen result old mid a b still.trail names) where
   leaves : LeavesOthers old mid (OfFilesOr (name_of a) names)
   leaves = leaves_changes old mid (OfFilesOr (name_of a) names) (CanBeOpened (name_of a)) stays.touched
 
-  still_behind : HasEnded result → (new : World) → IsStill mid new → (c : Held) → c ≡ record b { running = c.running } → IsStillOpen may_merge new c
+  still_behind : HasEnded result → (new : World) → IsStill mid new → (c : Held) → c ≡ record b { running = c.running } → IsStillOpen new c
   still_behind ended new same c but =
       let here = ended_has result _ ended stays.opened in
       record {
         trail = here.0;
         opened = subst (λ (h : Held). IsOpen new h here.0) (sym but) (open_running new b here.0 c.running (still_open mid new b here.0 same here.1));
-        no_zeros = λ may. here.2.no_zeros (still.no_zeros may);
       }
 
   named : (c : Held) → c ≡ record b { running = c.running } → name_of c ≡ name_of a
@@ -109,19 +107,19 @@ module _ (may_merge : Bool) (old mid : World) (a b : Held) (names : Names) (stil
 
   module _ {S : Type 0} (refused : S → Bool) (task : S → Option Task) where
     -- it failed before anything was to be said
-    pub turn_failed : (answer : Result S Fault) → IsErr answer → TurnStays may_merge refused task answer old mid a b names
+    pub turn_failed : (answer : Result S Fault) → IsErr answer → TurnStays refused task answer old mid a b names
     turn_failed answer failed = record {
       leaves = leaves;
       name = stays.name;
-      opened = no_value answer (λ value. IsStillOpen may_merge mid b) failed;
+      opened = no_value answer (λ value. IsStillOpen mid b) failed;
       goes = no_value answer _ failed;
       makes = no_value answer _ failed;
       says = no_value answer _ failed;
     }
 
     -- nothing is to be said
-    pub turn_unheard : (value : S) (c : Held) → HasEnded result → c ≡ record b { running = c.running } → TaskStays may_merge c (task value) → ((m : List ℕ) → TaskMakes (task value) m → names m) → refused value ≡ false
-        → TurnStays may_merge refused task (Ok value) old mid a c names
+    pub turn_unheard : (value : S) (c : Held) → HasEnded result → c ≡ record b { running = c.running } → TaskStays c (task value) → ((m : List ℕ) → TaskMakes (task value) m → names m) → refused value ≡ false
+        → TurnStays refused task (Ok value) old mid a c names
     turn_unheard value c ended but goes makes none = record {
       leaves = leaves;
       name = named c but;
@@ -136,18 +134,18 @@ module _ (may_merge : Bool) (old mid : World) (a b : Held) (names : Names) (stil
       both : LeavesOthers old new (OfFilesOr (name_of a) names)
       both = leaves_then old mid new (OfFilesOr (name_of a) names) leaves (leaves_line line_said mid new line (OfFilesOr (name_of a) names) timely reads says)
 
-      pub turn_unsaid : (answer : Result S Fault) → IsErr answer → TurnStays may_merge refused task answer old new a c names
+      pub turn_unsaid : (answer : Result S Fault) → IsErr answer → TurnStays refused task answer old new a c names
       turn_unsaid answer failed = record {
         leaves = both;
         name = named c but;
-        opened = no_value answer (λ value. IsStillOpen may_merge new c) failed;
+        opened = no_value answer (λ value. IsStillOpen new c) failed;
         goes = no_value answer _ failed;
         makes = no_value answer _ failed;
         says = no_value answer _ failed;
       }
 
-      pub turn_said : (value : S) → HasEnded result → TaskStays may_merge c (task value) → ((m : List ℕ) → TaskMakes (task value) m → names m) → (refused value ≡ true → SaysRefusal mid new)
-          → TurnStays may_merge refused task (Ok value) old new a c names
+      pub turn_said : (value : S) → HasEnded result → TaskStays c (task value) → ((m : List ℕ) → TaskMakes (task value) m → names m) → (refused value ≡ true → SaysRefusal mid new)
+          → TurnStays refused task (Ok value) old new a c names
       turn_said value ended goes makes refusal = record {
         leaves = both;
         name = named c but;
@@ -159,18 +157,18 @@ module _ (may_merge : Bool) (old mid : World) (a b : Held) (names : Names) (stil
 
   -- the line of a refusal is said
   pub turn_refused : (new : World) (session : ℕ) (refusal : Refusal) (answer : Result Taken Fault) → IsTimely new → LeavesAll new new.files → HasEnded result → (c : Held) → c ≡ record b { running = c.running }
-      → SaysLine answer mid new (line_text session (RefusedBy refusal)) → IfOk answer (λ taken. taken ≡ record { task = None; refused = true }) → TurnStays may_merge (λ taken. taken.refused) (λ taken. taken.task) answer old new a c names
+      → SaysLine answer mid new (line_text session (RefusedBy refusal)) → IfOk answer (λ taken. taken ≡ record { task = None; refused = true }) → TurnStays (λ taken. taken.refused) (λ taken. taken.task) answer old new a c names
   turn_refused new session refusal (Ok taken) timely reads ended c but says is =
-      turn_said (λ (x : Taken). x.refused) (λ (x : Taken). x.task) new (Ok taken) _ timely reads says c but taken ended (subst (λ (x : Taken). TaskStays may_merge c x.task) (sym is) tt)
+      turn_said (λ (x : Taken). x.refused) (λ (x : Taken). x.task) new (Ok taken) _ timely reads says c but taken ended (subst (λ (x : Taken). TaskStays c x.task) (sym is) tt)
       (λ m makes. absurd (subst (λ (x : Taken). TaskMakes x.task m) is makes)) (λ yes. refusal_said mid new session refusal says.said)
   turn_refused new session refusal (Err fault) timely reads ended c but says is =
       turn_unsaid (λ (x : Taken). x.refused) (λ (x : Taken). x.task) new {E = Fault} (Err fault) _ timely reads says c but (Err fault) refl
 
 -- Of a turn's answer by another name for it.
-module _ (may_merge : Bool) (old new : World) (a b : Held) where
+module _ (old new : World) (a b : Held) where
   -- more files are allowed for
-  pub turn_among : {S : Type 0} (refused : S → Bool) (task : S → Option Task) (answer : Result S Fault) (few many : Names) → ((m : List ℕ) → few m → many m) → TurnStays may_merge refused task answer old new a b few
-      → TurnStays may_merge refused task answer old new a b many
+  pub turn_among : {S : Type 0} (refused : S → Bool) (task : S → Option Task) (answer : Result S Fault) (few many : Names) → ((m : List ℕ) → few m → many m) → TurnStays refused task answer old new a b few
+      → TurnStays refused task answer old new a b many
   turn_among refused task answer few many are turn = record {
     leaves = leaves_among old new (OfFilesOr (name_of a) few) (OfFilesOr (name_of a) many) by turn.leaves;
     name = turn.name;
@@ -189,32 +187,23 @@ module _ (may_merge : Bool) (old new : World) (a b : Held) where
       more (Err e) makes = tt
 
   -- a failure is handed on
-  pub turn_handed : {S T : Type 0} (f : S → Bool) (g : T → Bool) (task : S → Option Task) (other : T → Option Task) (fault : Fault) (answer : Result T Fault) (names : Names) → IsErr answer → TurnStays may_merge f task (Err fault) old new a b names
-      → TurnStays may_merge g other answer old new a b names
+  pub turn_handed : {S T : Type 0} (f : S → Bool) (g : T → Bool) (task : S → Option Task) (other : T → Option Task) (fault : Fault) (answer : Result T Fault) (names : Names) → IsErr answer → TurnStays f task (Err fault) old new a b names
+      → TurnStays g other answer old new a b names
   turn_handed f g task other fault answer names failed turn = record {
     leaves = turn.leaves;
     name = turn.name;
-    opened = no_value answer (λ value. IsStillOpen may_merge new b) failed;
+    opened = no_value answer (λ value. IsStillOpen new b) failed;
     goes = no_value answer _ failed;
     makes = no_value answer _ failed;
     says = no_value answer _ failed;
   }
 
--- Where a merge may come.
-pub backup_merges : (statement : Statement) → IsBackup statement → merges statement ≡ true
-backup_merges (BackupTo level name) is = refl
-backup_merges (BackupSince guid name) is = refl
-backup_merges other is = absurd is
-
-module _ {may_merge : Bool} {old new : World} {a b : Held} {S : Type 0} {refused : S → Bool} {task : S → Option Task} {answer : Result S Fault} where
-  pub turn_merging : {names : Names} → may_merge ≡ true → (IsStillOpen true old a → TurnStays true refused task answer old new a b names) → IsStillOpen may_merge old a → TurnStays may_merge refused task answer old new a b names
-  turn_merging {names} may turn still =
-      subst (λ (m : Bool). TurnStays m refused task answer old new a b names) (sym may) (turn (subst (λ (m : Bool). IsStillOpen m old a) may still))
-
+-- Of a task that is under way.
+module _ {old new : World} {a b : Held} {S : Type 0} {refused : S → Bool} {task : S → Option Task} {answer : Result S Fault} where
   -- by the task that was under way
-  pub turn_of : {under : Option Task} {now : Task} → under ≡ Some now → TurnStays may_merge refused task answer old new a b (TaskMakes (Some now)) → TurnStays may_merge refused task answer old new a b (TaskMakes under)
-  turn_of is turn = subst (λ (x : Option Task). TurnStays may_merge refused task answer old new a b (TaskMakes x)) (sym is) turn
+  pub turn_of : {under : Option Task} {now : Task} → under ≡ Some now → TurnStays refused task answer old new a b (TaskMakes (Some now)) → TurnStays refused task answer old new a b (TaskMakes under)
+  turn_of is turn = subst (λ (x : Option Task). TurnStays refused task answer old new a b (TaskMakes x)) (sym is) turn
 
   -- what makes no file
-  pub turn_none : (now : Option Task) → TurnStays may_merge refused task answer old new a b (λ m. ⊥) → TurnStays may_merge refused task answer old new a b (TaskMakes now)
-  turn_none now turn = turn_among may_merge old new a b refused task answer (λ m. ⊥) (TaskMakes now) (λ m none. absurd none) turn
+  pub turn_none : (now : Option Task) → TurnStays refused task answer old new a b (λ m. ⊥) → TurnStays refused task answer old new a b (TaskMakes now)
+  turn_none now turn = turn_among old new a b refused task answer (λ m. ⊥) (TaskMakes now) (λ m none. absurd none) turn

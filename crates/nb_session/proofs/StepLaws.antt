@@ -1,7 +1,7 @@
 -- A turn of a session is the next that it has to do.
 use Rattle.std.proofs.Common.{◌≡◌, inl, inr, ℕ, ◌-◌, ◌<◌, List, [], ◌∷◌, ◌++◌, length, map, drop, refl, sym, ap, subst, ◌∙◌, append_assoc, get_or-set_same, drop_of_length-le}
 use Rattle.std.specs.Prelude.{Bool, true, false, ◌||◌, IsTrue, Result, Ok, Err, IsErr, IsErrAnd, IfErr, OnOk, Option, Some, None}
-use Rattle.std.specs.List.{AllByRecursion, list_all, slice_index_or}
+use Rattle.std.specs.List.{list_all, slice_index_or}
 use Rattle.std.proofs.lemmas.Bool.{cases_lt}
 use Rattle.std.proofs.lemmas.List.{append-nil}
 use Rattle.nb_sched.specs.Turns.{IsDone}
@@ -32,7 +32,7 @@ use Rattle.nb_session.specs.Replies.{only_told}
 use Rattle.nb_session.specs.Acts.{shown_by}
 use Rattle.nb_session.specs.Steps.{as_played, shown_first, shown_next, begun_in, begun_first, touching, touching_by, GoesFurther, Turns, TakesNext, Steps}
 use Rattle.nb_session.specs.MadeNames.{AnyAsks, Asks, MayMake, TaskMakes}
-use Rattle.nb_session.specs.StillOpen.{AskerStays, AskerTurnStays, IsAllowed, IsStillOpen, TaskStays, TurnStays}
+use Rattle.nb_session.specs.StillOpen.{AskerTurnStays, IsStillOpen, TaskStays, TurnStays}
 use Rattle.nb_session.proofs.AskerStays.{asker_failed, asker_taken}
 use Rattle.nb_session.specs.Stops.{Plays}
 use Rattle.nb_session.specs.Told.{told_turns}
@@ -146,7 +146,7 @@ beginning asker statement rest is first = ap (λ (x : Option Task). task_todo x 
 module _ (tells : Bool) (old new : World) (faults faults' : ℕ) (a b : Held) (asker moved : Asker) (others : KeepsOthers asker.number a b) (kept : moved.told ≡ asker.told) where
   -- what it leaves whatever stands in the database
   abbrev Staying : (refused : Bool) → Result (Unit {0}) Fault → Type 0
-  Staying refused answer = (may_merge : Bool) → IsTrue tells → IsStillOpen may_merge old a → AskerStays may_merge a asker → AskerTurnStays may_merge refused answer old new a b asker moved
+  Staying refused answer = IsTrue tells → IsStillOpen old a → TaskStays a asker.task → AskerTurnStays refused answer old new a b asker moved
 
   module _ {T : Type 0} (refused : T → Bool) (task : T → Option Task) (turn : Turn) (tail : List Turn) (rest : List Statement) (here : todo_of asker ≡ turn ∷ (tail ++ map Begins rest)) where
     -- what the turn did, where the session comes to it
@@ -196,21 +196,21 @@ module _ (tells : Bool) (old new : World) (faults faults' : ℕ) (a b : Held) (a
         (subst (TaskGoes asker.number old a t.base.frozen) is goes)
 
     abbrev WentOn : Result Left Fault → Type 0
-    WentOn result = (may_merge : Bool) → IsTrue tells → IsStillOpen may_merge old a → TaskStays may_merge a asker.task → TurnStays may_merge left_refused (left_task now_task) result old new a b (TaskMakes asker.task)
+    WentOn result = IsTrue tells → IsStillOpen old a → TaskStays a asker.task → TurnStays left_refused (left_task now_task) result old new a b (TaskMakes asker.task)
 
     pub went_failed : (fault : Fault) (answer : Result (Unit {0}) Fault) → IsErr answer × IsErrAnd answer (λ e. e ≡ fault) → Went (Err fault) → WentOn (Err fault) → CountsDevice {T = Left} (Err fault) faults faults' → IsNoRefusal fault
         → Steps tells answer old new faults faults' a b asker moved
     went_failed fault answer handed went on counts none =
         step_failed left_refused (left_task now_task) (task_first task) (task_rest task) asker.statements (going_on asker task is) fault answer handed (came (Err fault) went)
-        (λ may_merge told still goes. asker_failed may_merge old new a b asker moved left_refused (left_task now_task) (TaskMakes asker.task) (λ m makes. inl makes) answer false (Err fault) handed.0 (on may_merge told still goes.task))
+        (λ told still goes. asker_failed old new a b asker moved left_refused (left_task now_task) (TaskMakes asker.task) (λ m makes. inl makes) answer false (Err fault) handed.0 (on told still goes))
         counts none
 
     went_taken : (left : Left) → moved ≡ record { number = asker.number; told = asker.told; statements = asker.statements; task = left_task now_task left; refused = asker.refused || left_refused left } → Went (Ok left) → WentOn (Ok left) → faults' ≡ faults
         → Steps tells (Ok tt) old new faults faults' a b asker moved
     went_taken left same went on counts =
         step_taken left_refused (left_task now_task) (task_first task) (task_rest task) asker.statements (going_on asker task is) left same (came (Ok left) went)
-        (λ may_merge told still goes. asker_taken may_merge old new a b asker moved left_refused (left_task now_task) (TaskMakes asker.task) (λ m makes. inl makes) left asker.statements (asker.refused || left_refused left) same goes.statements
-        (λ m asks. inr asks) (on may_merge told still goes.task)) counts
+        (λ told still goes. asker_taken old new a b asker moved left_refused (left_task now_task) (TaskMakes asker.task) (λ m makes. inl makes) left asker.statements (asker.refused || left_refused left) same
+        (λ m asks. inr asks) (on told still goes)) counts
 
     -- the same is under way: nothing more is noted
     pub went_same : (left : Left) → left ≡ Same → moved ≡ record { number = asker.number; told = asker.told; statements = asker.statements; task = now_task; refused = asker.refused } → Went (Ok left) → WentOn (Ok left) → faults' ≡ faults
@@ -241,10 +241,7 @@ module _ (tells : Bool) (old new : World) (faults faults' : ℕ) (a b : Held) (a
         → Turns asker.told (λ (x : Taken). x.refused) (λ (x : Taken). x.task) result old new a b t now asker.number (Begins statement) [] more
 
     abbrev BeganOn : Result Taken Fault → Type 0
-    BeganOn result = (may_merge : Bool) → IsTrue tells → IsStillOpen may_merge old a → IsAllowed may_merge statement → TurnStays may_merge (λ (x : Taken). x.refused) (λ (x : Taken). x.task) result old new a b (Asks statement)
-
-    allowed : (may_merge : Bool) → AskerStays may_merge a asker → IsAllowed may_merge statement × AllByRecursion (IsAllowed may_merge) rest
-    allowed may_merge goes = subst (λ (ss : List Statement). AllByRecursion (IsAllowed may_merge) ss) first goes.statements
+    BeganOn result = IsTrue tells → IsStillOpen old a → TurnStays (λ (x : Taken). x.refused) (λ (x : Taken). x.task) result old new a b (Asks statement)
 
     asked : (m : List ℕ) → Asks statement m → MayMake asker m
     asked m asks = inr (subst (λ (ss : List Statement). AnyAsks ss m) (sym first) (inl asks))
@@ -256,15 +253,15 @@ module _ (tells : Bool) (old new : World) (faults faults' : ℕ) (a b : Held) (a
         → Steps tells answer old new faults faults' a b asker moved
     began_failed fault answer handed began on counts none =
         step_failed (λ (x : Taken). x.refused) (λ (x : Taken). x.task) (Begins statement) [] rest (beginning asker statement rest is first) fault answer handed (λ now t told ready going at goes. began now t (map Begins rest) told ready going at)
-        (λ may_merge told still goes. asker_failed may_merge old new a b asker moved (λ (x : Taken). x.refused) (λ (x : Taken). x.task) (Asks statement) asked answer false (Err fault) handed.0 (on may_merge told still (allowed may_merge goes).0))
+        (λ told still goes. asker_failed old new a b asker moved (λ (x : Taken). x.refused) (λ (x : Taken). x.task) (Asks statement) asked answer false (Err fault) handed.0 (on told still))
         counts none
 
     pub began_taken : (taken : Taken) → moved ≡ record { number = asker.number; told = asker.told; statements = rest; task = taken.task; refused = asker.refused || taken.refused } → Began (Ok taken) → BeganOn (Ok taken) → faults' ≡ faults
         → Steps tells (Ok tt) old new faults faults' a b asker moved
     began_taken taken same began on counts =
         step_taken (λ (x : Taken). x.refused) (λ (x : Taken). x.task) (Begins statement) [] rest (beginning asker statement rest is first) taken same (λ now t told ready going at goes. began now t (map Begins rest) told ready going at)
-        (λ may_merge told still goes. asker_taken may_merge old new a b asker moved (λ (x : Taken). x.refused) (λ (x : Taken). x.task) (Asks statement) asked taken rest (asker.refused || taken.refused) same (allowed may_merge goes).1 asked_later
-        (on may_merge told still (allowed may_merge goes).0)) counts
+        (λ told still goes. asker_taken old new a b asker moved (λ (x : Taken). x.refused) (λ (x : Taken). x.task) (Asks statement) asked taken rest (asker.refused || taken.refused) same asked_later
+        (on told still)) counts
 
 -- a session that has not finished, with nothing under way, has a statement left
 pub begun_within : (asker : Asker) (all : List Statement) (next : ℕ) → (IsDone (left_of asker) → ⊥) → asker.statements ≡ drop next all → asker.task ≡ None → next < length all

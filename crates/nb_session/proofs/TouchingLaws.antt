@@ -1,6 +1,6 @@
 -- The files that a turn may touch.
 use Rattle.std.proofs.Common.{◌≡◌, ◌≢◌, ℕ, zero, suc, ◌-◌, List, [], ◌∷◌, ◌++◌, replicate, refl, sym, ap, subst, ◌∙◌, arith, get_or-set_same}
-use Rattle.std.specs.Prelude.{Contains}
+use Rattle.std.specs.Prelude.{Bool, Contains}
 use Rattle.std.specs.List.{slice_index_or}
 use Rattle.std.proofs.lemmas.List.{append-nil}
 use Rattle.nb_host.specs.declared.refusals.Refusal.{Refusal}
@@ -132,8 +132,8 @@ none_starts session x now place asks runs =
     (λ ask from may. absurd (omega (arith, may.may.normal, runs.state)))
 
 -- So a session touches nothing.
-pub none_touching : (session : ℕ) (now : Now) → IsGoing now → (place : ℕ) → Runs now place 1 → session - 1 ≢ place → touching_by session now ≡ []
-none_touching session now going place runs off =
+pub none_touching : {sound : Bool} (session : ℕ) (now : Now) → IsGoing sound now → (place : ℕ) → Runs now place 1 → session - 1 ≢ place → touching_by session now ≡ []
+none_touching {sound = sound} session now going place runs off =
     ap (λ (files : List MadeFile). files ++ making_by session now) (by (slice_index_or now.todo (session - 1) []) (going.each (session - 1))) ∙ none_making session now going place runs off
   where
     alone : (m : ℕ) → Runs now (session - 1) m → ⊥
@@ -145,7 +145,7 @@ none_touching session now going place runs off =
     beginning (Begins (BackupSince guid name) ∷ ts) all = none_starts session (BackupSince guid name) now place tt runs
     beginning (other ∷ ts) all = refl
 
-    by : (ts : List Turn) → IsAt now (session - 1) ts → begun_first session ts now ≡ []
+    by : (ts : List Turn) → IsAt sound now (session - 1) ts → begun_first session ts now ≡ []
     by ts (waits all) = beginning ts all
     by ts (backs_up left b behind e all its room free) = absurd (alone 1 its)
     by ts (copies left name behind e all its free) = absurd (alone 1 its)

@@ -1,5 +1,5 @@
 -- What a session is still to make, and for which of them it runs.
-use Rattle.std.proofs.Common.{◌≡◌, ◌≢◌, ℕ, zero, suc, ◌-◌, List, [], ◌∷◌, ◌++◌, map, get_or, refl, ap, subst}
+use Rattle.std.proofs.Common.{Bool, ◌≡◌, ◌≢◌, ℕ, zero, suc, ◌-◌, List, [], ◌∷◌, ◌++◌, map, get_or, refl, ap, subst}
 use Rattle.std.specs.List.{slice_index_or}
 use Rattle.nb_model.specs.declared.statement.Statement.{Statement}
 use Rattle.nb_model.specs.Going.{IsBeginning, AreBeginnings, AreMerging, Runs, IsAt, waits, backs_up, copies, ends, merges, IsGoing}
@@ -71,7 +71,7 @@ no_merging (Finishes reply) rest turns copy = copy
 no_merging other rest turns copy = turns
 
 -- the session that has it next runs, in the stalled state
-pub copy_runs : (now : Now) (place : ℕ) (todo : List Turn) (turn : Turn) (rest : List Turn) → IsAt now place todo → todo ≡ turn ∷ rest → IsCopyTurn turn → Runs now place 1
+pub copy_runs : {sound : Bool} (now : Now) (place : ℕ) (todo : List Turn) (turn : Turn) (rest : List Turn) → IsAt sound now place todo → todo ≡ turn ∷ rest → IsCopyTurn turn → Runs now place 1
 copy_runs now place todo turn rest (waits all) is copy = absurd (no_beginning turn (subst AreBeginnings is all).0 copy)
 copy_runs now place todo turn rest (backs_up left b behind e all runs room free) is copy = runs
 copy_runs now place todo turn rest (copies left name behind e all runs free) is copy = runs
@@ -79,13 +79,13 @@ copy_runs now place todo turn rest (ends reply behind e all runs) is copy = runs
 copy_runs now place todo turn rest (merges turns runs) is copy = absurd (no_merging turn rest (subst AreMerging is turns) copy)
 
 -- while another one runs a session makes nothing
-pub none_making : (session : ℕ) (now : Now) → IsGoing now → (place : ℕ) → Runs now place 1 → session - 1 ≢ place → making_by session now ≡ []
-none_making session now going place runs off = by (slice_index_or now.todo (session - 1) []) (going.each (session - 1))
+pub none_making : {sound : Bool} (session : ℕ) (now : Now) → IsGoing sound now → (place : ℕ) → Runs now place 1 → session - 1 ≢ place → making_by session now ≡ []
+none_making {sound = sound} session now going place runs off = by (slice_index_or now.todo (session - 1) []) (going.each (session - 1))
   where
     alone : (m : ℕ) → Runs now (session - 1) m → ⊥
     alone m its = off (one_runs now (session - 1) place m 1 its runs)
 
-    by : (todo : List Turn) → IsAt now (session - 1) todo → making (base_now now).frozen todo ≡ []
+    by : (todo : List Turn) → IsAt sound now (session - 1) todo → making (base_now now).frozen todo ≡ []
     by todo (waits all) = beginnings_make (base_now now).frozen todo all
     by todo (backs_up left b behind e all its room free) = absurd (alone 1 its)
     by todo (copies left name behind e all its free) = absurd (alone 1 its)

@@ -1,9 +1,10 @@
 -- What a session has to do next, and what the database is like then.
-use Rattle.std.proofs.Common.{◌≡◌, ℕ, zero, suc, List, [], ◌∷◌, ◌++◌, replicate, refl, ap, subst, ◌∙◌}
-use Rattle.std.specs.Prelude.{Option, Some, None, true}
+use Rattle.std.proofs.Common.{◌≡◌, ℕ, zero, suc, List, [], ◌∷◌, ◌++◌, ◌<◌, length, replicate, refl, ap, subst, ◌∙◌}
+use Rattle.std.specs.Prelude.{Bool, Option, Some, None, true}
 use Rattle.nb_model.specs.declared.reply.Reply.{Reply}
 use Rattle.nb_model.specs.Causes.{is_free_entry}
-use Rattle.nb_model.specs.Going.{AreBeginnings, AreMerging, HasRoom, Runs, IsAt, waits, backs_up, copies, ends, merges}
+use Rattle.nb_model.specs.Forms.{HasItsEntry}
+use Rattle.nb_model.specs.Going.{AreBeginnings, AreMerging, Runs, IsAt, waits, backs_up, copies, ends, merges}
 use Rattle.nb_model.specs.Outcomes.{Turn, Begins, Copies, ClosesBackup, ClosesCopy, Ends, Merges, Finishes, Backing}
 use Rattle.nb_model.specs.Run.{Now, base_now}
 use Rattle.nb_session.specs.Askers.{copy_first, copy_rest, merge_first, merge_rest}
@@ -82,17 +83,18 @@ closing_merges (Ends reply ∷ ts) all u is = absurd all
 -- Its place in the history is free, and so is the name of its file.
 pub record BacksUp (now : Now) (place : ℕ) (b : Backing) : Type 0 where
   pub runs : Runs now place 1
-  pub room : HasRoom (base_now now).image b.page b.slot
+  pub below : b.page < length (base_now now).image
+  pub entry : HasItsEntry (base_now now).image b.page
   pub free : is_free_entry (now.account.entry b.name) ≡ true
 
 module _ (now : Now) (place : ℕ) where
-  backs_by : (ts : List Turn) (b : Backing) → closing ts ≡ Some (ClosesBackup b) → IsAt now place ts → BacksUp now place b
+  backs_by : {sound : Bool} (ts : List Turn) (b : Backing) → closing ts ≡ Some (ClosesBackup b) → IsAt sound now place ts → BacksUp now place b
   unfolding closing
   backs_by ts b is (waits all) = absurd (closing_begins ts all (ClosesBackup b) is).0
   backs_by ts b is (backs_up left d rest todo all runs room free) =
       let here : closing ts ≡ Some (ClosesBackup d) = ap closing todo ∙ closing_behind left (ClosesBackup d ∷ rest) in
       let same : d ≡ b = cc in
-      subst (BacksUp now place) same (record { runs = runs; room = room; free = free })
+      subst (BacksUp now place) same (record { runs = runs; below = room.below; entry = room.entry; free = free })
   backs_by ts b is (copies left name rest todo all runs free) =
       let here : closing ts ≡ Some (ClosesCopy name) = ap closing todo ∙ closing_behind left (ClosesCopy name ∷ rest) in
       absurd (cc)
@@ -100,10 +102,10 @@ module _ (now : Now) (place : ℕ) where
   backs_by ts b is (merges all runs) = absurd (closing_merges ts all (ClosesBackup b) is)
 
   -- a backup that goes on
-  pub backing_at : (left : ℕ) (b : Backing) (more : List Turn) → IsAt now place (copy_first left (ClosesBackup b) ∷ (copy_rest left (ClosesBackup b) ++ more)) → BacksUp now place b
+  pub backing_at : {sound : Bool} (left : ℕ) (b : Backing) (more : List Turn) → IsAt sound now place (copy_first left (ClosesBackup b) ∷ (copy_rest left (ClosesBackup b) ++ more)) → BacksUp now place b
   backing_at left b more at = backs_by _ b (closing_backup left b more) at
 
-  copies_by : (ts : List Turn) (name : List ℕ) → closing ts ≡ Some (ClosesCopy name) → IsAt now place ts → Runs now place 1 × (is_free_entry (now.account.entry name) ≡ true)
+  copies_by : {sound : Bool} (ts : List Turn) (name : List ℕ) → closing ts ≡ Some (ClosesCopy name) → IsAt sound now place ts → Runs now place 1 × (is_free_entry (now.account.entry name) ≡ true)
   unfolding closing
   copies_by ts name is (waits all) = absurd (closing_begins ts all (ClosesCopy name) is).0
   copies_by ts name is (backs_up left d rest todo all runs room free) =
@@ -117,11 +119,11 @@ module _ (now : Now) (place : ℕ) where
   copies_by ts name is (merges all runs) = absurd (closing_merges ts all (ClosesCopy name) is)
 
   -- a copy that goes on
-  pub copying_at : (left : ℕ) (name : List ℕ) (more : List Turn) → IsAt now place (copy_first left (ClosesCopy name) ∷ (copy_rest left (ClosesCopy name) ++ more)) → Runs now place 1 × (is_free_entry (now.account.entry name) ≡ true)
+  pub copying_at : {sound : Bool} (left : ℕ) (name : List ℕ) (more : List Turn) → IsAt sound now place (copy_first left (ClosesCopy name) ∷ (copy_rest left (ClosesCopy name) ++ more)) → Runs now place 1 × (is_free_entry (now.account.entry name) ≡ true)
   copying_at left name more at = copies_by _ name (closing_copy left name more) at
 
   -- an end behind a backup
-  pub ending_at : (reply : Reply) (more : List Turn) → IsAt now place (Ends reply ∷ more) → Runs now place 1
+  pub ending_at : {sound : Bool} (reply : Reply) (more : List Turn) → IsAt sound now place (Ends reply ∷ more) → Runs now place 1
   unfolding closing
   ending_at reply more (waits all) = absurd all.0
   ending_at reply more (backs_up left d rest todo all runs room free) =

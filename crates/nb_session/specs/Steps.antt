@@ -24,7 +24,7 @@ use Rattle.nb_session.specs.declared.told.Told.{Told}
 use Rattle.nb_session.specs.Askers.{Asker, HasTodo, KeepsOthers, left_refused, left_task, task_first, task_rest, task_todo, todo_of}
 use Rattle.nb_session.specs.Ready.{IsReady, TaskGoes}
 use Rattle.nb_session.specs.Replies.{only_told}
-use Rattle.nb_session.specs.StillOpen.{AskerStays, AskerTurnStays, IsStillOpen}
+use Rattle.nb_session.specs.StillOpen.{AskerTurnStays, IsStillOpen, TaskStays}
 use Rattle.nb_session.specs.Stops.{Plays}
 use Rattle.nb_session.specs.Told.{told_turns}
 
@@ -70,9 +70,8 @@ pub record IsBehind (w : World) (held : Held) (session : ℕ) (turn : Turn) (tai
   pub next : (outcome session turn now).next ++ tail ≡ task_todo task
   pub goes : TaskGoes session w held (base_after (base_now now) (outcome session turn now).strokes).frozen task
 
--- A turn was taken, and what is told of it said, where the outside gave what it may give. Where it only tells something, no file has changed, however
--- it ended. `tail` is
--- what its statement has to do behind it, and `more` what its session has behind that.
+-- A turn was taken, and what is told of it said, where the outside gave what it may give. Where it only tells something, no file has changed,
+-- however it ended. `tail` is what its statement has to do behind it, and `more` what its session has behind that.
 pub record Turns {T : Type 0} (told : Told) (refused : T → Bool) (task : T → Option Task) (result : Result T Fault) (old new : World) (before after : Held) (t : Trail) (now : Now) (session : ℕ) (turn : Turn) (tail more : List Turn) : Type 0 where
   pub grows : Grows old new
   pub plays : Foretells now.given (shown_by turn before) old new
@@ -105,7 +104,7 @@ pub record Steps (tells : Bool) (result : Result (Unit {0}) Fault) (old new : Wo
   pub takes : (now : Now) (t : Trail) → IsTrue tells → IsReady old before t now → IsMaking now → HasTodo asker now → TaskGoes asker.number old before t.base.frozen asker.task
       → TakesNext refused result old new before after t now asker moved
   -- whatever stands in the database
-  pub stays_open : (may_merge : Bool) → IsTrue tells → IsStillOpen may_merge old before → AskerStays may_merge before asker → AskerTurnStays may_merge refused result old new before after asker moved
+  pub stays_open : IsTrue tells → IsStillOpen old before → TaskStays before asker.task → AskerTurnStays refused result old new before after asker moved
   pub others : KeepsOthers asker.number before after
   pub cause : CountsDevice result faults faults'
   pub not_refused : IfErr result IsNoRefusal

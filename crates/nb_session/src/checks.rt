@@ -4,12 +4,11 @@ ghost use Rattle.nb_change.specs.Changes.{NoNames};
 ghost use Rattle.nb_change.specs.Counts.{CountsDevice};
 ghost use Rattle.nb_model.specs.Outcomes.{Begins};
 ghost use Rattle.nb_model.specs.Run.{Now};
-ghost use Rattle.nb_model.specs.Sound.{IsSoundImage};
 ghost use Rattle.nb_model.specs.Trail.{Trail};
 ghost use Rattle.nb_state.specs.Open.{IsOpen};
 ghost use Rattle.nb_engine.specs.Stays.{StaysOpen};
 ghost use Rattle.nb_session.specs.Acts.{MayAct};
-ghost use Rattle.nb_session.specs.Askers.{GoesByInventories, IsCheck, KeepsOthers};
+ghost use Rattle.nb_session.specs.Askers.{IsCheck, KeepsOthers};
 ghost use Rattle.nb_session.specs.Ready.{IsReady};
 ghost use Rattle.nb_session.specs.Replies.{some_said};
 
@@ -27,7 +26,7 @@ pub(crate) fn do_checks<H: Host>(
     statement: &Statement,
 ) -> Result<Reply, Fault>
     requires { IsCheck statement.now }
-    ensures turn { (now : Now) (t : Trail) (session : ℕ) → IsTrue H.tells → IsReady (H.world host.old) engine.old t now → (GoesByInventories statement.now → IsSoundImage t.base.image)
+    ensures turn { (now : Now) (t : Trail) (session : ℕ) → IsTrue H.tells → IsReady (H.world host.old) engine.old t now
         → MayAct some_said result (H.world host.old) (H.world host.new) engine.old engine.new t now session (Begins statement.now) [] }
     ensures stays_open { (t : Trail) → IsTrue H.tells → IsOpen (H.world host.old) engine.old t → StaysOpen result (H.world host.old) (H.world host.new) engine.old engine.new t NoNames }
     ensures others { (session : ℕ) → KeepsOthers session engine.old engine.new }

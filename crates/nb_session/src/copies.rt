@@ -1,12 +1,12 @@
 // Backups and copies of the frozen file, which take a turn for each page.
-ghost use Rattle.std.specs.Prelude.{◌≡◌, ◌≢◌, ◌<◌, length, ℕ, ◌-◌, List, [], ◌∷◌, ◌++◌, Bool, None, Some, true, false, IsTrue, IfOk, IfErr, OnOk};
+ghost use Rattle.std.specs.Prelude.{◌≡◌, ◌≢◌, ◌<◌, length, ℕ, ◌-◌, List, [], ◌∷◌, ◌++◌, None, Some, true, false, IsTrue, IfOk, IfErr, OnOk};
 ghost use Rattle.std.specs.List.{slice_index_or};
 ghost use Rattle.nb_host.specs.Names.{is_delta};
 ghost use Rattle.nb_change.specs.Changes.{Only};
 ghost use Rattle.nb_change.specs.Counts.{CountsDevice};
 ghost use Rattle.nb_page.specs.Free.{is_free_name};
 ghost use Rattle.nb_model.specs.declared.statement.Statement.TheVariants.{CopyTo};
-ghost use Rattle.nb_model.specs.Going.{IsMaking};
+ghost use Rattle.nb_model.specs.Going.{IsMaking, goes_by_entries};
 ghost use Rattle.nb_model.specs.Outcomes.{Begins, Seen, Turn, next_guid};
 ghost use Rattle.nb_model.specs.Owner.{delta_name};
 ghost use Rattle.nb_model.specs.Run.{Now};
@@ -71,7 +71,7 @@ fn start<H: Host>(
 ) -> Result<Copier, Fault>
     requires asked { IsFurther statement.now }
     requires backup { IsBackup statement.now }
-    ensures turn { (s : Seen) (t : Trail) → IsTrue H.tells → t.base ≡ s.base → engine.old.running ≡ s.running → IsOpen (H.world host.old) engine.old t → IsSoundImage t.base.image
+    ensures turn { (s : Seen) (t : Trail) → IsTrue H.tells → t.base ≡ s.base → engine.old.running ≡ s.running → IsOpen (H.world host.old) engine.old t → (goes_by_entries (Begins statement.now) ≡ true → IsSoundImage t.base.image)
         → KnowsFree 0 (H.world host.old).files s (file_asked statement.now) → (file_asked statement.now ≡ delta_name engine.old.files.name → ⊥) → GaveAtMost (H.world host.old) (H.world host.new) (next_guid s.given)
         → StartsBackup result (H.world host.old) (H.world host.new) engine.old engine.new t (file_asked statement.now) (next_guid s.given) (first_turn s session statement.now) }
     ensures asks { (t : Trail) → IsTrue H.tells → IsOpen (H.world host.old) engine.old t → (guid : List ℕ) × (length guid ≡ 16) × GaveAtMost (H.world host.old) (H.world host.new) guid }
@@ -109,8 +109,8 @@ pub fn begin_backup<H: Host>(
     ensures turn { (told : Told) (now : Now) (t : Trail) (more : List Turn) → IsTrue H.tells → IsReady (H.world host.old) engine.old t now → IsMaking now
         → slice_index_or now.todo (session - 1) [] ≡ Begins statement.now ∷ more
         → Turns told (λ taken. taken.refused) (λ taken. taken.task) result (H.world host.old) (H.world host.new) engine.old engine.new t now session (Begins statement.now) [] more }
-    ensures stays_open { IsTrue H.tells → IsStillOpen true (H.world host.old) engine.old
-        → TurnStays true (λ taken. taken.refused) (λ taken. taken.task) result (H.world host.old) (H.world host.new) engine.old engine.new (Asks statement.now) }
+    ensures stays_open { IsTrue H.tells → IsStillOpen (H.world host.old) engine.old
+        → TurnStays (λ taken. taken.refused) (λ taken. taken.task) result (H.world host.old) (H.world host.new) engine.old engine.new (Asks statement.now) }
     ensures fits { IfOk result (λ taken. TaskFits session taken.task engine.new) }
     ensures others { KeepsOthers session engine.old engine.new }
     ensures cause { CountsDevice result (H.faults host.old) (H.faults host.new) }
@@ -136,8 +136,8 @@ pub fn begin_copy<H: Host>(
     ensures turn { (told : Told) (now : Now) (t : Trail) (more : List Turn) → IsTrue H.tells → IsReady (H.world host.old) engine.old t now → IsMaking now
         → slice_index_or now.todo (session - 1) [] ≡ Begins (CopyTo name.now) ∷ more
         → Turns told (λ taken. taken.refused) (λ taken. taken.task) result (H.world host.old) (H.world host.new) engine.old engine.new t now session (Begins (CopyTo name.now)) [] more }
-    ensures stays_open { (may_merge : Bool) → IsTrue H.tells → IsStillOpen may_merge (H.world host.old) engine.old
-        → TurnStays may_merge (λ taken. taken.refused) (λ taken. taken.task) result (H.world host.old) (H.world host.new) engine.old engine.new (Asks (CopyTo name.now)) }
+    ensures stays_open { IsTrue H.tells → IsStillOpen (H.world host.old) engine.old
+        → TurnStays (λ taken. taken.refused) (λ taken. taken.task) result (H.world host.old) (H.world host.new) engine.old engine.new (Asks (CopyTo name.now)) }
     ensures fits { IfOk result (λ taken. TaskFits session taken.task engine.new) }
     ensures others { KeepsOthers session engine.old engine.new }
     ensures cause { CountsDevice result (H.faults host.old) (H.faults host.new) }
@@ -163,8 +163,8 @@ pub fn back_up_on<H: Host>(
     ensures turn { (told : Told) (now : Now) (t : Trail) (more : List Turn) → IsTrue H.tells → IsReady (H.world host.old) engine.old t now → IsMaking now
         → slice_index_or now.todo (session - 1) [] ≡ task_first (Backup copier.old) ∷ (task_rest (Backup copier.old) ++ more) → TaskGoes session (H.world host.old) engine.old t.base.frozen (Some (Backup copier.old))
         → Turns told left_refused (left_task (Some (Backup copier.new))) result (H.world host.old) (H.world host.new) engine.old engine.new t now session (task_first (Backup copier.old)) (task_rest (Backup copier.old)) more }
-    ensures stays_open { IsTrue H.tells → IsStillOpen true (H.world host.old) engine.old → IsAside engine.old copier.old.backing.name
-        → TurnStays true left_refused (left_task (Some (Backup copier.new))) result (H.world host.old) (H.world host.new) engine.old engine.new (TaskMakes (Some (Backup copier.old))) }
+    ensures stays_open { IsTrue H.tells → IsStillOpen (H.world host.old) engine.old → IsAside engine.old copier.old.backing.name
+        → TurnStays left_refused (left_task (Some (Backup copier.new))) result (H.world host.old) (H.world host.new) engine.old engine.new (TaskMakes (Some (Backup copier.old))) }
     ensures falls { IfOk result (λ left. task_left (left_task (Some (Backup copier.new)) left) < task_left (Some (Backup copier.old))) }
     ensures fits { IfOk result (λ left. TaskFits session (left_task (Some (Backup copier.new)) left) engine.new) }
     ensures others { KeepsOthers session engine.old engine.new }
@@ -201,8 +201,8 @@ pub fn copy_on<H: Host>(
     ensures turn { (now : Now) (t : Trail) (more : List Turn) → IsTrue H.tells → IsReady (H.world host.old) engine.old t now → IsMaking now
         → slice_index_or now.todo (session - 1) [] ≡ task_first (Copy copier.old) ∷ (task_rest (Copy copier.old) ++ more) → TaskGoes session (H.world host.old) engine.old t.base.frozen (Some (Copy copier.old))
         → Turns told left_refused (left_task (Some (Copy copier.new))) result (H.world host.old) (H.world host.new) engine.old engine.new t now session (task_first (Copy copier.old)) (task_rest (Copy copier.old)) more }
-    ensures stays_open { (may_merge : Bool) → IsTrue H.tells → IsStillOpen may_merge (H.world host.old) engine.old → IsAside engine.old copier.old.name
-        → TurnStays may_merge left_refused (left_task (Some (Copy copier.new))) result (H.world host.old) (H.world host.new) engine.old engine.new (TaskMakes (Some (Copy copier.old))) }
+    ensures stays_open { IsTrue H.tells → IsStillOpen (H.world host.old) engine.old → IsAside engine.old copier.old.name
+        → TurnStays left_refused (left_task (Some (Copy copier.new))) result (H.world host.old) (H.world host.new) engine.old engine.new (TaskMakes (Some (Copy copier.old))) }
     ensures falls { IfOk result (λ left. task_left (left_task (Some (Copy copier.new)) left) < task_left (Some (Copy copier.old))) }
     ensures fits { IfOk result (λ left. TaskFits session (left_task (Some (Copy copier.new)) left) engine.new) }
     ensures others { KeepsOthers session engine.old engine.new }

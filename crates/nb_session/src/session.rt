@@ -1,5 +1,5 @@
 // One session of a script.
-ghost use Rattle.std.specs.Prelude.{◌≡◌, ◌≢◌, ◌<◌, ℕ, ◌-◌, List, [], ◌∷◌, Bool, IsTrue, IfOk, IfErr, None, false};
+ghost use Rattle.std.specs.Prelude.{◌≡◌, ◌≢◌, ◌<◌, ◌-◌, List, [], ◌∷◌, IsTrue, IfOk, IfErr, None, false};
 ghost use Rattle.std.specs.List.{slice_index_or};
 ghost use Rattle.nb_change.specs.Counts.{CountsDevice};
 ghost use Rattle.nb_model.specs.Going.{IsMaking};
@@ -12,7 +12,7 @@ ghost use Rattle.nb_session.specs.Askers.{TaskFits, KeepsOthers, left_task, task
 ghost use Rattle.nb_session.specs.Ready.{IsReady};
 ghost use Rattle.nb_session.specs.Steps.{GoesFurther, Turns};
 ghost use Rattle.nb_session.specs.MadeNames.{Asks, TaskMakes};
-ghost use Rattle.nb_session.specs.StillOpen.{IsAllowed, IsStillOpen, TaskStays, TurnStays};
+ghost use Rattle.nb_session.specs.StillOpen.{IsStillOpen, TaskStays, TurnStays};
 
 use crate::answer::answer;
 use crate::copies::{back_up_on, begin_backup, begin_copy, copy_on};
@@ -63,8 +63,8 @@ fn begin_statement<H: Host>(
     ensures turn { (now : Now) (t : Trail) (more : List Turn) → IsTrue H.tells → IsReady (H.world host.old) engine.old t now → IsMaking now
         → slice_index_or now.todo (session - 1) [] ≡ Begins statement.now ∷ more
         → Turns told (λ taken. taken.refused) (λ taken. taken.task) result (H.world host.old) (H.world host.new) engine.old engine.new t now session (Begins statement.now) [] more }
-    ensures stays_open { (may_merge : Bool) → IsTrue H.tells → IsStillOpen may_merge (H.world host.old) engine.old → IsAllowed may_merge statement.now
-        → TurnStays may_merge (λ taken. taken.refused) (λ taken. taken.task) result (H.world host.old) (H.world host.new) engine.old engine.new (Asks statement.now) }
+    ensures stays_open { IsTrue H.tells → IsStillOpen (H.world host.old) engine.old
+        → TurnStays (λ taken. taken.refused) (λ taken. taken.task) result (H.world host.old) (H.world host.new) engine.old engine.new (Asks statement.now) }
     ensures fits { IfOk result (λ taken. TaskFits session taken.task engine.new) }
     ensures others { KeepsOthers session engine.old engine.new }
     ensures cause { CountsDevice result (H.faults host.old) (H.faults host.new) }
@@ -99,8 +99,8 @@ fn go_on<H: Host>(
     requires fits { TaskFits session task.old engine.old }
     ensures turn { (now : Now) (t : Trail) (more : List Turn) → IsTrue H.tells → IsReady (H.world host.old) engine.old t now → IsMaking now
         → GoesFurther told task.old task.new result (H.world host.old) (H.world host.new) engine.old engine.new t now session more }
-    ensures stays_open { (may_merge : Bool) → IsTrue H.tells → IsStillOpen may_merge (H.world host.old) engine.old → TaskStays may_merge engine.old task.old
-        → TurnStays may_merge left_refused (left_task task.new) result (H.world host.old) (H.world host.new) engine.old engine.new (TaskMakes task.old) }
+    ensures stays_open { IsTrue H.tells → IsStillOpen (H.world host.old) engine.old → TaskStays engine.old task.old
+        → TurnStays left_refused (left_task task.new) result (H.world host.old) (H.world host.new) engine.old engine.new (TaskMakes task.old) }
     ensures falls { IfOk result (λ left. task_left (left_task task.new left) < task_left task.old) }
     ensures fits { IfOk result (λ left. TaskFits session (left_task task.new left) engine.new) }
     ensures others { KeepsOthers session engine.old engine.new }

@@ -9,13 +9,12 @@ ghost use Rattle.nb_engine.specs.Stays.{StaysOpen};
 ghost use Rattle.nb_model.specs.declared.reply.Reply.{Reply};
 ghost use Rattle.nb_model.specs.Outcomes.{Begins};
 ghost use Rattle.nb_model.specs.Run.{Now};
-ghost use Rattle.nb_model.specs.Sound.{IsSoundImage};
 ghost use Rattle.nb_model.specs.Trail.{Trail};
 ghost use Rattle.nb_base.specs.Takes.{IsNoRefusal};
 ghost use Rattle.nb_shown.specs.Replies.{pages_shown};
 ghost use Rattle.nb_script.specs.Asked.{IsFurther};
 ghost use Rattle.nb_session.specs.Acts.{Says, MayAct};
-ghost use Rattle.nb_session.specs.Askers.{GoesByInventories, IsOneTurn, KeepsOthers};
+ghost use Rattle.nb_session.specs.Askers.{IsOneTurn, KeepsOthers};
 ghost use Rattle.nb_session.specs.Ready.{IsReady};
 ghost use Rattle.nb_session.specs.Replies.{some_said, HasEnded, header_of};
 
@@ -70,7 +69,7 @@ pub fn do_statement<H: Host>(
 ) -> Result<Reply, Fault>
     requires asked { IsFurther statement.now }
     requires single { IsOneTurn statement.now }
-    ensures turn { (now : Now) (t : Trail) (session : ℕ) → IsTrue H.tells → IsReady (H.world host.old) engine.old t now → (GoesByInventories statement.now → IsSoundImage t.base.image)
+    ensures turn { (now : Now) (t : Trail) (session : ℕ) → IsTrue H.tells → IsReady (H.world host.old) engine.old t now
         → MayAct some_said result (H.world host.old) (H.world host.new) engine.old engine.new t now session (Begins statement.now) [] }
     // Whatever stands in the database: only its two files are touched, and it is open behind that.
     ensures stays_open { (t : Trail) → IsTrue H.tells → IsOpen (H.world host.old) engine.old t → StaysOpen result (H.world host.old) (H.world host.new) engine.old engine.new t NoNames }

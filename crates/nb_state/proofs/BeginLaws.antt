@@ -56,6 +56,7 @@ created pair old new name size raw is none =
         };
       };
       left = is.left;
+      reads = is.reads;
       gave = is.gave;
       taken = is.taken;
     }

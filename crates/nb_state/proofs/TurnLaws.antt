@@ -1,5 +1,5 @@
 -- What is open behind the turns of a backup.
-use Rattle.std.proofs.Common.{◌≡◌, ◌⊎◌, ⊎_elim, ℕ, ◌+◌, ◌<◌, ◌≤◌, List, [], ◌∷◌, ◌++◌, length, drop, refl, sym, ap, subst, ◌∙◌, arith, length-append, drop_at}
+use Rattle.std.proofs.Common.{◌≡◌, ◌≢◌, ◌⊎◌, ⊎_elim, ℕ, ◌+◌, ◌<◌, ◌≤◌, List, [], ◌∷◌, ◌++◌, length, drop, refl, sym, ap, subst, ◌∙◌, arith, length-append, drop_at}
 use Rattle.std.specs.Prelude.{Bool, true, false, Option, Some, None, Result, Ok, Err}
 use Rattle.std.proofs.lemmas.Bool.{eq-eqb, ne_eqb}
 use Rattle.nb_fields.specs.Header.{is_header, state_of}
@@ -31,7 +31,7 @@ use Rattle.nb_page.specs.Quiet.{Quiet}
 use Rattle.nb_change.specs.Gave.{GaveNothing}
 use Rattle.nb_base.specs.Takes.{after_strokes}
 use Rattle.nb_owner.specs.Open.{IsOpen as PairOpen, but_drafts}
-use Rattle.nb_state.specs.Open.{Held, AgreesWith, IsOpen, name_of, pair_of}
+use Rattle.nb_state.specs.Open.{Held, AgreesWith, IsOpen, name_of}
 use Rattle.nb_state.specs.Does.{Tested, unless_by}
 use Rattle.nb_state.specs.Turns.{begin_cause, end_cause, Begins, Ends, Merges}
 use Rattle.nb_state.specs.declared.turns.Progress.{Progress}
@@ -192,15 +192,12 @@ open_out old new held pair t u is base same opened merged = record {
 
 -- a write wanted memory
 pub open_wanting : (old new : World) (held : Held) (pair : Rattle.nb_owner.specs.Open.Held) (t : Trail) → IsOpen old held t → pair.files.state ≡ held.files.state → PairOpen new pair t
-    → (held.files.state ≡ 2 → (pair ≡ pair_of held) × (new ≡ old)) → IsOpen new (record held { files = pair.files; pages = pair.pages; cap = pair.cap }) t
-open_wanting old new held pair t is state opened stays = record {
+    → held.files.state ≢ 2 → IsOpen new (record held { files = pair.files; pages = pair.pages; cap = pair.cap }) t
+open_wanting old new held pair t is state opened out = record {
   files = opened;
   agrees = record { scn = is.agrees.scn; four = is.agrees.four; guid = is.agrees.guid; forced = is.agrees.forced; read_only = is.agrees.read_only };
-  merged = λ two.
-      let merges = sym state ∙ two in
-      let same = stays merges in
-      subst (λ (w : World). AreMerged w pair.files held.merged) (sym same.1) (subst (λ (p : Rattle.nb_owner.specs.Open.Held). AreMerged old p.files held.merged) (sym same.0) (is.merged merges));
-  most = λ two. let merges = sym state ∙ two in subst (λ (p : Rattle.nb_owner.specs.Open.Held). held.merged ≤ length p.files.entries) (sym (stays merges).0) (is.most merges);
+  merged = λ two. absurd (out (sym state ∙ two));
+  most = λ two. absurd (out (sym state ∙ two));
 }
 
 -- the strokes of an end

@@ -12,7 +12,7 @@ use Rattle.nb_model.specs.Image.{Image}
 use Rattle.nb_model.specs.Account.{Base, base_of}
 use Rattle.nb_model.specs.Owner.{delta_name, owner}
 use Rattle.nb_model.specs.Trail.{ShowsIn, settled}
-use Rattle.nb_base.specs.Beginnings.{CreateLeft}
+use Rattle.nb_base.specs.Beginnings.{CreateLeft, CreateReads}
 use Rattle.nb_state.specs.Open.{Held, IsOpen, name_of}
 
 -- what is held is the database that the two files were as the call began, and each stop from now on leaves it
@@ -52,6 +52,7 @@ CreateAnswers (Err Memory) old new name image = Unit {0}
 pub record Creates (result : Result Held Fault) (old new : World) (name : List ℕ) (image : Image) : Type 0 where
   pub answer : CreateAnswers result old new name image
   pub left : Changes old new (Only name) (CreateLeft old name image)
+  pub reads : CreateReads old name image new.files
   pub gave : GaveNothing old new
   -- where the name isn't free, nothing changes
   pub taken : is_free_name old.files name ≡ false → Quiet old new

@@ -1,4 +1,4 @@
-ghost use Rattle.std.specs.Prelude.{◌≡◌, ◌≤◌, ◌<◌, ◌+◌, ◌∷◌, [], length, IsTrue, IsSome, IsOk, IfErr, OnOk, true, false, not, ◌==◌};
+ghost use Rattle.std.specs.Prelude.{◌≡◌, ◌≢◌, ◌≤◌, ◌<◌, ◌+◌, ◌∷◌, [], length, IsTrue, IsSome, IsOk, IfErr, OnOk, true, false, not, ◌==◌};
 ghost use Rattle.nb_fields.specs.Bytes.{is_zeros, number_in};
 ghost use Rattle.nb_fields.specs.Places.{is_page_size};
 ghost use Rattle.nb_host.specs.Causes.{CountsFault};
@@ -180,11 +180,12 @@ impl Store {
         self.pair.read_main(host, number, into)
     }
 
-    /// Replaces page `number`, or adds it at the end, of page 0 what is behind the control block. It is kept for good where writes are
-    /// forced, where it makes the database longer, and where it is page 0. Every other write may wait in memory, and then makes no call; in the stalled state
-    /// its entry may want memory. In the normal state the difference file isn't touched, and in the stalled state the main file isn't.
+    /// Replaces page `number`, or adds it at the end. Page 0 has to be given with its first 64 bytes, the control block, as they stand. It is
+    /// kept for good where writes are forced, where it makes the database longer, and where it is page 0. Every other write may wait in memory,
+    /// and then makes no call. In the normal state the difference file isn't touched, and in the stalled state the main file isn't.
     ///
-    /// Where it wants memory it has changed no page, and has made no call but to write out what waited, so none where writes are forced.
+    /// It wants memory in the stalled state alone, and has changed no page then. It has made no call then but to write out what waited, so none
+    /// where writes are forced.
     pub fn write<H: Host>(&mut self, host: &mut H, number: u32, page: &[u8]) -> Result<(), Fault>
         requires size { length page.now ≡ self.old.files.page_size }
         requires most { number < 1048576 }
@@ -201,6 +202,7 @@ impl Store {
             → Strikes (H.world host.old) (H.world host.new) (name_of self.old) t [] × IsOpen (H.world host.new) self.new t }
         ensures idle { NoPageWaits self.old → result ≡ Err Fault.Memory → (self.new ≡ self.old) × (host.new ≡ host.old) }
         ensures forced { (t : Trail) → IsTrue H.tells → IsOpen (H.world host.old) self.old t → self.old.forced ≡ true → result ≡ Err Fault.Memory → (self.new ≡ self.old) × (host.new ≡ host.old) }
+        ensures takes_none { self.old.files.state ≢ 1 → IfErr result (λ fault. fault ≢ Fault.Memory) }
     {
         self.pair.write(host, number, page, self.forced)?;
         self.take_flags(number, page);

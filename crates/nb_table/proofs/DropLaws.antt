@@ -10,7 +10,7 @@ use Rattle.nb_host.specs.World.{World}
 use Rattle.nb_host.specs.declared.faults.Fault.{Fault}
 use Rattle.nb_model.specs.Causes.{lowest_broken, not_of_form, not_kind}
 use Rattle.nb_model.specs.Chains.{Chain, Catalogue, RowsFrom, Spot, first_in, owner_in, is_in_chain, found_pages, pages_of, table_spot, put_slot, free_slot}
-use Rattle.nb_model.specs.Forms.{Draft, drafted, put, is_kind, other_kind, scn_page_of}
+use Rattle.nb_model.specs.Forms.{HasItsEntry, Draft, drafted, put, is_kind, other_kind, scn_page_of}
 use Rattle.nb_model.specs.Image.{Image, page_at, image_size}
 use Rattle.nb_model.specs.Sound.{HasHeader}
 use Rattle.nb_model.specs.Strokes.{Stroke}
@@ -20,7 +20,6 @@ use Rattle.nb_model.proofs.ChainWalks.{StaysLinked, linked_same, ok_found, pages
 use Rattle.nb_model.proofs.DraftLaws.{IsOf, drafted_is, drafts_are, put_keeps}
 use Rattle.nb_model.proofs.DropTurns.{join_given}
 use Rattle.nb_model.proofs.NeatLaws.{all_go, all_both}
-use Rattle.nb_model.proofs.NeedLaws.{HasScnPage}
 use Rattle.nb_model.proofs.RoomLaws.{in_chain, chain_owner, pages_found, first_found}
 use Rattle.nb_model.proofs.SoundLaws.{all_at, header_kind, scn_place_of}
 use Rattle.nb_model.proofs.SpotLaws.{IsSpotOn, spot_within}
@@ -54,6 +53,10 @@ drop_empty x (q ∷ qs) noted e =
     let rest = drop_empty x qs (give_broken x q ++ noted) e in
     let both = both_empty (give_broken x q) noted rest.0 in
     (both.1, (both.0, rest.1))
+
+-- The catalogue begins at page 3, so the database has four pages.
+pub table_least : (x : Image) (table : List ℕ) (spot : Spot) → IsWholeTable x table spot → 3 ≤ length x
+table_least x table spot has = let low : 3 < length x = (in_chain Catalogue x 3 (first_found Catalogue x has.catalogue)).0 in omega (arith, low)
 
 module _ (x : Image) (h : HasHeader x) (shaped : IsShaped x) (table : List ℕ) (spot : Spot) (has : IsWholeTable x table spot) where
   abbrev chain : Chain
@@ -124,7 +127,7 @@ module _ (x : Image) (h : HasHeader x) (shaped : IsShaped x) (table : List ℕ) 
     pub slot_entry : entry_cause x spot.page ≡ None
     slot_entry = no_entry_broken x spot.page empty.0
 
-    entry_there : HasScnPage x spot.page
+    entry_there : HasItsEntry x spot.page
     entry_there e = none_broken x 10 (scn_page_of x spot.page) (sym (ap (λ (t : Bool). elim t as (λ z. List ℕ) [ true ↦ other_kind x 10 (scn_page_of x spot.page) | false ↦ [] ]) e) ∙ empty.0)
 
     abbrev payload : List ℕ

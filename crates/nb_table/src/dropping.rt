@@ -1,5 +1,5 @@
 // A table is dropped.
-ghost use Rattle.std.specs.Prelude.{◌≡◌, ◌≤◌, ◌++◌, ℕ, List, IsTrue, IfOk, Ok, Some, None, length};
+ghost use Rattle.std.specs.Prelude.{◌≡◌, ◌++◌, ℕ, List, IsTrue, IfOk, Ok, Some, None, length};
 ghost use Rattle.std.specs.List.{AllByRecursion};
 ghost use Rattle.nb_fields.specs.Places.{is_page_size};
 ghost use Rattle.nb_change.specs.Changes.{NoNames};
@@ -212,7 +212,7 @@ fn drop_rows<H: Host>(
     requires room { length page.old ≡ engine.old.files.page_size }
     requires placed { IsPlaced engine.old.files.page_size rows.now.table.place }
     requires first { rows.now.first ≡ first_in rows.now.table.bytes }
-    ensures tries { (t : Trail) (table : List ℕ) → IsTrue H.tells → IsOpen (H.world host.old) engine.old t → 5 ≤ length t.base.image → IsOfSize (image_size t.base.image) t.base.image → IsWholeTable t.base.image table (spot_of rows.now.table)
+    ensures tries { (t : Trail) (table : List ℕ) → IsTrue H.tells → IsOpen (H.world host.old) engine.old t → IsOfSize (image_size t.base.image) t.base.image → IsWholeTable t.base.image table (spot_of rows.now.table)
         → Tries result (H.world host.old) (H.world host.new) engine.old engine.new t (not_of_form (dropped t.base.image (spot_of rows.now.table))) (dropped t.base.image (spot_of rows.now.table)).strokes }
     ensures stays_open { (t : Trail) → IsTrue H.tells → IsOpen (H.world host.old) engine.old t → StaysOpen result (H.world host.old) (H.world host.new) engine.old engine.new t NoNames }
     ensures goes { Goes engine.old engine.new }
@@ -233,7 +233,7 @@ pub fn drop_table<H: Host>(
     engine: &mut Engine,
     table: &TableName,
 ) -> Result<(), Fault>
-    ensures turn { (s : Seen) (t : Trail) → IsTrue H.tells → t.base ≡ s.base → IsOpen (H.world host.old) engine.old t → 5 ≤ length s.base.image → IsOfSize (image_size s.base.image) s.base.image
+    ensures turn { (s : Seen) (t : Trail) → IsTrue H.tells → t.base ≡ s.base → IsOpen (H.world host.old) engine.old t → IsOfSize (image_size s.base.image) s.base.image
         → Does done result (H.world host.old) (H.world host.new) engine.old engine.new t (drop_turn s table.now) }
 
     // Whatever is in the database: only its two files are touched, and it is open behind that.

@@ -1,5 +1,5 @@
 -- A run whose first statement creates its database.
-use Rattle.std.proofs.Common.{◌≡◌, ◌≢◌, ◌⊎◌, inl, inr, ⊎_elim, ℕ, List, [], ◌∷◌, ◌++◌, length, take, true, false, refl, sym, ap, subst, ◌∙◌, arith}
+use Rattle.std.proofs.Common.{◌≡◌, ◌≢◌, inl, inr, ⊎_elim, ℕ, List, [], ◌∷◌, ◌++◌, length, take, true, false, refl, sym, ap, subst, ◌∙◌, arith}
 use Rattle.std.specs.Prelude.{Bool, None, Some, Result, Ok, Err, Contains, IfOk}
 use Rattle.std.proofs.lemmas.Bool.{true≢false}
 use Rattle.std.proofs.lemmas.List.{append-nil, take-append-le, take_all}
@@ -38,7 +38,7 @@ use Rattle.nb_model.proofs.StepsLaws.{acked_steps_none, steps_append, steps_leng
 use Rattle.nb_model.proofs.TrailLaws.{shows_settled}
 use Rattle.nb_model.specs.Well.{IsWell}
 use Rattle.nb_model.proofs.WellLaws.{fresh_well_base}
-use Rattle.nb_base.specs.Beginnings.{CreateLeft}
+use Rattle.nb_base.specs.Beginnings.{CreateLeft, CreateReads}
 use Rattle.nb_base.specs.Open.{OfFiles}
 use Rattle.nb_state.specs.Beginnings.{Creates, CreateAnswers, IsCreated}
 use Rattle.nb_state.specs.Open.{Held, IsOpen}
@@ -130,7 +130,7 @@ module _ (old : World) (account : Account) (given : Given) (plan : Plan) (tellin
 
     making : MayBeGiven given → IsMaking first.now
     making may =
-        begins_making plan askable first.now first.todo (record { header = well.header; scn = well.scn }) well.sound (omega (arith, well.state)) (λ stalled. absurd (omega (arith, stalled, well.state)))
+        begins_making plan askable first.now first.todo {sound = true} (λ is. well.sound) (λ asked. refl) (record { header = well.header; scn = well.scn }) (omega (arith, well.state)) (λ stalled. absurd (omega (arith, stalled, well.state)))
         (subst MayBeGiven (sym first.given_is) may)
       where
         well : IsWell [] (base_now first.now).image
@@ -211,16 +211,16 @@ module _ (old : World) (account : Account) (given : Given) (plan : Plan) (tellin
         }
 
     -- what reads then
-    reads_creating : (mid : World) (n : ℕ) → ((m : List ℕ) → m ≢ name → mid.files m ≡ old.files m) → CreateLeft old name image mid.files → RunReads old mid account (Some first.target) (es n)
+    reads_creating : (mid : World) (n : ℕ) → ((m : List ℕ) → m ≢ name → mid.files m ≡ old.files m) → CreateReads old name image mid.files → RunReads old mid account (Some first.target) (es n)
     unfolding first_created
-    reads_creating mid n beside left = record { others = λ m other none. beside m (λ e. other (inl e)); database = by left }
+    reads_creating mid n beside reads = record { others = λ m other none. beside m (λ e. other (inl e)); database = by reads }
       where
-        half : (is_free_file (mid.files name) ≡ true) ⊎ Leaves old name (mid.files name) → ReadsAsked old mid account (Some first.target) (es n)
-        half made = inr (record { main = inr (refl, made); delta = beside (delta_name name) (no_main name name plain) })
+        none_beside : mid.files (delta_name name) ≡ old.files (delta_name name)
+        none_beside = beside (delta_name name) (no_main name name plain)
 
-        by : CreateLeft old name image mid.files → ReadsAsked old mid account (Some first.target) (es n)
-        by (inl was) = half (inr was)
-        by (inr (inl free)) = half (inl free)
+        by : CreateReads old name image mid.files → ReadsAsked old mid account (Some first.target) (es n)
+        by (inl same) = inr (record { main = inl same; delta = none_beside })
+        by (inr (inl free)) = inr (record { main = inr (refl, free); delta = none_beside })
         by (inr (inr shows)) = inl (
           length (steps_in one),
           subst (λ (t : Trail). StandsIn name t mid.files) (sym (made_seen n)) (shows_settled name (base_of image) (mid.files name) (mid.files (delta_name name)) shows),
@@ -235,12 +235,12 @@ module _ (old : World) (account : Account) (given : Given) (plan : Plan) (tellin
       by true is = first_fails old account given plan telling askable (first is) new e (inl (small is)) (λ n. left_quietly old new account _ _ quiet) (λ n. reads_quiet old new quiet account _ _)
       by false is = taken_fails new e is quiet
 
-  module _ (may : MayBeGiven given) (mid : World) (result : Result Held Fault) (creates : Creates result old mid name image) (cap : IfOk result (λ held. held.cap ≡ cache_asked plan.first)) (reads : (m : List ℕ) → Leaves mid m (mid.files m)) where
+  module _ (may : MayBeGiven given) (mid : World) (result : Result Held Fault) (creates : Creates result old mid name image) (cap : IfOk result (λ held. held.cap ≡ cache_asked plan.first)) where
     creating : (free : is_free_entry (account.entry name) ≡ true) (n : ℕ) → AtEachMoment old mid (Left old account given plan telling askable (first free) n)
     creating free n = weaker old mid _ _ creates.left.moments (left_creating free may n)
 
     reading : (free : is_free_entry (account.entry name) ≡ true) (n : ℕ) → RunReads old mid account (Some (first free).target) (es free n)
-    reading free n = reads_creating free mid n creates.left.others_read (creates.left.now mid.files reads)
+    reading free n = reads_creating free mid n creates.left.others_read creates.reads
 
     pub creates_begins : Beginning old account given plan telling askable mid result
     unfolding first_created

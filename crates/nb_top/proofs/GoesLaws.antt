@@ -30,7 +30,7 @@ use Rattle.nb_top.specs.OneTurn.{OfName, OneTurn, one_turn}
 use Rattle.nb_top.specs.Performed.{GoesTo, KnowsAsked}
 use Rattle.nb_top.specs.Requests.{Request, Deed, Asked, Runs, Does}
 use Rattle.nb_top.specs.Served.{IsTaken, TurnsTo, reply_told, status_told}
-use Rattle.nb_top.specs.Touched.{IsWholeAsked, IsWholeToMerge, MayTouch, OfAsked, TouchesOnly}
+use Rattle.nb_top.specs.Touched.{MayTouch, OfAsked, TouchesOnly}
 use Rattle.nb_top.proofs.ByTurnsLaws.{early_err, run_quietly, run_undone}
 use Rattle.nb_top.proofs.JobRuns.{job_refused, performs_device, performs_ended, performs_memory, undone_goes}
 use Rattle.nb_top.proofs.QuietRuns.{foretold_from, knows_quietly, quiet_gave, runs_quietly}
@@ -55,9 +55,9 @@ goes_quietly world tells old mid new asked result quiet goes = record {
   grows = λ account told knows.
       grows_joined (world old) (world mid) (world new) (grows_none (world old) (world mid) (quiet_gave (world old) (world mid) quiet))
       (goes.grows account told (knows_quietly (world old) (world mid) account asked quiet knows));
-  touches = λ told whole.
+  touches = λ told.
       touches_then (world old) (world mid) (world new) asked (leaves_quiet (world old) (world mid) (MayTouch asked) quiet) result asked (λ m may. may)
-      (goes.touches told (subst (λ (files : Files). IsWholeToMerge files asked) (sym quiet.still.files) whole));
+      (goes.touches told);
 }
 
 -- What is asked for is another thing, where the host tells, of which all of this is known.
@@ -69,8 +69,8 @@ goes_same world tells old new asked known result same goes = record {
         ((goes.does told).1 account given (subst (λ (a : Asked). KnowsAsked (world old).files account a) (same told) knows) may foretold),
   );
   grows = λ account told knows. goes.grows account told (subst (λ (a : Asked). KnowsAsked (world old).files account a) (same told) knows);
-  touches = λ told whole. subst (λ (a : Asked). TouchesOnly result (world old) (world new) (OfAsked (world old).files a)) (sym (same told))
-      (goes.touches told (subst (λ (a : Asked). IsWholeAsked (world old).files a) (same told) whole));
+  touches = λ told. subst (λ (a : Asked). TouchesOnly result (world old) (world new) (OfAsked (world old).files a)) (sym (same told))
+      (goes.touches told);
 }
 
 -- nothing was done
@@ -84,7 +84,7 @@ goes_undone world tells old new asked result can failed quiet = record {
     },
   );
   grows = λ account told knows. grows_none (world old) (world new) (quiet_gave (world old) (world new) quiet);
-  touches = λ told whole. only_err (world old) (world new) (OfAsked (world old).files asked) result failed (leaves_quiet (world old) (world new) (OfAsked (world old).files asked) quiet);
+  touches = λ told. only_err (world old) (world new) (OfAsked (world old).files asked) result failed (leaves_quiet (world old) (world new) (OfAsked (world old).files asked) quiet);
 }
   where
     turns_undone : (account : Account) (given : Given) (a : Asked) → AskedByTurns world (EndsEarly result) old new a account given
@@ -104,7 +104,7 @@ goes_refused world tells old new asked refusal result is begun timely reads gave
     },
   );
   grows = λ account tell knows. grows_none (world old) (world new) gave;
-  touches = λ tell whole. only_refused (world old) (world old) (world new) (MayTouch asked) (leaves_quiet (world old) (world old) (MayTouch asked) (quiet_begun (world old) begun)) timely (reads tell) result 0 refusal (says tell);
+  touches = λ tell. only_refused (world old) (world old) (world new) (MayTouch asked) (leaves_quiet (world old) (world old) (MayTouch asked) (quiet_begun (world old) begun)) timely (reads tell) result 0 refusal (says tell);
 }
 
 -- a job of one turn
@@ -114,7 +114,7 @@ pub turn_goes : {H : Type 0} (world : H → World) (tells : Bool) (old new : H) 
 turn_goes world tells old new deed result turns touches = record {
   does = λ told. ([], λ account given knows may foretold. record { whole = turns account told knows; turns = tt });
   grows = λ account told knows. grows_none (world old) (world new) (turns account told knows).gave;
-  touches = λ told whole. touches told;
+  touches = λ told. touches told;
 }
 
 -- Its turn was taken.
@@ -163,9 +163,9 @@ goes_turn_quietly world tells old mid new deed result quiet goes = record {
   );
   grows = λ account told knows.
       grows_joined (world old) (world mid) (world new) (grows_none (world old) (world mid) (quiet_gave (world old) (world mid) quiet)) (goes.grows account told (subst (λ (f : Files). (job f).knows account) (sym same) knows));
-  touches = λ told whole.
+  touches = λ told.
       touches_quietly (world old) (world mid) (world new) (OfName (job (world old).files).name) result (leaves_quiet (world old) (world mid) (OfName (job (world old).files).name) quiet)
-      (subst (λ (f : Files). TouchesOnly result (world mid) (world new) (OfName (job f).name)) same (goes.touches told whole));
+      (subst (λ (f : Files). TouchesOnly result (world mid) (world new) (OfName (job f).name)) same (goes.touches told));
 }
   where
     job : Files → OneTurn
@@ -198,7 +198,7 @@ module _ {H : Type 0} (world : H → World) (tells : Bool) (old new : H) (asked 
           record { whole = performs_device (world old) (world new) account given may (before told) timely (reads told) asked can stop done.whole; turns = done.turns },
     );
     grows = goes.grows;
-    touches = λ told whole. only_stopped (world old) (world new) (OfAsked (world old).files asked) stop Device refl (goes.touches told whole);
+    touches = λ told. only_stopped (world old) (world new) (OfAsked (world old).files asked) stop Device refl (goes.touches told);
   }
 
   pub run_memory : (stop : Stop) → Goes world tells (Err stop) old new asked → IsRun world tells Memory old new asked
@@ -210,5 +210,5 @@ module _ {H : Type 0} (world : H → World) (tells : Bool) (old new : H) (asked 
           record { whole = performs_memory (world old) (world new) account given may (before told) timely (reads told) asked can stop done.whole; turns = done.turns },
     );
     grows = goes.grows;
-    touches = λ told whole. only_stopped (world old) (world new) (OfAsked (world old).files asked) stop Memory refl (goes.touches told whole);
+    touches = λ told. only_stopped (world old) (world new) (OfAsked (world old).files asked) stop Memory refl (goes.touches told);
   }

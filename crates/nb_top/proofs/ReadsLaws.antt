@@ -1,11 +1,8 @@
 -- What reads behind a run.
-use Rattle.std.proofs.Common.{◌≡◌, ◌⊎◌, inl, inr, ⊎_elim, ℕ, List, ap, ◌∙◌}
-use Rattle.std.specs.Prelude.{Option, None, Some, true}
-use Rattle.nb_fields.specs.Free.{is_free_file}
-use Rattle.nb_host.specs.Files.{File, Files}
+use Rattle.std.proofs.Common.{◌≡◌, inl, inr, ⊎_elim, ℕ, List, ap, ◌∙◌}
+use Rattle.std.specs.Prelude.{Option, None, Some}
+use Rattle.nb_host.specs.Files.{Files}
 use Rattle.nb_host.specs.World.{World}
-use Rattle.nb_host.specs.Crash.{Leaves}
-use Rattle.nb_change.proofs.MomentLaws.{left_before}
 use Rattle.nb_page.specs.Quiet.{Quiet}
 use Rattle.nb_model.specs.Account.{Account}
 use Rattle.nb_model.specs.Owner.{delta_name}
@@ -29,14 +26,11 @@ module _ (old mid new : World) (quiet : Quiet old mid) (account : Account) (targ
   before : (m : List ℕ) → mid.files m ≡ old.files m
   before m = ap (λ (f : Files). f m) quiet.still.files
 
-  half : (name : List ℕ) (file : File) → (is_free_file file ≡ true) ⊎ Leaves mid name file → (is_free_file file ≡ true) ⊎ Leaves old name file
-  half name file = ⊎_elim inl (λ left. inr (left_before old mid _ quiet.still.left name file tt left))
-
   asked_then : (t : Option Target) → ReadsAsked mid new account t events → ReadsAsked old new account t events
   asked_then None is = tt
   asked_then (Some t) (inl stands) = inl stands
   asked_then (Some t) (inr unbegun) = inr (record {
-    main = ⊎_elim (λ is. inl (is ∙ before t.name)) (λ made. inr (made.0, half t.name (new.files t.name) made.1)) unbegun.main;
+    main = ⊎_elim (λ is. inl (is ∙ before t.name)) inr unbegun.main;
     delta = unbegun.delta ∙ before (delta_name t.name);
   })
 

@@ -4,7 +4,6 @@ use Rattle.std.specs.Prelude.{Result, Ok, Err, IfOk, IfErr}
 use Rattle.std.specs.Result.{IsErr}
 use Rattle.nb_fields.specs.Fresh.{fresh}
 use Rattle.nb_host.specs.World.{World}
-use Rattle.nb_host.specs.Crash.{Leaves}
 use Rattle.nb_host.specs.declared.faults.Fault.{Fault}
 use Rattle.nb_host.specs.declared.refusals.Refusal.{Refusal}
 use Rattle.nb_change.specs.Gave.{GaveNothing}
@@ -19,7 +18,7 @@ use Rattle.nb_script.specs.Asked.{IsFirst, IsAskable}
 use Rattle.nb_script.specs.Scripts.{Plan}
 use Rattle.nb_session.specs.declared.stop.Stop.{Stop}
 use Rattle.nb_top.specs.declared.status.Status.{Status}
-use Rattle.nb_top.specs.Performed.{cache_asked, RunsTo, Knows, KnowsOpened, MayBeGiven}
+use Rattle.nb_top.specs.Performed.{asks_levels, cache_asked, RunsTo, Knows, KnowsOpened, MayBeGiven}
 use Rattle.nb_top.specs.declared.telling.Telling.{Telling}
 use Rattle.nb_top.specs.Requests.{ToRun}
 use Rattle.nb_top.proofs.Beginnings.{Beginning}
@@ -56,8 +55,8 @@ first_opens (OpenDb name cache) first = opens name cache refl
 first_opens other first = absurd (false_true first.opens)
 
 module _ (old : World) (account : Account) (given : Given) (plan : Plan) (telling : Telling) (askable : IsAskable plan) (knows : Knows old.files account (Ok (ToRun plan telling))) where
-  knows_opened : (first : Statement) → plan.first ≡ first → KnowsOpened old.files account first
-  knows_opened first is = subst (λ (s : Statement). KnowsOpened old.files account s) is knows.1
+  knows_opened : (first : Statement) → plan.first ≡ first → KnowsOpened old.files account (asks_levels plan) first
+  knows_opened first is = subst (λ (s : Statement). KnowsOpened old.files account (asks_levels plan) s) is knows.1
 
   -- nothing happened
   pub script_unbegun : (new : World) (e : Stop) → Quiet old new → RunsTo (Err e) old new (Ok (ToRun plan telling)) account given
@@ -84,10 +83,9 @@ module _ (old : World) (account : Account) (given : Given) (plan : Plan) (tellin
       → ((name : List ℕ) (cache : ℕ) → plan.first ≡ OpenDb name cache → Quiet old mid)
       → IfOk result (λ held. held.scn < 4294967296)
       → IfOk result (λ held. held.cap ≡ cache_asked plan.first)
-      → ((m : List ℕ) → Leaves mid m (mid.files m))
       → Beginning old account given plan telling askable mid result
-  script_begins may mid result creating attaching quiet scn cap reads = by (first_opens plan.first askable.first)
+  script_begins may mid result creating attaching quiet scn cap = by (first_opens plan.first askable.first)
     where
       by : Opens plan.first → Beginning old account given plan telling askable mid result
-      by (creates name size raw cache is) = creates_begins old account given plan telling askable name size raw cache is knows.0 may mid result (creating name size raw cache is) cap reads
+      by (creates name size raw cache is) = creates_begins old account given plan telling askable name size raw cache is knows.0 may mid result (creating name size raw cache is) cap
       by (opens name cache is) = attaches_begins old account given plan telling askable name cache is (knows_opened (OpenDb name cache) is) knows.0 may mid result (attaching name cache is) (quiet name cache is) scn cap

@@ -17,7 +17,6 @@ use Rattle.nb_model.specs.declared.statement.Statement.TheVariants.{CreateDb, Op
 use Rattle.nb_model.specs.Generated.{generated}
 use Rattle.nb_model.specs.Lines.{line_text}
 use Rattle.nb_model.specs.Trail.{settled}
-use Rattle.nb_model.proofs.FreshImageLaws.{fresh_no_zeros}
 use Rattle.nb_base.specs.Open.{OfFiles}
 use Rattle.nb_state.specs.Beginnings.{Attaches, Creates}
 use Rattle.nb_state.specs.Open.{Held, name_of}
@@ -29,7 +28,7 @@ use Rattle.nb_script.specs.Scripts.{Plan, script_of}
 use Rattle.nb_session.specs.MadeNames.{ScriptMakes}
 use Rattle.nb_session.specs.Others.{LeavesOthers, SaysRefusal}
 use Rattle.nb_session.specs.Says.{SaysLine}
-use Rattle.nb_session.specs.StillOpen.{IsStillOpen, ScriptStays, script_merges}
+use Rattle.nb_session.specs.StillOpen.{IsStillOpen, ScriptStays}
 use Rattle.nb_session.specs.declared.stop.Stop.{Stop}
 use Rattle.nb_session.proofs.OthersLaws.{leaves_among, leaves_changes, leaves_line, leaves_quiet, leaves_then, refusal_said, then_refusal}
 use Rattle.nb_top.specs.declared.status.Status.{Status}
@@ -38,7 +37,7 @@ use Rattle.nb_top.specs.declared.telling.Telling.{Telling}
 use Rattle.nb_top.specs.Numbers.{number_of}
 use Rattle.nb_top.specs.Performed.{Target, target_named}
 use Rattle.nb_top.specs.Requests.{Request, ToRun, ToGenerate}
-use Rattle.nb_top.specs.Touched.{IsWholeToMerge, MayTouch, OfTarget, OpensWhole, ReadMakes, TouchesAsked, TouchesOnly, ends_refused}
+use Rattle.nb_top.specs.Touched.{MayTouch, OfTarget, ReadMakes, TouchesAsked, TouchesOnly, ends_refused}
 use Rattle.nb_top.proofs.ScriptRuns.{Opens, creates, opens}
 
 none_ok : {T E : Type 0} (result : Result T E) (P : T → Type 0) → IsErr result → IfOk result P
@@ -111,14 +110,14 @@ module _ (old new : World) (a : Held) (plan : Plan) where
     says = none_ok result _ failed;
   }
     where
-      no_value : (r : Result Bool Stop) → IsErr r → OnOk r (IsStillOpen (script_merges plan) new a)
+      no_value : (r : Result Bool Stop) → IsErr r → OnOk r (IsStillOpen new a)
       no_value (Ok value) is = absurd (cc is)
       no_value (Err e) is = tt
 
   -- it was
   module _ (mid : World) (b : Held) where
-    pub still_said : (may_merge : Bool) {T E : Type 0} (said : Result T E) (line : List ℕ) → SaysLine said old mid line → IsStillOpen may_merge old a → IsStillOpen may_merge mid a
-    still_said may_merge said line says still = record { trail = still.trail; opened = still_open old mid a still.trail says.still still.opened; no_zeros = still.no_zeros }
+    pub still_said : {T E : Type 0} (said : Result T E) (line : List ℕ) → SaysLine said old mid line → IsStillOpen old a → IsStillOpen mid a
+    still_said said line says still = record { trail = still.trail; opened = still_open old mid a still.trail says.still still.opened }
 
     pub stays_said : {T E : Type 0} (said : Result T E) (line : List ℕ) (result : Result Bool Stop) → IsTimely mid → LeavesAll mid mid.files → SaysLine said old mid line → ScriptStays result mid new a b plan → ScriptStays result old new a b plan
     stays_said said line result timely reads says stays = record {
@@ -155,10 +154,10 @@ module _ (old mid : World) (plan : Plan) (telling : Telling) (first : Opens plan
 
   -- What it holds then is open, and of the database that is asked for.
   record IsBegun (held : Held) : Type 0 where
-    still : IsStillOpen (script_merges plan) mid held
+    still : IsStillOpen mid held
     among : (m : List ℕ) → OfFilesOr (name_of held) (ScriptMakes plan) m → MayTouch asked m
 
-  module _ (held : Held) (done : result ≡ Ok held) (whole : IsWholeToMerge old.files asked) where
+  module _ (held : Held) (done : result ≡ Ok held) where
     -- of both files of that name, and of those that the script makes
     by_name : (target : Target) → target_named plan.first ≡ Some target → name_of held ≡ target.name → (m : List ℕ) → OfFilesOr (name_of held) (ScriptMakes plan) m → MayTouch asked m
     by_name target is named m (inl own) = of_target target m is (subst (λ (n : List ℕ). OfFiles n m) named own)
@@ -171,21 +170,17 @@ module _ (old mid : World) (plan : Plan) (telling : Telling) (first : Opens plan
         by (creates name size raw cache is) =
             let created = (subst (λ (r : Result Held Fault). Creates r old mid name (fresh size raw)) done (creating name size raw cache is)).answer in
             record {
-              still = record { trail = settled _; opened = created.opened; no_zeros = λ may. fresh_no_zeros size raw };
+              still = record { trail = settled _; opened = created.opened };
               among = by_name (record { name = name; creates = true }) (ap target_named is) created.named;
             }
         by (opens name cache is) =
             let attached = subst (λ (r : Result Held Fault). Attaches r old mid name) done (attaching name cache is) in
             record {
-              still = record {
-                trail = settled attached.base;
-                opened = attached.opened;
-                no_zeros = λ may. subst (λ (s : Statement). OpensWhole old.files s) is (whole may) attached.base attached.stands;
-              };
+              still = record { trail = settled attached.base; opened = attached.opened };
               among = by_name (record { name = name; creates = false }) (ap target_named is) attached.named;
             }
 
-    pub begun_still : IsStillOpen (script_merges plan) mid held
+    pub begun_still : IsStillOpen mid held
     begun_still = begun.still
 
     -- its sessions take their turns
@@ -215,10 +210,6 @@ module _ (old mid : World) (plan : Plan) (telling : Telling) (first : Opens plan
 module _ (number : ℕ) (name : List ℕ) (plan : Plan) (read : script_of (generated number) ≡ Ok plan) where
   first_same : plan.first ≡ generated_first
   first_same = creates_its_own number plan read
-
-  -- it opens no database
-  pub generated_whole : (files : Files) (telling : Telling) → IsWholeToMerge files (Ok (ToRun plan telling))
-  generated_whole files telling may = subst (λ (s : Statement). OpensWhole files s) (sym first_same) tt
 
   -- what it may touch the job may
   pub generated_among : (telling : Telling) (m : List ℕ) → MayTouch (Ok (ToRun plan telling)) m → MayTouch (Ok (ToGenerate number name)) m

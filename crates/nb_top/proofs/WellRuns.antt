@@ -1,12 +1,12 @@
 -- A run is well behind its first strokes: what was seen of its database is well along all further steps.
-use Rattle.std.proofs.Common.{◌≡◌, ◌≢◌, ◌⊎◌, inl, ℕ, ◌-◌, ◌+◌, ◌≤◌, List, [], ◌∷◌, ◌++◌, length, take, drop, true, sym, ap, subst, ◌∙◌, arith, take-append-drop}
-use Rattle.std.specs.Prelude.{Option, Some, Contains}
+use Rattle.std.proofs.Common.{◌≡◌, ◌≢◌, ◌⊎◌, inl, ℕ, ◌-◌, ◌+◌, ◌≤◌, List, [], ◌∷◌, ◌++◌, length, take, drop, true, refl, sym, ap, subst, ◌∙◌, arith, take-append-drop}
+use Rattle.std.specs.Prelude.{Option, Some, Contains, true}
 use Rattle.std.proofs.Math.Seq.{take-append-add}
 use Rattle.std.proofs.lemmas.List.Elements.{Contains-append_left}
 use Rattle.nb_fields.specs.Header.{is_header}
 use Rattle.nb_model.specs.Account.{Kept, Base, IsBase, Account}
 use Rattle.nb_model.specs.Causes.{is_free_entry}
-use Rattle.nb_model.specs.Going.{IsMaking}
+use Rattle.nb_model.specs.Going.{IsGoing, IsMaking}
 use Rattle.nb_model.specs.Image.{first_page, image_state}
 use Rattle.nb_model.specs.Making.{MadeFile, IsOfKept, IsNoBackup, under_way}
 use Rattle.nb_model.specs.Outcomes.{Given}
@@ -30,7 +30,7 @@ use Rattle.nb_model.proofs.StrokeLaws.{records_after-append}
 use Rattle.nb_script.specs.Asked.{IsAskable}
 use Rattle.nb_script.specs.Scripts.{Plan}
 use Rattle.nb_top.specs.Performed.{MayBeGiven, seen_after}
-use Rattle.nb_top.proofs.FirstReady.{begins_making, plain_play}
+use Rattle.nb_top.proofs.FirstReady.{begins_going, begins_making, plain_play}
 use Rattle.nb_top.proofs.MadeStand.{IsNewFile}
 
 -- the bytes are those of a record, or no job takes them for a backup
@@ -101,18 +101,29 @@ pub record IsWellBehind (account : Account) (name : List ℕ) (b : Base) (rest :
 module _ (account : Account) (plan : Plan) (askable : IsAskable plan) (o : Opening) (now : Now) (name : List ℕ) (b : Base) (goes_on : o.now ≡ Some now) (name_is : now.name ≡ name) (account_is : now.account ≡ o.account)
     (base : base_now now ≡ b) (here : o.account.entry name ≡ IsBase b) (others : (n : List ℕ) → n ≢ name → o.account.entry n ≡ account.entry n) (kept : o.account.kept ≡ account.kept)
     (todo : now.todo ≡ begun plan.sessions) (sixteen : MayBeGiven now.given) (well : IsWellTrail account.kept (settled b)) where
+  sure : true ≡ true → IsSoundImage (base_now now).image
+  sure is = subst (λ (x : Base). IsSoundImage x.image) (sym base) well.base.well.sound
+
+  header_now : HasHeader (base_now now).image
+  header_now = subst (λ (x : Base). HasHeader x.image) (sym base) (record { header = well.base.well.header; scn = well.base.well.scn })
+
+  state_now : image_state (base_now now).image ≤ 2
+  state_now = subst (λ (x : Base). image_state x.image ≤ 2) (sym base) well.base.state
+
   -- in the stalled state the control block is that of the frozen image, so the turns go on
-  making : IsMaking now
-  making =
-      begins_making plan askable now todo (subst (λ (x : Base). HasHeader x.image) (sym base) (record { header = well.base.well.header; scn = well.base.well.scn }))
-      (subst (λ (x : Base). IsSoundImage x.image) (sym base) well.base.well.sound) (subst (λ (x : Base). image_state x.image ≤ 2) (sym base) well.base.state)
-      (subst (λ (x : Base). image_state x.image ≡ 1 → (is_header (first_page x.frozen) ≡ true) × (image_state x.frozen ≡ 1)) (sym base)
+  frozen_now : image_state (base_now now).image ≡ 1 → (is_header (first_page (base_now now).frozen) ≡ true) × (image_state (base_now now).frozen ≡ 1)
+  frozen_now = subst (λ (x : Base). image_state x.image ≡ 1 → (is_header (first_page x.frozen) ≡ true) × (image_state x.frozen ≡ 1)) (sym base)
       (λ stalled.
       let front = (well.over stalled).front in (
         sym (same-header (first_page b.image) (first_page b.frozen) front) ∙ well.base.well.header,
         sym (same-number (first_page b.image) (first_page b.frozen) front 22 2 (omega arith)) ∙ stalled,
-      )))
-      sixteen
+      ))
+
+  going : IsGoing true now
+  going = begins_going plan askable now todo sure (λ asked. refl) header_now state_now frozen_now sixteen
+
+  making : IsMaking now
+  making = begins_making plan askable now todo sure (λ asked. refl) header_now state_now frozen_now sixteen
 
   recorded : AllRecorded account.kept (settled b) now
   recorded = first_recorded account.kept (settled b) now plan.sessions todo
@@ -126,7 +137,7 @@ module _ (account : Account) (plan : Plan) (askable : IsAskable plan) (o : Openi
       record {
         new = record { plain = plain_play plan askable now todo making order file there; free = sym (ap is_free_entry (ap (λ (a : Account). a.entry file.0) account_is ∙ others file.0 apart)) ∙ free };
         apart = apart;
-        whole = inl (play_of_kept order account.kept (settled b) now (sym base) well making.going making.named recorded file there);
+        whole = inl (play_of_kept order account.kept (settled b) now (sym base) well going making.named recorded file there);
       }
 
   played_well : (order : List ℕ) → IsWellBehind account name b (play order now).0 (play order now).1.account
@@ -136,7 +147,7 @@ module _ (account : Account) (plan : Plan) (askable : IsAskable plan) (o : Openi
       let made : List MadeFile = files_made es in
       let seen : (after_steps (settled b) (steps_of es)).base ≡ base_now (play order now).1 = steps_seen (settled b) es ∙ ap (λ (x : Base). base_after x (strokes_of es)) (sym base) ∙ sym (play_is order now) in
       record {
-        along = (well, tt, play_along order account.kept (settled b) now (sym base) well making.going making.named recorded);
+        along = (well, tt, play_along order account.kept (settled b) now (sym base) well going making.named recorded);
         made = made_well order;
         grown = subst (λ (x : Base). IsGrown name x (records_after b (strokes_in (steps_of es))) made account (play order now).1.account) (sym seen)
             (subst (λ ss. IsGrown name (base_now (play order now).1) (records_after b ss) made account (play order now).1.account) (sym (strokes_in_steps es))

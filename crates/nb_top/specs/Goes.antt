@@ -10,7 +10,7 @@ use Rattle.nb_top.specs.declared.status.Status.{Status}
 use Rattle.nb_top.specs.ByTurns.{AskedByTurns, EndsEarly}
 use Rattle.nb_top.specs.Performed.{GoesTo, KnowsAsked, MayBeGiven, Performs}
 use Rattle.nb_top.specs.Requests.{Asked}
-use Rattle.nb_top.specs.Touched.{IsWholeAsked, OfAsked, TouchesOnly}
+use Rattle.nb_top.specs.Touched.{OfAsked, TouchesOnly}
 
 -- It was done: what is said of all of it, and of each turn.
 pub record IsDone {H : Type 0} (world : H → World) (result : Result Status Stop) (old new : H) (asked : Asked) (account : Account) (given : Given) (done : Type 0) : Type 0 where
@@ -26,7 +26,7 @@ pub record DoesAsked {H : Type 0} (world : H → World) (tells : Bool) (result :
   -- there are such GUIDs and times
   pub grows : (account : Account) → IsTrue tells → KnowsAsked (world old).files account asked → Grows (world old) (world new)
   -- whatever stands in the files, and with no account
-  pub touches : IsTrue tells → IsWholeAsked (world old).files asked → TouchesOnly result (world old) (world new) (OfAsked (world old).files asked)
+  pub touches : IsTrue tells → TouchesOnly result (world old) (world new) (OfAsked (world old).files asked)
 
 -- what is done within a run
 abbrev pub Goes : {H : Type 0} → (world : H → World) → (tells : Bool) → (result : Result Status Stop) → (old new : H) → Asked → Type 0

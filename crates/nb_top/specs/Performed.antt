@@ -9,7 +9,7 @@
 -- one at each moment, with the records of the backups that have begun by then.
 use Rattle.std.specs.Prelude.{◌≡◌, ◌≢◌, ◌⊎◌, ℕ, ◌<◌, ◌≤◌, List, [], ◌∷◌, ◌++◌, length, take, Bool, true, false, ◌&&◌, Option, None, Some, Result, Ok, Err, IfOk}
 use Rattle.std.specs.Global.{Vec}
-use Rattle.std.specs.List.{AllByRecursion, list_all}
+use Rattle.std.specs.List.{AllByRecursion, list_all, list_any}
 use Rattle.nb_fields.specs.Free.{is_free_file}
 use Rattle.nb_fields.specs.Fresh.{fresh_count}
 use Rattle.nb_host.specs.Files.{File, Files}
@@ -30,11 +30,12 @@ use Rattle.nb_model.specs.declared.statement.Statement.TheVariants.{CreateDb, Op
 use Rattle.nb_model.specs.Account.{Kept, Base, IsBase, Plain, Account, with_entry}
 use Rattle.nb_model.specs.Causes.{is_free_entry, not_free}
 use Rattle.nb_model.specs.Gifts.{WasGiven}
+use Rattle.nb_model.specs.Going.{goes_by_entries}
 use Rattle.nb_model.specs.Image.{image_scn}
 use Rattle.nb_model.specs.NewGuids.{AreNew, guids_in}
 use Rattle.nb_model.specs.Generated.{generated, last_or_refusal, said_by_generated}
 use Rattle.nb_model.specs.Jobs.{all_sized, quiet, refusal_in}
-use Rattle.nb_model.specs.Outcomes.{Given}
+use Rattle.nb_model.specs.Outcomes.{Begins, Given}
 use Rattle.nb_model.specs.Output.{output, status_of}
 use Rattle.nb_model.specs.Owner.{delta_name, entry_in}
 use Rattle.nb_model.specs.Making.{IsNoneOf}
@@ -182,24 +183,28 @@ abbrev pub target_of : Result Request Refusal → List Event → Option Target
 target_of (Err refusal) events = None
 target_of (Ok request) events = elim (begins_refused (run_in request events)) [ true ↦ None | false ↦ target_asked request ]
 
--- The account has under the name what the files hold there, and the inventories of a database agree with its pages.
-pub record HoldsUnder (files : Files) (account : Account) (name : List ℕ) : Type 0 where
+-- whether a statement of the script may begin a level of 1 to 9, which takes pages by their SCN entries
+abbrev pub asks_levels : Plan → Bool
+asks_levels plan = list_any (λ (statements : List Statement). list_any (λ (x : Statement). goes_by_entries (Begins x)) statements) plan.sessions
+
+-- The account has under the name what the files hold there. Where a level of 1 to 9 may come, the inventories of a database agree with its pages.
+pub record HoldsUnder (files : Files) (account : Account) (levels : Bool) (name : List ℕ) : Type 0 where
   pub same : account.entry name ≡ entry_in files name
-  pub sound : (b : Base) → account.entry name ≡ IsBase b → IsSoundImage b.image
+  pub sound : levels ≡ true → (b : Base) → account.entry name ≡ IsBase b → IsSoundImage b.image
 
 -- of each name that a database or a backup may have the account knows whether it is free
 abbrev pub KnowsNames : Files → Account → Type 0
 KnowsNames files account = (name : List ℕ) → is_delta name ≡ false → is_free_name files name ≡ is_free_entry (account.entry name)
 
 -- of a database that is opened it has what the files hold
-abbrev pub KnowsOpened : Files → Account → (first : Statement) → Type 0
-KnowsOpened files account (OpenDb name cache) = HoldsUnder files account name
-KnowsOpened files account other = Unit {0}
+abbrev pub KnowsOpened : Files → Account → (levels : Bool) → (first : Statement) → Type 0
+KnowsOpened files account levels (OpenDb name cache) = HoldsUnder files account levels name
+KnowsOpened files account levels other = Unit {0}
 
 -- A run asks the account for what the files tell: whether names are free, and for the database that it opens.
 abbrev pub Knows : Files → Account → Result Request Refusal → Type 0
 Knows files account (Err refusal) = Unit {0}
-Knows files account (Ok (ToRun plan telling)) = KnowsNames files account × KnowsOpened files account plan.first
+Knows files account (Ok (ToRun plan telling)) = KnowsNames files account × KnowsOpened files account (asks_levels plan) plan.first
 Knows files account (Ok (ToGenerate number name)) = KnowsNames files account
 
 -- the name isn't that of the database, nor of its difference file
@@ -285,9 +290,9 @@ pub record Finished (status : Status) (old new : World) (account : Account) (tar
   pub guids : left.guids ≢ [] → new.guids ≡ old.guids ++ guids_in (strokes_of events)
 
 -- The run hasn't begun to change its database: both files read as before. Only where the run creates the database, its main file may also
--- be one whose name is free, or one of those that a stop would have left before.
+-- be one whose name is free.
 pub record ReadsUnbegun (old new : World) (target : Target) : Type 0 where
-  pub main : (new.files target.name ≡ old.files target.name) ⊎ ((target.creates ≡ true) × ((is_free_file (new.files target.name) ≡ true) ⊎ Leaves old target.name (new.files target.name)))
+  pub main : (new.files target.name ≡ old.files target.name) ⊎ ((target.creates ≡ true) × (is_free_file (new.files target.name) ≡ true))
   pub delta : new.files (delta_name target.name) ≡ old.files (delta_name target.name)
 
 -- The files as they read hold what may be left of what was seen of the database behind some of the steps, or the run hasn't begun.
@@ -352,6 +357,11 @@ pub record PerformsRun (status : Status) (old new : World) (asked : Result Reque
   pub after : IsSure old account events → StandsAfter old new account (target_of asked events) events
   pub finished : status ≢ Device → status ≢ Memory → Finished status old new account (target_of asked events) events given left
   pub stands : status ≢ Device → status ≢ Memory → IsSure old account events → StandsFor new last
+
+-- a level of 1 to 9 may come
+abbrev pub levels_asked : Asked → Bool
+levels_asked (Runs (Ok (ToRun plan telling))) = asks_levels plan
+levels_asked other = false
 
 -- What is asked for asks the account for what the files tell.
 abbrev pub KnowsAsked : Files → Account → Asked → Type 0

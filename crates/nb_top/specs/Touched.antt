@@ -1,23 +1,14 @@
 -- What a run leaves alone, whatever stands in the files.
---
--- A page of zeros in the main file is no page of the database there, so at the end of a merge such a page would be none. Where a statement of the run
--- ends in a merge, it is asked that no page of the database that it opens is all zeros. One that it creates has none.
 use Rattle.std.specs.Prelude.{◌≡◌, ◌⊎◌, Bool, true, false, Option, None, Some, Result, Ok, Err, IfOk}
 use Rattle.nb_host.specs.Files.{Files}
 use Rattle.nb_host.specs.World.{World}
 use Rattle.nb_host.specs.declared.refusals.Refusal.{Refusal}
 use Rattle.nb_change.specs.Changes.{Names}
-use Rattle.nb_model.specs.declared.statement.Statement.{Statement}
-use Rattle.nb_model.specs.declared.statement.Statement.TheVariants.{OpenDb}
-use Rattle.nb_model.specs.Account.{Base}
 use Rattle.nb_model.specs.Generated.{generated}
-use Rattle.nb_model.specs.Sound.{HasNoZeros}
-use Rattle.nb_model.specs.Trail.{ShowsIn}
 use Rattle.nb_base.specs.Open.{OfFiles}
 use Rattle.nb_script.specs.Scripts.{Plan, script_of}
 use Rattle.nb_session.specs.MadeNames.{ScriptMakes}
 use Rattle.nb_session.specs.Others.{LeavesOthers, SaysRefusal}
-use Rattle.nb_session.specs.StillOpen.{script_merges}
 use Rattle.nb_session.specs.declared.stop.Stop.{Stop}
 use Rattle.nb_top.specs.declared.status.Status.{Status}
 use Rattle.nb_top.specs.declared.status.Status.TheVariants.{Refused as RefusedStatus, Usage as UsageStatus}
@@ -45,16 +36,6 @@ abbrev pub MayTouch : Result Request Refusal → Names
 MayTouch (Err refusal) m = ⊥
 MayTouch (Ok request) m = OfTarget (target_asked request) m ⊎ AsksToMake request m
 
--- no page of the database that is opened is all zeros
-abbrev pub OpensWhole : Files → (first : Statement) → Type 0
-OpensWhole files (OpenDb name cache) = (b : Base) → ShowsIn name b files → HasNoZeros b.image
-OpensWhole files other = Unit {0}
-
--- nor where the script ends in a merge
-abbrev pub IsWholeToMerge : Files → Result Request Refusal → Type 0
-IsWholeToMerge files (Ok (ToRun plan telling)) = script_merges plan ≡ true → OpensWhole files plan.first
-IsWholeToMerge files other = Unit {0}
-
 -- a run that ends so has refused something
 abbrev pub ends_refused : Status → Bool
 ends_refused RefusedStatus = true
@@ -75,8 +56,3 @@ TouchesAsked result old new asked = TouchesOnly result old new (MayTouch asked)
 abbrev pub OfAsked : Files → Asked → Names
 OfAsked files (Runs asked) m = MayTouch asked m
 OfAsked files (Does deed) m = OfName (one_turn files deed).name m
-
--- no page of zeros, where a run ends in a merge
-abbrev pub IsWholeAsked : Files → Asked → Type 0
-IsWholeAsked files (Runs asked) = IsWholeToMerge files asked
-IsWholeAsked files (Does deed) = Unit {0}

@@ -300,7 +300,7 @@ pub fn run<H: Host>(alloc: Global, words: &[String], host: &mut H) -> Status
     // Whatever stands in the files, and with no account (`touches`): at each moment, and at the end, no file is other than a stop would have left
     // it before, or reads otherwise, but the two of the database that the words ask for and those that the job is to make: the files of the
     // backups and copies that its statements name, and that of a script which it writes. The answer is Refused or Usage only where a line of a refusal
-    // was said. Where a statement ends in a merge, it is asked that no page of a database that is opened is all zeros.
+    // was said.
     ensures performs { IsRun H.world H.tells result host.old host.new (request_asked (H.world host.old).files (map string_bytes words.now)) }
 {
     let mut broken = None;

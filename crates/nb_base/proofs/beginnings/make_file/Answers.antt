@@ -3,11 +3,14 @@ use Rattle.nb_fields.specs.Fresh.{fresh_page}
 use Rattle.nb_change.proofs.GaveLaws.{silent_gave, nothing_joined}
 use Rattle.nb_model.proofs.FreshImageLaws.{fresh_count-least}
 use Rattle.nb_base.proofs.CreateLaws.{named, rest_begun, far_behind, rest_more}
-use Rattle.nb_base.proofs.MakingLaws.{made, making_begun, page_more, synced, synced_whole, rest_kept, first_page, settled}
+use Rattle.nb_base.proofs.MakingLaws.{made, made_reads, making_reads, making_begun, page_more, synced, synced_reads, synced_whole, rest_kept, first_page, first_page_reads, settled}
 use Rattle.nb_base.proofs.beginnings.make_file.Goals as goal
 
 pub returns-in_err-make-clause-left : goal.returns-in_err-make-clause-left
 returns-in_err-make-clause-left g c tells = let make = c.make.ensures in made _ _ _ _ _ _ tells (g.met.H.Host.timely _) make.files make.log make.time
+
+pub returns-in_err-make-clause-reads : goal.returns-in_err-make-clause-reads
+returns-in_err-make-clause-reads g c tells = made_reads _ _ _ _ _ _ tells c.make.ensures.files
 
 pub loop-number-init : goal.loop-number-init
 loop-number-init g c =
@@ -26,6 +29,13 @@ returns-in_err-write_page-clause-left g c tells =
     let far = far_behind _ _ c.requires.size number _ page_is c.loop-number.auto.number in
     let write = c.write_page.ensures in (page_more _ _ _ _ _ _ _ _ _ tells far (c.loop-number.invariant.making tells) write.files write.log write.time).so_far
 
+pub returns-in_err-write_page-clause-reads : goal.returns-in_err-write_page-clause-reads
+returns-in_err-write_page-clause-reads g c tells =
+    let number = c.loop-number.number in
+    let page_is = c.fresh.ensures.image ∙ ap (λ size. fresh_page size c.args.raw number) c.loop-number.auto.page in
+    let far = far_behind _ _ c.requires.size number _ page_is c.loop-number.auto.number in
+    let write = c.write_page.ensures in making_reads _ _ _ _ (page_more _ _ _ _ _ _ _ _ _ tells far (c.loop-number.invariant.making tells) write.files write.log write.time)
+
 pub loop-number-preserved : goal.loop-number-preserved
 loop-number-preserved g c =
     let number = c.loop-number.number in
@@ -42,6 +52,9 @@ loop-number-preserved g c =
 pub returns-in_err-sync-clause-left : goal.returns-in_err-sync-clause-left
 returns-in_err-sync-clause-left g c tells = let sync = c.sync.ensures in (synced _ _ _ _ _ _ _ (c.loop-number.invariant.making tells) sync.files sync.log sync.time).so_far
 
+pub returns-in_err-sync-clause-reads : goal.returns-in_err-sync-clause-reads
+returns-in_err-sync-clause-reads g c tells = let sync = c.sync.ensures in making_reads _ _ _ _ (synced _ _ _ _ _ _ _ (c.loop-number.invariant.making tells) sync.files sync.log sync.time)
+
 pub fresh-requires-2-clause-inside : goal.fresh-requires-2-clause-inside
 fresh-requires-2-clause-inside g c = omega (arith, fresh_count-least (length c.loop-number.page) c.args.raw)
 
@@ -53,6 +66,13 @@ returns-in_err-write_page-2-clause-left g c tells =
     let page_is = c.fresh-2.ensures.image ∙ ap (λ size. fresh_page size c.args.raw 0) loop.auto.page in
     let write = c.write_page-2.ensures in first_page _ _ _ _ _ _ _ _ _ tells page_is kept write.files write.log write.time
 
+pub returns-in_err-write_page-2-clause-reads : goal.returns-in_err-write_page-2-clause-reads
+returns-in_err-write_page-2-clause-reads g c tells =
+    let loop = c.loop-number in
+    let sync = c.in_ok-sync.ensures in
+    let kept = rest_kept _ _ _ _ _ _ _ _ _ _ _ _ tells c.requires.size c.requires.few c.requires.count c.loop-number-test.false loop.auto.number-end loop.invariant sync.files sync.log sync.time in
+    let page_is = c.fresh-2.ensures.image ∙ ap (λ size. fresh_page size c.args.raw 0) loop.auto.page in first_page_reads _ _ _ _ _ _ _ _ _ tells page_is kept c.write_page-2.ensures.files
+
 pub returns-clause-left : goal.returns-clause-left
 returns-clause-left g c tells =
     let loop = c.loop-number in
@@ -62,6 +82,14 @@ returns-clause-left g c tells =
     let write = c.write_page-2.ensures in
     let whole = first_page _ _ _ _ _ _ _ _ _ tells page_is kept write.files write.log write.time in
     let last = c.sync-2.ensures in synced_whole _ _ _ _ _ _ _ whole last.files last.log last.time
+
+pub returns-clause-reads : goal.returns-clause-reads
+returns-clause-reads g c tells =
+    let loop = c.loop-number in
+    let sync = c.in_ok-sync.ensures in
+    let kept = rest_kept _ _ _ _ _ _ _ _ _ _ _ _ tells c.requires.size c.requires.few c.requires.count c.loop-number-test.false loop.auto.number-end loop.invariant sync.files sync.log sync.time in
+    let page_is = c.fresh-2.ensures.image ∙ ap (λ size. fresh_page size c.args.raw 0) loop.auto.page in
+    synced_reads _ _ (g.H.Host.world c.args.host.now) _ _ _ _ (first_page_reads _ _ _ _ _ _ _ _ _ tells page_is kept c.write_page-2.ensures.files) c.sync-2.ensures.files
 
 pub returns-clause-made : goal.returns-clause-made
 returns-clause-made g c tells =

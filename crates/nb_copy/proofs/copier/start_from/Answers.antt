@@ -27,6 +27,7 @@ use Rattle.nb_copy.proofs.RoomStartLaws.{start_roomless, start_unmade, made_open
 use Rattle.nb_base.specs.Open.{OfFiles}
 use Rattle.nb_state.specs.Open.{name_of}
 use Rattle.nb_state.proofs.MakesLaws.{goes_nowhere, goes_on}
+use Rattle.nb_state.proofs.SizeLaws.{open_sized}
 use Rattle.nb_copy.proofs.BesideLaws.{made_kept}
 use Rattle.nb_engine.proofs.StaysLaws.{open_aside, stays_still, stays_after, stays_among, stays_aside, stays_passed, stays_some, stays_then, stays_valued}
 use Rattle.nb_level.specs.declared.head.LevelHead.{LevelHead}
@@ -69,10 +70,11 @@ returns-in_err-room-clause-turn g c s t tells same runs is sound free plain give
     let fault = c.in_err-room.field-0.0 in
     let none = c.in_ok-head.ensures.test seen t tells refl is (λ zero. free (sym (ap (λ (b : Base). image_state b.image) same) ∙ zero)) in
     let here = c.check_start.ensures.open t tells is in
-    let tries = tries_after {T = Room} (Err fault) old mid new a c.check_start.new.engine d t (room_cause t.base.image) (room_in t.base.image).draft.strokes c.check_start.ensures.same c.check_start.ensures.quiet is (c.in_err-room.ensures.makes t tells here sound.sizes) in
+    let sized = open_sized mid c.check_start.new.engine t here in
+    let tries = tries_after {T = Room} (Err fault) old mid new a c.check_start.new.engine d t (room_cause t.base.image) (room_in t.base.image).draft.strokes c.check_start.ensures.same c.check_start.ensures.quiet is (c.in_err-room.ensures.makes t tells here sized) in
     subst (λ (x : Base). StartsBackup c.from_residual-in_err-room.result old new a d t name (next_guid s.given) (turn_since (record s { base = x }) c.args.session c.args.since name)) same
     (subst (λ (r : Result Backed Fault). StartsBackup r old new a d t name (next_guid s.given) (turn_since seen c.args.session c.args.since name)) (sym (passed_on c.from_residual-in_err-room.result fault c.from_residual-in_err-room.ensures))
-    (start_roomless old new a d t seen c.args.session c.args.since name runs refl is sound (free_apart old a t name is (c.in_ok-head.ensures.free tells) plain) none Room fault tries))
+    (start_roomless old new a d t seen c.args.session c.args.since name runs refl is (free_apart old a t name is (c.in_ok-head.ensures.free tells) plain) none Room fault tries))
 
 pub returns-in_err-room-clause-asks : goal.returns-in_err-room-clause-asks
 returns-in_err-room-clause-asks g c t tells is =
@@ -94,11 +96,12 @@ returns-in_err-make-clause-turn g c s t tells same runs is sound free plain give
     let make = c.in_err-make.ensures in
     let none = c.in_ok-head.ensures.test seen t tells refl is (λ zero. free (sym (ap (λ (b : Base). image_state b.image) same) ∙ zero)) in
     let here = c.check_start.ensures.open t tells is in
-    let tries = tries_after {T = Room} (Ok c.in_ok-room.room) old mid there a c.check_start.new.engine b t (room_cause t.base.image) (room_in t.base.image).draft.strokes c.check_start.ensures.same c.check_start.ensures.quiet is (c.in_ok-room.ensures.makes t tells here sound.sizes) in
+    let sized = open_sized mid c.check_start.new.engine t here in
+    let tries = tries_after {T = Room} (Ok c.in_ok-room.room) old mid there a c.check_start.new.engine b t (room_cause t.base.image) (room_in t.base.image).draft.strokes c.check_start.ensures.same c.check_start.ensures.quiet is (c.in_ok-room.ensures.makes t tells here sized) in
     let file = remade_alone _ _ there made name _ IsEmpty tells (g.met.H.Host.timely _) make.files make.log.said make.time refl in
     subst (λ (x : Base). StartsBackup c.from_residual-in_err-make.result old made a b t name (next_guid s.given) (turn_since (record s { base = x }) c.args.session c.args.since name)) same
     (subst (λ (r : Result Backed Fault). StartsBackup r old made a b t name (next_guid s.given) (turn_since seen c.args.session c.args.since name)) (sym (passed_on c.from_residual-in_err-make.result Device c.from_residual-in_err-make.ensures))
-    (start_unmade old there a b t seen c.args.session c.args.since name runs refl is sound (free_apart old a t name is (c.in_ok-head.ensures.free tells) plain) none Room c.in_ok-room.room tries made
+    (start_unmade old there a b t seen c.args.session c.args.since name runs refl is (free_apart old a t name is (c.in_ok-head.ensures.free tells) plain) none Room c.in_ok-room.room tries made
     (λ m. g.met.H.Host.reads_left _ tells m) file (record { guids = make.log.guids; times = make.log.times })))
 
 pub returns-in_err-make-clause-asks : goal.returns-in_err-make-clause-asks
@@ -123,18 +126,19 @@ returns-in_err-head-2-clause-turn g c s t tells same runs is sound free plain gi
     let make = c.in_ok-make.ensures in
     let none = c.in_ok-head.ensures.test seen t tells refl is (λ zero. free (sym (ap (λ (b : Base). image_state b.image) same) ∙ zero)) in
     let here = c.check_start.ensures.open t tells is in
+    let sized = open_sized mid c.check_start.new.engine t here in
     let apart = free_apart old a t name is (c.in_ok-head.ensures.free tells) plain in
     let room = c.in_ok-room.room in
-    let tries = tries_after {T = Room} (Ok room) old mid there a c.check_start.new.engine b t (room_cause t.base.image) (room_in t.base.image).draft.strokes c.check_start.ensures.same c.check_start.ensures.quiet is (c.in_ok-room.ensures.makes t tells here sound.sizes) in
+    let tries = tries_after {T = Room} (Ok room) old mid there a c.check_start.new.engine b t (room_cause t.base.image) (room_in t.base.image).draft.strokes c.check_start.ensures.same c.check_start.ensures.quiet is (c.in_ok-room.ensures.makes t tells here sized) in
     let xs = (room_in t.base.image).draft.strokes in
     let reads = λ (m : List ℕ). g.met.H.Host.reads_left c.history_room.new.host tells m in
     let file = remade_alone _ _ there made name _ IsEmpty tells (g.met.H.Host.timely _) make.files make.log.said make.time refl in
     let gave : GaveNothing there made = record { guids = make.log.guids; times = make.log.times } in
-    let opened = made_open old there a b t seen c.args.session c.args.since name runs refl is sound apart none Room room tries made reads file gave in
+    let opened = made_open old there a b t seen c.args.session c.args.since name runs refl is apart none Room room tries made reads file gave in
     let late = given_later old made new guid (nothing_joined old there made tries.makes.gave gave) given in
     subst (λ (x : Base). StartsBackup c.from_residual-in_err-head-2.result old new a d t name guid (turn_since (record s { base = x }) c.args.session c.args.since name)) same
     (subst (λ (r : Result Backed Fault). StartsBackup r old new a d t name guid (turn_since seen c.args.session c.args.since name)) (sym (passed_on c.from_residual-in_err-head-2.result fault c.from_residual-in_err-head-2.ensures))
-    (start_unbegun old there a b t seen c.args.session c.args.since name runs refl is sound apart none Room room tries made reads file gave new d (is_made _ _ _ _ name tells make.files) (λ m. g.met.H.Host.reads_left _ tells m) c.in_ok-head.head fault c.in_err-head-2.ensures.takes_none
+    (start_unbegun old there a b t seen c.args.session c.args.since name runs refl is apart none Room room tries made reads file gave new d (is_made _ _ _ _ name tells make.files) (λ m. g.met.H.Host.reads_left _ tells m) c.in_ok-head.head fault c.in_err-head-2.ensures.takes_none
     (c.in_err-head-2.ensures.begins (after_strokes t xs) guid (Some (ask_in c.args.since t.base.image)) tells opened late)))
 
 pub returns-in_err-head-2-clause-asks : goal.returns-in_err-head-2-clause-asks
@@ -180,26 +184,27 @@ returns-clause-turn g c s t tells same runs is sound free plain given =
     let make = c.in_ok-make.ensures in
     let none = c.in_ok-head.ensures.test seen t tells refl is (λ zero. free (sym (ap (λ (b : Base). image_state b.image) same) ∙ zero)) in
     let here = c.check_start.ensures.open t tells is in
+    let sized = open_sized mid c.check_start.new.engine t here in
     let apart = free_apart old a t name is (c.in_ok-head.ensures.free tells) plain in
-    let tries = tries_after {T = Room} (Ok room) old mid there a c.check_start.new.engine b t (room_cause t.base.image) (room_in t.base.image).draft.strokes c.check_start.ensures.same c.check_start.ensures.quiet is (c.in_ok-room.ensures.makes t tells here sound.sizes) in
+    let tries = tries_after {T = Room} (Ok room) old mid there a c.check_start.new.engine b t (room_cause t.base.image) (room_in t.base.image).draft.strokes c.check_start.ensures.same c.check_start.ensures.quiet is (c.in_ok-room.ensures.makes t tells here sized) in
     let xs = (room_in t.base.image).draft.strokes in
     let reads = λ (m : List ℕ). g.met.H.Host.reads_left c.history_room.new.host tells m in
     let left = λ (m : List ℕ). g.met.H.Host.reads_left c.make.new.self tells m in
     let file = remade_alone _ _ there made name _ IsEmpty tells (g.met.H.Host.timely _) make.files make.log.said make.time refl in
     let gave : GaveNothing there made = record { guids = make.log.guids; times = make.log.times } in
     let empty = is_made _ _ _ _ name tells make.files in
-    let opened = made_open old there a b t seen c.args.session c.args.since name runs refl is sound apart none Room room tries made reads file gave in
+    let opened = made_open old there a b t seen c.args.session c.args.since name runs refl is apart none Room room tries made reads file gave in
     let late = given_later old made new guid (nothing_joined old there made tries.makes.gave gave) given in
     let begins = c.in_ok-head-2.ensures.begins (after_strokes t xs) guid (Some (ask_in c.args.since t.base.image)) tells opened late in
     let asks = c.begin.ensures.asks tells in
     let sixteen : length guid ≡ 16 = ap length (sym (given_guid made.guids new.guids guid asks.0 begins.gave asks.2)) ∙ asks.1 in
     let nine : bare.level ≤ 9 = c.in_ok-head.ensures.level in
-    let started = started_is old there a b t seen c.args.session c.args.since name runs refl is sound apart none Room room tries made reads file gave new d empty left bare begun begins room c.in_ok-file.file c.start.new.self c.count.result sixteen (c.in_ok-head.ensures.head t tells is)
-    (c.in_ok-room.ensures.room t tells here sound.sizes) (c.in_ok-room.ensures.below t tells here sound.sizes) c.in_ok-file.ensures c.start.ensures c.count.ensures.value nine c.in_ok-head.ensures.previous c.in_ok-head.ensures.sized c.in_ok-head.ensures.size in
+    let started = started_is old there a b t seen c.args.session c.args.since name runs refl is apart none Room room tries made reads file gave new d empty left bare begun begins room c.in_ok-file.file c.start.new.self c.count.result sixteen c.in_ok-head.ensures.its_level sound (c.in_ok-head.ensures.head t tells is)
+    (c.in_ok-room.ensures.room t tells here sized) (c.in_ok-room.ensures.below t tells here sized) c.in_ok-file.ensures c.start.ensures c.count.ensures.value nine c.in_ok-head.ensures.previous c.in_ok-head.ensures.sized c.in_ok-head.ensures.size in
     let copier : List ℕ → Backed = λ n. record { backing = record { name = n; ask = ask_by begun; scn = begun.scn; guid = begun.guid; page = room.page; slot = room.slot }; page_size = begun.page_size; file = c.start.new.self } in
     subst (λ (x : Base). StartsBackup (Ok (copier c.copied.result)) old new a d t name guid (turn_since (record s { base = x }) c.args.session c.args.since name)) same
     (subst (λ (n : List ℕ). StartsBackup (Ok (copier n)) old new a d t name guid (turn_since seen c.args.session c.args.since name)) (sym c.copied.ensures)
-    (start_done old there a b t seen c.args.session c.args.since name runs refl is sound apart none Room room tries made reads file gave new d empty left bare begun begins (copier name) started))
+    (start_done old there a b t seen c.args.session c.args.since name runs refl is apart none Room room tries made reads file gave new d empty left bare begun begins (copier name) started))
 
 pub returns-clause-its_level : goal.returns-clause-its_level
 returns-clause-its_level g c = subst (IsItsLevel c.args.since) (sym c.in_ok-head-2.ensures.level) c.in_ok-head.ensures.its_level

@@ -1,13 +1,17 @@
-use Rattle.std.proofs.Common.{◌≤◌, List, length, refl, subst, ◌∙◌, arith}
+use Rattle.std.proofs.Common.{◌≤◌, List, [], length, refl, sym, ap, subst, ◌∙◌, arith}
 use Rattle.std.specs.Prelude.{Ok, Err, None}
 use Rattle.nb_fields.proofs.SizeLemmas.{size_facts}
 use Rattle.nb_model.specs.Lines.{flag}
 use Rattle.nb_model.specs.Strokes.{Stroke}
 use Rattle.nb_model.specs.Pages.{byte_strokes}
+use Rattle.nb_page.specs.Quiet.{Quiet}
+use Rattle.nb_change.proofs.ResultLaws.{passed_on}
+use Rattle.nb_state.specs.Open.{Held, but_pages}
 use Rattle.nb_state.specs.Does.{Makes}
 use Rattle.nb_engine.specs.Tries.{Tries}
 use Rattle.nb_engine.proofs.DoesLaws.{tries_early, tries_passed, tries_after, tries_made}
 use Rattle.nb_engine.proofs.FlagLaws.{byte_is, flagged-some, flag_fits, flag_strokes}
+use Rattle.nb_engine.proofs.WantLaws.{strikes_after}
 use Rattle.nb_engine.proofs.flags.put_flag.Goals as goal
 
 pub write-requires-clause-some : goal.write-requires-clause-some
@@ -51,3 +55,17 @@ returns-clause-tries g c t tells is =
     tries_after {T = Unit {0}} (Ok tt) _ _ _ _ _ _ t _ _ read.same read.quiet is
     (tries_made {T = Unit {0}} (Ok tt) _ _ _ _ t None _ refl tt
     (subst (λ (ss : List Stroke). Makes {T = Unit {0}} (Ok tt) (g.H.Host.world c.read_first.new.host) (g.H.Host.world c.write.new.host) c.read_first.new.store c.write.new.self t ss) strokes makes))
+
+pub returns-in_err-write-clause-on_memory : goal.returns-in_err-write-clause-on_memory
+returns-in_err-write-clause-on_memory g c t tells is memory =
+    let read = c.in_ok-read_first.ensures in
+    let wants = sym (passed_on c.from_residual-in_err-write.result c.in_err-write.field-0.0 c.from_residual-in_err-write.ensures) ∙ memory in
+    let left = c.in_err-write.ensures.on_memory t tells (read.open t tells is) wants in
+    (strikes_after _ _ _ c.args.store.now c.read_first.new.store t [] read.same read.quiet is left.0, left.1)
+
+pub returns-in_err-write-clause-forced : goal.returns-in_err-write-clause-forced
+returns-in_err-write-clause-forced g c t tells is forced memory =
+    let read = c.in_ok-read_first.ensures in
+    let wants = sym (passed_on c.from_residual-in_err-write.result c.in_err-write.field-0.0 c.from_residual-in_err-write.ensures) ∙ memory in
+    let same = c.in_err-write.ensures.forced t tells (read.open t tells is) (ap (λ (h : Held). h.forced) read.same ∙ forced) wants in
+    (ap but_pages same.0 ∙ read.same, subst (λ host. Quiet (g.H.Host.world c.args.host.now) (g.H.Host.world host)) (sym same.1) read.quiet)

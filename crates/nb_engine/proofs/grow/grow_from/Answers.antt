@@ -21,7 +21,7 @@ pub returns-in_err-number-clause-tries : goal.returns-in_err-number-clause-tries
 returns-in_err-number-clause-tries g c t chain pages slots tells is at holds shaped none bytes last =
     let image = t.base.image in
     let w = g.H.Host.world c.args.host.now in
-    let low : c.args.first ≤ length image = omega (arith, at, lowest_most image shaped.least) in
+    let low : c.args.first ≤ length image = omega (arith, at, lowest_most image shaped.long) in
     let free = free_behind (new_behind chain slots image).0 c.args.last none in
     let full = subst (λ (xs : List ℕ). draft_cause (new_of 5 (λ p. xs) image).0 ≡ None) (sym bytes) free.clear in
     let fault = c.in_err-number.field-0.0 in
@@ -35,7 +35,7 @@ pub returns-in_err-link-clause-tries : goal.returns-in_err-link-clause-tries
 returns-in_err-link-clause-tries g c t chain pages slots tells is at holds shaped none bytes last =
     let image = t.base.image in
     let w = g.H.Host.world c.args.host.now in
-    let low : c.args.first ≤ length image = omega (arith, at, lowest_most image shaped.least) in
+    let low : c.args.first ≤ length image = omega (arith, at, lowest_most image shaped.long) in
     let free = free_behind (new_behind chain slots image).0 c.args.last none in
     let full = subst (λ (xs : List ℕ). draft_cause (new_of 5 (λ p. xs) image).0 ≡ None) (sym bytes) free.clear in
     let fault = c.in_err-link.field-0.0 in
@@ -56,7 +56,7 @@ pub returns-clause-tries : goal.returns-clause-tries
 returns-clause-tries g c t chain pages slots tells is at holds shaped none bytes last =
     let image = t.base.image in
     let w = g.H.Host.world c.args.host.now in
-    let low : c.args.first ≤ length image = omega (arith, at, lowest_most image shaped.least) in
+    let low : c.args.first ≤ length image = omega (arith, at, lowest_most image shaped.long) in
     let free = free_behind (new_behind chain slots image).0 c.args.last none in
     let full = subst (λ (xs : List ℕ). draft_cause (new_of 5 (λ p. xs) image).0 ≡ None) (sym bytes) free.clear in
     let mid = g.H.Host.world c.make_new.new.host in
@@ -75,7 +75,7 @@ pub returns-clause-value : goal.returns-clause-value
 returns-clause-value g c t chain pages slots tells is at holds shaped none bytes =
     let image = t.base.image in
     let w = g.H.Host.world c.args.host.now in
-    let low : c.args.first ≤ length image = omega (arith, at, lowest_most image shaped.least) in
+    let low : c.args.first ≤ length image = omega (arith, at, lowest_most image shaped.long) in
     let free = free_behind (new_behind chain slots image).0 c.args.last none in
     let full = subst (λ (xs : List ℕ). draft_cause (new_of 5 (λ p. xs) image).0 ≡ None) (sym bytes) free.clear in
     let n : ℕ = c.in_ok-number.number in
@@ -85,7 +85,7 @@ pub returns-clause-below : goal.returns-clause-below
 returns-clause-below g c t chain pages slots tells is at holds shaped none bytes =
     let image = t.base.image in
     let w = g.H.Host.world c.args.host.now in
-    let low : c.args.first ≤ length image = omega (arith, at, lowest_most image shaped.least) in
+    let low : c.args.first ≤ length image = omega (arith, at, lowest_most image shaped.long) in
     let free = free_behind (new_behind chain slots image).0 c.args.last none in
     let full = subst (λ (xs : List ℕ). draft_cause (new_of 5 (λ p. xs) image).0 ≡ None) (sym bytes) free.clear in
     let n : ℕ = c.in_ok-number.number in

@@ -4,12 +4,12 @@ use Rattle.nb_fields.specs.Kinds.{code_of}
 use Rattle.nb_fields.specs.Places.{is_system_place}
 use Rattle.nb_page.proofs.QuietLemmas.{quiet_begun}
 use Rattle.nb_model.specs.Image.{image_size}
-use Rattle.nb_model.proofs.StepLaws.{IsShaped}
 use Rattle.nb_model.proofs.SearchLaws.{draft_cause}
 use Rattle.nb_model.specs.Trail.{Trail}
 use Rattle.nb_base.specs.Takes.{after_strokes}
 use Rattle.nb_state.proofs.MakesLaws.{goes_on, goes_nowhere}
 use Rattle.nb_engine.specs.Make.{IsOnward, content, new_of}
+use Rattle.nb_engine.specs.Search.{IsSearchable}
 use Rattle.nb_engine.proofs.WhereLaws.{where_passed, where_valued}
 use Rattle.nb_engine.proofs.NewLaws.{so_far_begun, round_failed, round_done, last_number, last_round}
 use Rattle.nb_engine.proofs.make.make_new.Goals as goal
@@ -32,7 +32,7 @@ returns-in_err-place-clause-makes g c t tells is at low holds =
     let image = t.base.image in
     let kind : ℕ = code_of c.args.kind in
     let payload : ℕ → List ℕ = content c.args.own c.args.payload.now in
-    let P : Type 0 = IsShaped image × (draft_cause (new_of kind payload image).0 ≡ None) in
+    let P : Type 0 = IsSearchable image × (draft_cause (new_of kind payload image).0 ≡ None) in
     let old = g.H.Host.world c.args.host.now in
     let mid = g.H.Host.world c.loop-store.host in
     let new = g.H.Host.world c.pass_place.new.host in
@@ -51,7 +51,7 @@ loop-store-preserved g c = record {
       let image = t.base.image in
       let kind : ℕ = code_of c.args.kind in
       let payload : ℕ → List ℕ = content c.args.own c.args.payload.now in
-      let P : Type 0 = IsShaped image × (draft_cause (new_of kind payload image).0 ≡ None) in
+      let P : Type 0 = IsSearchable image × (draft_cause (new_of kind payload image).0 ≡ None) in
       let old = g.H.Host.world c.args.host.now in
       let mid = g.H.Host.world c.loop-store.host in
       let new = g.H.Host.world c.pass_place.new.host in
@@ -78,7 +78,7 @@ returns-in_err-take_new-clause-makes g c t tells is at low holds =
     let image = t.base.image in
     let kind : ℕ = code_of c.args.kind in
     let payload : ℕ → List ℕ = content c.args.own c.args.payload.now in
-    let P : Type 0 = IsShaped image × (draft_cause (new_of kind payload image).0 ≡ None) in
+    let P : Type 0 = IsSearchable image × (draft_cause (new_of kind payload image).0 ≡ None) in
     let old = g.H.Host.world c.args.host.now in
     let mid = g.H.Host.world c.loop-store.host in
     let new = g.H.Host.world c.take_new.new.host in
@@ -98,7 +98,7 @@ returns-clause-makes g c t tells is at low holds =
     let image = t.base.image in
     let kind : ℕ = code_of c.args.kind in
     let payload : ℕ → List ℕ = content c.args.own c.args.payload.now in
-    let P : Type 0 = IsShaped image × (draft_cause (new_of kind payload image).0 ≡ None) in
+    let P : Type 0 = IsSearchable image × (draft_cause (new_of kind payload image).0 ≡ None) in
     let old = g.H.Host.world c.args.host.now in
     let mid = g.H.Host.world c.loop-store.host in
     let new = g.H.Host.world c.take_new.new.host in
@@ -117,7 +117,7 @@ returns-clause-value g c t tells is at low holds is_well room =
     let image = t.base.image in
     let kind : ℕ = code_of c.args.kind in
     let payload : ℕ → List ℕ = content c.args.own c.args.payload.now in
-    let P : Type 0 = IsShaped image × (draft_cause (new_of kind payload image).0 ≡ None) in
+    let P : Type 0 = IsSearchable image × (draft_cause (new_of kind payload image).0 ≡ None) in
     let old = g.H.Host.world c.args.host.now in
     let mid = g.H.Host.world c.loop-store.host in
     let new = g.H.Host.world c.take_new.new.host in

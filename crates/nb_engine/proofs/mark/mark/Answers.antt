@@ -8,6 +8,8 @@ use Rattle.nb_engine.proofs.TestLaws.{inventory_place_is}
 use Rattle.nb_engine.proofs.MarkLaws.{mark_other}
 use Rattle.nb_engine.proofs.DoesLaws.{tries_early, tries_passed, tries_after}
 use Rattle.nb_engine.proofs.SearchReads.{inventory_place_some}
+use Rattle.nb_change.proofs.ResultLaws.{passed_on}
+use Rattle.nb_engine.proofs.WantLaws.{stops_after}
 use Rattle.nb_engine.proofs.mark.mark.Goals as goal
 
 pub returns-in_err-read-clause-tries : goal.returns-in_err-read-clause-tries
@@ -57,3 +59,9 @@ returns-clause-once g c tells =
     let some = inventory_place_some c.page_size-page_size.result c.covers-k.result.0 c.page_size-page_size.ensures.one_of in
     let read = c.in_ok-read.ensures.once tells (omega (arith, some, c.place_of.ensures)) in
     omega (arith, read, c.in_ok-put_map.ensures.once tells)
+
+pub returns-in_err-put_map-clause-on_memory : goal.returns-in_err-put_map-clause-on_memory
+returns-in_err-put_map-clause-on_memory g c t tells is memory =
+    let read = c.in_ok-read.ensures in
+    let wants = sym (passed_on c.from_residual-in_err-put_map.result c.in_err-put_map.field-0.0 c.from_residual-in_err-put_map.ensures) ∙ memory in
+    stops_after _ _ _ c.args.store.now _ c.put_map.new.store t _ read.same read.quiet is (c.in_err-put_map.ensures.on_memory t tells (read.open t tells is) wants)

@@ -1,4 +1,4 @@
-use Rattle.std.proofs.Common.{◌≡◌, List, sym, subst, ◌∙◌}
+use Rattle.std.proofs.Common.{◌≡◌, List, sym, subst, ◌∙◌, []}
 use Rattle.std.specs.Prelude.{Bool, true, Ok, Err}
 use Rattle.nb_model.specs.Strokes.{Stroke}
 use Rattle.nb_state.specs.Does.{Makes}
@@ -7,6 +7,8 @@ use Rattle.nb_engine.specs.Tries.{Tries}
 use Rattle.nb_engine.specs.Put.{must_raise, raise_strokes, entry_cause}
 use Rattle.nb_engine.proofs.PutLaws.{raised_not, raised_once}
 use Rattle.nb_engine.proofs.DoesLaws.{tries_early, tries_passed, tries_made, tries_after}
+use Rattle.nb_change.proofs.ResultLaws.{passed_on}
+use Rattle.nb_engine.proofs.WantLaws.{strikes_after}
 use Rattle.nb_engine.proofs.put.raise_entry.Goals.{then-branch+in_ok-raise, else-branch}
 use Rattle.nb_engine.proofs.put.raise_entry.Goals as goal
 
@@ -51,3 +53,10 @@ returns-clause-tries g c t tells is =
           (subst (λ (ss : List Stroke). Makes {T = Unit {0}} (Ok tt) (g.H.Host.world c.args.host.now) (g.H.Host.world c.must_raise.new.host) c.args.store.now c.must_raise.new.store t ss) (sym (raised_not image p (sym told.value ∙ w.if-branch.false)))
           (makes_none (Ok tt) _ _ _ _ t asked.same asked.quiet is still)))
     ]
+
+pub returns-in_err-raise-clause-on_memory : goal.returns-in_err-raise-clause-on_memory
+returns-in_err-raise-clause-on_memory g c t tells is memory =
+    let asked = c.in_ok-must_raise.ensures in
+    let wants = sym (passed_on c.from_residual-in_err-raise.result c.in_err-raise.field-0.0 c.from_residual-in_err-raise.ensures) ∙ memory in
+    let left = c.in_err-raise.ensures.on_memory t tells (asked.open t tells is) wants in
+    (strikes_after _ _ _ c.args.store.now c.must_raise.new.store t [] asked.same asked.quiet is left.0, left.1)

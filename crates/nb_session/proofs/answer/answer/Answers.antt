@@ -1,8 +1,6 @@
 use Rattle.std.proofs.Common.{◌≡◌, [], sym, subst, refl, ◌∙◌}
 use Rattle.std.specs.Prelude.{if◌then◌else◌, Bool, None}
-use Rattle.nb_model.specs.Account.{Base}
 use Rattle.nb_model.specs.Output.{status_after}
-use Rattle.nb_model.specs.Sound.{IsSoundImage}
 use Rattle.nb_session.specs.Replies.{some_said}
 use Rattle.nb_session.proofs.EventLaws.{marks_none}
 use Rattle.nb_session.proofs.KeepLaws.{one_single}
@@ -16,17 +14,15 @@ pub returns-in_err-reply-clause-turn : goal.returns-in_err-reply-clause-turn
 returns-in_err-reply-clause-turn g c now t more tells ready makes here =
     let old = g.H.Host.world c.args.host.now in
     let mid = g.H.Host.world c.do_statement.new.host in
-    let sound = subst (λ (b : Base). IsSoundImage b.image) (sym ready.base) makes.going.sound in
     turns_failed c.args.told some_said _ (λ (refused : Bool). refused) (λ (refused : Bool). None) old mid mid _ _ t now c.args.session _ [] more [] (begins_touch c.args.session c.args.statement.now now (one_turn_plain c.args.statement.now c.requires.single)) makes here
-    (c.do_statement.ensures.turn now t c.args.session tells ready (λ by. sound)) (λ acts. marks_none old mid _) c.from_residual.result c.from_residual.ensures.0
+    (c.do_statement.ensures.turn now t c.args.session tells ready) (λ acts. marks_none old mid _) c.from_residual.result c.from_residual.ensures.0
 
 pub returns-in_err-tell-clause-turn : goal.returns-in_err-tell-clause-turn
 returns-in_err-tell-clause-turn g c now t more tells ready makes here =
     let old = g.H.Host.world c.args.host.now in
     let mid = g.H.Host.world c.do_statement.new.host in
-    let sound = subst (λ (b : Base). IsSoundImage b.image) (sym ready.base) makes.going.sound in
     turns_unsaid c.args.told some_said _ (λ (refused : Bool). refused) (λ (refused : Bool). None) old mid (g.H.Host.world c.tell.new.host) _ _ t now c.args.session _ [] more [] (begins_touch c.args.session c.args.statement.now now (one_turn_plain c.args.statement.now c.requires.single)) makes here
-    (c.do_statement.ensures.turn now t c.args.session tells ready (λ by. sound)) (λ acts. marks_none old mid _)
+    (c.do_statement.ensures.turn now t c.args.session tells ready) (λ acts. marks_none old mid _)
     c.in_ok-reply.ensures.ended c.in_ok-reply.reply c.in_ok-reply.ensures.said c.tell.result (c.tell.ensures.line tells) ready
     c.from_residual-in_err-tell.result c.from_residual-in_err-tell.ensures.0
 
@@ -35,37 +31,36 @@ returns-clause-turn g c now t more tells ready makes here =
     let old = g.H.Host.world c.args.host.now in
     let mid = g.H.Host.world c.do_statement.new.host in
     let new = g.H.Host.world c.tell.new.host in
-    let sound = subst (λ (b : Base). IsSoundImage b.image) (sym ready.base) makes.going.sound in
     turns_said c.args.told some_said _ (λ (refused : Bool). refused) (λ (refused : Bool). None) old mid new _ _ t now c.args.session _ [] more [] (begins_touch c.args.session c.args.statement.now now (one_turn_plain c.args.statement.now c.requires.single)) makes here
-    (c.do_statement.ensures.turn now t c.args.session tells ready (λ by. sound)) (λ acts. marks_none old mid _)
+    (c.do_statement.ensures.turn now t c.args.session tells ready) (λ acts. marks_none old mid _)
     c.in_ok-reply.ensures.ended c.in_ok-reply.reply c.in_ok-reply.ensures.said c.tell.result (c.tell.ensures.line tells) ready
     c.is_refusal-refused.result (c.in_ok-tell.ensures.line tells).said
     (λ is. subst (λ (b : Bool). status_after c.in_ok-reply.reply ≡ (if b then 1 else 0)) (sym c.is_refusal-refused.ensures) (status_told c.args.session c.args.statement.now now c.in_ok-reply.reply is))
     (λ told. single_behind new _ c.args.session c.args.statement.now now (one_single c.args.statement.now c.requires.single))
 
 pub returns-in_err-reply-clause-stays_open : goal.returns-in_err-reply-clause-stays_open
-returns-in_err-reply-clause-stays_open g c may_merge tells still =
+returns-in_err-reply-clause-stays_open g c tells still =
     let old = g.H.Host.world c.args.host.now in
     let mid = g.H.Host.world c.do_statement.new.host in
-    turn_failed may_merge old mid c.args.engine.now c.do_statement.new.engine NoNames still _ (c.do_statement.ensures.stays_open still.trail tells still.opened) (λ (refused : Bool). refused) (λ (refused : Bool). None)
+    turn_failed old mid c.args.engine.now c.do_statement.new.engine NoNames still _ (c.do_statement.ensures.stays_open still.trail tells still.opened) (λ (refused : Bool). refused) (λ (refused : Bool). None)
     c.from_residual.result c.from_residual.ensures.0
 
 pub returns-in_err-tell-clause-stays_open : goal.returns-in_err-tell-clause-stays_open
-returns-in_err-tell-clause-stays_open g c may_merge tells still =
+returns-in_err-tell-clause-stays_open g c tells still =
     let old = g.H.Host.world c.args.host.now in
     let mid = g.H.Host.world c.do_statement.new.host in
     let b = c.do_statement.new.engine in
-    turn_unsaid may_merge old mid c.args.engine.now b NoNames still _ (c.do_statement.ensures.stays_open still.trail tells still.opened) (λ (refused : Bool). refused) (λ (refused : Bool). None)
+    turn_unsaid old mid c.args.engine.now b NoNames still _ (c.do_statement.ensures.stays_open still.trail tells still.opened) (λ (refused : Bool). refused) (λ (refused : Bool). None)
     (g.H.Host.world c.tell.new.host) c.tell.result _ (g.met.H.Host.timely c.tell.new.host) (g.met.H.Host.reads_left c.tell.new.host tells) (c.tell.ensures.line tells) b refl
     c.from_residual-in_err-tell.result c.from_residual-in_err-tell.ensures.0
 
 pub returns-clause-stays_open : goal.returns-clause-stays_open
-returns-clause-stays_open g c may_merge tells still =
+returns-clause-stays_open g c tells still =
     let old = g.H.Host.world c.args.host.now in
     let mid = g.H.Host.world c.do_statement.new.host in
     let new = g.H.Host.world c.tell.new.host in
     let b = c.do_statement.new.engine in
-    turn_said may_merge old mid c.args.engine.now b NoNames still _ (c.do_statement.ensures.stays_open still.trail tells still.opened) (λ (refused : Bool). refused) (λ (refused : Bool). None)
+    turn_said old mid c.args.engine.now b NoNames still _ (c.do_statement.ensures.stays_open still.trail tells still.opened) (λ (refused : Bool). refused) (λ (refused : Bool). None)
     new c.tell.result _ (g.met.H.Host.timely c.tell.new.host) (g.met.H.Host.reads_left c.tell.new.host tells) (c.tell.ensures.line tells) b refl
     c.is_refusal-refused.result c.in_ok-reply.ensures.ended tt (λ m none. none)
     (λ yes. refusal_told c.args.told c.args.session c.in_ok-reply.reply mid new (sym c.is_refusal-refused.ensures ∙ yes) (c.in_ok-tell.ensures.line tells).said)

@@ -1,5 +1,5 @@
 use Rattle.std.proofs.Common.{◌≡◌, ◌-◌, ℕ, refl, sym, ap, subst, ◌∙◌}
-use Rattle.std.specs.Prelude.{Ok, Err, None, Some, true}
+use Rattle.std.specs.Prelude.{Ok, Err, None, Some}
 use Rattle.nb_host.specs.declared.faults.Fault.{Fault}
 use Rattle.nb_host.specs.declared.faults.Fault.TheVariants.{Refused, Device, Memory}
 use Rattle.nb_model.specs.declared.reply.Reply.TheVariants.{Level}
@@ -42,7 +42,7 @@ returns-in-Ok-More-clause-turn g c how now t more tells ready makes here goes =
     let asked = c.in-Ok-More.ensures.asks t tells ready.opened may.stalled goes.0 may.below may.apart in
     let turns = λ (given : Given) (most : GaveTimeAtMost old mid (next_time given)).
     subst (λ (p : Progress). BackupTurn (Ok p) old mid a b copier later t (next_time given) (close_backup (seen_with now given) copier.backing).strokes) c.in-Ok-More.field-0-is
-    (c.in-Ok-More.ensures.turn (seen_with now given) t tells ready.base ready.opened may.stalled may.sound goes.0 may.below may.apart most) in
+    (c.in-Ok-More.ensures.turn (seen_with now given) t tells ready.base ready.opened may.stalled may.entry goes.0 may.below may.apart most) in
     let counts = subst (λ (p : Progress). BackupCounts (Ok p) copier later) c.in-Ok-More.field-0-is c.in-Ok-More.ensures.counts in
     turns_quiet how (λ progress. None) (Ok More) left_refused (left_task _) old mid mid a b t now session (copy_first rest (ClosesBackup copier.backing)) (copy_rest rest (ClosesBackup copier.backing)) more _ (backup_files old mid a b t now session copier later ready goes.0 goes.1 c.in-Ok-More.ensures.goes) makes here
     (turn_acts old mid a b t now session copier later ready goes.0 goes.1 c.in-Ok-More.ensures.goes (g.met.H.Host.reads_left c.args.host.now tells copier.backing.name) (Ok More) turns asked.0 asked.1 counts)
@@ -64,7 +64,7 @@ returns-in-Ok-Finished-clause-turn g c how now t more tells ready makes here goe
     let asked = c.in-Ok-Finished.ensures.asks t tells ready.opened may.stalled goes.0 may.below may.apart in
     let turns = λ (given : Given) (most : GaveTimeAtMost old mid (next_time given)).
     subst (λ (p : Progress). BackupTurn (Ok p) old mid a b copier later t (next_time given) (close_backup (seen_with now given) copier.backing).strokes) c.in-Ok-Finished.field-0-is
-    (c.in-Ok-Finished.ensures.turn (seen_with now given) t tells ready.base ready.opened may.stalled may.sound goes.0 may.below may.apart most) in
+    (c.in-Ok-Finished.ensures.turn (seen_with now given) t tells ready.base ready.opened may.stalled may.entry goes.0 may.below may.apart most) in
     let counts = subst (λ (p : Progress). BackupCounts (Ok p) copier later) c.in-Ok-Finished.field-0-is c.in-Ok-Finished.ensures.counts in
     let says : Level c.level.result c.scn.result c.written.result c.guid.result ≡ Level later.backing.ask.level later.backing.scn (file_written later.file) later.backing.guid = rw (c.level.ensures.value, c.scn.ensures, c.written.ensures, c.guid.ensures) refl in
     turns_quiet how (λ progress. None) (Ok Finished) left_refused (left_task _) old mid mid a b t now session (copy_first rest (ClosesBackup copier.backing)) (copy_rest rest (ClosesBackup copier.backing)) more _ (backup_files old mid a b t now session copier later ready goes.0 goes.1 c.in-Ok-Finished.ensures.goes) makes here
@@ -87,7 +87,7 @@ returns-in_err-say_refused-in-Err-Refused-clause-turn g c how now t more tells r
     let asked = c.in-Err-Refused.ensures.asks t tells ready.opened may.stalled goes.0 may.below may.apart in
     let turns = λ (given : Given) (most : GaveTimeAtMost old mid (next_time given)).
     subst (λ (f : Fault). BackupTurn (Err f) old mid a b copier later t (next_time given) (close_backup (seen_with now given) copier.backing).strokes) c.in-Err-Refused.field-0-is
-    (c.in-Err-Refused.ensures.turn (seen_with now given) t tells ready.base ready.opened may.stalled may.sound goes.0 may.below may.apart most) in
+    (c.in-Err-Refused.ensures.turn (seen_with now given) t tells ready.base ready.opened may.stalled may.entry goes.0 may.below may.apart most) in
     turns_never how left_refused (left_task _) _ old (g.H.Host.world c.say_refused.new.host) a c.stop_running.new.engine t now session (copy_first rest (ClosesBackup copier.backing)) (copy_rest rest (ClosesBackup copier.backing)) more
     (turn_sure old mid a b t now session copier later ready goes.0 goes.1 c.in-Err-Refused.ensures.goes (g.met.H.Host.reads_left c.args.host.now tells copier.backing.name) (Err (Refused c.in-Err-Refused.refusal)) turns asked.0 asked.1)
 
@@ -105,7 +105,7 @@ returns-in_ok-say_refused-in-Err-Refused-clause-turn g c how now t more tells re
     let asked = c.in-Err-Refused.ensures.asks t tells ready.opened may.stalled goes.0 may.below may.apart in
     let turns = λ (given : Given) (most : GaveTimeAtMost old mid (next_time given)).
     subst (λ (f : Fault). BackupTurn (Err f) old mid a b copier later t (next_time given) (close_backup (seen_with now given) copier.backing).strokes) c.in-Err-Refused.field-0-is
-    (c.in-Err-Refused.ensures.turn (seen_with now given) t tells ready.base ready.opened may.stalled may.sound goes.0 may.below may.apart most) in
+    (c.in-Err-Refused.ensures.turn (seen_with now given) t tells ready.base ready.opened may.stalled may.entry goes.0 may.below may.apart most) in
     turns_never how left_refused (left_task _) _ old (g.H.Host.world c.say_refused.new.host) a c.stop_running.new.engine t now session (copy_first rest (ClosesBackup copier.backing)) (copy_rest rest (ClosesBackup copier.backing)) more
     (turn_sure old mid a b t now session copier later ready goes.0 goes.1 c.in-Err-Refused.ensures.goes (g.met.H.Host.reads_left c.args.host.now tells copier.backing.name) (Err (Refused c.in-Err-Refused.refusal)) turns asked.0 asked.1)
 
@@ -123,7 +123,7 @@ returns-in-Err-Device-clause-turn g c how now t more tells ready makes here goes
     let asked = c.in-Err-Device.ensures.asks t tells ready.opened may.stalled goes.0 may.below may.apart in
     let turns = λ (given : Given) (most : GaveTimeAtMost old mid (next_time given)).
     subst (λ (f : Fault). BackupTurn (Err f) old mid a b copier later t (next_time given) (close_backup (seen_with now given) copier.backing).strokes) c.in-Err-Device.field-0-is
-    (c.in-Err-Device.ensures.turn (seen_with now given) t tells ready.base ready.opened may.stalled may.sound goes.0 may.below may.apart most) in
+    (c.in-Err-Device.ensures.turn (seen_with now given) t tells ready.base ready.opened may.stalled may.entry goes.0 may.below may.apart most) in
     turns_failed how (λ progress. None) (Err Device) left_refused (left_task _) old mid mid a b t now session (copy_first rest (ClosesBackup copier.backing)) (copy_rest rest (ClosesBackup copier.backing)) more _ (backup_files old mid a b t now session copier later ready goes.0 goes.1 c.in-Err-Device.ensures.goes) makes here
     (turn_acts old mid a b t now session copier later ready goes.0 goes.1 c.in-Err-Device.ensures.goes (g.met.H.Host.reads_left c.args.host.now tells copier.backing.name) (Err Device) turns asked.0 asked.1 tt)
     (marks_made (λ progress. None) (Err Device) old mid a b t now session (copy_first rest (ClosesBackup copier.backing)) _ (apart_one a copier.backing.name _ goes.1) (g.met.H.Host.reads_left c.turn.new.host tells))
@@ -143,7 +143,7 @@ returns-in-Err-Memory-clause-turn g c how now t more tells ready makes here goes
     let asked = c.in-Err-Memory.ensures.asks t tells ready.opened may.stalled goes.0 may.below may.apart in
     let turns = λ (given : Given) (most : GaveTimeAtMost old mid (next_time given)).
     subst (λ (f : Fault). BackupTurn (Err f) old mid a b copier later t (next_time given) (close_backup (seen_with now given) copier.backing).strokes) c.in-Err-Memory.field-0-is
-    (c.in-Err-Memory.ensures.turn (seen_with now given) t tells ready.base ready.opened may.stalled may.sound goes.0 may.below may.apart most) in
+    (c.in-Err-Memory.ensures.turn (seen_with now given) t tells ready.base ready.opened may.stalled may.entry goes.0 may.below may.apart most) in
     turns_failed how (λ progress. None) (Err Memory) left_refused (left_task _) old mid mid a b t now session (copy_first rest (ClosesBackup copier.backing)) (copy_rest rest (ClosesBackup copier.backing)) more _ (backup_files old mid a b t now session copier later ready goes.0 goes.1 c.in-Err-Memory.ensures.goes) makes here
     (turn_acts old mid a b t now session copier later ready goes.0 goes.1 c.in-Err-Memory.ensures.goes (g.met.H.Host.reads_left c.args.host.now tells copier.backing.name) (Err Memory) turns asked.0 asked.1 tt)
     (marks_made (λ progress. None) (Err Memory) old mid a b t now session (copy_first rest (ClosesBackup copier.backing)) _ (apart_one a copier.backing.name _ goes.1) (g.met.H.Host.reads_left c.turn.new.host tells))
@@ -161,7 +161,7 @@ returns-in-Ok-More-clause-stays_open g c tells still aside =
     let stays = stays_among old mid a b (Ok More) (Only copier.backing.name) (TaskMakes (Some (Backup copier))) (λ m is. is)
     (subst (λ (p : Progress). StaysOpen (Ok p) old mid a b t (Only copier.backing.name)) c.in-Ok-More.field-0-is (c.in-Ok-More.ensures.stays_open t tells still.opened aside)) in
     let same = ap (λ (x : Backed). x.backing.name) c.in-Ok-More.ensures.same in
-    turn_unheard true old mid a b (TaskMakes (Some (Backup copier))) still (Ok More) stays left_refused (left_task _) Same b tt refl (refl, aside_named a b copier.backing.name later.backing.name stays.name same aside) (λ m makes. makes ∙ same) refl
+    turn_unheard old mid a b (TaskMakes (Some (Backup copier))) still (Ok More) stays left_refused (left_task _) Same b tt refl (aside_named a b copier.backing.name later.backing.name stays.name same aside) (λ m makes. makes ∙ same) refl
 
 pub returns-in-Ok-Finished-clause-stays_open : goal.returns-in-Ok-Finished-clause-stays_open
 returns-in-Ok-Finished-clause-stays_open g c tells still aside =
@@ -171,9 +171,9 @@ returns-in-Ok-Finished-clause-stays_open g c tells still aside =
     let b = c.turn.new.engine in
     let t = still.trail in
     let copier : Backed = c.args.copier.now in
-    turn_unheard true old mid a b (TaskMakes (Some (Backup copier))) still (Ok Finished) (stays_among old mid a b (Ok Finished) (Only copier.backing.name) (TaskMakes (Some (Backup copier))) (λ m is. is)
+    turn_unheard old mid a b (TaskMakes (Some (Backup copier))) still (Ok Finished) (stays_among old mid a b (Ok Finished) (Only copier.backing.name) (TaskMakes (Some (Backup copier))) (λ m is. is)
     (subst (λ (p : Progress). StaysOpen (Ok p) old mid a b t (Only copier.backing.name)) c.in-Ok-Finished.field-0-is (c.in-Ok-Finished.ensures.stays_open t tells still.opened aside))) left_refused (left_task _) (Other c.under_way.result) b tt refl
-    (subst (λ (x : Taken). TaskStays true b x.task) (sym c.under_way.ensures) refl) (λ m makes. absurd (subst (λ (x : Taken). TaskMakes x.task m) c.under_way.ensures makes)) (ap (λ (x : Taken). x.refused) c.under_way.ensures)
+    (subst (λ (x : Taken). TaskStays b x.task) (sym c.under_way.ensures) tt) (λ m makes. absurd (subst (λ (x : Taken). TaskMakes x.task m) c.under_way.ensures makes)) (ap (λ (x : Taken). x.refused) c.under_way.ensures)
 
 pub returns-in_err-say_refused-in-Err-Refused-clause-stays_open : goal.returns-in_err-say_refused-in-Err-Refused-clause-stays_open
 returns-in_err-say_refused-in-Err-Refused-clause-stays_open g c tells still aside =
@@ -184,7 +184,7 @@ returns-in_err-say_refused-in-Err-Refused-clause-stays_open g c tells still asid
     let t = still.trail in
     let copier : Backed = c.args.copier.now in
     let refusal = c.in-Err-Refused.refusal in
-    turn_unsaid true old mid a b (TaskMakes (Some (Backup copier))) still (Err (Refused refusal)) (stays_among old mid a b (Err (Refused refusal)) (Only copier.backing.name) (TaskMakes (Some (Backup copier))) (λ m is. is)
+    turn_unsaid old mid a b (TaskMakes (Some (Backup copier))) still (Err (Refused refusal)) (stays_among old mid a b (Err (Refused refusal)) (Only copier.backing.name) (TaskMakes (Some (Backup copier))) (λ m is. is)
     (subst (λ (f : Fault). StaysOpen {T = Progress} (Err f) old mid a b t (Only copier.backing.name)) c.in-Err-Refused.field-0-is (c.in-Err-Refused.ensures.stays_open t tells still.opened aside))) left_refused (left_task _)
     (g.H.Host.world c.say_refused.new.host) c.say_refused.result _ (g.met.H.Host.timely c.say_refused.new.host) (g.met.H.Host.reads_left c.say_refused.new.host tells) (c.say_refused.ensures.line tells) c.stop_running.new.engine c.stop_running.ensures.same c.from_residual.result c.from_residual.ensures.0
 
@@ -199,10 +199,10 @@ returns-in_ok-say_refused-in-Err-Refused-clause-stays_open g c tells still aside
     let refusal = c.in-Err-Refused.refusal in
     let d = c.stop_running.new.engine in
     let taken = c.in_ok-say_refused-in-Err-Refused.ensures.taken in
-    turn_said true old mid a b (TaskMakes (Some (Backup copier))) still (Err (Refused refusal)) (stays_among old mid a b (Err (Refused refusal)) (Only copier.backing.name) (TaskMakes (Some (Backup copier))) (λ m is. is)
+    turn_said old mid a b (TaskMakes (Some (Backup copier))) still (Err (Refused refusal)) (stays_among old mid a b (Err (Refused refusal)) (Only copier.backing.name) (TaskMakes (Some (Backup copier))) (λ m is. is)
     (subst (λ (f : Fault). StaysOpen {T = Progress} (Err f) old mid a b t (Only copier.backing.name)) c.in-Err-Refused.field-0-is (c.in-Err-Refused.ensures.stays_open t tells still.opened aside))) left_refused (left_task _)
     (g.H.Host.world c.say_refused.new.host) c.say_refused.result _ (g.met.H.Host.timely c.say_refused.new.host) (g.met.H.Host.reads_left c.say_refused.new.host tells) (c.say_refused.ensures.line tells) d c.stop_running.ensures.same (Other c.in_ok-say_refused-in-Err-Refused.field-0) tt
-    (subst (λ (x : Taken). TaskStays true d x.task) (sym taken) tt) (λ m makes. absurd (subst (λ (x : Taken). TaskMakes x.task m) taken makes))
+    (subst (λ (x : Taken). TaskStays d x.task) (sym taken) tt) (λ m makes. absurd (subst (λ (x : Taken). TaskMakes x.task m) taken makes))
     (λ yes. refusal_said mid (g.H.Host.world c.say_refused.new.host) c.args.session refusal (c.in_ok-say_refused-in-Err-Refused.ensures.line tells).said)
 
 pub returns-in-Err-Device-clause-stays_open : goal.returns-in-Err-Device-clause-stays_open
@@ -213,7 +213,7 @@ returns-in-Err-Device-clause-stays_open g c tells still aside =
     let b = c.turn.new.engine in
     let t = still.trail in
     let copier : Backed = c.args.copier.now in
-    turn_failed true old mid a b (TaskMakes (Some (Backup copier))) still (Err Device) (stays_among old mid a b (Err Device) (Only copier.backing.name) (TaskMakes (Some (Backup copier))) (λ m is. is)
+    turn_failed old mid a b (TaskMakes (Some (Backup copier))) still (Err Device) (stays_among old mid a b (Err Device) (Only copier.backing.name) (TaskMakes (Some (Backup copier))) (λ m is. is)
     (subst (λ (f : Fault). StaysOpen {T = Progress} (Err f) old mid a b t (Only copier.backing.name)) c.in-Err-Device.field-0-is (c.in-Err-Device.ensures.stays_open t tells still.opened aside))) left_refused (left_task _) (Err Device) refl
 
 pub returns-in-Err-Memory-clause-stays_open : goal.returns-in-Err-Memory-clause-stays_open
@@ -224,5 +224,5 @@ returns-in-Err-Memory-clause-stays_open g c tells still aside =
     let b = c.turn.new.engine in
     let t = still.trail in
     let copier : Backed = c.args.copier.now in
-    turn_failed true old mid a b (TaskMakes (Some (Backup copier))) still (Err Memory) (stays_among old mid a b (Err Memory) (Only copier.backing.name) (TaskMakes (Some (Backup copier))) (λ m is. is)
+    turn_failed old mid a b (TaskMakes (Some (Backup copier))) still (Err Memory) (stays_among old mid a b (Err Memory) (Only copier.backing.name) (TaskMakes (Some (Backup copier))) (λ m is. is)
     (subst (λ (f : Fault). StaysOpen {T = Progress} (Err f) old mid a b t (Only copier.backing.name)) c.in-Err-Memory.field-0-is (c.in-Err-Memory.ensures.stays_open t tells still.opened aside))) left_refused (left_task _) (Err Memory) refl

@@ -1,9 +1,10 @@
-use Rattle.std.proofs.Common.{[], refl, sym, ap, subst, ◌∙◌}
+use Rattle.std.proofs.Common.{◌≡◌, [], refl, sym, ap, subst, ◌∙◌}
 use Rattle.std.specs.Prelude.{Ok, Err, None, true}
 use Rattle.nb_host.specs.declared.faults.Fault.{Fault}
 use Rattle.nb_host.specs.declared.faults.Fault.TheVariants.{Refused, Device, Memory}
 use Rattle.nb_model.specs.declared.reply.Reply.TheVariants.{Refused as RefusedBy}
 use Rattle.nb_model.specs.Account.{Base}
+use Rattle.nb_model.specs.Going.{goes_by_entries}
 use Rattle.nb_model.specs.Outcomes.{Begins, Given, next_guid}
 use Rattle.nb_model.specs.Sound.{IsSoundImage}
 use Rattle.nb_model.specs.Turns.{first_turn}
@@ -12,7 +13,7 @@ use Rattle.nb_copy.specs.Starting.{Backed, StartsBackup}
 use Rattle.nb_session.specs.declared.task.Taken.{Taken}
 use Rattle.nb_session.specs.Askers.{file_asked}
 use Rattle.nb_session.specs.Steps.{begun_in, IsBehind}
-use Rattle.nb_session.proofs.BackupLaws.{file_plain, no_delta, seen_with, knows_free, starts_told, start_acts, start_apart, start_behind, start_refused}
+use Rattle.nb_session.proofs.BackupLaws.{level_sound, file_plain, no_delta, seen_with, knows_free, starts_told, start_acts, start_apart, start_behind, start_refused}
 use Rattle.nb_session.proofs.EventLaws.{marks_made}
 use Rattle.nb_session.proofs.TouchingLaws.{start_touch}
 use Rattle.nb_session.proofs.TurnLaws.{turns_failed, turns_quiet, turns_refused, status_told}
@@ -34,7 +35,7 @@ returns-in-Ok-clause-turn g c how now t more tells ready makes here =
     let it = c.args.statement.now in
     let asks = c.requires.backup in
     let plain = file_plain it asks c.requires.asked.fits in
-    let sound = subst (λ (x : Base). IsSoundImage x.image) (sym ready.base) makes.going.sound in
+    let sound = λ (goes : goes_by_entries (Begins it) ≡ true). subst (λ (x : Base). IsSoundImage x.image) (sym ready.base) (level_sound session now makes.going (Begins it) more here goes) in
     let asked = c.in-Ok.ensures.asks t tells ready.opened in
     let starts = λ (given : Given) (most : GaveAtMost old mid (next_guid given)). c.in-Ok.ensures.turn (seen_with now given) t tells ready.base ready.running ready.opened sound (knows_free old a t now (file_asked it) ready makes.going plain) (no_delta a (file_asked it) plain) most in
     turns_quiet how (λ copier. None) (Ok c.in-Ok.copier) (λ (taken : Taken). taken.refused) (λ (taken : Taken). taken.task) old mid mid a b t now session (Begins it) [] more (begun_in session (Begins it) now) (start_touch session it now) makes here
@@ -55,7 +56,7 @@ returns-in-Err-Refused-clause-turn g c how now t more tells ready makes here =
     let asks = c.requires.backup in
     let plain = file_plain it asks c.requires.asked.fits in
     let refusal = c.in-Err-Refused.refusal in
-    let sound = subst (λ (x : Base). IsSoundImage x.image) (sym ready.base) makes.going.sound in
+    let sound = λ (goes : goes_by_entries (Begins it) ≡ true). subst (λ (x : Base). IsSoundImage x.image) (sym ready.base) (level_sound session now makes.going (Begins it) more here goes) in
     let asked = c.in-Err-Refused.ensures.asks t tells ready.opened in
     let starts = λ (given : Given) (most : GaveAtMost old mid (next_guid given)).
     subst (λ (f : Fault). StartsBackup (Err f) old mid a b t (file_asked it) (next_guid given) (first_turn (seen_with now given) session it)) c.in-Err-Refused.field-0-is
@@ -75,7 +76,7 @@ returns-in-Err-Device-clause-turn g c how now t more tells ready makes here =
     let it = c.args.statement.now in
     let asks = c.requires.backup in
     let plain = file_plain it asks c.requires.asked.fits in
-    let sound = subst (λ (x : Base). IsSoundImage x.image) (sym ready.base) makes.going.sound in
+    let sound = λ (goes : goes_by_entries (Begins it) ≡ true). subst (λ (x : Base). IsSoundImage x.image) (sym ready.base) (level_sound session now makes.going (Begins it) more here goes) in
     let asked = c.in-Err-Device.ensures.asks t tells ready.opened in
     let starts = λ (given : Given) (most : GaveAtMost old mid (next_guid given)).
     subst (λ (f : Fault). StartsBackup (Err f) old mid a b t (file_asked it) (next_guid given) (first_turn (seen_with now given) session it)) c.in-Err-Device.field-0-is
@@ -93,7 +94,7 @@ returns-in-Err-Memory-clause-turn g c how now t more tells ready makes here =
     let it = c.args.statement.now in
     let asks = c.requires.backup in
     let plain = file_plain it asks c.requires.asked.fits in
-    let sound = subst (λ (x : Base). IsSoundImage x.image) (sym ready.base) makes.going.sound in
+    let sound = λ (goes : goes_by_entries (Begins it) ≡ true). subst (λ (x : Base). IsSoundImage x.image) (sym ready.base) (level_sound session now makes.going (Begins it) more here goes) in
     let asked = c.in-Err-Memory.ensures.asks t tells ready.opened in
     let starts = λ (given : Given) (most : GaveAtMost old mid (next_guid given)).
     subst (λ (f : Fault). StartsBackup (Err f) old mid a b t (file_asked it) (next_guid given) (first_turn (seen_with now given) session it)) c.in-Err-Memory.field-0-is
@@ -112,8 +113,8 @@ returns-in-Ok-clause-stays_open g c tells still =
     let stays = stays_among old mid a b (Ok c.in-Ok.copier) (Only (file_asked it)) (Asks it) (λ m same. asks_file it m c.requires.backup same) (c.in-Ok.ensures.stays_open t tells still.opened (no_delta a (file_asked it) (file_plain it c.requires.backup c.requires.asked.fits))) in
     let named = c.in-Ok.ensures.named in
     let plain = file_plain it c.requires.backup c.requires.asked.fits in
-    turn_unheard true old mid a b (Asks it) still (Ok c.in-Ok.copier) stays (λ (taken : Taken). taken.refused) (λ (taken : Taken). taken.task) c.under_way.result b tt refl
-    (subst (λ (x : Taken). TaskStays true b x.task) (sym c.under_way.ensures) (refl, aside_then old a b t (file_asked it) c.in-Ok.copier.backing.name still.opened (c.in-Ok.ensures.free tells) plain named stays.name))
+    turn_unheard old mid a b (Asks it) still (Ok c.in-Ok.copier) stays (λ (taken : Taken). taken.refused) (λ (taken : Taken). taken.task) c.under_way.result b tt refl
+    (subst (λ (x : Taken). TaskStays b x.task) (sym c.under_way.ensures) (aside_then old a b t (file_asked it) c.in-Ok.copier.backing.name still.opened (c.in-Ok.ensures.free tells) plain named stays.name))
     (λ m makes. asks_file it m c.requires.backup (subst (λ (x : Taken). TaskMakes x.task m) c.under_way.ensures makes ∙ named)) (ap (λ (x : Taken). x.refused) c.under_way.ensures)
 
 pub returns-in-Err-Refused-clause-stays_open : goal.returns-in-Err-Refused-clause-stays_open
@@ -125,7 +126,7 @@ returns-in-Err-Refused-clause-stays_open g c tells still =
     let t = still.trail in
     let it = c.args.statement.now in
     let refusal = c.in-Err-Refused.refusal in
-    turn_refused true old mid a b (Asks it) still (Err (Refused refusal)) (stays_among old mid a b (Err (Refused refusal)) (Only (file_asked it)) (Asks it) (λ m same. asks_file it m c.requires.backup same)
+    turn_refused old mid a b (Asks it) still (Err (Refused refusal)) (stays_among old mid a b (Err (Refused refusal)) (Only (file_asked it)) (Asks it) (λ m same. asks_file it m c.requires.backup same)
     (subst (λ (f : Fault). StaysOpen {T = Backed} (Err f) old mid a b t (Only (file_asked it))) c.in-Err-Refused.field-0-is (c.in-Err-Refused.ensures.stays_open t tells still.opened (no_delta a (file_asked it) (file_plain it c.requires.backup c.requires.asked.fits)))))
     (g.H.Host.world c.say_refused.new.host) c.args.session refusal c.say_refused.result (g.met.H.Host.timely c.say_refused.new.host) (g.met.H.Host.reads_left c.say_refused.new.host tells) tt b refl (c.say_refused.ensures.line tells) c.say_refused.ensures.taken
 
@@ -137,7 +138,7 @@ returns-in-Err-Device-clause-stays_open g c tells still =
     let b = c.start.new.engine in
     let t = still.trail in
     let it = c.args.statement.now in
-    turn_failed true old mid a b (Asks it) still (Err Device) (stays_among old mid a b (Err Device) (Only (file_asked it)) (Asks it) (λ m same. asks_file it m c.requires.backup same)
+    turn_failed old mid a b (Asks it) still (Err Device) (stays_among old mid a b (Err Device) (Only (file_asked it)) (Asks it) (λ m same. asks_file it m c.requires.backup same)
     (subst (λ (f : Fault). StaysOpen {T = Backed} (Err f) old mid a b t (Only (file_asked it))) c.in-Err-Device.field-0-is (c.in-Err-Device.ensures.stays_open t tells still.opened (no_delta a (file_asked it) (file_plain it c.requires.backup c.requires.asked.fits))))) (λ (taken : Taken). taken.refused) (λ (taken : Taken). taken.task) (Err Device) refl
 
 pub returns-in-Err-Memory-clause-stays_open : goal.returns-in-Err-Memory-clause-stays_open
@@ -148,5 +149,5 @@ returns-in-Err-Memory-clause-stays_open g c tells still =
     let b = c.start.new.engine in
     let t = still.trail in
     let it = c.args.statement.now in
-    turn_failed true old mid a b (Asks it) still (Err Memory) (stays_among old mid a b (Err Memory) (Only (file_asked it)) (Asks it) (λ m same. asks_file it m c.requires.backup same)
+    turn_failed old mid a b (Asks it) still (Err Memory) (stays_among old mid a b (Err Memory) (Only (file_asked it)) (Asks it) (λ m same. asks_file it m c.requires.backup same)
     (subst (λ (f : Fault). StaysOpen {T = Backed} (Err f) old mid a b t (Only (file_asked it))) c.in-Err-Memory.field-0-is (c.in-Err-Memory.ensures.stays_open t tells still.opened (no_delta a (file_asked it) (file_plain it c.requires.backup c.requires.asked.fits))))) (λ (taken : Taken). taken.refused) (λ (taken : Taken). taken.task) (Err Memory) refl

@@ -115,17 +115,17 @@ returns-in_ok-tell-in-Finished-clause-turn g c now t more tells ready makes here
     (λ told. end_behind old mid a d t now c.args.session copy later pages ready goes.1 reads new left none)
 
 pub returns-in_err-turn-clause-stays_open : goal.returns-in_err-turn-clause-stays_open
-returns-in_err-turn-clause-stays_open g c may_merge tells still aside =
+returns-in_err-turn-clause-stays_open g c tells still aside =
     let old = g.H.Host.world c.args.host.now in
     let mid = g.H.Host.world c.turn.new.host in
     let a = c.args.engine.now in
     let b = c.turn.new.engine in
     let t = still.trail in
     let copy : Copying = c.args.copier.now in
-    turn_failed may_merge old mid a b (TaskMakes (Some (Copy copy))) still (Err Device) (stays_among old mid a b (Err Device) (Only copy.name) (TaskMakes (Some (Copy copy))) (λ m is. is) (c.in_err-turn.ensures.stays_open (Err Device) t tells still.opened aside)) left_refused (left_task _) c.from_residual.result c.from_residual.ensures.0
+    turn_failed old mid a b (TaskMakes (Some (Copy copy))) still (Err Device) (stays_among old mid a b (Err Device) (Only copy.name) (TaskMakes (Some (Copy copy))) (λ m is. is) (c.in_err-turn.ensures.stays_open (Err Device) t tells still.opened aside)) left_refused (left_task _) c.from_residual.result c.from_residual.ensures.0
 
 pub returns-in-More-clause-stays_open : goal.returns-in-More-clause-stays_open
-returns-in-More-clause-stays_open g c may_merge tells still aside =
+returns-in-More-clause-stays_open g c tells still aside =
     let old = g.H.Host.world c.args.host.now in
     let mid = g.H.Host.world c.turn.new.host in
     let a = c.args.engine.now in
@@ -136,28 +136,28 @@ returns-in-More-clause-stays_open g c may_merge tells still aside =
     let stays = stays_among old mid a b (Ok More) (Only copy.name) (TaskMakes (Some (Copy copy))) (λ m is. is) (c.in_ok-turn.ensures.stays_open (Ok More) t tells still.opened aside) in
     let counts = subst (λ (p : Progress). CopyCounts (Ok p) copy later) c.in-More.is c.in_ok-turn.ensures.counts in
     let same : later.name ≡ copy.name = ap (λ (x : Copying). x.name) counts.1 in
-    turn_unheard may_merge old mid a b (TaskMakes (Some (Copy copy))) still (Ok More) stays left_refused (left_task _) Same b tt refl (aside_named a b copy.name later.name stays.name same aside) (λ m makes. makes ∙ same) refl
+    turn_unheard old mid a b (TaskMakes (Some (Copy copy))) still (Ok More) stays left_refused (left_task _) Same b tt refl (aside_named a b copy.name later.name stays.name same aside) (λ m makes. makes ∙ same) refl
 
 pub returns-in_err-tell-in-Finished-clause-stays_open : goal.returns-in_err-tell-in-Finished-clause-stays_open
-returns-in_err-tell-in-Finished-clause-stays_open g c may_merge tells still aside =
+returns-in_err-tell-in-Finished-clause-stays_open g c tells still aside =
     let old = g.H.Host.world c.args.host.now in
     let mid = g.H.Host.world c.turn.new.host in
     let a = c.args.engine.now in
     let b = c.turn.new.engine in
     let t = still.trail in
     let copy : Copying = c.args.copier.now in
-    turn_unsaid may_merge old mid a b (TaskMakes (Some (Copy copy))) still (Ok Finished) (stays_among old mid a b (Ok Finished) (Only copy.name) (TaskMakes (Some (Copy copy))) (λ m is. is) (c.in_ok-turn.ensures.stays_open (Ok Finished) t tells still.opened aside)) left_refused (left_task _)
+    turn_unsaid old mid a b (TaskMakes (Some (Copy copy))) still (Ok Finished) (stays_among old mid a b (Ok Finished) (Only copy.name) (TaskMakes (Some (Copy copy))) (λ m is. is) (c.in_ok-turn.ensures.stays_open (Ok Finished) t tells still.opened aside)) left_refused (left_task _)
     (g.H.Host.world c.tell.new.host) c.tell.result _ (g.met.H.Host.timely c.tell.new.host) (g.met.H.Host.reads_left c.tell.new.host tells) (c.tell.ensures.line tells) c.stop_running.new.engine c.stop_running.ensures.same
     c.from_residual-in_err-tell-in-Finished.result c.from_residual-in_err-tell-in-Finished.ensures.0
 
 pub returns-in_ok-tell-in-Finished-clause-stays_open : goal.returns-in_ok-tell-in-Finished-clause-stays_open
-returns-in_ok-tell-in-Finished-clause-stays_open g c may_merge tells still aside =
+returns-in_ok-tell-in-Finished-clause-stays_open g c tells still aside =
     let old = g.H.Host.world c.args.host.now in
     let mid = g.H.Host.world c.turn.new.host in
     let a = c.args.engine.now in
     let b = c.turn.new.engine in
     let t = still.trail in
     let copy : Copying = c.args.copier.now in
-    turn_said may_merge old mid a b (TaskMakes (Some (Copy copy))) still (Ok Finished) (stays_among old mid a b (Ok Finished) (Only copy.name) (TaskMakes (Some (Copy copy))) (λ m is. is) (c.in_ok-turn.ensures.stays_open (Ok Finished) t tells still.opened aside)) left_refused (left_task _)
+    turn_said old mid a b (TaskMakes (Some (Copy copy))) still (Ok Finished) (stays_among old mid a b (Ok Finished) (Only copy.name) (TaskMakes (Some (Copy copy))) (λ m is. is) (c.in_ok-turn.ensures.stays_open (Ok Finished) t tells still.opened aside)) left_refused (left_task _)
     (g.H.Host.world c.tell.new.host) c.tell.result _ (g.met.H.Host.timely c.tell.new.host) (g.met.H.Host.reads_left c.tell.new.host tells) (c.tell.ensures.line tells) c.stop_running.new.engine c.stop_running.ensures.same
     (Other (record { task = None; refused = false })) tt tt (λ m none. absurd none) (λ yes. absurd (true≢false (sym yes)))

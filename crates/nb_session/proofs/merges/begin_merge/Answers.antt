@@ -1,5 +1,5 @@
 use Rattle.std.proofs.Common.{[], length, refl, sym, ap, subst}
-use Rattle.std.specs.Prelude.{Ok, Err, None, true}
+use Rattle.std.specs.Prelude.{Ok, Err, None}
 use Rattle.nb_host.specs.declared.faults.Fault.{Fault}
 use Rattle.nb_host.specs.declared.faults.Fault.TheVariants.{Refused, Device, Memory}
 use Rattle.nb_model.specs.declared.reply.Reply.TheVariants.{Refused as RefusedBy}
@@ -73,8 +73,8 @@ returns-in-Ok-clause-stays_open g c tells still =
     let b = c.end.new.self in
     let t = still.trail in
     let s = seen_of t a.running in
-    turn_unheard true old mid a b NoNames still (Ok c.in-Ok.scn) (stays_ends (Ok c.in-Ok.scn) old mid a b t (end_scn t.base.image) s c.args.session NoNames (c.in-Ok.ensures.turn s t tells refl refl still.opened))
-    (λ (taken : Taken). taken.refused) (λ (taken : Taken). taken.task) c.merge_of.result b tt refl (subst (λ (x : Taken). TaskStays true b x.task) (sym c.merge_of.ensures) refl)
+    turn_unheard old mid a b NoNames still (Ok c.in-Ok.scn) (stays_ends (Ok c.in-Ok.scn) old mid a b t (end_scn t.base.image) s c.args.session NoNames (c.in-Ok.ensures.turn s t tells refl refl still.opened))
+    (λ (taken : Taken). taken.refused) (λ (taken : Taken). taken.task) c.merge_of.result b tt refl (subst (λ (x : Taken). TaskStays b x.task) (sym c.merge_of.ensures) tt)
     (λ m makes. subst (λ (x : Taken). TaskMakes x.task m) c.merge_of.ensures makes) (ap (λ (x : Taken). x.refused) c.merge_of.ensures)
 
 pub returns-in-Err-Refused-clause-stays_open : goal.returns-in-Err-Refused-clause-stays_open
@@ -86,7 +86,7 @@ returns-in-Err-Refused-clause-stays_open g c tells still =
     let t = still.trail in
     let s = seen_of t a.running in
     let refusal = c.in-Err-Refused.refusal in
-    turn_refused true old mid a b NoNames still (Err (Refused refusal)) (stays_ends (Err (Refused refusal)) old mid a b t (end_scn t.base.image) s c.args.session NoNames
+    turn_refused old mid a b NoNames still (Err (Refused refusal)) (stays_ends (Err (Refused refusal)) old mid a b t (end_scn t.base.image) s c.args.session NoNames
     (subst (λ (f : Fault). DoesEnd (Err f) old mid a b t (end_scn t.base.image) (end_turn s c.args.session)) c.in-Err-Refused.field-0-is (c.in-Err-Refused.ensures.turn s t tells refl refl still.opened)))
     (g.H.Host.world c.say_refused.new.host) c.args.session refusal c.say_refused.result (g.met.H.Host.timely c.say_refused.new.host) (g.met.H.Host.reads_left c.say_refused.new.host tells) tt b refl (c.say_refused.ensures.line tells) c.say_refused.ensures.taken
 
@@ -98,7 +98,7 @@ returns-in-Err-Device-clause-stays_open g c tells still =
     let b = c.end.new.self in
     let t = still.trail in
     let s = seen_of t a.running in
-    turn_failed true old mid a b NoNames still (Err Device) (stays_ends (Err Device) old mid a b t (end_scn t.base.image) s c.args.session NoNames
+    turn_failed old mid a b NoNames still (Err Device) (stays_ends (Err Device) old mid a b t (end_scn t.base.image) s c.args.session NoNames
     (subst (λ (f : Fault). DoesEnd (Err f) old mid a b t (end_scn t.base.image) (end_turn s c.args.session)) c.in-Err-Device.field-0-is (c.in-Err-Device.ensures.turn s t tells refl refl still.opened))) (λ (taken : Taken). taken.refused) (λ (taken : Taken). taken.task) (Err Device) refl
 
 pub returns-in-Err-Memory-clause-stays_open : goal.returns-in-Err-Memory-clause-stays_open
@@ -109,5 +109,5 @@ returns-in-Err-Memory-clause-stays_open g c tells still =
     let b = c.end.new.self in
     let t = still.trail in
     let s = seen_of t a.running in
-    turn_failed true old mid a b NoNames still (Err Memory) (stays_ends (Err Memory) old mid a b t (end_scn t.base.image) s c.args.session NoNames
+    turn_failed old mid a b NoNames still (Err Memory) (stays_ends (Err Memory) old mid a b t (end_scn t.base.image) s c.args.session NoNames
     (subst (λ (f : Fault). DoesEnd (Err f) old mid a b t (end_scn t.base.image) (end_turn s c.args.session)) c.in-Err-Memory.field-0-is (c.in-Err-Memory.ensures.turn s t tells refl refl still.opened))) (λ (taken : Taken). taken.refused) (λ (taken : Taken). taken.task) (Err Memory) refl

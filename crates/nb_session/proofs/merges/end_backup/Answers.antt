@@ -1,5 +1,5 @@
 use Rattle.std.proofs.Common.{[], length, refl, sym, ap, subst}
-use Rattle.std.specs.Prelude.{Ok, Err, Some, None, true}
+use Rattle.std.specs.Prelude.{Ok, Err, Some, None}
 use Rattle.nb_host.specs.declared.faults.Fault.{Fault}
 use Rattle.nb_host.specs.declared.faults.Fault.TheVariants.{Device, Memory, Refused}
 use Rattle.nb_model.specs.declared.reply.Reply.{Reply}
@@ -88,8 +88,8 @@ returns-in-Ok-clause-stays_open g c tells still =
     let b = c.end.new.self in
     let t = still.trail in
     let s = seen_of t a.running in
-    turn_unheard true old mid a b NoNames still (Ok c.in-Ok.field-0) (stays_ends (Ok c.in-Ok.field-0) old mid a b t (end_scn t.base.image) s c.args.session NoNames (c.in-Ok.ensures.turn s t tells refl refl still.opened))
-    left_refused (left_task _) (Other c.merge_of.result) b tt refl (subst (λ (x : Taken). TaskStays true b x.task) (sym c.merge_of.ensures) refl)
+    turn_unheard old mid a b NoNames still (Ok c.in-Ok.field-0) (stays_ends (Ok c.in-Ok.field-0) old mid a b t (end_scn t.base.image) s c.args.session NoNames (c.in-Ok.ensures.turn s t tells refl refl still.opened))
+    left_refused (left_task _) (Other c.merge_of.result) b tt refl (subst (λ (x : Taken). TaskStays b x.task) (sym c.merge_of.ensures) tt)
     (λ m makes. subst (λ (x : Taken). TaskMakes x.task m) c.merge_of.ensures makes) (ap (λ (x : Taken). x.refused) c.merge_of.ensures)
 
 pub returns-in_err-say_refused-in-Err-Refused-clause-stays_open : goal.returns-in_err-say_refused-in-Err-Refused-clause-stays_open
@@ -101,7 +101,7 @@ returns-in_err-say_refused-in-Err-Refused-clause-stays_open g c tells still =
     let t = still.trail in
     let s = seen_of t a.running in
     let refusal = c.in-Err-Refused.refusal in
-    turn_unsaid true old mid a b NoNames still (Err (Refused refusal)) (stays_ends (Err (Refused refusal)) old mid a b t (end_scn t.base.image) s c.args.session NoNames
+    turn_unsaid old mid a b NoNames still (Err (Refused refusal)) (stays_ends (Err (Refused refusal)) old mid a b t (end_scn t.base.image) s c.args.session NoNames
     (subst (λ (f : Fault). DoesEnd (Err f) old mid a b t (end_scn t.base.image) (end_turn s c.args.session)) c.in-Err-Refused.field-0-is (c.in-Err-Refused.ensures.turn s t tells refl refl still.opened))) left_refused (left_task _)
     (g.H.Host.world c.say_refused.new.host) c.say_refused.result _ (g.met.H.Host.timely c.say_refused.new.host) (g.met.H.Host.reads_left c.say_refused.new.host tells) (c.say_refused.ensures.line tells) b refl c.from_residual.result c.from_residual.ensures.0
 
@@ -115,10 +115,10 @@ returns-in_ok-say_refused-in-Err-Refused-clause-stays_open g c tells still =
     let s = seen_of t a.running in
     let refusal = c.in-Err-Refused.refusal in
     let taken = c.in_ok-say_refused-in-Err-Refused.ensures.taken in
-    turn_said true old mid a b NoNames still (Err (Refused refusal)) (stays_ends (Err (Refused refusal)) old mid a b t (end_scn t.base.image) s c.args.session NoNames
+    turn_said old mid a b NoNames still (Err (Refused refusal)) (stays_ends (Err (Refused refusal)) old mid a b t (end_scn t.base.image) s c.args.session NoNames
     (subst (λ (f : Fault). DoesEnd (Err f) old mid a b t (end_scn t.base.image) (end_turn s c.args.session)) c.in-Err-Refused.field-0-is (c.in-Err-Refused.ensures.turn s t tells refl refl still.opened))) left_refused (left_task _)
     (g.H.Host.world c.say_refused.new.host) c.say_refused.result _ (g.met.H.Host.timely c.say_refused.new.host) (g.met.H.Host.reads_left c.say_refused.new.host tells) (c.say_refused.ensures.line tells) b refl (Other c.in_ok-say_refused-in-Err-Refused.field-0) tt
-    (subst (λ (x : Taken). TaskStays true b x.task) (sym taken) tt) (λ m makes. subst (λ (x : Taken). TaskMakes x.task m) taken makes)
+    (subst (λ (x : Taken). TaskStays b x.task) (sym taken) tt) (λ m makes. subst (λ (x : Taken). TaskMakes x.task m) taken makes)
     (λ yes. refusal_said mid (g.H.Host.world c.say_refused.new.host) c.args.session refusal (c.in_ok-say_refused-in-Err-Refused.ensures.line tells).said)
 
 pub returns-in-Err-Device-clause-stays_open : goal.returns-in-Err-Device-clause-stays_open
@@ -129,7 +129,7 @@ returns-in-Err-Device-clause-stays_open g c tells still =
     let b = c.end.new.self in
     let t = still.trail in
     let s = seen_of t a.running in
-    turn_failed true old mid a b NoNames still (Err Device) (stays_ends (Err Device) old mid a b t (end_scn t.base.image) s c.args.session NoNames
+    turn_failed old mid a b NoNames still (Err Device) (stays_ends (Err Device) old mid a b t (end_scn t.base.image) s c.args.session NoNames
     (subst (λ (f : Fault). DoesEnd (Err f) old mid a b t (end_scn t.base.image) (end_turn s c.args.session)) c.in-Err-Device.field-0-is (c.in-Err-Device.ensures.turn s t tells refl refl still.opened))) left_refused (left_task _) (Err Device) refl
 
 pub returns-in-Err-Memory-clause-stays_open : goal.returns-in-Err-Memory-clause-stays_open
@@ -140,5 +140,5 @@ returns-in-Err-Memory-clause-stays_open g c tells still =
     let b = c.end.new.self in
     let t = still.trail in
     let s = seen_of t a.running in
-    turn_failed true old mid a b NoNames still (Err Memory) (stays_ends (Err Memory) old mid a b t (end_scn t.base.image) s c.args.session NoNames
+    turn_failed old mid a b NoNames still (Err Memory) (stays_ends (Err Memory) old mid a b t (end_scn t.base.image) s c.args.session NoNames
     (subst (λ (f : Fault). DoesEnd (Err f) old mid a b t (end_scn t.base.image) (end_turn s c.args.session)) c.in-Err-Memory.field-0-is (c.in-Err-Memory.ensures.turn s t tells refl refl still.opened))) left_refused (left_task _) (Err Memory) refl

@@ -78,7 +78,7 @@ returns-in_err-merge_turn-clause-stays_open g c tells still =
     let t = still.trail in
     let fault = c.in_err-merge_turn.field-0.0 in
     let merges = c.in_err-merge_turn.ensures.merges t tells still.opened in
-    turn_failed true old mid a b NoNames still (Err fault) (stays_merges (Err fault) old mid a b t NoNames c.in_err-merge_turn.ensures.not_refused (still.no_zeros refl) merges) left_refused (left_task _) c.from_residual.result c.from_residual.ensures.0
+    turn_failed old mid a b NoNames still (Err fault) (stays_merges (Err fault) old mid a b t NoNames c.in_err-merge_turn.ensures.not_refused merges) left_refused (left_task _) c.from_residual.result c.from_residual.ensures.0
 
 pub returns-in-More-clause-stays_open : goal.returns-in-More-clause-stays_open
 returns-in-More-clause-stays_open g c tells still =
@@ -88,7 +88,7 @@ returns-in-More-clause-stays_open g c tells still =
     let b = c.merge_turn.new.self in
     let t = still.trail in
     let merges = subst (λ (p : Progress). Merges (Ok p) old mid a b t) c.in-More.is (c.in_ok-merge_turn.ensures.merges t tells still.opened) in
-    turn_unheard true old mid a b NoNames still (Ok More) (stays_merges (Ok More) old mid a b t NoNames tt (still.no_zeros refl) merges) left_refused (left_task _) Same b tt refl refl (λ m none. none) refl
+    turn_unheard old mid a b NoNames still (Ok More) (stays_merges (Ok More) old mid a b t NoNames tt merges) left_refused (left_task _) Same b tt refl tt (λ m none. none) refl
 
 pub returns-in_err-tell-in-Finished-clause-stays_open : goal.returns-in_err-tell-in-Finished-clause-stays_open
 returns-in_err-tell-in-Finished-clause-stays_open g c tells still =
@@ -98,7 +98,7 @@ returns-in_err-tell-in-Finished-clause-stays_open g c tells still =
     let b = c.merge_turn.new.self in
     let t = still.trail in
     let merges = subst (λ (p : Progress). Merges (Ok p) old mid a b t) c.in-Finished.is (c.in_ok-merge_turn.ensures.merges t tells still.opened) in
-    turn_unsaid true old mid a b NoNames still (Ok Finished) (stays_merges (Ok Finished) old mid a b t NoNames tt (still.no_zeros refl) merges) left_refused (left_task _)
+    turn_unsaid old mid a b NoNames still (Ok Finished) (stays_merges (Ok Finished) old mid a b t NoNames tt merges) left_refused (left_task _)
     (g.H.Host.world c.tell.new.host) c.tell.result _ (g.met.H.Host.timely c.tell.new.host) (g.met.H.Host.reads_left c.tell.new.host tells) (c.tell.ensures.line tells) b refl c.from_residual-in_err-tell-in-Finished.result c.from_residual-in_err-tell-in-Finished.ensures.0
 
 pub returns-in_ok-tell-in-Finished-clause-stays_open : goal.returns-in_ok-tell-in-Finished-clause-stays_open
@@ -109,5 +109,5 @@ returns-in_ok-tell-in-Finished-clause-stays_open g c tells still =
     let b = c.merge_turn.new.self in
     let t = still.trail in
     let merges = subst (λ (p : Progress). Merges (Ok p) old mid a b t) c.in-Finished.is (c.in_ok-merge_turn.ensures.merges t tells still.opened) in
-    turn_said true old mid a b NoNames still (Ok Finished) (stays_merges (Ok Finished) old mid a b t NoNames tt (still.no_zeros refl) merges) left_refused (left_task _)
+    turn_said old mid a b NoNames still (Ok Finished) (stays_merges (Ok Finished) old mid a b t NoNames tt merges) left_refused (left_task _)
     (g.H.Host.world c.tell.new.host) c.tell.result _ (g.met.H.Host.timely c.tell.new.host) (g.met.H.Host.reads_left c.tell.new.host tells) (c.tell.ensures.line tells) b refl (Other (record { task = None; refused = false })) tt tt (λ m none. none) (λ yes. absurd (true≢false (sym yes)))

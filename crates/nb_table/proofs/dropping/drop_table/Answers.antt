@@ -1,4 +1,4 @@
-use Rattle.std.proofs.Common.{◌≤◌, ℕ, List, [], length, refl, sym, subst}
+use Rattle.std.proofs.Common.{ℕ, List, [], refl, sym, subst}
 use Rattle.std.specs.Prelude.{Ok, Err}
 use Rattle.nb_model.specs.declared.reply.Reply.TheVariants.{Done}
 use Rattle.nb_model.specs.Account.{Base}
@@ -19,7 +19,7 @@ use Rattle.nb_table.proofs.DropTurnLaws.{drop_refused, whole_table, drop_says}
 use Rattle.nb_table.proofs.dropping.drop_table.Goals as goal
 
 pub returns-in_err-rows-clause-turn : goal.returns-in_err-rows-clause-turn
-returns-in_err-rows-clause-turn g c s t tells same is five sizes =
+returns-in_err-rows-clause-turn g c s t tells same is sizes =
     let image = t.base.image in
     let table : List ℕ = c.args.table.now in
     let found = c.in_err-rows.ensures in
@@ -27,7 +27,7 @@ returns-in_err-rows-clause-turn g c s t tells same is five sizes =
     (found.test t tells is) (drop_refused (seeing s t.base) table)
 
 pub returns-in_err-drop_rows-clause-turn : goal.returns-in_err-drop_rows-clause-turn
-returns-in_err-drop_rows-clause-turn g c s t tells same is five sizes =
+returns-in_err-drop_rows-clause-turn g c s t tells same is sizes =
     let image = t.base.image in
     let table : List ℕ = c.args.table.now in
     let found = c.in_ok-rows.ensures in
@@ -36,7 +36,6 @@ returns-in_err-drop_rows-clause-turn g c s t tells same is five sizes =
     let mid = g.H.Host.world c.find_rows.new.host in
     let new = g.H.Host.world c.drop_rows.new.host in
     let fault = c.in_err-drop_rows.field-0.0 in
-    let long = subst (λ (b : Base). 5 ≤ length b.image) (sym same) five in
     let here = subst (λ (b : Base). IsOfSize (image_size b.image) b.image) (sym same) sizes in
     let now = seeing s t.base in
     let none = found.test t tells is in
@@ -46,10 +45,10 @@ returns-in_err-drop_rows-clause-turn g c s t tells same is five sizes =
     (tries_does {T = Unit {0}} done (Err fault) w new c.args.engine.now c.drop_rows.new.engine t s (λ (x : Seen). drop_turn x table) (not_of_form whole) Done refl whole.strokes same
     (drop_says now table none spot has) tt
     (tries_after {T = Unit {0}} (Err fault) w mid new c.args.engine.now c.find_rows.new.engine c.drop_rows.new.engine t (not_of_form whole) whole.strokes found.same found.quiet is
-    (c.in_err-drop_rows.ensures.tries t table tells (found.open t tells is) long here has)))
+    (c.in_err-drop_rows.ensures.tries t table tells (found.open t tells is) here has)))
 
 pub returns-clause-turn : goal.returns-clause-turn
-returns-clause-turn g c s t tells same is five sizes =
+returns-clause-turn g c s t tells same is sizes =
     let image = t.base.image in
     let table : List ℕ = c.args.table.now in
     let found = c.in_ok-rows.ensures in
@@ -57,7 +56,6 @@ returns-clause-turn g c s t tells same is five sizes =
     let w = g.H.Host.world c.args.host.now in
     let mid = g.H.Host.world c.find_rows.new.host in
     let new = g.H.Host.world c.drop_rows.new.host in
-    let long = subst (λ (b : Base). 5 ≤ length b.image) (sym same) five in
     let here = subst (λ (b : Base). IsOfSize (image_size b.image) b.image) (sym same) sizes in
     let now = seeing s t.base in
     let none = found.test t tells is in
@@ -66,7 +64,7 @@ returns-clause-turn g c s t tells same is five sizes =
     tries_does {T = Unit {0}} done (Ok tt) w new c.args.engine.now c.drop_rows.new.engine t s (λ (x : Seen). drop_turn x table) (not_of_form whole) Done refl whole.strokes same
     (drop_says now table none spot has) refl
     (tries_after {T = Unit {0}} (Ok tt) w mid new c.args.engine.now c.find_rows.new.engine c.drop_rows.new.engine t (not_of_form whole) whole.strokes found.same found.quiet is
-    (c.in_ok-drop_rows.ensures.tries t table tells (found.open t tells is) long here has))
+    (c.in_ok-drop_rows.ensures.tries t table tells (found.open t tells is) here has))
 
 pub returns-in_err-rows-clause-stays_open : goal.returns-in_err-rows-clause-stays_open
 returns-in_err-rows-clause-stays_open g c t tells is = let found = c.in_err-rows.ensures in stays_still _ _ _ _ _ t _ found.same found.quiet is (found.open t tells is)

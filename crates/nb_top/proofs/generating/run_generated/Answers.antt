@@ -21,7 +21,7 @@ use Rattle.nb_top.proofs.GeneratedEvents.{with_script}
 use Rattle.nb_top.proofs.JobRuns.{job_refused, script_number}
 use Rattle.nb_top.proofs.QuietRuns.{foretold_from, knows_quietly, no_given, quiet_gave, runs_quietly}
 use Rattle.nb_top.proofs.ScriptRuns.{runs_err, settled_value, settled_refusal}
-use Rattle.nb_top.proofs.TouchLaws.{only_err, only_refused, touches_then, leaves_only, generated_whole, generated_among}
+use Rattle.nb_top.proofs.TouchLaws.{only_err, only_refused, touches_then, leaves_only, generated_among}
 use Rattle.nb_session.proofs.OthersLaws.{leaves_changes, leaves_quiet, leaves_then}
 use Rattle.nb_top.specs.Touched.{MayTouch}
 use Rattle.nb_top.specs.declared.telling.Telling.TheVariants.{Sparingly}
@@ -44,7 +44,7 @@ returns-in_err-is_free-clause-goes g c = record {
   grows = λ account tells knows. let old = g.H.Host.world c.args.host.now in
       let new = g.H.Host.world c.is_free.new.host in
       grows_none old new (quiet_gave old new c.is_free.ensures.quiet);
-  touches = λ tells whole. let old = g.H.Host.world c.args.host.now in
+  touches = λ tells. let old = g.H.Host.world c.args.host.now in
       let asked = g.H.Host.world c.is_free.new.host in
       let number = c.args.number in
       let name = c.args.name.now in
@@ -73,7 +73,7 @@ returns-then-not-branch-clause-goes g c = record {
       let mid = g.H.Host.world c.is_free.new.host in
       let new = g.H.Host.world c.refuse.new.host in
       grows_joined old mid new (grows_none old mid (quiet_gave old mid c.is_free.ensures.quiet)) (grows_none mid new c.refuse.ensures.gave);
-  touches = λ tells whole. let old = g.H.Host.world c.args.host.now in
+  touches = λ tells. let old = g.H.Host.world c.args.host.now in
       let asked = g.H.Host.world c.is_free.new.host in
       let number = c.args.number in
       let name = c.args.name.now in
@@ -98,7 +98,7 @@ returns-in_default-clause-goes g c = record {
   grows = λ account tells knows. let old = g.H.Host.world c.args.host.now in
       let new = g.H.Host.world c.is_free.new.host in
       grows_none old new (quiet_gave old new c.is_free.ensures.quiet);
-  touches = λ tells whole. let old = g.H.Host.world c.args.host.now in
+  touches = λ tells. let old = g.H.Host.world c.args.host.now in
       let asked = g.H.Host.world c.is_free.new.host in
       let number = c.args.number in
       let name = c.args.name.now in
@@ -124,7 +124,7 @@ returns-in_err-script-clause-goes g c = record {
   grows = λ account tells knows. let old = g.H.Host.world c.args.host.now in
       let new = g.H.Host.world c.is_free.new.host in
       grows_none old new (quiet_gave old new c.is_free.ensures.quiet);
-  touches = λ tells whole. let old = g.H.Host.world c.args.host.now in
+  touches = λ tells. let old = g.H.Host.world c.args.host.now in
       let asked = g.H.Host.world c.is_free.new.host in
       let number = c.args.number in
       let name = c.args.name.now in
@@ -163,7 +163,7 @@ returns-in_err-write_script-clause-goes g c = record {
       let mid = g.H.Host.world c.is_free.new.host in
       let new = g.H.Host.world c.write_script.new.host in
       grows_joined old mid new (grows_none old mid (quiet_gave old mid c.is_free.ensures.quiet)) (grows_none mid new c.write_script.ensures.gave);
-  touches = λ tells whole. let old = g.H.Host.world c.args.host.now in
+  touches = λ tells. let old = g.H.Host.world c.args.host.now in
       let asked = g.H.Host.world c.is_free.new.host in
       let number = c.args.number in
       let name = c.args.name.now in
@@ -221,7 +221,7 @@ returns-in-Ok-script-clause-goes g c = record {
       let knows_then = knows_quietly old asked account (Ok (ToGenerate number name)) quiet knows in
       grows_joined old asked new (grows_none old asked (quiet_gave old asked quiet)) (grows_joined asked mid new (grows_none asked mid c.write_script.ensures.gave)
       (c.run_script.ensures.goes.grows (with_script name (generated number) account) tells (knows_script asked number name account no_given c.requires knows_then free mid written kept plan read)));
-  touches = λ tells whole. let old = g.H.Host.world c.args.host.now in
+  touches = λ tells. let old = g.H.Host.world c.args.host.now in
       let asked = g.H.Host.world c.is_free.new.host in
       let number = c.args.number in
       let name = c.args.name.now in
@@ -233,7 +233,7 @@ returns-in-Ok-script-clause-goes g c = record {
       let plan = c.in-Ok-script.script in
       let parsed = settled_value c.in_ok-script.script plan (λ value. c.parse.result ≡ Ok value) c.in-Ok-script.is c.in_ok-script.ensures.value in
       let read = ap script_of (sym (c.deref.ensures.value ∙ c.in-Ok.ensures.script)) ∙ subst (λ answer. IsAnswer answer (script_of c.deref.result.now)) parsed c.parse.ensures.exact in
-      touches_then old mid new request leaves c.run_script.result (Ok (ToRun plan Sparingly)) (generated_among number name plan read Sparingly) (c.run_script.ensures.goes.touches tells (generated_whole number name plan read mid.files Sparingly));
+      touches_then old mid new request leaves c.run_script.result (Ok (ToRun plan Sparingly)) (generated_among number name plan read Sparingly) (c.run_script.ensures.goes.touches tells);
 }
 
 pub returns-clause-goes : goal.returns-clause-goes
@@ -273,7 +273,7 @@ returns-clause-goes g c = record {
       let new = g.H.Host.world c.refuse-in-Err.new.host in
       grows_joined old asked new (grows_none old asked (quiet_gave old asked c.is_free.ensures.quiet))
       (grows_joined asked mid new (grows_none asked mid c.write_script.ensures.gave) (grows_none mid new c.refuse-in-Err.ensures.gave));
-  touches = λ tells whole. let old = g.H.Host.world c.args.host.now in
+  touches = λ tells. let old = g.H.Host.world c.args.host.now in
       let asked = g.H.Host.world c.is_free.new.host in
       let number = c.args.number in
       let name = c.args.name.now in

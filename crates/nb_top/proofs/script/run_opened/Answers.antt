@@ -10,7 +10,6 @@ use Rattle.nb_top.proofs.OpenedSaid.{opened_err, reply_unsaid, reply_said_then, 
 use Rattle.nb_top.proofs.QuietRuns.{foretold_from}
 use Rattle.nb_top.proofs.ToldLaws.{told_first_made, told_first_steps, told_output, told_status}
 use Rattle.nb_top.proofs.TouchLaws.{stays_unsaid, stays_said, still_said}
-use Rattle.nb_session.specs.StillOpen.{script_merges}
 use Rattle.nb_session.specs.declared.stop.Stop.{Stop}
 use Rattle.nb_top.proofs.script.run_opened.Goals as goal
 
@@ -82,4 +81,4 @@ returns-clause-stays_open g c tells still =
     let b = c.take_told.new.engine in
     let says = c.say_opened.ensures.line tells in
     stays_said old new a plan mid b c.say_opened.result _ c.take_told.result (g.met.H.Host.timely c.say_opened.new.host) (g.met.H.Host.reads_left c.say_opened.new.host tells) says
-    (c.take_told.ensures.stays_open tells (still_said old new a plan mid b (script_merges plan) c.say_opened.result _ says still))
+    (c.take_told.ensures.stays_open tells (still_said old new a plan mid b c.say_opened.result _ says still))

@@ -29,7 +29,7 @@ returns-in_err-engine-clause-goes g c = record {
         let begins = script_begins old account given plan c.args.telling c.requires.askable knows may mid c.open.result
         (λ name size raw cache is. c.open.ensures.creates name size raw cache tells (c.first.ensures ∙ is)) (λ name cache is. c.open.ensures.attaches name cache tells (c.first.ensures ∙ is))
         (λ name cache is. c.open.ensures.quiet name cache (c.first.ensures ∙ is)) c.open.ensures.scn
-        (subst (λ s. IfOk c.open.result (λ h. h.cap ≡ cache_asked s)) c.first.ensures c.open.ensures.cap) (g.met.H.Host.reads_left c.open.new.host tells) in
+        (subst (λ s. IfOk c.open.result (λ h. h.cap ≡ cache_asked s)) c.first.ensures c.open.ensures.cap) in
         record {
           whole = runs_err c.from_residual.result c.from_residual.ensures.0 (λ r. RunsTo r old mid (Ok (ToRun plan c.args.telling)) account given) begins.fails;
           turns = script_early g.H.Host.world (EndsEarly c.from_residual.result) account given plan c.args.telling c.args.host.now c.open.new.host (early_err c.from_residual.result c.from_residual.ensures.0) begins.beside;
@@ -40,7 +40,7 @@ returns-in_err-engine-clause-goes g c = record {
       let plan = c.args.script.now in
       grows_none old mid (first_gave old account no_given plan c.args.telling c.requires.askable knows mid c.open.result
       (λ name size raw cache is. c.open.ensures.creates name size raw cache tells (c.first.ensures ∙ is)) (λ name cache is. c.open.ensures.quiet name cache (c.first.ensures ∙ is)));
-  touches = λ tells whole. let old = g.H.Host.world c.args.host.now in
+  touches = λ tells. let old = g.H.Host.world c.args.host.now in
       let mid = g.H.Host.world c.open.new.host in
       let plan = c.args.script.now in
       let first = first_opens plan.first c.requires.askable.first in
@@ -61,7 +61,7 @@ returns-in_err-refused-in-Ok-clause-goes g c = record {
         let begins = script_begins old account given plan c.args.telling c.requires.askable knows may mid c.open.result
         (λ name size raw cache is. c.open.ensures.creates name size raw cache tells (c.first.ensures ∙ is)) (λ name cache is. c.open.ensures.attaches name cache tells (c.first.ensures ∙ is))
         (λ name cache is. c.open.ensures.quiet name cache (c.first.ensures ∙ is)) c.open.ensures.scn
-        (subst (λ s. IfOk c.open.result (λ h. h.cap ≡ cache_asked s)) c.first.ensures c.open.ensures.cap) (g.met.H.Host.reads_left c.open.new.host tells) in
+        (subst (λ s. IfOk c.open.result (λ h. h.cap ≡ cache_asked s)) c.first.ensures c.open.ensures.cap) in
         let held = c.in-Ok.engine in
         let done = begins.done held (settled_value c.in_ok-engine.field-0 held (λ value. c.open.result ≡ Ok value) c.in-Ok.is c.in_ok-engine.ensures.value) in
         let later = subst (λ x. Foretells x ((c.in_err-refused-in-Ok.ensures.plays tells).0) mid new) (sym (script_given old account given plan c.args.telling c.requires.askable mid held done)) (foretold_from old mid new given _ done.gave told) in
@@ -82,14 +82,14 @@ returns-in_err-refused-in-Ok-clause-goes g c = record {
       let begins = script_begins old account no_given plan c.args.telling c.requires.askable knows tt mid c.open.result
       (λ name size raw cache is. c.open.ensures.creates name size raw cache tells (c.first.ensures ∙ is)) (λ name cache is. c.open.ensures.attaches name cache tells (c.first.ensures ∙ is))
       (λ name cache is. c.open.ensures.quiet name cache (c.first.ensures ∙ is)) c.open.ensures.scn
-      (subst (λ s. IfOk c.open.result (λ h. h.cap ≡ cache_asked s)) c.first.ensures c.open.ensures.cap) (g.met.H.Host.reads_left c.open.new.host tells) in
+      (subst (λ s. IfOk c.open.result (λ h. h.cap ≡ cache_asked s)) c.first.ensures c.open.ensures.cap) in
       let held = c.in-Ok.engine in
       let done = begins.done held (settled_value c.in_ok-engine.field-0 held (λ value. c.open.result ≡ Ok value) c.in-Ok.is c.in_ok-engine.ensures.value) in
       grows_joined old mid new (grows_none old mid done.gave)
       (c.in_err-refused-in-Ok.ensures.grows (script_now old account no_given plan c.args.telling c.requires.askable mid held done) tells
       (script_ready old account no_given plan c.args.telling c.requires.askable mid held done) (script_todo old account no_given plan c.args.telling c.requires.askable mid held done)
       (script_making old account no_given plan c.args.telling c.requires.askable mid held done));
-  touches = λ tells whole. let old = g.H.Host.world c.args.host.now in
+  touches = λ tells. let old = g.H.Host.world c.args.host.now in
       let mid = g.H.Host.world c.open.new.host in
       let plan = c.args.script.now in
       let first = first_opens plan.first c.requires.askable.first in
@@ -98,11 +98,11 @@ returns-in_err-refused-in-Ok-clause-goes g c = record {
       let is = settled_value c.in_ok-engine.field-0 held (λ value. c.open.result ≡ Ok value) c.in-Ok.is c.in_ok-engine.ensures.value in
       let still = begun_still old mid plan c.args.telling first c.open.result
       (λ name size raw cache is. c.open.ensures.creates name size raw cache tells (c.first.ensures ∙ is)) (λ name cache is. c.open.ensures.attaches name cache tells (c.first.ensures ∙ is))
-      (λ name cache is. c.open.ensures.quiet name cache (c.first.ensures ∙ is)) held is whole in
+      (λ name cache is. c.open.ensures.quiet name cache (c.first.ensures ∙ is)) held is in
       only_err old new (MayTouch (Ok (ToRun plan c.args.telling))) c.from_residual-in_err-refused-in-Ok.result c.from_residual-in_err-refused-in-Ok.ensures.0
       (turns_leave old mid plan c.args.telling first c.open.result
       (λ name size raw cache is. c.open.ensures.creates name size raw cache tells (c.first.ensures ∙ is)) (λ name cache is. c.open.ensures.attaches name cache tells (c.first.ensures ∙ is))
-      (λ name cache is. c.open.ensures.quiet name cache (c.first.ensures ∙ is)) held is whole new c.run_opened.new.engine _ (c.in_err-refused-in-Ok.ensures.stays_open tells still));
+      (λ name cache is. c.open.ensures.quiet name cache (c.first.ensures ∙ is)) held is new c.run_opened.new.engine _ (c.in_err-refused-in-Ok.ensures.stays_open tells still));
 }
 
 pub returns-in_ok-refused-in-Ok-clause-goes : goal.returns-in_ok-refused-in-Ok-clause-goes
@@ -117,7 +117,7 @@ returns-in_ok-refused-in-Ok-clause-goes g c = record {
         let begins = script_begins old account given plan c.args.telling c.requires.askable knows may mid c.open.result
         (λ name size raw cache is. c.open.ensures.creates name size raw cache tells (c.first.ensures ∙ is)) (λ name cache is. c.open.ensures.attaches name cache tells (c.first.ensures ∙ is))
         (λ name cache is. c.open.ensures.quiet name cache (c.first.ensures ∙ is)) c.open.ensures.scn
-        (subst (λ s. IfOk c.open.result (λ h. h.cap ≡ cache_asked s)) c.first.ensures c.open.ensures.cap) (g.met.H.Host.reads_left c.open.new.host tells) in
+        (subst (λ s. IfOk c.open.result (λ h. h.cap ≡ cache_asked s)) c.first.ensures c.open.ensures.cap) in
         let held = c.in-Ok.engine in
         let done = begins.done held (settled_value c.in_ok-engine.field-0 held (λ value. c.open.result ≡ Ok value) c.in-Ok.is c.in_ok-engine.ensures.value) in
         let later = subst (λ x. Foretells x ((c.in_ok-refused-in-Ok.ensures.plays tells).0) mid new) (sym (script_given old account given plan c.args.telling c.requires.askable mid held done)) (foretold_from old mid new given _ done.gave told) in
@@ -136,14 +136,14 @@ returns-in_ok-refused-in-Ok-clause-goes g c = record {
       let begins = script_begins old account no_given plan c.args.telling c.requires.askable knows tt mid c.open.result
       (λ name size raw cache is. c.open.ensures.creates name size raw cache tells (c.first.ensures ∙ is)) (λ name cache is. c.open.ensures.attaches name cache tells (c.first.ensures ∙ is))
       (λ name cache is. c.open.ensures.quiet name cache (c.first.ensures ∙ is)) c.open.ensures.scn
-      (subst (λ s. IfOk c.open.result (λ h. h.cap ≡ cache_asked s)) c.first.ensures c.open.ensures.cap) (g.met.H.Host.reads_left c.open.new.host tells) in
+      (subst (λ s. IfOk c.open.result (λ h. h.cap ≡ cache_asked s)) c.first.ensures c.open.ensures.cap) in
       let held = c.in-Ok.engine in
       let done = begins.done held (settled_value c.in_ok-engine.field-0 held (λ value. c.open.result ≡ Ok value) c.in-Ok.is c.in_ok-engine.ensures.value) in
       grows_joined old mid new (grows_none old mid done.gave)
       (c.in_ok-refused-in-Ok.ensures.grows (script_now old account no_given plan c.args.telling c.requires.askable mid held done) tells
       (script_ready old account no_given plan c.args.telling c.requires.askable mid held done) (script_todo old account no_given plan c.args.telling c.requires.askable mid held done)
       (script_making old account no_given plan c.args.telling c.requires.askable mid held done));
-  touches = λ tells whole. let old = g.H.Host.world c.args.host.now in
+  touches = λ tells. let old = g.H.Host.world c.args.host.now in
       let mid = g.H.Host.world c.open.new.host in
       let plan = c.args.script.now in
       let first = first_opens plan.first c.requires.askable.first in
@@ -152,10 +152,10 @@ returns-in_ok-refused-in-Ok-clause-goes g c = record {
       let is = settled_value c.in_ok-engine.field-0 held (λ value. c.open.result ≡ Ok value) c.in-Ok.is c.in_ok-engine.ensures.value in
       let still = begun_still old mid plan c.args.telling first c.open.result
       (λ name size raw cache is. c.open.ensures.creates name size raw cache tells (c.first.ensures ∙ is)) (λ name cache is. c.open.ensures.attaches name cache tells (c.first.ensures ∙ is))
-      (λ name cache is. c.open.ensures.quiet name cache (c.first.ensures ∙ is)) held is whole in
+      (λ name cache is. c.open.ensures.quiet name cache (c.first.ensures ∙ is)) held is in
       turns_end old mid plan c.args.telling first c.open.result
       (λ name size raw cache is. c.open.ensures.creates name size raw cache tells (c.first.ensures ∙ is)) (λ name cache is. c.open.ensures.attaches name cache tells (c.first.ensures ∙ is))
-      (λ name cache is. c.open.ensures.quiet name cache (c.first.ensures ∙ is)) held is whole new c.run_opened.new.engine c.in_ok-refused-in-Ok.refused c.ended.result c.ended.ensures.ended c.ended.ensures.number (c.in_ok-refused-in-Ok.ensures.stays_open tells still);
+      (λ name cache is. c.open.ensures.quiet name cache (c.first.ensures ∙ is)) held is new c.run_opened.new.engine c.in_ok-refused-in-Ok.refused c.ended.result c.ended.ensures.ended c.ended.ensures.number (c.in_ok-refused-in-Ok.ensures.stays_open tells still);
 }
 
 pub returns-in-Err-clause-goes : goal.returns-in-Err-clause-goes
@@ -170,7 +170,7 @@ returns-in-Err-clause-goes g c = record {
         let begins = script_begins old account given plan c.args.telling c.requires.askable knows may mid c.open.result
         (λ name size raw cache is. c.open.ensures.creates name size raw cache tells (c.first.ensures ∙ is)) (λ name cache is. c.open.ensures.attaches name cache tells (c.first.ensures ∙ is))
         (λ name cache is. c.open.ensures.quiet name cache (c.first.ensures ∙ is)) c.open.ensures.scn
-        (subst (λ s. IfOk c.open.result (λ h. h.cap ≡ cache_asked s)) c.first.ensures c.open.ensures.cap) (g.met.H.Host.reads_left c.open.new.host tells) in
+        (subst (λ s. IfOk c.open.result (λ h. h.cap ≡ cache_asked s)) c.first.ensures c.open.ensures.cap) in
         let refusal = c.in-Err.refusal in
         let is = begins.refused refusal (settled_refusal c.in_ok-engine.field-0 refusal (λ r. c.open.result ≡ Err (Refused r)) c.in-Err.is c.in_ok-engine.ensures.refusal) in
         let says = says_other _ _ _ _ _ (ap (λ s. line_text s (RefusedReply refusal)) c.first_session.ensures.value) (c.refuse.ensures.line tells) in
@@ -186,7 +186,7 @@ returns-in-Err-clause-goes g c = record {
       grows_joined old mid new (grows_none old mid (first_gave old account no_given plan c.args.telling c.requires.askable knows mid c.open.result
       (λ name size raw cache is. c.open.ensures.creates name size raw cache tells (c.first.ensures ∙ is)) (λ name cache is. c.open.ensures.quiet name cache (c.first.ensures ∙ is))))
       (grows_none mid new c.refuse.ensures.gave);
-  touches = λ tells whole. let old = g.H.Host.world c.args.host.now in
+  touches = λ tells. let old = g.H.Host.world c.args.host.now in
       let mid = g.H.Host.world c.open.new.host in
       let plan = c.args.script.now in
       let first = first_opens plan.first c.requires.askable.first in

@@ -4,6 +4,7 @@ use Rattle.nb_host.specs.declared.faults.Fault.{Fault}
 use Rattle.nb_host.specs.declared.faults.Fault.TheVariants.{Device}
 use Rattle.nb_model.specs.Chains.{backup_slot, put_slot}
 use Rattle.nb_model.specs.Forms.{drafted}
+use Rattle.nb_model.specs.Forms.{HasItsEntry}
 use Rattle.nb_model.specs.Outcomes.{next_time}
 use Rattle.nb_model.specs.Strokes.{Stroke}
 use Rattle.nb_state.proofs.MakesLaws.{still_open}
@@ -16,7 +17,7 @@ use Rattle.nb_engine.proofs.StaysLaws.{stays_passing, stays_some, stays_then}
 use Rattle.nb_copy.proofs.copier.Copier.close.Goals as goal
 
 pub returns-in_err-time-clause-closes : goal.returns-in_err-time-clause-closes
-returns-in_err-time-clause-closes g c s t tells same is sound low given =
+returns-in_err-time-clause-closes g c s t tells same is entry low given =
     let old = g.H.Host.world c.args.host.now in
     let mid = g.H.Host.world c.seconds.new.self in
     let xs : List Stroke = (close_backup s c.args.self.now.backing).strokes in
@@ -24,7 +25,7 @@ returns-in_err-time-clause-closes g c s t tells same is sound low given =
     (close_waits old mid c.args.engine.now t is (g.met.H.Host.timely c.args.host.now) c.seconds.ensures.files c.seconds.ensures.log.said c.seconds.ensures.time c.seconds.ensures.log.guids (next_time s.given) xs)
 
 pub returns-clause-closes : goal.returns-clause-closes
-returns-clause-closes g c s t tells same is sound low given =
+returns-clause-closes g c s t tells same is entry low given =
     let old = g.H.Host.world c.args.host.now in
     let mid = g.H.Host.world c.seconds.new.self in
     let new = g.H.Host.world c.history_add.new.host in
@@ -32,14 +33,14 @@ returns-clause-closes g c s t tells same is sound low given =
     let tries = c.history_add.ensures.tries t tells (still_open old mid c.args.engine.now t c.seconds.ensures.files is) there in
     let gave = c.in_ok-time.ensures.log.times tells in
     let at : c.in_ok-time.time ≡ next_time s.given = given_time old.times new.times c.in_ok-time.time (next_time s.given) (tries.makes.gave.times ∙ gave) given in
-    let placed = c.self.invariant.1 in
+    let its = subst (λ (v : Backed). HasItsEntry t.base.image v.backing.page) (sym c.self.view_is) entry in
     let head = c.self.inside.head in
     let room = c.self.inside.room in
     subst (λ (n : ℕ). Closes c.history_add.result old new c.args.engine.now c.history_add.new.self t n (close_backup s c.args.self.now.backing).strokes) at
     (subst (λ (xs : List Stroke). Closes c.history_add.result old new c.args.engine.now c.history_add.new.self t c.in_ok-time.time xs)
     (ap (λ (n : List ℕ). (put_slot room.page room.slot (backup_slot head.level head.scn c.in_ok-time.time head.guid n) (drafted t.base.image)).strokes) c.copied.ensures ∙ ap (λ (v : Backed). row_strokes v.backing c.in_ok-time.time t.base.image) c.self.view_is ∙ close_strokes s c.args.self.now.backing t.base c.in_ok-time.time same at)
     (close_row old mid c.args.engine.now t is (g.met.H.Host.timely c.args.host.now) c.seconds.ensures.files c.seconds.ensures.log.said c.seconds.ensures.time c.seconds.ensures.log.guids
-    c.history_add.result new c.history_add.new.self c.in_ok-time.time c.self.inside.room.page (put_slot room.page room.slot (backup_slot head.level head.scn c.in_ok-time.time head.guid c.copied.result) (drafted t.base.image)).strokes gave sound placed.low placed.high there tries))
+    c.history_add.result new c.history_add.new.self c.in_ok-time.time c.self.inside.room.page (put_slot room.page room.slot (backup_slot head.level head.scn c.in_ok-time.time head.guid c.copied.result) (drafted t.base.image)).strokes gave its tries))
 
 pub returns-in_err-time-clause-asks : goal.returns-in_err-time-clause-asks
 returns-in_err-time-clause-asks g c t tells is low = (0, inl (c.in_err-time.ensures.log.times tells))

@@ -3,6 +3,7 @@ use Rattle.std.specs.Prelude.{Ok, Err, Option, Result}
 use Rattle.nb_host.specs.declared.faults.Fault.{Fault}
 use Rattle.nb_host.specs.declared.faults.Fault.TheVariants.{Device}
 use Rattle.nb_model.specs.Backups.{close_backup}
+use Rattle.nb_model.specs.Forms.{HasItsEntry}
 use Rattle.nb_model.specs.Outcomes.{Backing, next_time}
 use Rattle.nb_model.specs.Strokes.{Stroke}
 use Rattle.nb_state.specs.Open.{Held, name_of}
@@ -26,7 +27,7 @@ ends_all : (f g : FileCopy) → f ≡ g → file_next f ≡ file_count f → fil
 ends_all f g same all = subst (λ (x : FileCopy). file_next x ≡ file_count x) same all
 
 pub returns-in_err-turn-clause-turn : goal.returns-in_err-turn-clause-turn
-returns-in_err-turn-clause-turn g c s t tells same is stalled sound backing below apart given =
+returns-in_err-turn-clause-turn g c s t tells same is stalled entry backing below apart given =
     let old = g.H.Host.world c.args.host.now in
     let mid = g.H.Host.world c.turn.new.host in
     let copier : Backed = c.args.self.now in
@@ -47,7 +48,7 @@ returns-in_err-turn-clause-turn g c s t tells same is stalled sound backing belo
     (turn_failed old mid c.args.engine.now c.turn.new.engine copier t is stalled apart reads c.turn.ensures.engine file gave later (next_time s.given) xs)
 
 pub returns-in-More-clause-turn : goal.returns-in-More-clause-turn
-returns-in-More-clause-turn g c s t tells same is stalled sound backing below apart given =
+returns-in-More-clause-turn g c s t tells same is stalled entry backing below apart given =
     let old = g.H.Host.world c.args.host.now in
     let mid = g.H.Host.world c.turn.new.host in
     let copier : Backed = c.args.self.now in
@@ -68,7 +69,7 @@ pub close-requires : goal.close-requires
 close-requires g c = record { size = ap (λ (v : Backed). v.page_size) c.self.view_is ∙ c.requires.size ∙ sym (ap (λ (h : Held). h.files.page_size) c.turn.ensures.engine) }
 
 pub returns-in_err-close-in-Finished-clause-turn : goal.returns-in_err-close-in-Finished-clause-turn
-returns-in_err-close-in-Finished-clause-turn g c s t tells same is stalled sound backing below apart given =
+returns-in_err-close-in-Finished-clause-turn g c s t tells same is stalled entry backing below apart given =
     let old = g.H.Host.world c.args.host.now in
     let mid = g.H.Host.world c.turn.new.host in
     let copier : Backed = c.args.self.now in
@@ -83,7 +84,8 @@ returns-in_err-close-in-Finished-clause-turn g c s t tells same is stalled sound
     let new = g.H.Host.world c.close.new.host in
     let here = mid_open old mid c.args.engine.now c.turn.new.engine copier t is stalled apart reads c.turn.ensures.engine file gave in
     let low : c.self.inside.room.page < length t.base.image = omega (arith, below, ap (λ (b : Backing). b.page) backed) in
-    let closes = c.in_err-close-in-Finished.ensures.closes s t tells same here sound low (asked_behind old mid new (next_time s.given) gave given) in
+    let its = subst (λ (b : Backing). HasItsEntry t.base.image b.page) (sym backed) entry in
+    let closes = c.in_err-close-in-Finished.ensures.closes s t tells same here its low (asked_behind old mid new (next_time s.given) gave given) in
     let head = c.self.inside.head in
     let later : Backed = record {
       backing = record { name = c.self.inside.name; ask = ask_by head; scn = head.scn; guid = head.guid; page = c.self.inside.room.page; slot = c.self.inside.room.slot };
@@ -99,7 +101,7 @@ returns-in_err-close-in-Finished-clause-turn g c s t tells same is stalled sound
     (close_failed old mid c.args.engine.now c.turn.new.engine copier t is stalled apart reads c.turn.ensures.engine file gave new c.close.new.engine later (next_time s.given) (close_backup s copier.backing).strokes kept all fault ours)
 
 pub returns-in_ok-close-in-Finished-clause-turn : goal.returns-in_ok-close-in-Finished-clause-turn
-returns-in_ok-close-in-Finished-clause-turn g c s t tells same is stalled sound backing below apart given =
+returns-in_ok-close-in-Finished-clause-turn g c s t tells same is stalled entry backing below apart given =
     let old = g.H.Host.world c.args.host.now in
     let mid = g.H.Host.world c.turn.new.host in
     let copier : Backed = c.args.self.now in
@@ -114,7 +116,8 @@ returns-in_ok-close-in-Finished-clause-turn g c s t tells same is stalled sound 
     let new = g.H.Host.world c.close.new.host in
     let here = mid_open old mid c.args.engine.now c.turn.new.engine copier t is stalled apart reads c.turn.ensures.engine file gave in
     let low : c.self.inside.room.page < length t.base.image = omega (arith, below, ap (λ (b : Backing). b.page) backed) in
-    let closes = c.in_ok-close-in-Finished.ensures.closes s t tells same here sound low (asked_behind old mid new (next_time s.given) gave given) in
+    let its = subst (λ (b : Backing). HasItsEntry t.base.image b.page) (sym backed) entry in
+    let closes = c.in_ok-close-in-Finished.ensures.closes s t tells same here its low (asked_behind old mid new (next_time s.given) gave given) in
     let ours = subst (λ (b : Backing). Closes (Ok tt) mid new c.turn.new.engine c.close.new.engine t (next_time s.given) (close_backup s b).strokes) backed closes in
     let counts = subst (λ (p : Progress). FileCounts (Ok p) c.self.inside.file c.turn.new.self) c.in-Finished.is c.in_ok-turn.ensures.counts in
     let written = counts.2 ∙ written_all old c.self.inside.file t.base.frozen goes counts.0 ∙ ap (λ (f : FileCopy). whole_count f t.base.frozen) filed ∙ backing.count in

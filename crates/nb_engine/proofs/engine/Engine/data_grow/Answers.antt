@@ -16,7 +16,7 @@ use Rattle.nb_engine.specs.Tries.{Tries}
 use Rattle.nb_engine.proofs.ContentLaws.{data_short}
 use Rattle.nb_engine.proofs.DoesLaws.{tries_early, tries_failed, tries_passed, tries_after}
 use Rattle.nb_engine.proofs.MakeLaws.{tries_named}
-use Rattle.nb_engine.proofs.NewTurn.{shaped_of}
+use Rattle.nb_engine.proofs.NewTurn.{searchable_of}
 use Rattle.nb_engine.proofs.RoomsLaws.{unmade_short, grown_unmade}
 use Rattle.nb_engine.proofs.engine.Engine.data_grow.Goals as goal
 
@@ -36,7 +36,7 @@ returns-in_err-first-clause-makes g c t chain pages tells is sizes owner last is
     let image = t.base.image in
     let slots = c.args.slots.now in
     let long : 5 ≤ length image = omega (arith, here.files.agrees.count, c.count-count.ensures.value, c.if-count-lt-FIRST_TO_GIVE.false) in
-    let shaped = shaped_of w _ t here c.self.invariant.0 long sizes in
+    let shaped = searchable_of w _ t here c.self.invariant.0 long sizes in
     let grows = (grown chain pages slots (drafted image)).0 in
     let short : IsShort (λ p. data_payload 0 (owner_of chain) slots) = λ p. data_short (owner_of chain) slots c.requires.short in
     let cause : unmade image grows ≡ behind_cause (new_behind chain slots image).0 c.args.last = grown_unmade image chain pages slots long ∙ ap (behind_cause (new_behind chain slots image).0) (sym last) in
@@ -51,7 +51,7 @@ returns-in_err-number-clause-makes g c t chain pages tells is sizes owner last i
     let image = t.base.image in
     let slots = c.args.slots.now in
     let long : 5 ≤ length image = omega (arith, here.files.agrees.count, c.count-count.ensures.value, c.if-count-lt-FIRST_TO_GIVE.false) in
-    let shaped = shaped_of w _ t here c.self.invariant.0 long sizes in
+    let shaped = searchable_of w _ t here c.self.invariant.0 long sizes in
     let grows = (grown chain pages slots (drafted image)).0 in
     let short : IsShort (λ p. data_payload 0 (owner_of chain) slots) = λ p. data_short (owner_of chain) slots c.requires.short in
     let cause : unmade image grows ≡ behind_cause (new_behind chain slots image).0 c.args.last = grown_unmade image chain pages slots long ∙ ap (behind_cause (new_behind chain slots image).0) (sym last) in
@@ -73,7 +73,7 @@ returns-clause-makes g c t chain pages tells is sizes owner last is_data =
     let image = t.base.image in
     let slots = c.args.slots.now in
     let long : 5 ≤ length image = omega (arith, here.files.agrees.count, c.count-count.ensures.value, c.if-count-lt-FIRST_TO_GIVE.false) in
-    let shaped = shaped_of w _ t here c.self.invariant.0 long sizes in
+    let shaped = searchable_of w _ t here c.self.invariant.0 long sizes in
     let grows = (grown chain pages slots (drafted image)).0 in
     let short : IsShort (λ p. data_payload 0 (owner_of chain) slots) = λ p. data_short (owner_of chain) slots c.requires.short in
     let cause : unmade image grows ≡ behind_cause (new_behind chain slots image).0 c.args.last = grown_unmade image chain pages slots long ∙ ap (behind_cause (new_behind chain slots image).0) (sym last) in
@@ -94,7 +94,7 @@ returns-clause-value g c t chain pages tells is sizes owner is_data =
     let image = t.base.image in
     let slots = c.args.slots.now in
     let long : 5 ≤ length image = omega (arith, here.files.agrees.count, c.count-count.ensures.value, c.if-count-lt-FIRST_TO_GIVE.false) in
-    let shaped = shaped_of w _ t here c.self.invariant.0 long sizes in
+    let shaped = searchable_of w _ t here c.self.invariant.0 long sizes in
     let grows = (grown chain pages slots (drafted image)).0 in
     let short : IsShort (λ p. data_payload 0 (owner_of chain) slots) = λ p. data_short (owner_of chain) slots c.requires.short in
     let tests = c.in_ok-first.ensures in

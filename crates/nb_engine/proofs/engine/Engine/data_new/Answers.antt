@@ -16,7 +16,7 @@ use Rattle.nb_engine.specs.Tries.{Tries}
 use Rattle.nb_engine.proofs.ContentLaws.{new_named, data_short}
 use Rattle.nb_engine.proofs.DoesLaws.{tries_early, tries_failed, tries_passed, tries_made, tries_after}
 use Rattle.nb_engine.proofs.FullLaws.{lowest_most}
-use Rattle.nb_engine.proofs.NewTurn.{shaped_of}
+use Rattle.nb_engine.proofs.NewTurn.{searchable_of}
 use Rattle.nb_engine.proofs.RoomsLaws.{unmade_short, unmade_long}
 use Rattle.nb_engine.proofs.engine.Engine.data_new.Goals as goal
 
@@ -35,7 +35,7 @@ returns-in_err-first-clause-makes g c t tells is sizes =
     let here = subst (λ (h : Held). IsOpen w h t) (sym c.self.view_is) is in
     let image = t.base.image in
     let long : 5 ≤ length image = omega (arith, here.files.agrees.count, c.count-count.ensures.value, c.if-count-lt-FIRST_TO_GIVE.false) in
-    let shaped = shaped_of w _ t here c.self.invariant.0 long sizes in
+    let shaped = searchable_of w _ t here c.self.invariant.0 long sizes in
     let made = new_data c.args.owner c.args.slots.now image in
     let short : IsShort (λ p. data_payload 0 (owner_by c.args.owner p) c.args.slots.now) = λ p. data_short (owner_by c.args.owner p) c.args.slots.now c.requires.short in
     let tests = c.in_err-first.ensures in
@@ -47,7 +47,7 @@ returns-in_err-number-clause-makes g c t tells is sizes =
     let here = subst (λ (h : Held). IsOpen w h t) (sym c.self.view_is) is in
     let image = t.base.image in
     let long : 5 ≤ length image = omega (arith, here.files.agrees.count, c.count-count.ensures.value, c.if-count-lt-FIRST_TO_GIVE.false) in
-    let shaped = shaped_of w _ t here c.self.invariant.0 long sizes in
+    let shaped = searchable_of w _ t here c.self.invariant.0 long sizes in
     let made = new_data c.args.owner c.args.slots.now image in
     let short : IsShort (λ p. data_payload 0 (owner_by c.args.owner p) c.args.slots.now) = λ p. data_short (owner_by c.args.owner p) c.args.slots.now c.requires.short in
     let tests = c.in_ok-first.ensures in
@@ -72,7 +72,7 @@ returns-clause-makes g c t tells is sizes =
     let here = subst (λ (h : Held). IsOpen w h t) (sym c.self.view_is) is in
     let image = t.base.image in
     let long : 5 ≤ length image = omega (arith, here.files.agrees.count, c.count-count.ensures.value, c.if-count-lt-FIRST_TO_GIVE.false) in
-    let shaped = shaped_of w _ t here c.self.invariant.0 long sizes in
+    let shaped = searchable_of w _ t here c.self.invariant.0 long sizes in
     let made = new_data c.args.owner c.args.slots.now image in
     let short : IsShort (λ p. data_payload 0 (owner_by c.args.owner p) c.args.slots.now) = λ p. data_short (owner_by c.args.owner p) c.args.slots.now c.requires.short in
     let tests = c.in_ok-first.ensures in
@@ -96,7 +96,7 @@ returns-clause-value g c t tells is sizes =
     let here = subst (λ (h : Held). IsOpen w h t) (sym c.self.view_is) is in
     let image = t.base.image in
     let long : 5 ≤ length image = omega (arith, here.files.agrees.count, c.count-count.ensures.value, c.if-count-lt-FIRST_TO_GIVE.false) in
-    let shaped = shaped_of w _ t here c.self.invariant.0 long sizes in
+    let shaped = searchable_of w _ t here c.self.invariant.0 long sizes in
     let made = new_data c.args.owner c.args.slots.now image in
     let short : IsShort (λ p. data_payload 0 (owner_by c.args.owner p) c.args.slots.now) = λ p. data_short (owner_by c.args.owner p) c.args.slots.now c.requires.short in
     let tests = c.in_ok-first.ensures in
@@ -114,7 +114,7 @@ returns-clause-sizes g c t tells is sizes =
     let here = subst (λ (h : Held). IsOpen w h t) (sym c.self.view_is) is in
     let image = t.base.image in
     let long : 5 ≤ length image = omega (arith, here.files.agrees.count, c.count-count.ensures.value, c.if-count-lt-FIRST_TO_GIVE.false) in
-    let shaped = shaped_of w _ t here c.self.invariant.0 long sizes in
+    let shaped = searchable_of w _ t here c.self.invariant.0 long sizes in
     let short : IsShort (λ p. data_payload 0 (owner_by c.args.owner p) c.args.slots.now) = λ p. data_short (owner_by c.args.owner p) c.args.slots.now c.requires.short in
     (c.in_ok-first.ensures.shaped t 5 (λ p. data_payload 0 (owner_by c.args.owner p) c.args.slots.now) tells here shaped short).sizes
 

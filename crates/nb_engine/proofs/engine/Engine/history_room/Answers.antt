@@ -20,7 +20,7 @@ use Rattle.nb_engine.proofs.CauseLaws.{first_here}
 use Rattle.nb_engine.proofs.DoesLaws.{tries_early, tries_passed, tries_made, tries_after}
 use Rattle.nb_engine.proofs.KeepLaws.{kept_room, kept_below, kept_none, kept_cause, grown_room, grown_low, grown_draft, grown_cause, room_some, room_none, tries_other, tries_valued}
 use Rattle.nb_engine.proofs.MakeLaws.{tries_named}
-use Rattle.nb_engine.proofs.NewTurn.{shaped_of}
+use Rattle.nb_engine.proofs.NewTurn.{searchable_of}
 use Rattle.nb_model.proofs.StepLaws.{kind_from}
 use Rattle.nb_engine.proofs.WalkLaws.{last_data, spot_data, history_least}
 use Rattle.nb_engine.proofs.WhereLaws.{makes_as, makes_valued}
@@ -84,7 +84,7 @@ returns-in_err-number-in-None-clause-makes g c t tells is sizes =
     let last_is = walked.last t tells here in
     let data_page = last_data image linked in
     let is_data : is_kind image 5 c.in_ok-walked.last ≡ true = ap (is_kind image 5) last_is ∙ kind_from image 5 (last_of pages) data_page.low data_page.kind in
-    let shaped = shaped_of w _ t here c.self.invariant.0 (history_least image linked) sizes in
+    let shaped = searchable_of w _ t here c.self.invariant.0 (history_least image linked) sizes in
     let strokes : List Stroke = (grown History pages [] (drafted image)).0.strokes in
     let fault = c.in_err-number-in-None.field-0.0 in
     let new = g.H.Host.world c.grow.new.host in
@@ -107,7 +107,7 @@ returns-in_ok-number-in-None-clause-makes g c t tells is sizes =
     let last_is = walked.last t tells here in
     let data_page = last_data image linked in
     let is_data : is_kind image 5 c.in_ok-walked.last ≡ true = ap (is_kind image 5) last_is ∙ kind_from image 5 (last_of pages) data_page.low data_page.kind in
-    let shaped = shaped_of w _ t here c.self.invariant.0 (history_least image linked) sizes in
+    let shaped = searchable_of w _ t here c.self.invariant.0 (history_least image linked) sizes in
     let strokes : List Stroke = (grown History pages [] (drafted image)).0.strokes in
     let room : Room = record { page = c.in_ok-number-in-None.number; slot = 0 } in
     let new = g.H.Host.world c.grow.new.host in
@@ -144,7 +144,7 @@ returns-in_ok-number-in-None-clause-room g c t tells is sizes =
     let last_is = walked.last t tells here in
     let data_page = last_data image linked in
     let is_data : is_kind image 5 c.in_ok-walked.last ≡ true = ap (is_kind image 5) last_is ∙ kind_from image 5 (last_of pages) data_page.low data_page.kind in
-    let shaped = shaped_of w _ t here c.self.invariant.0 (history_least image linked) sizes in
+    let shaped = searchable_of w _ t here c.self.invariant.0 (history_least image linked) sizes in
     let strokes : List Stroke = (grown History pages [] (drafted image)).0.strokes in
     grown_room image none c.in_ok-number-in-None.number (c.in_ok-number-in-None.ensures.value t pages tells still shaped is_data)
 
@@ -177,7 +177,7 @@ returns-in_ok-number-in-None-clause-below g c t tells is sizes =
     let last_is = walked.last t tells here in
     let data_page = last_data image linked in
     let is_data : is_kind image 5 c.in_ok-walked.last ≡ true = ap (is_kind image 5) last_is ∙ kind_from image 5 (last_of pages) data_page.low data_page.kind in
-    let shaped = shaped_of w _ t here c.self.invariant.0 (history_least image linked) sizes in
+    let shaped = searchable_of w _ t here c.self.invariant.0 (history_least image linked) sizes in
     let strokes : List Stroke = (grown History pages [] (drafted image)).0.strokes in
     grown_low image none c.in_ok-number-in-None.number (c.in_ok-number-in-None.ensures.below t pages tells still shaped is_data)
 

@@ -12,6 +12,8 @@ use Rattle.nb_engine.specs.Replies.{done}
 use Rattle.nb_engine.proofs.DoesLaws.{seeing, tested_does, refused_does, tries_does, if_err, tries_passed, tries_after}
 use Rattle.nb_engine.proofs.WriteLaws.{no_header}
 use Rattle.nb_engine.proofs.FreeLaws.{free_untaken, free_closed, free_is, closed_cause, open_cause}
+use Rattle.nb_change.proofs.ResultLaws.{passed_on}
+use Rattle.nb_engine.proofs.WantLaws.{stops_after}
 use Rattle.nb_engine.proofs.engine.Engine.page_free.Goals as goal
 
 pub returns-in_err-take_raw-clause-turn : goal.returns-in_err-take_raw-clause-turn
@@ -60,3 +62,10 @@ returns-clause-turn g c s t tells same is =
     let free : read_only image ≡ None = open_cause image (sym still.agrees.read_only ∙ sym c.is_read_only.ensures ∙ c.if-is_read_only.false) in
     let tries = tries_after {T = Unit {0}} (Ok tt) _ _ _ _ _ _ t _ _ (raw.same ∙ ap but_pages c.self.view_is) raw.quiet is (c.in_ok-mark.ensures.tries t tells still) in
     tries_does done (Ok tt) old _ _ _ t s (λ (x : Seen). free_turn x c.args.number) _ Done refl _ same (free_is (seeing s t.base) c.args.number (raw.reads t tells here).test free) refl tries
+
+pub returns-in_err-mark-clause-on_memory : goal.returns-in_err-mark-clause-on_memory
+returns-in_err-mark-clause-on_memory g c t tells is memory =
+    let here = subst (λ (h : Held). IsOpen (g.H.Host.world c.args.host.now) h t) (sym c.self.view_is) is in
+    let raw = c.in_ok-take_raw.ensures in
+    let wants = sym (passed_on c.from_residual-in_err-mark.result c.in_err-mark.field-0.0 c.from_residual-in_err-mark.ensures) ∙ memory in
+    stops_after _ _ _ c.args.self.now _ c.mark.new.store t _ (raw.same ∙ ap but_pages c.self.view_is) raw.quiet is (c.in_err-mark.ensures.on_memory t tells (raw.open t tells here) wants)

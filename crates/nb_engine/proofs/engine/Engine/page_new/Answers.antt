@@ -20,7 +20,7 @@ use Rattle.nb_engine.specs.Make.{MakesSome, new_raw, new_of}
 use Rattle.nb_engine.specs.Replies.{page_made}
 use Rattle.nb_engine.proofs.DoesLaws.{seeing, tested_does, refused_does, tries_passed}
 use Rattle.nb_engine.proofs.FullLaws.{lowest_most}
-use Rattle.nb_engine.proofs.NewTurn.{empty_is, shaped_of, new_closed, new_short, new_refused, new_says, made_does}
+use Rattle.nb_engine.proofs.NewTurn.{empty_is, searchable_of, new_closed, new_short, new_refused, new_says, made_does}
 use Rattle.nb_engine.proofs.NewReads.{new_read}
 use Rattle.nb_engine.proofs.engine.Engine.page_new.Goals as goal
 
@@ -49,7 +49,7 @@ returns-in_err-first-clause-turn g c s t tells same is sizes =
     let image = t.base.image in
     let free : is_read_only image ≡ false = sym here.agrees.read_only ∙ sym c.is_read_only.ensures ∙ c.if-is_read_only.false in
     let long : 5 ≤ length image = omega (arith, here.files.agrees.count, c.count-count.ensures.value, c.if-count-lt-FIRST_TO_GIVE.false) in
-    let shaped = shaped_of w _ t here c.self.invariant.0 long (subst (λ (b : Base). IsOfSize (image_size b.image) b.image) (sym same) sizes) in
+    let shaped = searchable_of w _ t here c.self.invariant.0 long (subst (λ (b : Base). IsOfSize (image_size b.image) b.image) (sym same) sizes) in
     let tests = c.in_err-first.ensures in
     tested_does ℕ ℕ page_made _ _ _ _ _ _ t s new_turn (draft_cause (new_raw image).0) c.from_residual.ensures same (tests.same ∙ ap but_pages c.self.view_is) tests.quiet is (tests.open t tells here)
     (tests.test t 8 (λ p. text_payload []) tells here shaped empty_text) (new_refused (seeing s t.base) free long)
@@ -61,7 +61,7 @@ returns-in_err-number-clause-turn g c s t tells same is sizes =
     let image = t.base.image in
     let free : is_read_only image ≡ false = sym here.agrees.read_only ∙ sym c.is_read_only.ensures ∙ c.if-is_read_only.false in
     let long : 5 ≤ length image = omega (arith, here.files.agrees.count, c.count-count.ensures.value, c.if-count-lt-FIRST_TO_GIVE.false) in
-    let shaped = shaped_of w _ t here c.self.invariant.0 long (subst (λ (b : Base). IsOfSize (image_size b.image) b.image) (sym same) sizes) in
+    let shaped = searchable_of w _ t here c.self.invariant.0 long (subst (λ (b : Base). IsOfSize (image_size b.image) b.image) (sym same) sizes) in
     let tests = c.in_ok-first.ensures in
     let room = tests.test t 8 (λ p. text_payload []) tells here shaped empty_text in
     let for_zeros = tests.test t 8 (λ p. 0 ∷ 0 ∷ []) tells here shaped (λ p. omega arith) in
@@ -82,7 +82,7 @@ returns-clause-turn g c s t tells same is sizes =
     let image = t.base.image in
     let free : is_read_only image ≡ false = sym here.agrees.read_only ∙ sym c.is_read_only.ensures ∙ c.if-is_read_only.false in
     let long : 5 ≤ length image = omega (arith, here.files.agrees.count, c.count-count.ensures.value, c.if-count-lt-FIRST_TO_GIVE.false) in
-    let shaped = shaped_of w _ t here c.self.invariant.0 long (subst (λ (b : Base). IsOfSize (image_size b.image) b.image) (sym same) sizes) in
+    let shaped = searchable_of w _ t here c.self.invariant.0 long (subst (λ (b : Base). IsOfSize (image_size b.image) b.image) (sym same) sizes) in
     let tests = c.in_ok-first.ensures in
     let room = tests.test t 8 (λ p. text_payload []) tells here shaped empty_text in
     let for_zeros = tests.test t 8 (λ p. 0 ∷ 0 ∷ []) tells here shaped (λ p. omega arith) in
@@ -142,7 +142,7 @@ returns-clause-once g c t tells is sizes =
     let here = subst (λ (h : Held). IsOpen w h t) (sym c.self.view_is) is in
     let image = t.base.image in
     let long : 5 ≤ length image = omega (arith, here.files.agrees.count, c.count-count.ensures.value, c.if-count-lt-FIRST_TO_GIVE.false) in
-    let shaped = shaped_of w _ t here c.self.invariant.0 long sizes in
+    let shaped = searchable_of w _ t here c.self.invariant.0 long sizes in
     let tests = c.in_ok-first.ensures in
     let for_zeros = tests.test t 8 (λ p. 0 ∷ 0 ∷ []) tells here shaped (λ p. omega arith) in
     let at = tests.value t tells here in

@@ -12,10 +12,13 @@ use Rattle.nb_engine.specs.Put.{entry_cause, raise_strokes, raw_stroke}
 use Rattle.nb_engine.specs.Replies.{done}
 use Rattle.nb_engine.proofs.TestLaws.{vec_whole}
 use Rattle.nb_engine.proofs.MarkLaws.{entries_some}
-use Rattle.nb_engine.proofs.DoesLaws.{seeing, tested_does, tries_does, if_err, tries_passed, tries_after, tries_front}
+use Rattle.nb_engine.proofs.DoesLaws.{seeing, tested_does, tries_does, if_err, tries_passed, tries_after, tries_front, tries_opened}
 use Rattle.nb_engine.proofs.PutLaws.{put_stroke-after}
 use Rattle.nb_engine.proofs.WriteLaws.{no_header, write_untaken, write_checked, write_is, is_raw}
 use Rattle.nb_engine.proofs.PageLaws.{then_page}
+use Rattle.nb_change.proofs.ResultLaws.{passed_on}
+use Rattle.nb_base.specs.Takes.{after_strokes}
+use Rattle.nb_engine.proofs.WantLaws.{stops_first, stops_then, stops_after}
 use Rattle.nb_engine.proofs.engine.Engine.page_write.Goals as goal
 
 pub returns-in_err-take_raw-clause-turn : goal.returns-in_err-take_raw-clause-turn
@@ -103,3 +106,24 @@ returns-clause-turn g c s t tells same is =
     let tries = then_page old mid _ _ t p of_raw.plain some first {T = Unit {0}} (Ok tt) new _ c.deref_mut-2.result.now (λ (x : Image). raw_stroke x p text) of_raw.low read (put_stroke-after image _ p 8 (text_payload text))
     tt (λ u opened low is. c.in_ok-write_raw.ensures.makes u tells opened low is) in
     tries_does done (Ok tt) old new _ _ t s (λ (x : Seen). write_turn x p text) _ Done refl _ same turn refl tries
+
+pub returns-in_err-raise_entry-clause-on_memory : goal.returns-in_err-raise_entry-clause-on_memory
+returns-in_err-raise_entry-clause-on_memory g c t tells is memory =
+    let here = subst (λ (h : Held). IsOpen (g.H.Host.world c.args.host.now) h t) (sym c.self.view_is) is in
+    let raw = c.in_ok-take_raw.ensures in
+    let wants = sym (passed_on c.from_residual-in_err-raise_entry.result c.in_err-raise_entry.field-0.0 c.from_residual-in_err-raise_entry.ensures) ∙ memory in
+    let left = c.in_err-raise_entry.ensures.on_memory t tells (raw.open t tells here) wants in
+    stops_after _ _ _ c.args.self.now _ c.raise_entry.new.store t _ (raw.same ∙ ap but_pages c.self.view_is) raw.quiet is (stops_first _ _ c.take_raw.new.store c.raise_entry.new.store t _ left.0 left.1)
+
+pub returns-in_err-write_raw-clause-on_memory : goal.returns-in_err-write_raw-clause-on_memory
+returns-in_err-write_raw-clause-on_memory g c t tells is memory =
+    let old = g.H.Host.world c.args.host.now in
+    let mid = g.H.Host.world c.raise_entry.new.host in
+    let new = g.H.Host.world c.write_raw.new.host in
+    let here = subst (λ (h : Held). IsOpen old h t) (sym c.self.view_is) is in
+    let raw = c.in_ok-take_raw.ensures in
+    let xs : List Stroke = raise_strokes t.base.image c.args.number in
+    let first = tries_after {T = Unit {0}} (Ok tt) old _ mid c.args.self.now _ c.raise_entry.new.store t _ _ (raw.same ∙ ap but_pages c.self.view_is) raw.quiet is (c.in_ok-raise_entry.ensures.tries t tells (raw.open t tells here)) in
+    let wants = sym (passed_on c.from_residual-in_err-write_raw.result c.in_err-write_raw.field-0.0 c.from_residual-in_err-write_raw.ensures) ∙ memory in
+    let left = c.in_err-write_raw.ensures.on_memory (after_strokes t xs) tells (tries_opened tt old mid c.args.self.now c.raise_entry.new.store t _ xs first) wants in
+    stops_then old mid new c.args.self.now c.raise_entry.new.store c.write_raw.new.store t _ xs first left.0 left.1

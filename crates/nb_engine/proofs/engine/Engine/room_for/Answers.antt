@@ -5,7 +5,7 @@ use Rattle.nb_state.specs.Open.{Held, IsOpen}
 use Rattle.nb_engine.specs.Data.{second_data}
 use Rattle.nb_engine.specs.Make.{new_of}
 use Rattle.nb_engine.proofs.DoesLaws.{tested_on}
-use Rattle.nb_engine.proofs.NewTurn.{shaped_of}
+use Rattle.nb_engine.proofs.NewTurn.{searchable_of}
 use Rattle.nb_engine.proofs.RoomsLaws.{behind_short, behind_long}
 use Rattle.nb_engine.proofs.engine.Engine.room_for.Goals as goal
 
@@ -23,7 +23,7 @@ returns-in_err-check_rooms-clause-one g c t first tells is sizes short is_data c
     let here = subst (λ (h : Held). IsOpen w h t) (sym c.self.view_is) is in
     let image = t.base.image in
     let long : 5 ≤ length image = omega (arith, here.files.agrees.count, c.count-count.ensures.value, c.if-count-lt-FIRST_TO_GIVE.false) in
-    let shaped = shaped_of w _ t here c.self.invariant.0 long sizes in
+    let shaped = searchable_of w _ t here c.self.invariant.0 long sizes in
     tested_on ℕ (Unit {0}) _ _ _ _ c.from_residual.ensures (λ r e. behind_long image (new_of 5 first image).0 c.args.behind long ∙ e) (c.in_err-check_rooms.ensures.one t first tells here shaped short is_data count_is)
 
 pub returns-clause-one : goal.returns-clause-one
@@ -32,7 +32,7 @@ returns-clause-one g c t first tells is sizes short is_data count_is =
     let here = subst (λ (h : Held). IsOpen w h t) (sym c.self.view_is) is in
     let image = t.base.image in
     let long : 5 ≤ length image = omega (arith, here.files.agrees.count, c.count-count.ensures.value, c.if-count-lt-FIRST_TO_GIVE.false) in
-    let shaped = shaped_of w _ t here c.self.invariant.0 long sizes in
+    let shaped = searchable_of w _ t here c.self.invariant.0 long sizes in
     behind_long image (new_of 5 first image).0 c.args.behind long ∙ c.in_ok-check_rooms.ensures.one t first tells here shaped short is_data count_is
 
 pub returns-then-count-lt-FIRST_TO_GIVE-clause-two : goal.returns-then-count-lt-FIRST_TO_GIVE-clause-two
@@ -49,7 +49,7 @@ returns-in_err-check_rooms-clause-two g c t first second tells is sizes short sm
     let here = subst (λ (h : Held). IsOpen w h t) (sym c.self.view_is) is in
     let image = t.base.image in
     let long : 5 ≤ length image = omega (arith, here.files.agrees.count, c.count-count.ensures.value, c.if-count-lt-FIRST_TO_GIVE.false) in
-    let shaped = shaped_of w _ t here c.self.invariant.0 long sizes in
+    let shaped = searchable_of w _ t here c.self.invariant.0 long sizes in
     tested_on ℕ (Unit {0}) _ _ _ _ c.from_residual.ensures (λ r e. behind_long image (second_data first second image).0 c.args.behind long ∙ e) (c.in_err-check_rooms.ensures.two t first second tells here shaped short small is_data count_is)
 
 pub returns-clause-two : goal.returns-clause-two
@@ -58,7 +58,7 @@ returns-clause-two g c t first second tells is sizes short small is_data count_i
     let here = subst (λ (h : Held). IsOpen w h t) (sym c.self.view_is) is in
     let image = t.base.image in
     let long : 5 ≤ length image = omega (arith, here.files.agrees.count, c.count-count.ensures.value, c.if-count-lt-FIRST_TO_GIVE.false) in
-    let shaped = shaped_of w _ t here c.self.invariant.0 long sizes in
+    let shaped = searchable_of w _ t here c.self.invariant.0 long sizes in
     behind_long image (second_data first second image).0 c.args.behind long ∙ c.in_ok-check_rooms.ensures.two t first second tells here shaped short small is_data count_is
 
 pub returns-clause-still : goal.returns-clause-still
@@ -67,5 +67,5 @@ returns-clause-still g c t first tells is sizes short is_data count_is =
     let here = subst (λ (h : Held). IsOpen w h t) (sym c.self.view_is) is in
     let image = t.base.image in
     let long : 5 ≤ length image = omega (arith, here.files.agrees.count, c.count-count.ensures.value, c.if-count-lt-FIRST_TO_GIVE.false) in
-    let shaped = shaped_of w _ t here c.self.invariant.0 long sizes in
+    let shaped = searchable_of w _ t here c.self.invariant.0 long sizes in
     c.in_ok-check_rooms.ensures.still t first tells here shaped short is_data count_is

@@ -1,6 +1,7 @@
-use Rattle.std.proofs.Common.{◌≡◌, ℕ, ◌∙◌, refl, sym, ap, subst, rules}
-use Rattle.std.specs.Prelude.{None, Some, Ok, Err}
+use Rattle.std.proofs.Common.{◌≡◌, ◌≢◌, ℕ, ◌∙◌, refl, sym, ap, subst, rules, arith}
+use Rattle.std.specs.Prelude.{None, Some, Ok, Err, IfErr}
 use denote.Enum.Bare.{same_true, same_false}
+use Rattle.nb_host.specs.declared.faults.Fault.TheVariants.{Memory}
 use Rattle.nb_host.specs.declared.refusals.Refusal.TheVariants.{WrongState}
 use Rattle.nb_page.proofs.QuietLemmas.{quiet_begun}
 use Rattle.nb_model.specs.declared.reply.Reply.TheVariants.{Done}
@@ -11,7 +12,7 @@ use Rattle.nb_model.specs.Pages.{byte_strokes, access_turn}
 use Rattle.nb_cases.specs.Events.{OnOpen}
 use Rattle.nb_cases.specs.contracts.events.Case.{the_type}
 use Rattle.nb_cases.specs.declared.events.Case.TheVariants as case
-use Rattle.nb_cases.proofs.StateLaws.{goes}
+use Rattle.nb_cases.proofs.StateLaws.{goes, only_normal}
 use Rattle.nb_state.specs.Open.{Held, IsOpen}
 use Rattle.nb_engine.specs.Tries.{Tries}
 use Rattle.nb_engine.specs.Replies.{done}
@@ -59,3 +60,10 @@ returns-clause-turn g c s t tells same is =
     let tries = subst (λ (k : Cause). Tries {T = Unit {0}} (Ok tt) old new c.self.inside.store c.put_flag.new.store t k xs) free made in
     tries_does done (Ok tt) old new _ _ t s (λ (x : Seen). access_turn x c.args.closed) _ Done refl _ same (access_is (seeing s t.base) c.args.closed) refl
     (subst (λ (h : Held). Tries {T = Unit {0}} (Ok tt) old new h c.put_flag.new.store t (not_state 0 t.base.image) xs) c.self.view_is tries)
+
+pub returns-in_err-put_flag-clause-takes_none : goal.returns-in_err-put_flag-clause-takes_none
+returns-in_err-put_flag-clause-takes_none g c =
+    let other = same_false the_type c.case_of.result case.WrongState (sym c.eq.ensures ∙ c.if-eq.false) in
+    let normal = only_normal c.state-state.result c.state-state.ensures.most c.case_of.result other c.case_of.ensures in
+    tries_passed c.from_residual.result c.in_err-put_flag.field-0.0 (λ r. IfErr r (λ fault. fault ≢ Memory)) c.from_residual.ensures
+    (c.in_err-put_flag.ensures.takes_none (λ stalled. absurd (omega (arith, normal, c.state-state.ensures.value, stalled))))

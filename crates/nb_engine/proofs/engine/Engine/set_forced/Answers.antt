@@ -1,5 +1,6 @@
-use Rattle.std.proofs.Common.{◌≡◌, ℕ, ◌∙◌, refl, sym, ap, subst}
+use Rattle.std.proofs.Common.{◌≡◌, ℕ, [], ◌∙◌, refl, sym, ap, subst}
 use Rattle.std.specs.Prelude.{true, None, Ok, Err}
+use Rattle.nb_page.specs.Quiet.{Quiet}
 use Rattle.nb_page.proofs.QuietLemmas.{quiet_begun}
 use Rattle.nb_model.specs.declared.reply.Reply.TheVariants.{Done}
 use Rattle.nb_model.specs.Image.{is_read_only}
@@ -7,7 +8,9 @@ use Rattle.nb_model.specs.Lines.{flag}
 use Rattle.nb_model.specs.Causes.{Cause, read_only}
 use Rattle.nb_model.specs.Outcomes.{Seen}
 use Rattle.nb_model.specs.Pages.{byte_strokes, forced_turn}
-use Rattle.nb_state.specs.Open.{Held, IsOpen}
+use Rattle.nb_change.proofs.ResultLaws.{passed_on}
+use Rattle.nb_base.specs.Takes.{Strikes}
+use Rattle.nb_state.specs.Open.{Held, IsOpen, but_pages, name_of}
 use Rattle.nb_engine.specs.Tries.{Tries}
 use Rattle.nb_engine.specs.Replies.{done}
 use Rattle.nb_engine.proofs.DoesLaws.{seeing, if_err, tries_passed, tries_failed, tries_does}
@@ -49,3 +52,20 @@ returns-clause-turn g c s t tells same is =
     let tries = subst (λ (k : Cause). Tries {T = Unit {0}} (Ok tt) old new c.self.inside.store c.put_flag.new.store t k xs) free made in
     tries_does done (Ok tt) old new _ _ t s (λ (x : Seen). forced_turn x c.args.on) _ Done refl _ same (forced_is (seeing s t.base) c.args.on) refl
     (subst (λ (h : Held). Tries {T = Unit {0}} (Ok tt) old new h c.put_flag.new.store t (read_only t.base.image) xs) c.self.view_is tries)
+
+pub returns-in_err-put_flag-clause-on_memory : goal.returns-in_err-put_flag-clause-on_memory
+returns-in_err-put_flag-clause-on_memory g c t tells is memory =
+    let old = g.H.Host.world c.args.host.now in
+    let new = g.H.Host.world c.put_flag.new.host in
+    let here = subst (λ (h : Held). IsOpen old h t) (sym c.self.view_is) is in
+    let wants = sym (passed_on c.from_residual.result c.in_err-put_flag.field-0.0 c.from_residual.ensures) ∙ memory in
+    subst (λ (h : Held). Strikes old new (name_of h) t [] × IsOpen new c.put_flag.new.store t) c.self.view_is (c.in_err-put_flag.ensures.on_memory t tells here wants)
+
+pub returns-in_err-put_flag-clause-forced : goal.returns-in_err-put_flag-clause-forced
+returns-in_err-put_flag-clause-forced g c t tells is forced memory =
+    let old = g.H.Host.world c.args.host.now in
+    let new = g.H.Host.world c.put_flag.new.host in
+    let here = subst (λ (h : Held). IsOpen old h t) (sym c.self.view_is) is in
+    let wants = sym (passed_on c.from_residual.result c.in_err-put_flag.field-0.0 c.from_residual.ensures) ∙ memory in
+    subst (λ (h : Held). (but_pages c.put_flag.new.store ≡ but_pages h) × Quiet old new) c.self.view_is
+    (c.in_err-put_flag.ensures.forced t tells here (ap (λ (h : Held). h.forced) c.self.view_is ∙ forced) wants)

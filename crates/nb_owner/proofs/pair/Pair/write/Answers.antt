@@ -133,12 +133,6 @@ returns-in_err-write_through-clause-on_memory g c t tells is memory =
       subst (λ (h : Held). IsOpen (g.H.Host.world c.write_through.new.host) h t) (sym same.0) (subst (λ host. IsOpen (g.H.Host.world host) c.write_out.new.self t) (sym same.1) first.done),
     )
 
-pub returns-in_err-write_through-clause-stays : goal.returns-in_err-write_through-clause-stays
-returns-in_err-write_through-clause-stays g c merges memory =
-    let idle = c.write_out.ensures.outside merges in
-    let same = c.in_err-write_through.ensures.on_memory (sym (passed_on c.from_residual-in_err-write_through.result _ c.from_residual-in_err-write_through.ensures) ∙ memory) in
-    (same.0 ∙ idle.1, same.1 ∙ idle.2)
-
 pub returns-in_err-write_through-clause-forced : goal.returns-in_err-write_through-clause-forced
 returns-in_err-write_through-clause-forced g c t tells is forced memory =
     let idle = c.write_out.ensures.at_forced t tells is forced in
@@ -190,3 +184,8 @@ returns-clause-touches g c t tells is =
     let new = g.H.Host.world c.write_through.new.host in
     touched_joined (g.H.Host.world c.args.host.now) mid new _ (c.write_out.ensures.touches t tells is)
     (subst (λ (f : Rattle.nb_base.specs.Open.Held). WritesIn mid new f.state f.name) c.write_out.ensures.files (c.write_through.ensures.touches t tells (c.in_ok-write_out.ensures.takes t tells is).done))
+
+pub returns-in_err-hold-clause-takes_none : goal.returns-in_err-hold-clause-takes_none
+returns-in_err-hold-clause-takes_none g c plain =
+    let parts = may_wait_parts c.args.self.now c.args.number c.args.forced (sym c.may_wait.ensures.value ∙ c.if-may_wait.true) in
+    absurd (true≢false (sym (c.in_err-hold.ensures.normal (omega (arith, plain, parts.1))).0))

@@ -1,6 +1,9 @@
-use Rattle.std.proofs.Common.{[], ◌∷◌, sym, ap, subst, ◌∙◌, arith}
+use Rattle.std.proofs.Common.{◌≢◌, [], ◌∷◌, refl, sym, ap, subst, ◌∙◌, arith}
+use Rattle.std.specs.Prelude.{Result, IfErr}
 use Rattle.nb_fields.proofs.SizeLemmas.{size_facts}
 use Rattle.nb_host.specs.World.{World}
+use Rattle.nb_host.specs.declared.faults.Fault.{Fault}
+use Rattle.nb_host.specs.declared.faults.Fault.TheVariants.{Memory}
 use Rattle.nb_model.specs.Strokes.{page}
 use Rattle.nb_base.specs.Takes.{Strikes}
 use Rattle.nb_base.specs.Touches.{WritesIn}
@@ -62,7 +65,7 @@ returns-in_err-write-clause-on_memory g c t tells given memory =
     let wants = sym (passed_on c.from_residual.result c.in_err-write.field-0.0 c.from_residual.ensures) ∙ memory in
     let on_memory = wrote.on_memory t tells is.files wants in (
       subst (λ (h : Held). Strikes old new (name_of h) t []) c.self.view_is on_memory.0,
-      open_wanting old new _ c.write.new.self t is wrote.state on_memory.1 (λ two. let same = wrote.stays two wants in (same.0, ap (λ host. g.H.Host.world host) same.1)),
+      open_wanting old new _ c.write.new.self t is wrote.state on_memory.1 (λ two. subst (λ (r : Result (Unit {0}) Fault). IfErr r (λ fault. fault ≢ Memory)) wants (wrote.takes_none (λ one. absurd (omega (arith, one, two)))) refl),
     )
 
 pub returns-in_err-write-clause-idle : goal.returns-in_err-write-clause-idle
