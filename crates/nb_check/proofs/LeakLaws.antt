@@ -1,5 +1,5 @@
 -- Leaked pages are given back one after the other, in rising order.
-use Rattle.std.proofs.Common.{◌≡◌, ℕ, zero, suc, ◌+◌, ◌-◌, ◌<◌, ◌≤◌, List, [], ◌∷◌, ◌++◌, length, refl, sym, ap, subst, append_assoc, ◌∙◌, arith}
+use Rattle.std.proofs.Common.{◌≡◌, ℕ, zero, suc, ◌+◌, ◌-◌, ◌*◌, ◌<◌, ◌≤◌, List, [], ◌∷◌, ◌++◌, length, refl, sym, ap, subst, append_assoc, ◌∙◌, arith}
 use Rattle.std.specs.Prelude.{Bool, true, false, cond, None, Ok, Err}
 use Rattle.std.specs.List.{filter, range_with_len}
 use Rattle.std.proofs.lemmas.List.{append-nil}
@@ -51,6 +51,19 @@ leaked_step image n low =
 
 pub leaked_none : (image : Image) (n : ℕ) → length image ≤ n → leaked_from image n ≡ []
 leaked_none image n far = let none : length image - n ≡ 0 = omega (arith, far) in ap (λ (m : ℕ). filter (is_leaked image) (range_with_len n m)) none
+
+-- A page that is given back is one of those, and takes two reads.
+pub step_reads : (image : Image) (n old now reads then : ℕ) → n < length image → is_leaked image n ≡ true → then ≤ now + 2 → now + 2 * length (leaked_from image n) ≤ old + reads → then + 2 * length (leaked_from image (n + 1)) ≤ old + reads
+step_reads image n old now reads then low holds two so_far =
+    let one : leaked_from image n ≡ n ∷ leaked_from image (n + 1) = leaked_step image n low ∙ ap (λ (t : Bool). cond t (n ∷ leaked_from image (n + 1)) (leaked_from image (n + 1))) holds in
+    let many : length (leaked_from image n) ≡ suc (length (leaked_from image (n + 1))) = ap length one in
+    omega (arith, two, so_far, many)
+
+pub passed_reads : (image : Image) (n now all : ℕ) → n < length image → is_leaked image n ≡ false → now + 2 * length (leaked_from image n) ≤ all → now + 2 * length (leaked_from image (n + 1)) ≤ all
+passed_reads image n now all low fails so_far =
+    let same : leaked_from image n ≡ leaked_from image (n + 1) = leaked_step image n low ∙ ap (λ (t : Bool). cond t (n ∷ leaked_from image (n + 1)) (leaked_from image (n + 1))) fails in
+    let many : length (leaked_from image n) ≡ length (leaked_from image (n + 1)) = ap length same in
+    omega (arith, so_far, many)
 
 pub given_none : (z : Image) → (all_given [] (drafted z)).strokes ≡ []
 unfolding all_given

@@ -1,5 +1,5 @@
 // A check of an open database, and giving back the pages that it finds leaked.
-ghost use Rattle.std.specs.Prelude.{◌≡◌, ◌≢◌, ◌+◌, ◌≤◌, ℕ, List, IsTrue, IfErr, IfOk, IsSome, OnOk, None, length};
+ghost use Rattle.std.specs.Prelude.{◌≡◌, ◌≢◌, ◌+◌, ◌*◌, ◌≤◌, ℕ, List, IsTrue, IfErr, IfOk, IsSome, OnOk, Err, None, length};
 ghost use Rattle.nb_host.specs.declared.faults.Fault.TheVariants.{Memory};
 ghost use Rattle.nb_change.specs.Counts.{CountsDevice};
 ghost use Rattle.nb_page.specs.Quiet.{Quiet};
@@ -107,7 +107,10 @@ fn give_back<H: Host>(host: &mut H, engine: &mut Engine, report: &Report) -> Res
     ensures tries { (t : Trail) → IsTrue H.tells → IsOpen (H.world host.old) engine.old t → IsSoundImage t.base.image → report.now ≡ leaked t.base.image
         → Tries result (H.world host.old) (H.world host.new) engine.old engine.new t None (reclaimed t.base.image).strokes }
     ensures goes { Goes engine.old engine.new }
+    ensures once { (t : Trail) → IsTrue H.tells → IsOpen (H.world host.old) engine.old t → report.now ≡ leaked t.base.image
+        → (H.world host.new).reads ≤ (H.world host.old).reads + 2 * length (leaked t.base.image) }
     ensures cause { CountsDevice result (H.faults host.old) (H.faults host.new) }
+    ensures takes_none { engine.old.files.state ≢ 1 → IfErr result (λ fault. fault ≢ Memory) }
 {
     let count = engine.count();
     for number in 0..count {
@@ -123,14 +126,20 @@ fn give_back<H: Host>(host: &mut H, engine: &mut Engine, report: &Report) -> Res
 /// is: its inventory page says from then on that it is free. The leaked pages are those of the database as it is seen at the call, with the
 /// tables that the catalogue has then.
 ///
+/// Each page that is given back takes two reads more than a check.
+///
 /// The refusals are `Access`, and those of `check`. A refused call changes nothing, and so does one that ends before the first page is
-/// given back. Want of memory ends it later only where the difference file grows by a page: then, as behind a stop or a fault, the last
-/// of the leaked pages are still leaked, and nothing else has changed.
+/// given back. Want of memory ends it later in the stalled state alone, where the difference file grows by a page: then, as behind a stop or
+/// a fault, the last of the leaked pages are still leaked, and nothing else has changed.
 pub fn reclaim<H: Host>(alloc: Global, host: &mut H, engine: &mut Engine) -> Result<u32, Fault>
     ensures turn { (s : Seen) (t : Trail) → IsTrue H.tells → t.base ≡ s.base → IsOpen (H.world host.old) engine.old t
         → Does Freed result (H.world host.old) (H.world host.new) engine.old engine.new t (reclaim_turn s) }
     ensures goes { Goes engine.old engine.new }
+    ensures once { (t : Trail) → IsTrue H.tells → IsOpen (H.world host.old) engine.old t
+        → OnOk result ((H.world host.new).reads ≤ (H.world host.old).reads + engine.old.files.count + 3 + length (found_pages Catalogue t.base.image) + length (reached t.base.image) + 2 * length (leaked t.base.image)) }
     ensures cause { CountsDevice result (H.faults host.old) (H.faults host.new) }
+    // Outside the stalled state memory is wanted before the first page is given back, or not at all.
+    ensures on_memory { engine.old.files.state ≢ 1 → result ≡ Err Memory → Quiet (H.world host.old) (H.world host.new) }
 {
     if engine.store().is_read_only() {
         return Err(Fault::Refused(Refusal::Access { found: 1 }));

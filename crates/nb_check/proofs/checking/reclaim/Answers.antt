@@ -1,7 +1,10 @@
-use Rattle.std.proofs.Common.{ℕ, List, length, refl, sym, ap, ◌∙◌}
-use Rattle.std.specs.Prelude.{Bool, Ok, Err, None}
+use Rattle.std.proofs.Common.{◌≡◌, ◌≢◌, ℕ, List, length, refl, sym, ap, ◌∙◌, arith}
+use Rattle.std.specs.Prelude.{Bool, Result, Ok, Err, IsErr, IsErrAnd, None}
+use Rattle.nb_host.specs.declared.faults.Fault.{Fault}
+use Rattle.nb_host.specs.declared.faults.Fault.TheVariants.{Memory}
 use Rattle.nb_host.specs.declared.refusals.Refusal.TheVariants.{Access}
 use Rattle.nb_page.proofs.QuietLemmas.{quiet_begun}
+use Rattle.nb_change.proofs.ResultLaws.{passed_on}
 use Rattle.nb_model.specs.declared.reply.Reply.TheVariants.{Freed}
 use Rattle.nb_model.specs.Causes.{when}
 use Rattle.nb_model.specs.Outcomes.{says}
@@ -73,3 +76,34 @@ returns-in_err-give_back-clause-goes g c = goes_on _ _ _ c.in_ok-report.ensures.
 
 pub returns-clause-goes : goal.returns-clause-goes
 returns-clause-goes g c = goes_on _ _ _ c.in_ok-report.ensures.goes c.in_ok-give_back.ensures.goes
+
+pub returns-clause-once : goal.returns-clause-once
+returns-clause-once g c t tells is =
+    let found = c.in_ok-report.ensures in
+    let reads = found.once t tells is in
+    let more = c.in_ok-give_back.ensures.once t tells (found.open t tells is) (found.leaked t tells is) in
+    omega (arith, reads, more)
+
+pub returns-then-is_read_only-clause-on_memory : goal.returns-then-is_read_only-clause-on_memory
+returns-then-is_read_only-clause-on_memory g c other memory = quiet_begun (g.H.Host.world c.args.host.now) (g.met.H.Host.timely c.args.host.now)
+
+pub returns-in_err-report-clause-on_memory : goal.returns-in_err-report-clause-on_memory
+returns-in_err-report-clause-on_memory g c other memory = c.in_err-report.ensures.quiet
+
+-- what is passed on is memory, which the call doesn't answer
+not_passed : (result : Result ℕ Fault) (fault : Fault) → IsErr result × IsErrAnd result (λ f. f ≡ fault) → fault ≢ Memory → result ≡ Err Memory → ⊥
+not_passed result fault passed never memory = never (same (sym (passed_on result fault passed) ∙ memory))
+  where
+    same : ◌≡◌ {A = Result ℕ Fault} (Err fault) (Err Memory) → fault ≡ Memory
+    same e = cc
+
+pub returns-in_err-give_back-clause-on_memory : goal.returns-in_err-give_back-clause-on_memory
+returns-in_err-give_back-clause-on_memory g c other memory =
+    let state : c.check.new.engine.files.state ≡ c.args.engine.now.files.state = c.in_ok-report.ensures.goes.state in
+    absurd (not_passed c.from_residual-in_err-give_back.result c.in_err-give_back.field-0.0 c.from_residual-in_err-give_back.ensures (c.in_err-give_back.ensures.takes_none (λ e. other (sym state ∙ e))) memory)
+
+no_memory : (n : ℕ) → ◌≡◌ {A = Result ℕ Fault} (Ok n) (Err Memory) → ⊥
+no_memory n e = cc
+
+pub returns-clause-on_memory : goal.returns-clause-on_memory
+returns-clause-on_memory g c other memory = absurd (no_memory _ memory)
