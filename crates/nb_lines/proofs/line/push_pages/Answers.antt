@@ -1,4 +1,4 @@
-use Rattle.std.proofs.Common.{[], sym, arith}
+use Rattle.std.proofs.Common.{sym, arith}
 use Rattle.std.proofs.lemmas.List.{append-nil}
 use Rattle.nb_model.specs.Lines.{spaced}
 use Rattle.nb_lines.proofs.WordLemmas.{one_page_more}
