@@ -74,8 +74,7 @@ returns-in-Unlock-clause-shown g c tells =
 pub returns-in-Check-clause-goes : goal.returns-in-Check-clause-goes
 returns-in-Check-clause-goes g c =
     let old = g.H.Host.world c.args.host.now in
-    let new = g.H.Host.world c.run_asking-in-Check.new.host in
-    subst (λ job. Goes g.H.Host.tells c.run_asking-in-Check.result old new (request_of old.files job)) (sym c.in-Check.is)
+    subst (λ job. Goes g.H.Host.world g.H.Host.tells c.run_asking-in-Check.result c.args.host.now c.run_asking-in-Check.new.host (request_of old.files job)) (sym c.in-Check.is)
     c.run_asking-in-Check.ensures.goes
 
 pub returns-in-Check-clause-shown : goal.returns-in-Check-clause-shown
@@ -87,8 +86,7 @@ returns-in-Check-clause-shown g c tells =
 pub returns-in-Reclaim-clause-goes : goal.returns-in-Reclaim-clause-goes
 returns-in-Reclaim-clause-goes g c =
     let old = g.H.Host.world c.args.host.now in
-    let new = g.H.Host.world c.run_asking-in-Reclaim.new.host in
-    subst (λ job. Goes g.H.Host.tells c.run_asking-in-Reclaim.result old new (request_of old.files job)) (sym c.in-Reclaim.is)
+    subst (λ job. Goes g.H.Host.world g.H.Host.tells c.run_asking-in-Reclaim.result c.args.host.now c.run_asking-in-Reclaim.new.host (request_of old.files job)) (sym c.in-Reclaim.is)
     c.run_asking-in-Reclaim.ensures.goes
 
 pub returns-in-Reclaim-clause-shown : goal.returns-in-Reclaim-clause-shown
