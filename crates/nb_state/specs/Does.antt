@@ -5,7 +5,7 @@ use Rattle.nb_host.specs.declared.faults.Fault.{Fault}
 use Rattle.nb_host.specs.declared.faults.Fault.TheVariants.{Refused, Device, Memory}
 use Rattle.nb_page.specs.Quiet.{Quiet}
 use Rattle.nb_model.specs.declared.reply.Reply.{Reply}
-use Rattle.nb_model.specs.declared.reply.Reply.TheVariants.{Refused as RefusedBy, Opened, Value, Rows, HeaderShown, PagesShown, ImageShown, CacheShown}
+use Rattle.nb_model.specs.declared.reply.Reply.TheVariants.{Refused as RefusedBy, Opened, Value, Rows, HeaderShown, PagesShown, ImageShown, CacheShown, Leaked}
 use Rattle.nb_model.specs.Causes.{Cause}
 use Rattle.nb_model.specs.Outcomes.{Outcome}
 use Rattle.nb_model.specs.Strokes.{Stroke}
@@ -53,6 +53,7 @@ only_tells (HeaderShown size pages state scn guid forced access delta) = true
 only_tells (PagesShown header inventory scn rows raw other free) = true
 only_tells (ImageShown pages digest) = true
 only_tells (CacheShown pages held) = true
+only_tells (Leaked pages) = true
 only_tells other = false
 
 -- so it is with what is said, if anything is
