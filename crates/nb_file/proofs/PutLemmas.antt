@@ -1,7 +1,7 @@
 -- Bytes put at a place, one behind the other, and behind the end.
-use Rattle.std.proofs.Common.{◌≡◌, ℕ, ◌+◌, ◌-◌, ◌≤◌, max, List, ◌++◌, length, take, drop, sym, ◌∙◌, ap, arith, length-append, length-take, length-drop}
+use Rattle.std.proofs.Common.{◌≡◌, ℕ, ◌+◌, ◌-◌, ◌≤◌, max, List, ◌++◌, length, take, drop, sym, ◌∙◌, ap, arith, length-append, length-take, length-drop, append_assoc}
 use Rattle.std.specs.Prelude.{replicate}
-use Rattle.std.proofs.lemmas.List.{drop-drop, drop_all, take_all, length-replicate, append-nil}
+use Rattle.std.proofs.lemmas.List.{take_at, drop_at, drop-drop, drop_all, take_all, length-replicate, append-nil}
 use Rattle.nb_host.specs.Files.{padded, put_at}
 
 pub padded-short : (bytes : List ℕ) (len : ℕ) → len ≤ length bytes → padded bytes len ≡ bytes
@@ -16,6 +16,26 @@ pub length-put_at : (bytes : List ℕ) (at : ℕ) (new : List ℕ) → length (p
 unfolding put_at
 length-put_at bytes at new =
     omega (arith, length-front bytes at, length-append (take at (padded bytes at)) (new ++ drop (at + length new) bytes), length-append new (drop (at + length new) bytes), length-drop (at + length new) bytes)
+
+-- right behind a middle piece
+onto : (front old rest new : List ℕ) (n : ℕ) → n ≡ length front + length old → put_at (front ++ (old ++ rest)) n new ≡ front ++ ((old ++ new) ++ drop (length new) rest)
+unfolding put_at
+onto front old rest new n is =
+    (λ i. begun i ++ (new ++ left i)) ∙ append_assoc front old (new ++ drop (length new) rest) ∙ ap (λ (l : List ℕ). front ++ l) (sym (append_assoc old new (drop (length new) rest)))
+  where
+    both : length (front ++ old) ≡ n
+    both = length-append front old ∙ sym is
+
+    whole : (front ++ old) ++ rest ≡ front ++ (old ++ rest)
+    whole = append_assoc front old rest
+
+    begun : take n (padded (front ++ (old ++ rest)) n) ≡ front ++ old
+    begun =
+        ap (take n) (padded-short (front ++ (old ++ rest)) n (omega (arith, is, length-append front (old ++ rest), length-append old rest)))
+        ∙ ap (take n) (sym whole) ∙ take_at (front ++ old) rest n both
+
+    left : drop (n + length new) (front ++ (old ++ rest)) ≡ drop (length new) rest
+    left = sym (drop-drop (length new) n (front ++ (old ++ rest))) ∙ ap (λ (l : List ℕ). drop (length new) (drop n l)) (sym whole) ∙ ap (drop (length new)) (drop_at (front ++ old) rest n both)
 
 -- what is put right behind what was put is as if both were put together
 pub put_at-next : (file : List ℕ) (at : ℕ) (old new : List ℕ) (next : ℕ) → next ≡ at + length old → put_at file at (old ++ new) ≡ put_at (put_at file at old) next new

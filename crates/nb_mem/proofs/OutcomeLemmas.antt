@@ -17,7 +17,7 @@ use Rattle.nb_mem.specs.Changes.{file_after, NowAfter, BackAfter}
 use Rattle.nb_mem.specs.Histories.{files_of, Now, Back, world_of}
 use Rattle.nb_mem.specs.Outcomes.{MayBe, IsOther}
 use Rattle.nb_mem.specs.Chosen.{is_yes, behind, page_by, torn_by, bytes_by, anew_by, settled, outcome_after, choices_after, outcome_by, left_by}
-use Rattle.nb_mem.proofs.NameLemmas.{to_other, with_file-same, with_file-other, same_self, same_other, decide}
+use Rattle.nb_mem.proofs.NameLemmas.{to_same, to_other, with_file-same, with_file-other, same_self, same_other, decide}
 
 get_or-zeros : (n i : ℕ) → ◌≡◌ {A = ℕ} (get_or (replicate n 0) i 0) 0
 get_or-zeros zero i = refl
@@ -88,6 +88,10 @@ module _ (es : List Entry) (n : List ℕ) where
   -- what a stop may leave after a change of the file
   abbrev After : Change → Outcome → Type 0
   After change o = MatchBool o.is_back (BackAfter change (Back es n) (Now es n) o.left) (NowAfter change (files_of es n) (Now es n) o.left)
+
+  to_MayBe : (change : Change) (b : Bool) (left : File) → After change (record { left = left; is_back = b }) → MayBe (Changed n change ∷ es) n (record { left = left; is_back = b })
+  to_MayBe change true left is = to_same _ (Back es n left) n is
+  to_MayBe change false left is = to_same _ (Now es n left) n is
 
   either : (b : Bool) (left : File) → MayBe es n (record { left = left; is_back = b }) → Back es n left ⊎ Now es n left
   either true left is = inl is
