@@ -4,12 +4,10 @@ pub mod FactLaws
 pub mod SoundLaws
 pub mod PassLaws
 pub mod SetLaws
-pub mod WalkLaws
 pub mod ListLaws
 pub mod SameLaws
 pub mod AmongLaws
 pub mod LeakLaws
-pub mod NameLaws
 mod GiveLaws
 mod BackLaws
 mod NeatBack

@@ -10,6 +10,7 @@ use Rattle.nb_model.specs.Chains.{Chain, Catalogue, History, RowsFrom, Slot, Spo
 use Rattle.nb_model.specs.Rows.{used, table_chains, chains, pages_of_all}
 use Rattle.nb_model.specs.Leaks.{reached}
 use Rattle.nb_engine.proofs.WalkLaws.{slots_step}
+use Rattle.nb_walk.proofs.SlotLaws.{spots_both}
 use Rattle.nb_check.specs.Sets.{IsWithout}
 use Rattle.nb_model.specs.Checks.{chains_cause}
 use Rattle.nb_check.specs.Walks.{chains_on}
@@ -42,13 +43,6 @@ used_append (x ∷ xs) ys = by (is_used x.bytes) (used_append xs ys)
         ≡ table_chains (elim t as (λ z. List Spot) [ true ↦ x ∷ used xs | false ↦ used xs ]) ++ table_chains (used ys)
     by true rest = ap (λ (cs : List Chain). RowsFrom (first_in x.bytes) ∷ cs) rest
     by false rest = rest
-
-spots_both : (image : Image) (ps qs : List ℕ) → spots_of image (ps ++ qs) ≡ spots_of image ps ++ spots_of image qs
-unfolding spots_of
-spots_both image [] qs = refl
-spots_both image (p ∷ ps) qs =
-    ap (λ (xs : List Spot). spots_on p 0 (slots_in (page_at image p)) ++ xs) (spots_both image ps qs)
-    ∙ sym (append_assoc (spots_on p 0 (slots_in (page_at image p))) (spots_of image ps) (spots_of image qs))
 
 -- the tables that pages of the catalogue name
 abbrev pub chains_of_pages : Image → List ℕ → List Chain

@@ -18,7 +18,6 @@ mod laws;
 mod pass;
 mod report;
 mod set;
-mod slots;
 mod walk;
 
 pub use checking::{check, reclaim};

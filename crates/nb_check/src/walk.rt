@@ -1,13 +1,10 @@
 // Walks over the chains of data pages, page by page along their links. Nothing changes.
-ghost use Rattle.std.specs.Prelude.{◌≡◌, ◌≢◌, ◌+◌, ◌*◌, ◌<◌, ◌≤◌, ℕ, List, [], ◌∷◌, ◌++◌, IsTrue, IfErr, IfOk, Ok, None, OnOk, length};
-ghost use Rattle.std.specs.List.{list_all};
-ghost use Rattle.nb_fields.specs.Places.{is_page_size};
+ghost use Rattle.std.specs.Prelude.{◌≡◌, ◌≢◌, ◌+◌, ◌≤◌, IsTrue, IfErr, None, OnOk, length};
 ghost use Rattle.nb_host.specs.declared.faults.Fault.TheVariants.{Memory};
 ghost use Rattle.nb_change.specs.Counts.{CountsDevice};
 ghost use Rattle.nb_page.specs.Quiet.{Quiet};
-ghost use Rattle.nb_model.specs.Image.{page_at};
 ghost use Rattle.nb_model.specs.Causes.{broken_at};
-ghost use Rattle.nb_model.specs.Chains.{Catalogue, History, first_of, owner_of, is_slot, is_filled, slots_in, spots, next_in, pages_of, found_pages};
+ghost use Rattle.nb_model.specs.Chains.{Catalogue, spots, pages_of, found_pages};
 ghost use Rattle.nb_model.specs.Rows.{chains, pages_of_all, table_chains, used};
 ghost use Rattle.nb_model.specs.Trail.{Trail};
 ghost use Rattle.nb_state.specs.Open.{IsOpen, but_pages};
@@ -15,118 +12,14 @@ ghost use Rattle.nb_state.specs.Does.{Tested};
 ghost use Rattle.nb_model.specs.Leaks.{reached};
 ghost use Rattle.nb_check.specs.Sets.{IsWithout};
 ghost use Rattle.nb_model.specs.Checks.{chains_cause};
-ghost use Rattle.nb_check.specs.Walks.{chain_by, not_linked, chains_on};
+ghost use Rattle.nb_check.specs.Walks.{chains_on};
+ghost use Rattle.nb_walk.specs.Walks.{chain_by};
 
 use crate::set::PageSet;
-use crate::slots::{first_page, is_backup, is_row, is_table, slot_at, slot_count, use_of};
 use nb_engine::Engine;
-use nb_fields::layouts::{data, header};
+use nb_fields::layouts::header;
 use nb_host::{Fault, Host, Refusal};
-
-/// A chain of data pages, by what its slots hold.
-#[derive(Clone, Copy, Debug, PartialEq, Eq)]
-pub(crate) enum Chain {
-    /// The tables: the catalogue.
-    Tables,
-    /// The backups: the history.
-    Backups,
-    /// The rows of the table whose chain begins with that page.
-    Rows(u32),
-}
-
-impl Chain {
-    /// Its first page.
-    fn first(self) -> u32
-        ensures { result ≡ first_of (chain_by self) }
-    {
-        match self {
-            Chain::Tables => header::CATALOGUE_PAGE,
-            Chain::Backups => header::HISTORY_PAGE,
-            Chain::Rows(first) => first,
-        }
-    }
-
-    /// What stands in the owner field of each of its pages.
-    fn owner(self) -> u32
-        ensures { result ≡ owner_of (chain_by self) }
-    {
-        match self {
-            Chain::Tables => 0,
-            Chain::Backups => 1,
-            Chain::Rows(first) => first,
-        }
-    }
-
-    /// Whether what a used slot of it holds is of the form.
-    fn is_filled(self, slot: &[u8]) -> bool
-        requires { length slot.now ≡ 256 }
-        ensures { result ≡ is_filled (chain_by self) slot.now }
-    {
-        match self {
-            Chain::Tables => is_table(slot),
-            Chain::Backups => is_backup(slot),
-            Chain::Rows(_) => is_row(slot),
-        }
-    }
-}
-
-/// Whether a slot of the chain is of the form.
-fn is_slot(chain: Chain, slot: &[u8]) -> bool
-    requires { length slot.now ≡ 256 }
-    ensures { result ≡ is_slot (chain_by chain) slot.now }
-{
-    let used = use_of(slot);
-    if used == 0 {
-        return true;
-    }
-    used == 1 && chain.is_filled(slot)
-}
-
-/// Whether all slots of a page of the chain are of the form.
-fn are_slots(chain: Chain, page: &[u8]) -> bool
-    requires { IsTrue (is_page_size (length page.now)) }
-    ensures { result ≡ list_all (is_slot (chain_by chain)) (slots_in page.now) }
-{
-    let count = slot_count(page);
-    let mut slot = 0;
-    while slot < count {
-        if !is_slot(chain, slot_at(page, slot)) {
-            return false;
-        }
-        slot += 1;
-    }
-    true
-}
-
-/// Reads page `number` of the chain, and answers the page that it is linked to, or 0. The refusal is `NotDatabase` of the page, where it
-/// isn't one of the chain.
-fn take_page<H: Host>(
-    host: &mut H,
-    engine: &mut Engine,
-    chain: Chain,
-    number: u32,
-    page: &mut [u8],
-) -> Result<u32, Fault>
-    requires size { length page.old ≡ engine.old.files.page_size }
-    ensures test { (t : Trail) → IsTrue H.tells → IsOpen (H.world host.old) engine.old t → Tested result (not_linked (chain_by chain) t.base.image number) }
-    ensures page { (t : Trail) → IsTrue H.tells → IsOpen (H.world host.old) engine.old t → OnOk result (page.new ≡ page_at t.base.image number) }
-    ensures next { IfOk result (λ next. next ≡ next_in page.new) }
-    ensures sized { length page.new ≡ length page.old }
-    ensures open { (t : Trail) → IsTrue H.tells → IsOpen (H.world host.old) engine.old t → IsOpen (H.world host.new) engine.new t }
-    ensures same { but_pages engine.new ≡ but_pages engine.old }
-    ensures quiet { Quiet (H.world host.old) (H.world host.new) }
-    ensures once { IsTrue H.tells → (H.world host.new).reads ≤ (H.world host.old).reads + 1 }
-    ensures cause { CountsDevice result (H.faults host.old) (H.faults host.new) }
-    ensures takes_none { IfErr result (λ fault. fault ≢ Memory) }
-{
-    // Slots are counted by the size of a page, which is one of six.
-    let _size = engine.page_size();
-    engine.data_read(host, number, chain.owner(), page)?;
-    if !are_slots(chain, page) {
-        return Err(Fault::Refused(Refusal::NotDatabase { page: number }));
-    }
-    Ok(data::Next::get(page) as u32)
-}
+use nb_walk::{Chain, first_page, slot_at, slot_count, take_page, use_of};
 
 /// Takes the pages of a chain out of the set. The refusal is `NotDatabase` of the first page that breaks the form: a chain that leads back
 /// into itself has more pages than the database. Each page of the chain takes one read at most.

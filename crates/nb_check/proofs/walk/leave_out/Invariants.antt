@@ -4,8 +4,8 @@ use Rattle.nb_page.specs.Quiet.{Quiet}
 use Rattle.nb_model.specs.Trail.{Trail}
 use Rattle.nb_state.specs.Open.{IsOpen, but_pages}
 use Rattle.nb_check.specs.Sets.{IsWithout}
-use Rattle.nb_check.specs.Walks.{chain_by}
-use Rattle.nb_check.proofs.WalkLaws.{Walks}
+use Rattle.nb_walk.specs.Walks.{chain_by}
+use Rattle.nb_walk.proofs.WalkLaws.{Walks}
 use Rattle.nb_check.proofs.walk.leave_out.Given as goal
 
 -- the pages so far are out of the set

@@ -6,7 +6,7 @@ use Rattle.nb_model.specs.Chains.{Catalogue, pages_of}
 use Rattle.nb_model.specs.Trail.{Trail}
 use Rattle.nb_state.specs.Open.{IsOpen, but_pages}
 use Rattle.nb_check.proofs.ListLaws.{AreOut, chains_of_pages}
-use Rattle.nb_check.proofs.WalkLaws.{Walks}
+use Rattle.nb_walk.proofs.WalkLaws.{Walks}
 use Rattle.nb_check.proofs.walk.leave_out_tables.Given as goal
 
 -- the chains that the pages of the catalogue so far name are out of the set

@@ -1,4 +1,4 @@
--- The names of tables are ASCII, so they are text. Those of files are, by a law of the engine.
+-- Names of tables are ASCII, so they are text. Those of files are, by a law of the engine.
 use Rattle.std.proofs.Common.{◌≡◌, inl, inr, ℕ, ◌<◌, List, length, arith}
 use Rattle.std.specs.Prelude.{Bool, true, false, ◌&&◌, ◌||◌, ◌==◌, nat_le, slice_index}
 use Rattle.std.specs.List.{list_all}

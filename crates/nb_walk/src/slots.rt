@@ -1,4 +1,4 @@
-// Whether the slots of a data page are of the form of its chain.
+// The slots of a data page, as its bytes hold them.
 ghost use Rattle.std.specs.Prelude.{◌≡◌, ◌+◌, ◌-◌, ◌*◌, ◌/◌, ◌≤◌, ◌&&◌, IsTrue, nat_le, slice_index, length, IfSome, IfNone, IsUtf8};
 ghost use Rattle.nb_fields.specs.Bytes.{part};
 ghost use Rattle.nb_fields.specs.Places.{is_page_size};
@@ -10,17 +10,17 @@ use nb_fields::layouts::{catalogue, data, history, row};
 use nb_host::Name;
 use nb_model::TableName;
 
-/// How many slots a page has.
+/// How many slots a page has: as many as there is room for behind its first 32 bytes.
 #[tactic(auto, using(nb_fields::proofs::SizeLemmas::size_facts))]
-pub(crate) fn slot_count(page: &[u8]) -> u32
+pub fn slot_count(page: &[u8]) -> u32
     requires { IsTrue (is_page_size (length page.now)) }
     ensures { result ≡ (length page.now - 32) / 256 }
 {
     ((page.len() - data::SLOTS_AT) / data::SLOT) as u32
 }
 
-/// Slot `slot` of a page.
-pub(crate) fn slot_at(page: &[u8], slot: u32) -> &[u8]
+/// Slot `slot` of a page, from 0: 256 bytes.
+pub fn slot_at(page: &[u8], slot: u32) -> &[u8]
     requires { 288 + 256 * slot ≤ length page.now }
     ensures bytes { result.now ≡ part (32 + 256 * slot) 256 page.now }
     ensures size { length result.now ≡ 256 }
@@ -30,7 +30,7 @@ pub(crate) fn slot_at(page: &[u8], slot: u32) -> &[u8]
 }
 
 /// The first byte of a slot: 1 where it is used, 0 where it is free.
-pub(crate) fn use_of(slot: &[u8]) -> u64
+pub fn use_of(slot: &[u8]) -> u64
     requires { length slot.now ≡ 256 }
     ensures { result ≡ slice_index slot.now 0 }
 {
@@ -38,7 +38,7 @@ pub(crate) fn use_of(slot: &[u8]) -> u64
 }
 
 /// The first page of the table in a slot of the catalogue.
-pub(crate) fn first_page(slot: &[u8]) -> u32
+pub fn first_page(slot: &[u8]) -> u32
     requires { length slot.now ≡ 256 }
     ensures { result ≡ first_in slot.now }
 {
@@ -76,8 +76,8 @@ fn is_file_name(bytes: &[u8]) -> bool
     }
 }
 
-/// The name in the slot of a table.
-fn table_name(slot: &[u8]) -> &[u8]
+/// The name in the slot of a table, of at most 30 bytes.
+pub fn table_name(slot: &[u8]) -> &[u8]
     requires size { length slot.now ≡ 256 }
     requires fits { length_in slot.now ≤ 30 }
     ensures { result.now ≡ table_of slot.now }

@@ -4,9 +4,9 @@ use Rattle.nb_model.specs.Image.{Page}
 use Rattle.nb_model.specs.Chains.{is_slot, slots_in}
 use Rattle.nb_engine.specs.Data.{not_data}
 use Rattle.nb_engine.proofs.DoesLaws.{tested_on}
-use Rattle.nb_check.specs.Walks.{chain_by, not_linked}
-use Rattle.nb_check.proofs.WalkLaws.{data_not, slots_not, linked_yes}
-use Rattle.nb_check.proofs.walk.take_page.Goals as goal
+use Rattle.nb_walk.specs.Walks.{chain_by, not_linked}
+use Rattle.nb_walk.proofs.LinkLaws.{data_not, slots_not, linked_yes}
+use Rattle.nb_walk.proofs.page.take_page.Goals as goal
 
 pub returns-in_err-data_read-clause-test : goal.returns-in_err-data_read-clause-test
 returns-in_err-data_read-clause-test g c t tells is =

@@ -2,9 +2,10 @@ use Rattle.std.proofs.Common.{length, sym, ap, ◌∙◌, arith}
 use Rattle.std.specs.Prelude.{Bool}
 use Rattle.std.specs.List.{list_all}
 use Rattle.nb_model.specs.Chains.{Slot, is_slot, slots_in}
-use Rattle.nb_check.specs.Walks.{chain_by}
-use Rattle.nb_check.proofs.WalkLaws.{test_first, test_here, test_next, test_last, slot_inside}
-use Rattle.nb_check.proofs.walk.are_slots.Goals as goal
+use Rattle.nb_walk.specs.Walks.{chain_by}
+use Rattle.nb_engine.proofs.WalkLaws.{slot_inside}
+use Rattle.nb_walk.proofs.SlotLaws.{test_first, test_here, test_next, test_last}
+use Rattle.nb_walk.proofs.page.are_slots.Goals as goal
 
 pub loop-slot-init : goal.loop-slot-init
 loop-slot-init c = record { many = c.slot_count-count.ensures; form = test_first (is_slot (chain_by c.args.chain)) c.args.page.now c.slot_count-count.result c.slot_count-count.ensures }
