@@ -69,12 +69,6 @@ ended_more (Err (Refused refusal)) P Q more is = more is
 ended_more (Err Device) P Q more is = tt
 ended_more (Err Memory) P Q more is = tt
 
-pub ended_both : {T : Type 0} (result : Result T Fault) (P Q R : Type 0) → (P → Q → R) → WhereEnded result P → WhereEnded result Q → WhereEnded result R
-ended_both (Ok value) P Q R more one two = more one two
-ended_both (Err (Refused refusal)) P Q R more one two = more one two
-ended_both (Err Device) P Q R more one two = tt
-ended_both (Err Memory) P Q R more one two = tt
-
 -- where it failed, nothing is promised of its end, and it was not refused
 pub never_ended : (T : Type 0) (fault : Fault) (P : Type 0) → IsNoRefusal fault → WhereEnded {T = T} (Err fault) P
 never_ended T (Refused refusal) P is = absurd is

@@ -59,10 +59,6 @@ module _ (w : World) (held : Held) (t : Trail) where
       subst (λ (x : Image). StaysWhole t.base.image x) (sym same)
       (whole_control state scn guid t.base.image (subst (λ (x : Image). is_header (first_page x) ≡ true) same is.files.agrees.header))
 
-  pub begin_whole : (guid : List ℕ) (ask : Option Ask) → IsOpen w held (after_strokes t (begin guid ask ∷ [])) → StaysWhole t.base.image (after_strokes t (begin guid ask ∷ [])).base.image
-  unfolding on_base
-  begin_whole guid ask is = controlled (after_strokes t (begin guid ask ∷ [])) 1 (image_scn t.base.image + 1) guid (ap (λ (b : Base). b.image) (trail_base (begin guid ask) t)) is
-
   pub ends_whole : IsOpen w held (after_strokes t (ends ∷ [])) → StaysWhole t.base.image (after_strokes t (ends ∷ [])).base.image
   unfolding on_base
   ends_whole is = controlled (after_strokes t (ends ∷ [])) 2 (image_scn t.base.image + 1) (image_guid t.base.image) (ap (λ (b : Base). b.image) (trail_base ends t)) is

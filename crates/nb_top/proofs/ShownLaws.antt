@@ -47,14 +47,3 @@ shown_by (Ok status) (Some b) refusal names = ap (λ (r : Refusal). Runs (Err r)
 shown_by (Ok status) None refusal names = λ line h. names line (same_refusal refusal (BadScript line) h)
 shown_by (Err e) (Some b) refusal names = ap (λ (r : Refusal). Runs (Err r)) names
 shown_by (Err e) None refusal names = tt
-
--- behind the run
-pub shown_ended : (status : Status) (broken : Option Broken) (asked : Asked) → IsShownOf (Ok status) broken asked → IsShown status broken asked
-shown_ended status None asked shown = record { right = tt; exact = λ d m. shown }
-shown_ended status (Some b) asked shown = record { right = shown; exact = λ d m. shown }
-
-pub shown_device : (stop : Stop) (broken : Option Broken) (asked : Asked) → IsShownOf (Err stop) broken asked → IsShown Device broken asked
-shown_device stop broken asked shown = record { right = shown; exact = λ d m. absurd (d refl) }
-
-pub shown_memory : (stop : Stop) (broken : Option Broken) (asked : Asked) → IsShownOf (Err stop) broken asked → IsShown Memory broken asked
-shown_memory stop broken asked shown = record { right = shown; exact = λ d m. absurd (m refl) }
