@@ -130,13 +130,6 @@ module _ (x : Image) (header : HasHeader x) (is : IsSoundImage x) (neat : IsNeat
       its_put : IsSlotPut c s bytes x y
       its_put = slot_put x header is neat c of_all s on bytes long fits
 
-      -- what is given along the strokes, and behind them
-      pub slot_turn : (rs : RowMap) → AreDistinct (keys_in (map (f bytes) (spots c x))) → rows_in (map (f bytes) (spots c x)) ≡ rs
-          → Along (λ z. GivesRows x z table (rows x table) ⊎ GivesRows x z table rs) b (put_slot s.page s.slot bytes (drafted x)).strokes × GivesRows x y table rs
-      unfolding put_slot
-      slot_turn rs keys rows_are = (
-        put_along (λ z. GivesRows x z table (rows x table) ⊎ GivesRows x z table rs) b x s.page 5 _ same (inl (still_rows x (nothing_changes x header is neat x (omega arith) (λ q bytes held. held)))) (inl (still_rows (raised s.page (drafted x)).image (slot_between x header is neat c of_all s on))) (inr last),
-        last,
       )
         where
           last : GivesRows x y table rs

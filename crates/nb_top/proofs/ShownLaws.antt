@@ -1,14 +1,13 @@
 -- The line that is shown of a script which breaks its form.
-use Rattle.std.proofs.Common.{◌≡◌, ◌≢◌, ℕ, List, refl, sym, ap, subst}
+use Rattle.std.proofs.Common.{◌≡◌, ◌≢◌, ℕ, List, sym, ap, subst}
 use Rattle.std.specs.Prelude.{Option, Some, None, Result, Ok, Err, IsErr}
 use Rattle.nb_host.specs.declared.refusals.Refusal.{Refusal}
 use Rattle.nb_host.specs.declared.refusals.Refusal.TheVariants.{BadScript, Usage}
 use Rattle.nb_session.specs.declared.stop.Stop.{Stop}
 use Rattle.nb_top.specs.declared.broken.Broken.{Broken}
 use Rattle.nb_top.specs.declared.status.Status.{Status}
-use Rattle.nb_top.specs.declared.status.Status.TheVariants.{Device, Memory}
 use Rattle.nb_top.specs.Requests.{Request, Deed, Asked, Runs, Does, to_plan}
-use Rattle.nb_top.specs.Shown.{Names, BreaksAt, IfShown, IsShownOf, IsShown}
+use Rattle.nb_top.specs.Shown.{Names, BreaksAt, IfShown, IsShownOf}
 
 -- it isn't refused for a line
 abbrev pub IsUnbroken : Asked → Type 0
