@@ -130,10 +130,22 @@ module _ (x : Image) (header : HasHeader x) (is : IsSoundImage x) (neat : IsNeat
       its_put : IsSlotPut c s bytes x y
       its_put = slot_put x header is neat c of_all s on bytes long fits
 
+      -- what is given along the strokes, and behind them
+      pub slot_turn : (rs : RowMap) → AreDistinct (keys_in (map (f bytes) (spots c x))) → rows_in (map (f bytes) (spots c x)) ≡ rs
+          → Along (λ z. GivesRows x z table (rows x table) ⊎ GivesRows x z table rs) b (put_slot s.page s.slot bytes (drafted x)).strokes × GivesRows x y table rs
+      unfolding put_slot
+      slot_turn rs keys rows_are = (
+        put_along (λ z. GivesRows x z table (rows x table) ⊎ GivesRows x z table rs) b x s.page 5 _ same (inl (still_rows x (nothing_changes x header is neat x (omega arith) (λ q bytes held. held)))) (inl (still_rows (raised s.page (drafted x)).image (slot_between x header is neat c of_all s on))) (inr last),
+        last,
       )
         where
           last : GivesRows x y table rs
           last = changed_rows y rs its_put.changes (subst (λ (us : List Spot). AreDistinct (keys_in us)) (sym its_put.spots_then) keys) (ap rows_in its_put.spots_then ∙ rows_are)
+
+      -- so for the strokes of the slot
+      pub slot_rows : (rs : RowMap) → AreDistinct (keys_in (map (f bytes) (spots c x))) → rows_in (map (f bytes) (spots c x)) ≡ rs → IsTurnOfRows b table rs (put_slot s.page s.slot bytes (drafted x))
+      slot_rows rs keys rows_are = let both = slot_turn rs keys rows_are in subst (λ (z : Image). IsTurnOfRows b table rs (put_slot s.page s.slot bytes (drafted z))) same
+          (record { along = subst (λ (z : Image). Along (λ w. GivesRows z w table (rows z table) ⊎ GivesRows z w table rs) b (put_slot s.page s.slot bytes (drafted z)).strokes) (sym same) both.0; behind = subst (λ (z : Image). GivesRows z (put_slot s.page s.slot bytes (drafted z)).image table rs) (sym same) both.1 })
 
   -- `update`: the row's text is another.
   pub updated : (b : Base) (key : ℕ) (text : List ℕ) (s : Spot) → b.image ≡ x → key < 18446744073709551616 → length text ≤ 200 → row_spot key (spots c x) ≡ Some s

@@ -164,6 +164,18 @@ module _ (old new : World) (asked : Result Request Refusal) (can : CanBeMet (Run
       At : Files → List ℕ → Type 0
       At = RunStands old account asked runs.events
 
+      with_stops : AtEachMoment old new At → (IsSure old account runs.events → StandsAfter old new account (target_of asked runs.events) runs.events) → (status ≢ Device → status ≢ Memory → IsSure old account runs.events → StandsFor new runs.last) → PerformsRun status old new asked account given
+      with_stops stops behind ended = record {
+        events = runs.events;
+        last = runs.last;
+        left = runs.left;
+        performed = runs.performed;
+        stops = stops;
+        now = stops.each new.files new.said (timely.counts_now old.moment new.files stops.later reads);
+        reads = runs.reads;
+        after = behind;
+        finished = λ d m. (ends d m).1;
+        stands = ended;
       }
 
       nothing_left : (files : Files) (said : List ℕ) → IsNow old files said → At files said
