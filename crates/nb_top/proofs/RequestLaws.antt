@@ -335,10 +335,6 @@ module _ (files : Files) where
       by None is = tt
       by (Some job) is = job_can job (fits_words words job is)
 
--- the answer of a reading
-pub asked_read : (files : Files) (words : List Word) (answer : Result Job Fault) (job : Job) → answer ≡ Ok job → IfOk answer (λ (j : Job). job_of words ≡ Some j) → request_asked files words ≡ request_of files job
-asked_read files words answer job is read = asked_job files words job (subst (λ (a : Result Job Fault). IfOk a (λ (j : Job). job_of words ≡ Some j)) is read)
-
 pub unread_words : (words : List Word) (answer : Result Job Fault) (refusal : Refusal) → answer ≡ Err (Refused refusal) → IfErr answer (λ (fault : Fault). (fault ≡ Memory) ⊎ ((fault ≡ Refused Usage) × (job_of words ≡ None)))
     → job_of words ≡ None
 unread_words words answer refusal is why =

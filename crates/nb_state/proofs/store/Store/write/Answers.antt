@@ -10,7 +10,7 @@ use Rattle.nb_base.specs.Touches.{WritesIn}
 use Rattle.nb_state.specs.Open.{Held, IsOpen, NoPageWaits, name_of}
 use Rattle.nb_state.specs.contracts.store.Store.{the_view}
 use Rattle.nb_state.specs.Does.{Goes, Makes}
-use Rattle.nb_state.proofs.AgreeLaws.{page_whole, open_written, goes_files, goes_written}
+use Rattle.nb_state.proofs.AgreeLaws.{open_written, goes_files, goes_written}
 use Rattle.nb_change.proofs.ResultLaws.{passed_on}
 use Rattle.nb_state.proofs.MakesLaws.{never_ended}
 use Rattle.nb_state.proofs.TurnLaws.{open_wanting}
@@ -29,7 +29,6 @@ returns-in_err-write-clause-makes g c t tells given fits =
     (subst (λ r. Makes {T = Unit {0}} r old new c.args.self.now after t (page c.args.number c.args.page.now ∷ [])) (sym (passed_on c.from_residual.result c.in_err-write.field-0.0 c.from_residual.ensures)) (record {
       left = left;
       opened = never_ended (Unit {0}) c.in_err-write.field-0.0 _ c.in_err-write.ensures.not_refused;
-      whole = never_ended (Unit {0}) c.in_err-write.field-0.0 _ c.in_err-write.ensures.not_refused;
       goes = goes;
       gave = wrote.gave;
     }))
@@ -50,7 +49,6 @@ returns-clause-makes g c t tells given fits =
     record {
       left = subst (λ (h : Held). Strikes old new (name_of h) t (page c.args.number c.args.page.now ∷ [])) c.self.view_is takes.left;
       opened = open_written t c.args.number c.args.page.now fits _ pair old new c.take_flags.new.self first other is wrote.state wrote.entries takes.done (λ two. wrote.merged t _ tells is.files fits two (is.merged two));
-      whole = page_whole t c.args.number c.args.page.now fits c.requires.some;
       goes = subst (λ (h : Held). Goes h c.take_flags.new.self) c.self.view_is
           (goes_written c.args.number c.args.page.now _ c.take_flags.new.self pair first other (goes_files _ pair wrote.name wrote.page_size wrote.state wrote.entries wrote.cap));
       gave = wrote.gave;
