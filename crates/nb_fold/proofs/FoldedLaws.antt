@@ -32,8 +32,6 @@ rest_other n m (r ∷ rs) other = elim (eqb_tells r.0 n) [
   | inr w ↦ rw (w.0, rest_after) refl
 ]
 
-]
-
 -- where no lower one comes first the rest rises from the next number on
 pub rest_next : (n : ℕ) (rs : List Numbered) → AreRising n rs → AreRising (n + 1) (rest_after n rs)
 rest_next n [] rise = tt

@@ -60,6 +60,13 @@ where_ended (Err (Refused refusal)) P is = is
 where_ended (Err Device) P is = tt
 where_ended (Err Memory) P is = tt
 
+-- and so does what follows from what holds there
+pub ended_more : {T : Type 0} (result : Result T Fault) (P Q : Type 0) → (P → Q) → WhereEnded result P → WhereEnded result Q
+ended_more (Ok value) P Q more is = more is
+ended_more (Err (Refused refusal)) P Q more is = more is
+ended_more (Err Device) P Q more is = tt
+ended_more (Err Memory) P Q more is = tt
+
 -- where it failed, nothing is promised of its end, and it was not refused
 pub never_ended : (T : Type 0) (fault : Fault) (P : Type 0) → IsNoRefusal fault → WhereEnded {T = T} (Err fault) P
 never_ended T (Refused refusal) P is = absurd is
