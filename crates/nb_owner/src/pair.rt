@@ -98,9 +98,9 @@ impl Pair {
         self.cache.held()
     }
 
-    /// Fills in page `number` of the database, from memory or from the file that holds it. It then is the page in memory that was used
-    /// last; but where it would drop a page that waits, nothing in memory changes. Of the host a page in memory asks nothing, page 0 at
-    /// most two reads, and every other page at most one.
+    /// Fills in page `number` of the database, from memory or from the file that holds it, page 0 with the control block that `write` asks
+    /// for. It then is the page in memory that was used last; but where it would drop a page that waits, nothing in memory changes. Of the
+    /// host a page in memory asks nothing, page 0 at most two reads, and every other page at most one.
     pub fn read<H: Host>(
         &mut self,
         host: &mut H,

@@ -140,8 +140,8 @@ impl Store {
         self.pair.held()
     }
 
-    /// Fills in page `number`, from memory or from the files. Nothing changes but which pages are in memory. Of the host a page in memory
-    /// asks nothing, page 0 at most two reads, and every other page at most one.
+    /// Fills in page `number`, from memory or from the files, page 0 with the control block that `write` asks for. Nothing changes but which
+    /// pages are in memory. Of the host a page in memory asks nothing, page 0 at most two reads, and every other page at most one.
     pub fn read<H: Host>(
         &mut self,
         host: &mut H,
