@@ -53,12 +53,7 @@ returns-clause-makes g c t tells given low =
     let other = c.take_flags.ensures.other in
     record {
       left = subst (λ (h : Held). Strikes old new (name_of h) t (page c.args.number c.args.page.now ∷ [])) c.self.view_is takes.left;
-<<<<<<< HEAD
-      opened = open_written t c.args.number c.args.page.now fits _ pair old new c.take_flags.new.self first other is wrote.state wrote.entries takes.done (λ two. wrote.merged t _ tells is.files fits two (is.merged two));
-=======
       opened = open_written t c.args.number c.args.page.now fits _ pair old new c.take_flags.new.self first other is wrote.state wrote.entries takes.done (λ two. wrote.merged t _ tells is.files low two (is.merged two));
-      whole = page_whole t c.args.number c.args.page.now fits c.requires.some;
->>>>>>> cc8c6a86091d8b83a10cdde787a3615ad06a9ae1
       goes = subst (λ (h : Held). Goes h c.take_flags.new.self) c.self.view_is
           (goes_written c.args.number c.args.page.now _ c.take_flags.new.self pair first other (goes_files _ pair wrote.name wrote.page_size wrote.state wrote.entries wrote.cap));
       gave = wrote.gave;
