@@ -143,6 +143,6 @@ module _ (chain : Chain) (image : Image) (P : List ℕ → Type 0) (all number :
         walks_length = (let long = so.long in omega (arith, long, long_more, ap length walks_found))
 
 -- the walk has come by more pages than there are
-pub walks_over : (chain : Chain) (image : Image) (P : List ℕ → Type 0) (left number : ℕ) → left ≡ 0 → Walks chain image P left number → broken_at (pages_of chain image) ≡ Some (NotDatabase number)
-walks_over chain image P left number none so =
+pub walks_over : (chain : Chain) (image : Image) (P : List ℕ → Type 0) (count number : ℕ) → count ≡ 0 → Walks chain image P count number → broken_at (pages_of chain image) ≡ Some (NotDatabase number)
+walks_over chain image P count number none so =
     ap broken_at (so.are ∙ ap (λ (n : ℕ). behind so.seen (walk n chain image number)) none ∙ ap (behind so.seen) (walk_zero chain image number))
