@@ -1,4 +1,4 @@
-// Pages of a chain, one by one. Nothing changes.
+// A page of a chain is taken: it is read and tested. Nothing changes.
 ghost use Rattle.std.specs.Prelude.{◌≡◌, ◌≢◌, ◌+◌, ◌<◌, ◌≤◌, true, IsTrue, IfErr, IfOk, OnOk, length};
 ghost use Rattle.std.specs.List.{list_all};
 ghost use Rattle.nb_fields.specs.Places.{is_page_size};
