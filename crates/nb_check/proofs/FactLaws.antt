@@ -78,10 +78,6 @@ module _ (image : Image) (p : ℕ) where
     unfolding breaks
     late_here = ap (λ (t : Bool). t && nat_lt (image_scn image) (stamp_of (page_at image p))) below
 
-    pub header_here : breaks image HeaderStamp p ≡ (p == 0 && not (stamp_of (first_page image) == image_scn image))
-    unfolding breaks
-    header_here = refl
-
     -- and so the lowest that it breaks
     abbrev is_late : Bool
     is_late = nat_lt (image_scn image) (stamp_of (page_at image p))
