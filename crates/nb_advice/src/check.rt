@@ -12,19 +12,16 @@ fn broken_fact(fact: &str) -> Option<&'static str> {
         "2" => Some("isn't the inventory page that its place has to hold"),
         "3" => Some("is marked as taken, and the database ends before it"),
         "4" => Some("has a newer stamp than the database itself"),
-        "5" => Some("has an SCN entry that doesn't agree with it, so a backup may leave its change out"),
+        "5" => Some(
+            "has an SCN entry that doesn't agree with it, so a backup may leave its change out",
+        ),
         "6" => Some("hasn't the current SCN as its stamp"),
         _ => None,
     }
 }
 
 /// The inventories of the database aren't sound.
-fn unsound(
-    alloc: Global,
-    db: &Name,
-    fact: &str,
-    page: &str,
-) -> Result<Option<String>, AllocError> {
+fn unsound(alloc: Global, db: &Name, fact: &str, page: &str) -> Result<Option<String>, AllocError> {
     let Some(what) = broken_fact(fact) else {
         return Ok(None);
     };

@@ -56,7 +56,12 @@ pub fn progress_of(
         Job::Gen { script, .. } => ("running", script, Counted::All, Vec::new(alloc)),
         Job::Stat { db } => ("reading", db, Counted::ReadOf(db.copied()), one(alloc, db)?),
         Job::Check { db } | Job::Reclaim { db } => {
-            ("checking", db, Counted::ReadOf(db.copied()), one(alloc, db)?)
+            (
+                "checking",
+                db,
+                Counted::ReadOf(db.copied()),
+                one(alloc, db)?,
+            )
         }
         Job::Backup { level: 0, db, file } => (
             "backing up",
