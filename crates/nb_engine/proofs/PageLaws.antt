@@ -1,5 +1,5 @@
 -- A page stroke of a page behind the first: what is known after it.
-use Rattle.std.proofs.Common.{◌∙◌, ◌≡◌, ◌≢◌, ℕ, ◌<◌, ◌≤◌, List, [], ◌∷◌, ◌++◌, length, sym, ap, subst, arith}
+use Rattle.std.proofs.Common.{◌∙◌, ◌≡◌, ◌≢◌, ℕ, ◌<◌, List, [], ◌∷◌, ◌++◌, length, sym, ap, subst, arith}
 use Rattle.std.specs.Prelude.{None, Result, Ok, IfErr}
 use Rattle.nb_fields.specs.Places.{entries_in}
 use Rattle.nb_fields.specs.Page.{kind_of}
