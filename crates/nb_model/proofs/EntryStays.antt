@@ -17,7 +17,7 @@ use Rattle.nb_model.specs.Image.{Page, Image, page_at, first_page, image_size, i
 use Rattle.nb_model.specs.Outcomes.{Seen, Outcome}
 use Rattle.nb_model.specs.Pages.{new_turn, write_turn, free_turn, forced_turn, access_turn, byte_strokes, cache_turn}
 use Rattle.nb_model.specs.Sound.{HasHeader}
-use Rattle.nb_model.specs.Strokes.{merged_page, on_base, base_after}
+use Rattle.nb_model.specs.Strokes.{Stroke, merged_page, on_base, base_after}
 use Rattle.nb_model.specs.Tables.{all_given}
 use Rattle.nb_model.specs.Checks.{reclaim_turn, reclaimed}
 use Rattle.nb_model.specs.Leaks.{leaked}

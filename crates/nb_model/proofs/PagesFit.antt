@@ -1,5 +1,5 @@
 -- Each stroke of a statement on pages fits at its point, in whatever state, and writes no rows of the history.
-use Rattle.std.proofs.Common.{◌≡◌, ℕ, List, refl, sym, arith}
+use Rattle.std.proofs.Common.{◌≡◌, ℕ, List, refl, sym, arith, subst}
 use Rattle.std.specs.Prelude.{Bool, true, Some, None}
 use Rattle.std.proofs.lemmas.Bool.{true≢false}
 use Rattle.nb_model.specs.declared.statement.Statement.{Statement}
