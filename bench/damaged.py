@@ -33,7 +33,7 @@ class Case:
         self.kind = asked[index % len(asked)]
         base = drawn.base_for(chance, bases, self.kind)
         aimed = drawn.aim(chance, base, self.kind)
-        self.files, self.told = drawn.damaged(chance, base, aimed)
+        self.files, self.told = drawn.damaged(chance, base, aimed, self.kind)
         self.words, script, self.kinds = drawn.asked(chance, base, self.kind, aimed)
         if script is not None:
             self.files["s"] = script.encode("ascii")

@@ -338,6 +338,20 @@ class Hand:
         for page in self.pick(self.aimed, self.aimed[-1:]):
             self.give(page)
 
+    def loosen(self):
+        """Nothing leads to some pages: a chain is cut, or a slot of the catalogue is free."""
+        slots = [place for place in self.base.used if place[0] in self.base.chains[0]]
+        if slots and self.random.random() < 0.5:
+            page, at = self.random.choice(slots)
+            self.number(page, at, 0, 1)
+        else:
+            self.number(self.random.choice(self.random.choice(self.base.chains)), 16, 0)
+
+    def stray(self):
+        """A page of another kind is a data page, or a further page of a chain is a raw one."""
+        page, kind = self.pick((self.raw_page(), DATA), (self.random.choice(self.chain()), RAW))
+        self.number(page, 0, kind, 1)
+
     def some(self):
         """System pages get other kinds: a few, or an inventory page and its SCN page."""
         pages = [self.pick(2, self.random.choice(self.base.system)) for _ in range(self.random.choice((1, 2, 3)))]
@@ -431,10 +445,13 @@ HANDS = {
 }
 
 
-def damaged(random, base, aimed):
-    """The files of a database behind a few changes, and what was changed."""
+def damaged(random, base, aimed, kind):
+    """The files of a database behind a few changes, and what was changed. Of those that are checked half are sound but for pages that nothing leads to."""
     hand = Hand(random, base, aimed)
-    if base.is_long and random.random() < 0.3:
+    if kind in CHECKS and random.random() < 0.5:
+        for _ in range(random.choice((1, 1, 2, 3))):
+            random.choice((Hand.loosen, Hand.loosen, Hand.stray))(hand)
+    elif base.is_long and random.random() < 0.3:
         hand.some()
     elif random.random() < 0.12:
         hand.trap()
@@ -497,6 +514,8 @@ STATEMENTS = {
     "forced writes": lambda random, base, aimed: f"forced writes {random.choice(('on', 'off'))}",
     "access": lambda random, base, aimed: f"access {random.choice(('read_only', 'read_write'))}",
     "sync": lambda random, base, aimed: "sync",
+    "check": lambda random, base, aimed: "check",
+    "reclaim": lambda random, base, aimed: "reclaim",
     "show header": lambda random, base, aimed: "show header",
     "show pages": lambda random, base, aimed: "show pages",
     "show image": lambda random, base, aimed: "show image",
@@ -504,6 +523,8 @@ STATEMENTS = {
 }
 WORDS = {
     "stat": lambda random, base, aimed: ["stat", NAME],
+    "check DB": lambda random, base, aimed: ["check", NAME],
+    "reclaim DB": lambda random, base, aimed: ["reclaim", NAME],
     "-L": lambda random, base, aimed: ["-L", NAME],
     "-L -S": lambda random, base, aimed: ["-L", "-S", NAME],
     "-N": lambda random, base, aimed: ["-N", NAME],
@@ -514,8 +535,9 @@ WORDS = {
 OFTEN = ("page new", "create table", "insert", "page new", "create table", "insert", "drop table", "backup", "backup", "-B", "-B since")
 # The states that they are for.
 STATES = {"backup": (NORMAL,), "-B": (NORMAL,), "-B since": (NORMAL,), "begin backup": (NORMAL,), "-L": (NORMAL,), "access": (NORMAL,), "copy to": (STALLED,)}
+CHECKS = ("check", "reclaim", "check DB", "reclaim DB")
 # Those that read or write each page of a database are not drawn of one of a million pages.
-WHOLE = ("end backup", "show pages", "show image", "stat", "-N")
+WHOLE = ("end backup", "show pages", "show image", "stat", "-N", *CHECKS)
 
 
 def base_for(random, bases, kind):

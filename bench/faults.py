@@ -171,9 +171,9 @@ def locks(path):
 
 
 # Statements that only read a database, and some that change it.
-READS = ["read 5", "get t 1", "scan t", "show header", "show pages", "show image"]
+READS = ["read 5", "get t 1", "scan t", "show header", "show pages", "show image", "check"]
 CHANGES = [
-    *["page new", "write 5 'x'", "free 5", "create table u", "drop table t", "insert t 2 'x'", "update t 1 'x'", "delete t 1", "sync"],
+    *["page new", "write 5 'x'", "free 5", "create table u", "drop table t", "insert t 2 'x'", "update t 1 'x'", "delete t 1", "sync", "reclaim"],
     *["forced writes on", "access read_write", "alter database begin backup", "alter database end backup", "backup 0 to 'b'"],
 ]
 

@@ -44,12 +44,12 @@ class Levels:
         return measure(self.folder, [self.path, "fold", "out", *PAIRS[pair]])
 
 
-def row(job, runs, whole, more):
+def row(job, runs, whole, more, aim=AIM):
     took, processor = (statistics.median(run[kind] for run in runs) for kind in ("seconds", "processor"))
     calls = {kind: count for run in more for kind, count in run.items()}
     rest = [f"{processor:.3f}" if processor else ""] + [f"{calls[kind]:,}" if kind in calls else "" for kind in ("reads", "writes", "syncs")]
     memory = f"{calls['memory']:.1f}" if calls.get("memory") else ""
-    aim = AIM if more else ""
+    aim = aim if more else ""
     print(f"| {job} | {took:.3f} | {took / whole:.2f} | {aim} | {' | '.join(rest)} | {memory} |", flush=True)
 
 

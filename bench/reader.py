@@ -618,6 +618,67 @@ class Database:
         self.files[name] = self.frozen()
         return f"ok pages {len(self.files[name]) // self.size}"
 
+    # ---- checks
+
+    def check(self):
+        leaked = self.leaked()
+        return f"ok leaked {len(leaked)}" + "".join(f" {page}" for page in leaked)
+
+    def reclaim(self):
+        self.may_change()
+        leaked = self.leaked()
+        for page in leaked:
+            self.set_bit(page, 1)
+        self.settle()
+        return f"ok freed {len(leaked)}"
+
+    def leaked(self):
+        """The data pages that are taken, and that no chain leads to, where the inventories agree with the pages and each chain has its form."""
+        below, past, entered = range(self.count), range(self.count, self.count + self.places.bits), range(self.count + self.places.entries)
+        facts = ((self.is_blank, below), (self.lacks_system, below), (self.is_taken_past, past), (self.is_late, below), (self.has_wrong_entry, entered), (self.is_header_off, [0]))
+        for fact, (breaks, pages) in enumerate(facts, 1):
+            broken = next(filter(breaks, pages), None)
+            if broken is not None:
+                raise Refused(31, "Unsound", fact, broken)
+        tables = self.catalogue().used
+        chains = [self.catalogue(), self.history()] + [self.chain(first, first, row_of) for _, _, (_, first) in tables]
+        reached = {page for chain in chains for page in chain.pages}
+        return [page for page in below if self.kind(page) == DATA and self.is_taken(page) and page not in reached]
+
+    def field(self, page, at, width=4):
+        """A number of a page."""
+        file, place = (self.delta, self.slots[page]) if page in self.slots and (page or at >= 64) else (self.main, page)
+        return number(file, place * self.size + at, width)
+
+    def is_taken(self, page):
+        bit = page % self.places.bits
+        return not self.field(self.places.inventory(page), 32 + bit // 8, 1) >> bit % 8 & 1
+
+    def is_blank(self, page):
+        return not any(self.page(page))
+
+    def lacks_system(self, page):
+        return self.places.kind(page) not in (None, self.kind(page))
+
+    def is_taken_past(self, page):
+        return self.places.inventory(page) < self.count and self.is_taken(page)
+
+    def is_late(self, page):
+        return self.field(page, 8) > self.scn
+
+    def has_wrong_entry(self, page):
+        """The entry of a page that has one is below its stamp, or above the current SCN, or isn't there."""
+        if page == 0 or self.places.kind(page) == SCN_PAGE:
+            return False
+        place = self.places.scn(page)
+        if place >= self.count:
+            return page < self.count
+        entry = self.field(place, 32 + 4 * (page % self.places.entries))
+        return entry > self.scn or page < self.count and entry < self.field(page, 8)
+
+    def is_header_off(self, page):
+        return self.field(page, 8) != self.scn
+
     # ---- flags, and what is shown
 
     def set_byte(self, at, value):
@@ -741,6 +802,8 @@ DEEDS = {
     "forced writes": lambda db, word: db.forced(word == "on"),
     "access": lambda db, word: db.access(word == "read_only"),
     "sync": lambda db: "ok",
+    "check": Database.check,
+    "reclaim": Database.reclaim,
     "show header": Database.show_header,
     "show pages": Database.show_pages,
     "show image": Database.show_image,
@@ -802,13 +865,13 @@ def lines_of(files, words):
     if words[0] == "run":
         lines = bytes(files[words[1]]).decode("ascii").splitlines()
         return [tuple(line.split(": ", 1)) for line in lines if line and not line.startswith("#")]
-    flags = "".join(word for word in words if word in ("stat", "-L", "-S", "-N", "-B"))
+    flags = "".join(word for word in words if word in ("stat", "check", "reclaim", "-L", "-S", "-N", "-B"))
     plain = [word for word in words if word not in flags]
     if flags == "-B":
         level, name, file = plain
         return [("1", f"open '{name}'"), ("1", f"backup {level} to '{file}'" if len(level) == 1 else f"backup since {level} '{file}'")]
     begin, end = "alter database begin backup", "alter database end backup"
-    statements = {"stat": ["show header", "show pages"], "-L": [begin], "-L-S": [begin], "-N": [end]}[flags]
+    statements = {"stat": ["show header", "show pages"], "-L": [begin], "-L-S": [begin], "-N": [end]}.get(flags, [flags])
     return [("1", f"open '{plain[0]}'")] + [("1", statement) for statement in statements]
 
 

@@ -108,6 +108,23 @@ def removed(name):
     return lambda folder: os.remove(folder.file(name))
 
 
+def cut(name, size):
+    def change(folder):
+        with open(folder.file(name), "r+b") as file:
+            file.truncate(size)
+
+    return change
+
+
+def write_at(name, at, data):
+    def change(folder):
+        with open(folder.file(name), "r+b") as file:
+            file.seek(at)
+            file.write(data)
+
+    return change
+
+
 def left(name, content):
     """A file that something else leaves."""
 
@@ -561,24 +578,20 @@ CASES = [
         ],
         check=is_generated,
     ),
+    Case(
+        "leaked pages are given back",
+        [
+            write_at("a.db", 5 * 1024 + 16, bytes(4)),
+            (words("check a.db"), "1: ok leaked 1 6", 0),
+            (script(OPEN, BEGIN, "1: check"), "1: ok pages 7 state 0|1: ok scn 2|1: ok leaked 1 6", 0),
+            (words("reclaim a.db"), "1: ok freed 1", 0),
+            (words("check a.db"), "1: ok leaked 0", 0),
+            (words("-N a.db"), "1: ok scn 3", 0),
+            (script(OPEN, "1: check", "1: insert t 4 'd'", "1: scan t"), "1: ok pages 7 state 0|1: ok leaked 0|1: ok|1: ok rows 4 1 'a' 2 'b' 3 'c' 4 'd'", 0),
+        ],
+        "a table's second page",
+    ),
 ]
-
-
-def cut(name, size):
-    def change(folder):
-        with open(folder.file(name), "r+b") as file:
-            file.truncate(size)
-
-    return change
-
-
-def write_at(name, at, data):
-    def change(folder):
-        with open(folder.file(name), "r+b") as file:
-            file.seek(at)
-            file.write(data)
-
-    return change
 
 
 def half_merged(name):
@@ -605,6 +618,8 @@ HOSTILE = [
     ("a table's second page", write_at("a.db", 5 * 1024 + 16, b"\5"), script(OPEN, "1: scan t"), "1: ok pages 7 state 0|1: refused 5 NotDatabase 5"),
     # A page that a row needed wasn't kept, while the one that leads to it was, as a crash may leave it where forced writes are off.
     ("a table's second page", write_at("a.db", 6 * 1024, b"\x08"), script(OPEN, "1: get t 1"), "1: ok pages 7 state 0|1: refused 5 NotDatabase 6"),
+    ("create, write, read", write_at("a.db", 2 * 1024 + 56, bytes(4)), words("check a.db"), "1: refused 31 Unsound 5 6"),
+    ("create, write, read", write_at("a.db", 1024 + 33, b"\xc0"), words("check a.db"), "1: refused 31 Unsound 3 13"),
     ("a write while stalled", cut("a.db.delta", 2048), script(OPEN), "1: refused 7 BadDelta 2"),
     ("a write while stalled", removed("a.db.delta"), script(OPEN), "1: refused 3 NoFile a.db.delta"),
     ("level 1", cut("a.0", 10240), words("-R c.db a.0 a.1"), "1: ok pages 10"),
@@ -639,11 +654,15 @@ USAGE = [
     (["-I", "-R", "b.db", "a.1", "a.2"], "there are too many words for: nehumiro -I -R DB FILE"),
     (["-I", "-R", "b.db", "a.delta"], '"a.delta" is no name of a file: names that end in .delta are those of difference files'),
     (["-I", "b.db", "a.1"], "-I names no job by itself"),
+    (["check"], "there are too few words for: nehumiro check DB"),
+    (["reclaim", "a.db", "b.db"], "there are too many words for: nehumiro reclaim DB"),
+    (["check", "a.db.delta"], '"a.db.delta" is no name of a database: names that end in .delta are those of difference files'),
     (["gen", "007", "s"], '"007" is no number of 0 to 18446744073709551615'),
     ([b"stat", b"\xff"], "a word is no text"),
 ]
 
 # What it says of a job that is refused, each from the files of a session: what is changed before, the words, and the line.
+UNSOUND = "back a.db up no more, and restore a chain from before that: nehumiro -R NEW FILE.."
 LOST = f"with all that was written to a.db since {TIME}: put it back; where it is lost, a copy of a.db becomes the database as it was then, by: nehumiro -F COPY"
 ADVICE = [
     ("a write while stalled", None, "-B 0 a.db f", f"a.db is locked since {TIME}: end that backup with: nehumiro -N a.db"),
@@ -690,6 +709,15 @@ ADVICE = [
     ("a standby that was written", None, "-I -R b.db a.1", "b.db was written since its backup of the SCN 1, as a stamp of 2 shows: it is no standby any more; make it anew by a restore, and keep it read-only"),
     ("level 1", None, "-I -R a.db a.1", "a.1 is merged into a.db already: nothing is to be done"),
     ("a standby", write_at("b.db", 65, b"\0"), "-I -R b.db a.1", "b.db can be written, and no standby may be: a script with the line '1: access read_only' sees to that"),
+    ("level 1", None, "check no.db", "there is no file no.db: a name counts from the folder in which the program is started"),
+    ("create, write, read", write_at("a.db", 11 * 1024, bytes(1024)), "check a.db", f"page 11 of a.db is all zeros: {UNSOUND}"),
+    ("create, write, read", write_at("a.db", 1024, b"\5"), "check a.db", f"page 1 of a.db isn't the inventory page that its place has to hold: {UNSOUND}"),
+    ("create, write, read", write_at("a.db", 1057, b"\xc0"), "reclaim a.db", f"page 13 of a.db is marked as taken, and the database ends before it: {UNSOUND}"),
+    ("create, write, read", write_at("a.db", 6152, b"\2"), "check a.db", f"page 6 of a.db has a newer stamp than the database itself: {UNSOUND}"),
+    ("create, write, read", write_at("a.db", 2104, b"\0"), "check a.db", f"page 6 of a.db has an SCN entry that doesn't agree with it, so a backup may leave its change out: {UNSOUND}"),
+    ("create, write, read", write_at("a.db", 8, b"\0"), "reclaim a.db", f"page 0 of a.db hasn't the current SCN as its stamp: {UNSOUND}"),
+    ("create, write, read", write_at("a.db", 3 * 1024 + 20, b"\5"), "check a.db", "page 3 of a.db is damaged: restore a chain: nehumiro -R NEW FILE.."),
+    ("create, write, read", write_at("a.db", 65, b"\1"), "reclaim a.db", "a.db is read-only, and giving pages back writes to it: a script with the line '1: access read_write' lifts that"),
     ("a generated script", None, "gen 8 i.s", "gen.db is there already: choose another name, or move it away"),
 ]
 

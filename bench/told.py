@@ -79,11 +79,11 @@ class Memory(trials.Files):
 
     def is_read(self, words):
         """Whether the reader does all that the words ask for, one statement after the other."""
-        if words[:1] not in (["run"], ["stat"], ["-L"], ["-N"], ["-B"]) or words[0] == "run" and words[1:] != ["s"]:
+        if words[:1] not in (["run"], ["stat"], ["check"], ["reclaim"], ["-L"], ["-N"], ["-B"]) or words[0] == "run" and words[1:] != ["s"]:
             raise Unread(words)
         try:
             lines = lines_of(self.files, words)
-        except (KeyError, ValueError) as error:
+        except (IndexError, KeyError, ValueError) as error:
             raise Unread(words) from error
         is_done = lines and all(len(line) == 2 for line in lines) and FIRST.fullmatch(lines[0][1]) and len({line[0] for line in lines}) == 1
         if not is_done or not all(statement.startswith(tuple(DEEDS)) and statement != "show cache" for _, statement in lines[1:]):

@@ -7,6 +7,7 @@
 
 mod backup;
 mod chain;
+mod check;
 mod failure;
 mod fixup;
 mod levels;

@@ -1,6 +1,7 @@
 // What to do about a refusal.
 use crate::backup::{backup, lock, not_free, unlock};
 use crate::chain::{fold, plan, restore};
+use crate::check::{check, reclaim};
 use crate::fixup::fixup;
 use crate::opening::opening;
 use crate::refused::Refused;
@@ -18,6 +19,8 @@ pub fn advice(
 ) -> Result<Option<String>, AllocError> {
     match job {
         Job::Stat { db } => opening(alloc, db, refused, seen),
+        Job::Check { db } => check(alloc, db, refused, seen),
+        Job::Reclaim { db } => reclaim(alloc, db, refused, seen),
         Job::Lock { db } | Job::LockWithSize { db } => lock(alloc, db, refused, seen),
         Job::Unlock { db } => unlock(alloc, db, refused, seen),
         Job::Backup { db, .. } | Job::BackupSince { db, .. } => backup(alloc, db, refused, seen),

@@ -184,6 +184,10 @@ fn wrong_plain(alloc: Global, plain: &[&str]) -> Result<Option<String>, AllocErr
         ["run", ..] => wrong_count(alloc, "run SCRIPT", plain.len() < 2),
         ["stat", db] => wrong_name(alloc, db, Kind::Database),
         ["stat", ..] => wrong_count(alloc, "stat DB", plain.len() < 2),
+        ["check", db] => wrong_name(alloc, db, Kind::Database),
+        ["check", ..] => wrong_count(alloc, "check DB", plain.len() < 2),
+        ["reclaim", db] => wrong_name(alloc, db, Kind::Database),
+        ["reclaim", ..] => wrong_count(alloc, "reclaim DB", plain.len() < 2),
         ["gen", number, script] => {
             let wrong = wrong_number(alloc, number)?;
             if wrong.is_some() {

@@ -1,7 +1,7 @@
 -- The database that a run changes.
 use Rattle.std.specs.Prelude.{ℕ, List, Option, Some, None, codes}
 use Rattle.nb_model.specs.declared.job.Job.{Job}
-use Rattle.nb_model.specs.declared.job.Job.TheVariants.{Run, Stat, Gen, Backup, BackupSince, Restore, Apply, Lock, LockWithSize, Unlock, Fixup, Fold, Plan}
+use Rattle.nb_model.specs.declared.job.Job.TheVariants.{Run, Stat, Check, Reclaim, Gen, Backup, BackupSince, Restore, Apply, Lock, LockWithSize, Unlock, Fixup, Fold, Plan}
 use Rattle.nb_model.specs.declared.statement.Statement.{Statement}
 use Rattle.nb_model.specs.declared.statement.Statement.TheVariants.{CreateDb, OpenDb}
 
@@ -9,6 +9,8 @@ use Rattle.nb_model.specs.declared.statement.Statement.TheVariants.{CreateDb, Op
 abbrev pub changed_by_words : Job → Option (List ℕ)
 changed_by_words (Run script) = None
 changed_by_words (Stat db) = None
+changed_by_words (Check db) = None
+changed_by_words (Reclaim db) = Some db
 changed_by_words (Gen number script) = Some (codes "gen.db")
 changed_by_words (Backup level db file) = Some db
 changed_by_words (BackupSince guid db file) = Some db

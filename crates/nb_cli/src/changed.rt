@@ -31,6 +31,7 @@ fn changes(statement: &Statement) -> bool {
         | Statement::CopyTo { .. }
         | Statement::Get { .. }
         | Statement::Scan { .. }
+        | Statement::Check
         | Statement::ShowHeader
         | Statement::ShowPages
         | Statement::ShowImage
@@ -50,6 +51,7 @@ fn changes(statement: &Statement) -> bool {
         | Statement::Delete { .. }
         | Statement::Forced { .. }
         | Statement::Access { .. }
+        | Statement::Reclaim
         | Statement::Sync => true,
     }
 }
@@ -85,7 +87,11 @@ fn changed_by_words(job: &Job) -> Option<Name>
     ensures { result ≡ changed_by_words job.now }
 {
     match job {
-        Job::Run { .. } | Job::Stat { .. } | Job::Fold { .. } | Job::Plan { .. } => None,
+        Job::Run { .. }
+        | Job::Stat { .. }
+        | Job::Check { .. }
+        | Job::Fold { .. }
+        | Job::Plan { .. } => None,
         Job::Gen { .. } => Name::read(GENERATED),
         Job::Backup { db, .. }
         | Job::BackupSince { db, .. }
@@ -94,6 +100,7 @@ fn changed_by_words(job: &Job) -> Option<Name>
         | Job::Lock { db }
         | Job::LockWithSize { db }
         | Job::Unlock { db }
+        | Job::Reclaim { db }
         | Job::Fixup { db } => Some(db.copied()),
     }
 }

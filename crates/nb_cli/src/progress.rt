@@ -55,6 +55,14 @@ pub fn progress_of(
         Job::Run { script } => ("running", script, Counted::All, Vec::new(alloc)),
         Job::Gen { script, .. } => ("running", script, Counted::All, Vec::new(alloc)),
         Job::Stat { db } => ("reading", db, Counted::ReadOf(db.copied()), one(alloc, db)?),
+        Job::Check { db } | Job::Reclaim { db } => {
+            (
+                "checking",
+                db,
+                Counted::ReadOf(db.copied()),
+                one(alloc, db)?,
+            )
+        }
         Job::Backup { level: 0, db, file } => (
             "backing up",
             db,

@@ -13,6 +13,8 @@ pub fn database_of(job: &Job) -> Option<&Name> {
     match job {
         Job::Run { .. } | Job::Gen { .. } | Job::Fold { .. } | Job::Plan { .. } => None,
         Job::Stat { db }
+        | Job::Check { db }
+        | Job::Reclaim { db }
         | Job::Backup { db, .. }
         | Job::BackupSince { db, .. }
         | Job::Restore { db, .. }

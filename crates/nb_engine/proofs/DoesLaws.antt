@@ -119,7 +119,7 @@ tries_front S T fault old new a b t cause xs ys first = by fault first
         record {
           test = first.test;
           makes = subst (λ (ss : List Stroke). Makes {T = T} (Err (RefusedFault r)) old new a b t ss) none
-              (record { left = first.makes.left; opened = first.makes.opened; whole = first.makes.whole; goes = first.makes.goes; gave = first.makes.gave });
+              (record { left = first.makes.left; opened = first.makes.opened; goes = first.makes.goes; gave = first.makes.gave });
           idle = first.idle;
         }
     by Device first = record { test = tt; makes = failed Device cause tt first.makes; idle = first.idle }

@@ -13,7 +13,6 @@ use Rattle.nb_model.specs.Causes.{read_only, not_state}
 use Rattle.nb_model.specs.Outcomes.{Seen, says, unless}
 use Rattle.nb_model.specs.Pages.{byte_strokes, forced_turn, access_turn}
 use Rattle.nb_model.proofs.HeaderLaws.{header-long, header-other, same-header}
-use Rattle.nb_base.specs.Open.{Fits}
 
 -- a flag is one byte
 pub byte_is : (on : Bool) → bool_byte on ≡ flag on
@@ -33,13 +32,6 @@ front_stays at bytes old far long =
 -- so the page isn't all zeros
 pub flagged-some : (at : ℕ) (bytes old new : Page) → new ≡ with_part at bytes old → 64 ≤ at → at ≤ length old → is_header old ≡ true → is_zeros new ≡ false
 flagged-some at bytes old new is far long header = header-other new (same-header new old (ap (take 64) is ∙ front_stays at bytes old far long) ∙ header)
-
--- and it may be written
-pub flag_fits : (at : ℕ) (bytes old new : Page) (image : Image) → old ≡ first_page image → new ≡ with_part at bytes old → 64 ≤ at → at ≤ length old → Fits 0 new image
-flag_fits at bytes old new image first is far long = record {
-  low = omega arith;
-  front = λ e. ap (take 64) is ∙ front_stays at bytes old far long ∙ ap (take 64) first;
-}
 
 pub flag_strokes : (at value : ℕ) (on : Bool) (old new : Page) (image : Image) → value ≡ flag on → old ≡ first_page image → new ≡ with_part at (bytes_of 1 value) old → page 0 new ∷ [] ≡ byte_strokes at (flag on) image
 unfolding byte_strokes

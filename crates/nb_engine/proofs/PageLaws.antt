@@ -1,5 +1,5 @@
--- A page stroke of a page behind the first: that it fits, and what is known after it.
-use Rattle.std.proofs.Common.{◌∙◌, ◌≡◌, ◌≢◌, ℕ, ◌<◌, ◌≤◌, List, [], ◌∷◌, ◌++◌, length, sym, ap, subst, arith}
+-- A page stroke of a page behind the first: what is known after it.
+use Rattle.std.proofs.Common.{◌∙◌, ◌≡◌, ◌≢◌, ℕ, ◌<◌, List, [], ◌∷◌, ◌++◌, length, sym, ap, subst, arith}
 use Rattle.std.specs.Prelude.{None, Result, Ok, IfErr}
 use Rattle.nb_fields.specs.Places.{entries_in}
 use Rattle.nb_fields.specs.Page.{kind_of}
@@ -11,7 +11,6 @@ use Rattle.nb_model.specs.Strokes.{Stroke, base_after}
 use Rattle.nb_model.specs.Forms.{inventory_of}
 use Rattle.nb_model.specs.Causes.{Cause, not_kind}
 use Rattle.nb_model.specs.Trail.{Trail}
-use Rattle.nb_base.specs.Open.{Fits}
 use Rattle.nb_base.specs.Takes.{after_strokes, IsNoRefusal}
 use Rattle.nb_state.specs.Open.{Held, IsOpen}
 use Rattle.nb_state.specs.Does.{Makes}
@@ -22,9 +21,6 @@ use Rattle.nb_engine.specs.Mark.{bit_stroke, mark_cause, mark_stroke, mark_strok
 use Rattle.nb_engine.proofs.DoesLaws.{tries_these, tries_then, tries_opened}
 use Rattle.nb_engine.proofs.PutLaws.{Keeps, raise_keeps}
 use Rattle.nb_engine.proofs.MarkLaws.{mark_cause-is, marked-is}
-
-pub fits : (p : ℕ) (page : Page) (image : Image) → p ≤ length image → 0 < p → Fits p page image
-fits p page image low some = record { low = low; front = λ e. absurd (omega (arith, e, some)) }
 
 -- one stroke by another name
 pub makes_one : {T : Type 0} (result : Result T Fault) (old new : World) (a b : Held) (t : Trail) (s r : Stroke) → s ≡ r → Makes result old new a b t (s ∷ []) → Makes result old new a b t (r ∷ [])

@@ -22,7 +22,7 @@ use Rattle.nb_engine.proofs.DoesLaws.{unless_none, tries_passed}
 
 -- a failure is the same of a result of another type
 pub makes_as : (S T : Type 0) (fault : Fault) (old new : World) (a b : Held) (t : Trail) (xs : List Stroke) → Makes {T = S} (Err fault) old new a b t xs → Makes {T = T} (Err fault) old new a b t xs
-makes_as S T fault old new a b t xs makes = record { left = makes.left; opened = by fault _ makes.opened; whole = by fault _ makes.whole; goes = makes.goes; gave = makes.gave }
+makes_as S T fault old new a b t xs makes = record { left = makes.left; opened = by fault _ makes.opened; goes = makes.goes; gave = makes.gave }
   where
     by : (f : Fault) (P : Type 0) → WhereEnded {T = S} (Err f) P → WhereEnded {T = T} (Err f) P
     by (Refused r) P is = is
@@ -30,7 +30,7 @@ makes_as S T fault old new a b t xs makes = record { left = makes.left; opened =
     by Memory P is = tt
 
 pub makes_valued : {S T : Type 0} (v : S) (w : T) (old new : World) (a b : Held) (t : Trail) (xs : List Stroke) → Makes (Ok v) old new a b t xs → Makes (Ok w) old new a b t xs
-makes_valued v w old new a b t xs makes = record { left = makes.left; opened = makes.opened; whole = makes.whole; goes = makes.goes; gave = makes.gave }
+makes_valued v w old new a b t xs makes = record { left = makes.left; opened = makes.opened; goes = makes.goes; gave = makes.gave }
 
 -- a test without a cause refuses nothing
 pub sure_of : {T : Type 0} (result : Result T Fault) (cause : Cause) → cause ≡ None → Tested result cause → IfErr result IsNoRefusal

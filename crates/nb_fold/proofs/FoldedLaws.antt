@@ -25,24 +25,11 @@ pub none_above : (n least : ℕ) (rs : List Numbered) → AreRising least rs →
 none_above n least [] rise high = refl
 none_above n least (r ∷ rs) rise high = rw (eq_no r.0 n (λ e. absurd (omega (arith, e, rise.1, high))), page_of) (none_above n (r.0 + 1) rs rise.2 high)
 
--- the rest rises, and has the other pages alone
-pub rest_rises : (n least : ℕ) (rs : List Numbered) → AreRising least rs → AreRising least (rest_after n rs)
-rest_rises n least [] rise = tt
-rest_rises n least (r ∷ rs) rise = elim (eqb_tells r.0 n) [ inl w ↦ rw (w.0, rest_after) (lower least (r.0 + 1) rs (omega (arith, rise.0)) rise.2) | inr w ↦ rw (w.0, rest_after) rise ]
-
 pub rest_other : (n m : ℕ) (rs : List Numbered) → m ≢ n → page_of m (rest_after n rs) ≡ page_of m rs
 rest_other n m [] other = refl
 rest_other n m (r ∷ rs) other = elim (eqb_tells r.0 n) [
   | inl w ↦ rw (w.0, rest_after) (rw (eq_no r.0 m (λ e. other (sym e ∙ w.1)), page_of) refl)
   | inr w ↦ rw (w.0, rest_after) refl
-]
-
--- it hasn't that one, where no lower one comes first
-pub rest_none : (n : ℕ) (rs : List Numbered) → AreRising n rs → page_of n (rest_after n rs) ≡ None
-rest_none n [] rise = refl
-rest_none n (r ∷ rs) rise = elim (eqb_tells r.0 n) [
-  | inl w ↦ rw (w.0, rest_after) (none_below n (r.0 + 1) rs rise.2 (omega (arith, w.1)))
-  | inr w ↦ rw (w.0, rest_after) (rw (w.0, page_of) (none_below n (r.0 + 1) rs rise.2 (omega (arith, rise.0))))
 ]
 
 -- where no lower one comes first the rest rises from the next number on

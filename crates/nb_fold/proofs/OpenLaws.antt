@@ -45,15 +45,6 @@ module _ (file there : File) (same : there ≡ file) (first now : Reading) (befo
       let none : still_to_come (bytes_of file) now ≡ Ok [] = subst (λ (f : File). still_to_come (bytes_of f) now ≡ Ok []) same (ends.2 told) in
       (so_far.pages, so_far.left ∙ ap (behind so_far.pages) none ∙ ap Ok (append-nil so_far.pages), omega (arith, so_far.reads, once))
 
-  -- or a broken place
-  pub so_far_breaks : (next : Reading) (page : List ℕ) (fault : Fault) → now.name ≡ first.name → NextSays tells there now next page (Err fault) → EndSays file first before done (Err fault)
-  so_far_breaks next page (Refused (BadLevel name at)) named says =
-      let broken : still_to_come (bytes_of file) now ≡ Err at = subst (λ (f : File). still_to_come (bytes_of f) now ≡ Err at) same (says.2 told) in
-      (at, so_far.left ∙ ap (behind so_far.pages) broken, ap (λ (n : List ℕ). BadLevel n at) (says.0 ∙ named))
-  so_far_breaks next page (Refused other) named says = absurd says
-  so_far_breaks next page Device named says = tt
-  so_far_breaks next page Memory named says = absurd says
-
 -- what a reader tells that was begun
 started : (bytes : List ℕ) (reader : Reading) (c : Contents) (rest : Result (List Numbered) ℕ) → with_head reader.version (head_of reader.head) rest ≡ Ok c → (head_of reader.head ≡ c.head) × (rest ≡ Ok c.pages)
 started bytes reader c (Ok rs) is =

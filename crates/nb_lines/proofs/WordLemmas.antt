@@ -2,7 +2,7 @@
 use Rattle.std.proofs.Common.{◌≡◌, ℕ, ◌+◌, ◌<◌, length, take, get_or, map, List, [], ◌∷◌, ◌++◌, refl, sym, ◌∙◌, ap, append_assoc, slice_get, Some}
 use Rattle.std.proofs.lemmas.Option.{get_or_from_slice_get}
 use Rattle.std.proofs.lemmas.List.{take_more, map-append, append-nil}
-use Rattle.nb_model.specs.Lines.{Word, is, number, quoted, word_text, spaced, name_words, row_words}
+use Rattle.nb_model.specs.Lines.{Word, is, number, quoted, word_text, spaced, name_words, page_words, row_words}
 use Rattle.nb_lines.specs.declared.word.Word.{Word as InLine}
 use Rattle.nb_lines.specs.Words.{seen}
 
@@ -46,6 +46,12 @@ pub one_name_more : (names : List (List ℕ)) (i : ℕ) (name start here next : 
 one_name_more names i name start here next low so_far put =
     words_then (name_words (take i names)) (is (get_or names i name) ∷ []) start here next so_far put
     ∙ ap (λ (ws : List Word). start ++ spaced ws) (sym (ap name_words (take_more names i name low) ∙ map-append is (take i names) (get_or names i name ∷ [])))
+
+-- one page more
+pub one_page_more : (pages : List ℕ) (i page : ℕ) (start here next : List ℕ) → i < length pages → here ≡ start ++ spaced (page_words (take i pages)) → next ≡ here ++ spaced (number (get_or pages i page) ∷ []) → next ≡ start ++ spaced (page_words (take (i + 1) pages))
+one_page_more pages i page start here next low so_far put =
+    words_then (page_words (take i pages)) (number (get_or pages i page) ∷ []) start here next so_far put
+    ∙ ap (λ (ws : List Word). start ++ spaced ws) (sym (ap page_words (take_more pages i page low) ∙ map-append number (take i pages) (get_or pages i page ∷ [])))
 
 -- numbers, and then two lists of names
 pub plan_said : (front dropped orphans : List Word) (start first second end : List ℕ) → first ≡ start ++ spaced front → second ≡ first ++ spaced dropped → end ≡ second ++ spaced orphans → end ≡ start ++ spaced (front ++ (dropped ++ orphans))

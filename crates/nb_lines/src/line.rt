@@ -1,12 +1,12 @@
 // The line of a reply.
 ghost use Rattle.std.specs.Prelude.{◌≡◌, ◌++◌, IfOk, IfErr, OnOk};
 ghost use Rattle.nb_host.specs.declared.faults.Fault.TheVariants.{Memory};
-ghost use Rattle.nb_model.specs.declared.reply.Reply.TheVariants.{Planned};
-ghost use Rattle.nb_model.specs.Lines.{line_text, spaced, name_words, reply_words, refusal_words, row_words};
+ghost use Rattle.nb_model.specs.declared.reply.Reply.TheVariants.{Leaked, Planned};
+ghost use Rattle.nb_model.specs.Lines.{line_text, spaced, name_words, page_words, reply_words, refusal_words, row_words};
 
 use crate::word::{Word, push_number, push_words};
 use nb_host::{Fault, Name, Refusal};
-use nb_model::{NameList, Reply, RowList};
+use nb_model::{NameList, PageList, Reply, RowList};
 use std::alloc::{AllocError, Global};
 
 /// The number of a refusal, its name and the values of its fields.
@@ -254,6 +254,32 @@ fn push_names(line: &mut Vec<u8>, names: &[Name]) -> Result<(), AllocError>
     Ok(())
 }
 
+/// Each page.
+fn push_pages(line: &mut Vec<u8>, pages: &[u32]) -> Result<(), AllocError>
+    ensures { OnOk result (line.new.items ≡ line.old.items ++ spaced (page_words pages.now)) }
+{
+    for page in pages {
+        push_words(line, &[Word::Number(*page as u64)])?;
+    }
+    Ok(())
+}
+
+/// How many pages are leaked, and then which.
+fn push_leaked(line: &mut Vec<u8>, pages: &PageList) -> Result<(), AllocError>
+    ensures { OnOk result (line.new.items ≡ line.old.items ++ spaced (reply_words (Leaked pages.now))) }
+{
+    push_words(
+        line,
+        &[
+            Word::Is("ok"),
+            Word::Is("leaked"),
+            Word::Number(pages.len() as u64),
+        ],
+    )?;
+    push_pages(line, pages.as_slice())?;
+    Ok(())
+}
+
 /// How many files a plan keeps, drops and calls orphans, and then the names of those that it drops and of the orphans.
 fn push_plan(
     line: &mut Vec<u8>,
@@ -430,6 +456,15 @@ fn push_reply(line: &mut Vec<u8>, reply: &Reply) -> Result<(), AllocError>
                 Word::Number(*capacity as u64),
                 Word::Is("held"),
                 Word::Number(*held as u64),
+            ],
+        ),
+        Reply::Leaked { pages } => push_leaked(line, pages),
+        Reply::Freed { pages } => push_words(
+            line,
+            &[
+                Word::Is("ok"),
+                Word::Is("freed"),
+                Word::Number(*pages as u64),
             ],
         ),
         Reply::Planned {

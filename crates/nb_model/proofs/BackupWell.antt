@@ -1,8 +1,8 @@
 -- The start and the close of a backup keep what was seen well: the row that the close writes names the record that the begin has kept.
-use Rattle.std.proofs.Common.{◌≡◌, ℕ, ◌+◌, ◌*◌, ◌<◌, ◌≤◌, List, [], ◌∷◌, ◌++◌, length, take, drop, refl, sym, ap, subst, ◌∙◌, arith, append_assoc}
+use Rattle.std.proofs.Common.{◌≡◌, inl, inr, ℕ, ◌+◌, ◌*◌, ◌<◌, ◌≤◌, List, [], ◌∷◌, ◌++◌, length, take, drop, refl, sym, ap, subst, ◌∙◌, arith, append_assoc}
 use Rattle.std.specs.Prelude.{Bool, true, false, ◌&&◌, Option, Some, None, Contains}
 use Rattle.std.specs.List.{AllByRecursion}
-use Rattle.std.proofs.lemmas.Bool.{and_parts}
+use Rattle.std.proofs.lemmas.Bool.{and_parts, cases_lt}
 use Rattle.std.proofs.lemmas.List.{take_at}
 use Rattle.std.proofs.lemmas.List.Elements.{Contains-append_right}
 use Rattle.nb_fields.specs.Bytes.{bytes_of, number_in, padded, with_part}
@@ -28,6 +28,7 @@ use Rattle.nb_model.proofs.ControlWell.{goes_on_now}
 use Rattle.nb_model.proofs.EarlierLaws.{last_one}
 use Rattle.nb_model.proofs.FitLaws.{Fits, Stays, fitting_stays}
 use Rattle.nb_model.proofs.HeldLaws.{IsHeld, IsOfHistory, held_by}
+use Rattle.nb_model.proofs.LeadLaws.{LeadsTo, leads_kept, past_chain}
 use Rattle.nb_model.proofs.HeldRoom.{HoldsRows, HasChainRows, room_held}
 use Rattle.nb_model.proofs.PastLaws.{all_rows, no_history, no_rows_pass, kept_more, remembered_with}
 use Rattle.nb_model.proofs.PutSound.{header_whole}
@@ -115,11 +116,16 @@ unfolding made
 made_both [] ys = refl
 made_both (x ∷ xs) ys = ap (λ (ss : List Step). makes x ∷ ss) (made_both xs ys)
 
+-- a page that is held, and to which links of the history lead
+abbrev pub IsLedTo : (q : ℕ) → Page → Image → Type 0
+IsLedTo q bytes image = IsHeld q bytes image × LeadsTo image q
+
 -- the rows of a page that is held, where more is known of them
-holds_on : (P R : Slot → Type 0) (q : ℕ) (old new : Image) → ((row : Slot) → P row → R row) → ((bytes : Page) → IsOfHistory bytes → IsHeld q bytes old → IsHeld q bytes new) → HoldsRows P q old → HoldsRows R q new
+holds_on : (P R : Slot → Type 0) (q : ℕ) (old new : Image) → ((row : Slot) → P row → R row) → ((bytes : Page) → IsOfHistory bytes → IsLedTo q bytes old → IsLedTo q bytes new) → HoldsRows P q old → HoldsRows R q new
 holds_on P R q old new goes held h = record {
   bytes = h.bytes;
-  held = held h.bytes h.of_history h.held;
+  held = (held h.bytes h.of_history (h.held, h.leads)).0;
+  leads = (held h.bytes h.of_history (h.held, h.leads)).1;
   of_history = h.of_history;
   rows = all_rows (λ row. is_used row ≡ true → P row) (λ row. is_used row ≡ true → R row) (slots_in h.bytes) (λ row one used. goes row (one used)) h.rows;
 }
@@ -128,7 +134,7 @@ remembered_on : (kept more : List Kept) (P R : Kept → Type 0) → ((r : Kept) 
 remembered_on kept more P R goes row h = record { backup = h.backup; kept_as = kept_more kept more (guid_in row) h.backup h.kept_as; scn = h.scn; level = h.level; passes = goes h.backup h.passes }
 
 -- So it is still behind steps that keep no record, while the page is held.
-pub recorded_on : (kept : List Kept) (t : Trail) (ss : List Step) → KeepsAlong kept t ss → (b : Backing) → ((bytes : Page) → IsOfHistory bytes → IsHeld b.page bytes t.base.image → IsHeld b.page bytes (after_steps t ss).base.image)
+pub recorded_on : (kept : List Kept) (t : Trail) (ss : List Step) → KeepsAlong kept t ss → (b : Backing) → ((bytes : Page) → IsOfHistory bytes → IsLedTo b.page bytes t.base.image → IsLedTo b.page bytes (after_steps t ss).base.image)
     → IsRecorded kept t b → IsRecorded (kept_along kept t ss) (after_steps t ss) b
 recorded_on kept t ss keeps b held h = subst (λ (rs : List Kept). IsRecorded rs (after_steps t ss) b) (sym keeps.none) (record {
   there = subst (λ (x : Image). Contains kept (kept_of b x)) (sym keeps.frozen) h.there;
@@ -233,6 +239,14 @@ module _ (kept : List Kept) (u : Trail) (later : IsWellTrail kept u) (normal : i
       (control_rest 1 (image_scn u.base.image + 1) b.guid u.base.image b.page held.behind)
       (new_free 1 (image_scn u.base.image + 1) b.guid u.base.image u_header later.base.well.sound (may_begin u.base.image u_header b.guid sixteen scn) b.page) held
 
+  -- page 0 alone changes
+  leads_then : LeadsTo u.base.image b.page → LeadsTo then.image b.page
+  unfolding on_base
+  leads_then l = leads_kept u.base.image then.image b.page (λ p some. elim (cases_lt p (length u.base.image)) [
+    | inl low ↦ inl (low, control_rest 1 (image_scn u.base.image + 1) b.guid u.base.image p some)
+    | inr past ↦ inr (past_chain then.image p (omega (arith, past, control_long 1 (image_scn u.base.image + 1) b.guid u.base.image)))
+  ]) l
+
   begun_recorded : IsRecorded (kept ++ r ∷ []) (settled then) b
   begun_recorded = record {
     there = subst (Contains (kept ++ r ∷ [])) (sym its_record) (Contains-append_right kept (r ∷ []) r (0, omega arith, refl));
@@ -240,7 +254,7 @@ module _ (kept : List Kept) (u : Trail) (later : IsWellTrail kept u) (normal : i
     page = holds_on (IsRemembered kept (AllGoOn u)) (IsRemembered (kept ++ r ∷ []) (AllGoOn (settled then))) b.page u.base.image then.image
         (remembered_on kept (r ∷ []) (AllGoOn u) (AllGoOn (settled then))
         (λ q all. settled_goes_on then q (goes_on_then kept u later u (λ x h. h) later normal scn b.guid sixteen (Some b.ask) q all)))
-        (λ bytes kind held. held_then bytes held) page;
+        (λ bytes kind held. (held_then bytes held.0, leads_then held.1)) page;
   }
 
 -- A backup starts: room is made for its row, and it begins.

@@ -27,7 +27,8 @@ use Rattle.nb_model.proofs.NoRows.{HasNoRows}
 use Rattle.nb_model.proofs.PutSound.{header_whole}
 use Rattle.nb_model.proofs.RowSlots.{free_not_used, free_is_slot}
 use Rattle.nb_model.proofs.RowTurns.{IsTurnOfRows, still_rows}
-use Rattle.nb_model.proofs.SlotPuts.{found_there, each_held, slot_between, IsSlotPut, slot_put}
+use Rattle.nb_model.proofs.FoundSpots.{found_there, each_held}
+use Rattle.nb_model.proofs.SlotPuts.{slot_between, IsSlotPut, slot_put}
 use Rattle.nb_model.proofs.SoundTurns.{StaysSound, fitting_keeps}
 use Rattle.nb_model.proofs.SpotKeys.{Absent}
 use Rattle.nb_model.proofs.SpotLaws.{IsSpotOn}

@@ -9,7 +9,7 @@ use Rattle.nb_fields.specs.Page.{kind_of}
 use Rattle.nb_fields.specs.Places.{is_page_size, bits_in, entries_in, is_inventory_place, is_scn_place, is_system_place}
 use Rattle.nb_host.specs.declared.refusals.Refusal.{Refusal}
 use Rattle.nb_model.specs.declared.statement.Statement.{Statement}
-use Rattle.nb_model.specs.declared.statement.Statement.TheVariants.{CreateDb, OpenDb, PageNew, Write, Read, Free, CreateTable, DropTable, Insert, Update, Delete, Get, Scan, Forced, Access, Sync, ShowHeader, ShowPages, ShowImage, ShowCache}
+use Rattle.nb_model.specs.declared.statement.Statement.TheVariants.{CreateDb, OpenDb, PageNew, Write, Read, Free, Check, Reclaim, CreateTable, DropTable, Insert, Update, Delete, Get, Scan, Forced, Access, Sync, ShowHeader, ShowPages, ShowImage, ShowCache}
 use Rattle.nb_model.specs.Backups.{pages_turn}
 use Rattle.nb_model.specs.Causes.{broken_at, not_raw}
 use Rattle.nb_model.specs.Chains.{Chain, Catalogue, Slot, Spot, spots, spots_of, found_pages, pages_of, is_in_chain, first_such, last_of, free_spot, table_spot, row_spot, put_slot, grown, place_at, place_slot}
@@ -20,6 +20,8 @@ use Rattle.nb_model.specs.Pages.{new_turn, write_turn, read_turn, free_turn, for
 use Rattle.nb_model.specs.Sound.{HasHeader}
 use Rattle.nb_model.specs.Strokes.{merged_page, on_base, base_after}
 use Rattle.nb_model.specs.Tables.{all_given}
+use Rattle.nb_model.specs.Checks.{check_turn, reclaim_turn, reclaimed}
+use Rattle.nb_model.specs.Leaks.{leaked}
 use Rattle.nb_model.specs.Turns.{first_turn}
 use Rattle.nb_model.specs.Well.{is_on_pages}
 use Rattle.nb_model.proofs.DraftLaws.{IsOf, drafts_are, drafted_is, either, put_keeps, set_bit_keeps, new_keeps, slot_keeps, at_keeps, place_keeps, given_keeps}
@@ -224,7 +226,7 @@ module _ (n q : ℕ) (place : is_scn_place n q ≡ true) where
         (slot_has row.page row.slot bytes (drafted s.base.image) (row_apart s.base.image h (chain_at spot) key may.its_row.its_table.formed row may.its_row.found) h)
 
     pub statement_stays : (statement : Statement) → is_on_pages statement ≡ true → (session : ℕ) → HasScn (base_after s.base (first_turn s session statement).strokes).image
-    unfolding first_turn new_turn write_turn read_turn free_turn forced_turn access_turn header_turn pages_turn image_turn cache_turn
+    unfolding first_turn check_turn reclaim_turn new_turn write_turn read_turn free_turn forced_turn access_turn header_turn pages_turn image_turn cache_turn
     statement_stays (CreateDb name size raw cache) on session = none_after
     statement_stays (OpenDb name cache) on session = none_after
     statement_stays PageNew on session = changes_either After s denied _ _ _ (λ may. draft_after _ (new_keeps Of (drafts_are s.base) _ 8 _ (drafted s.base.image) (drafted_is s.base)) (new_has _ 8 _ (drafted s.base.image) h))
@@ -241,6 +243,9 @@ module _ (n q : ℕ) (place : is_scn_place n q ≡ true) where
     statement_stays ShowPages on session = unless_either After s _ _ denied (λ none. none_after)
     statement_stays ShowImage on session = none_after
     statement_stays ShowCache on session = none_after
+    statement_stays Check on session = unless_either After s _ _ denied (λ none. none_after)
+    statement_stays Reclaim on session = unless_either After s _ _ denied (λ none.
+        draft_after (reclaimed s.base.image) (given_keeps Of (drafts_are s.base) (leaked s.base.image) (drafted s.base.image) (drafted_is s.base)) (given_has (leaked s.base.image) (drafted s.base.image) h))
     statement_stays (CreateTable table) on session = create_either After s denied table (λ may.
         draft_after (created s.base.image table) (at_keeps Of (drafts_are s.base) _ _ _ _ _ (new_keeps Of (drafts_are s.base) _ 5 _ (drafted s.base.image) (drafted_is s.base)))
         (at_has Catalogue _ _ _ _ (λ spot is. free_apart s.base.image h Catalogue may.catalogue spot is) (last_apart s.base.image h Catalogue may.catalogue) (new_has _ 5 _ (drafted s.base.image) h)))

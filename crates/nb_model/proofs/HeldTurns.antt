@@ -6,10 +6,11 @@ use Rattle.nb_fields.specs.Page.{kind_of}
 use Rattle.nb_fields.specs.Payloads.{text_payload}
 use Rattle.nb_fields.specs.Places.{bits_in, is_inventory_place}
 use Rattle.nb_model.specs.declared.statement.Statement.{Statement}
-use Rattle.nb_model.specs.declared.statement.Statement.TheVariants.{CreateDb, OpenDb, PageNew, Write, Read, Free, CreateTable, DropTable, Insert, Update, Delete, Get, Scan, Forced, Access, Sync, ShowHeader, ShowPages, ShowImage, ShowCache}
+use Rattle.nb_model.specs.declared.statement.Statement.TheVariants.{CreateDb, OpenDb, PageNew, Write, Read, Free, CreateTable, DropTable, Insert, Update, Delete, Get, Scan, Forced, Access, Sync, Check, Reclaim, ShowHeader, ShowPages, ShowImage, ShowCache}
 use Rattle.nb_model.specs.Account.{Base}
 use Rattle.nb_model.specs.Backups.{pages_turn}
 use Rattle.nb_model.specs.Causes.{Cause, not_raw}
+use Rattle.nb_model.specs.Checks.{check_turn}
 use Rattle.nb_model.specs.Forms.{Draft, drafted, put, give_page, new_page}
 use Rattle.nb_model.specs.Image.{Page, Image, page_at, image_size}
 use Rattle.nb_model.specs.Going.{IsNamed}
@@ -28,14 +29,16 @@ use Rattle.nb_model.proofs.RoundLaws.{AnyPage, any_kinds}
 use Rattle.nb_model.proofs.SoundLaws.{inventory_there, inventory_place_some}
 use Rattle.nb_model.proofs.TableTurns.{create_keeps, drop_keeps, insert_keeps, update_keeps, delete_keeps, get_keeps, scan_keeps}
 use Rattle.nb_model.proofs.HeldLaws.{IsHeld, IsOfHistory, held_write, held_put, held_bit, new_is_made}
+use Rattle.nb_model.proofs.LeadLaws.{LeadsTo}
+use Rattle.nb_model.proofs.LeakTurns.{reclaim_holds}
 
--- Each statement on pages keeps a page of the history that is held.
+-- Each statement on pages keeps a page of the history that is held, and to which its links lead.
 module _ (q : ℕ) (bytes : Page) (of_history : IsOfHistory bytes) where
   abbrev HoldsBehind : Base → List Stroke → Type 0
   HoldsBehind b ss = IsHeld q bytes (base_after b ss).image
 
   abbrev KeepsHeld : Statement → Type 0
-  KeepsHeld statement = (s : Seen) (session : ℕ) → HasHeader s.base.image → IsSoundImage s.base.image → IsHeld q bytes s.base.image → HoldsBehind s.base (first_turn s session statement).strokes
+  KeepsHeld statement = (s : Seen) (session : ℕ) → HasHeader s.base.image → IsSoundImage s.base.image → LeadsTo s.base.image q → IsHeld q bytes s.base.image → HoldsBehind s.base (first_turn s session statement).strokes
 
   none_behind : (b : Base) → IsHeld q bytes b.image → HoldsBehind b []
   unfolding base_after
@@ -53,7 +56,7 @@ module _ (q : ℕ) (bytes : Page) (of_history : IsOfHistory bytes) where
 
   write_holds : (p : ℕ) (text : List ℕ) → KeepsHeld (Write p text)
   unfolding first_turn write_turn changes
-  write_holds p text s session h is held = guarded s _ _ held (λ none.
+  write_holds p text s session h is leads held = guarded s _ _ held (λ none.
       let raw = no_first _ _ none in
       let long = no_first _ _ (no_first _ _ raw.1).1 in
       let fits : Fits AnyPage s.base (put p 8 (text_payload text) (drafted s.base.image)) = text_fits AnyPage (λ page e. tt) (λ page e. tt) s.base p text h is raw.0 (short_text text long.0) in
@@ -64,7 +67,7 @@ module _ (q : ℕ) (bytes : Page) (of_history : IsOfHistory bytes) where
 
   free_holds : (p : ℕ) → KeepsHeld (Free p)
   unfolding first_turn free_turn changes
-  free_holds p s session h is held = guarded s _ _ held (λ none.
+  free_holds p s session h is leads held = guarded s _ _ held (λ none.
       let raw = no_first _ _ none in
       let fits : Fits AnyPage s.base (give_page p (drafted s.base.image)) = give_fits AnyPage (λ page e. tt) (λ page e. tt) s.base p h is raw.0 in
       let plain : IsPlain s.base.image p = raw_plain s.base.image p h is raw.0 in
@@ -75,7 +78,7 @@ module _ (q : ℕ) (bytes : Page) (of_history : IsOfHistory bytes) where
 
   new_holds : KeepsHeld PageNew
   unfolding first_turn new_turn changes
-  new_holds s session h is held = guarded s _ _ held (λ none.
+  new_holds s session h is leads held = guarded s _ _ held (λ none.
       let made : Draft × ℕ = new_page 8 (λ p. text_payload []) (drafted s.base.image) in
       let room = no_first _ _ (no_first _ _ (no_first _ _ (no_first _ _ none).1).1).1 in
       let full : made.0.full ≡ false = not_when made.0.full _ room.0 in
@@ -92,25 +95,27 @@ module _ (q : ℕ) (bytes : Page) (of_history : IsOfHistory bytes) where
       (λ e. absurd (let some = inventory_place_some (image_size b.image) (q / bits_in (image_size b.image)) whole.fields.size in omega (arith, some, e))) held
 
   pub statement_holds : (statement : Statement) → is_on_pages statement ≡ true → IsNamed (Begins statement) → KeepsHeld statement
-  unfolding first_turn read_turn forced_turn access_turn header_turn pages_turn image_turn cache_turn
-  statement_holds (CreateDb name size raw cache) on named s session h is held = none_behind s.base held
-  statement_holds (OpenDb name cache) on named s session h is held = none_behind s.base held
-  statement_holds PageNew on named s session h is held = new_holds s session h is held
-  statement_holds (Write p text) on named s session h is held = write_holds p text s session h is held
-  statement_holds (Read p) on named s session h is held = guarded s _ _ held (λ none. none_behind s.base held)
-  statement_holds (Free p) on named s session h is held = free_holds p s session h is held
-  statement_holds (Forced forced) on named s session h is held = guarded s _ _ held (λ none. byte_holds 64 _ s.base h is (omega arith) held)
-  statement_holds (Access closed) on named s session h is held = guarded s _ _ held (λ none. byte_holds 65 _ s.base h is (omega arith) held)
-  statement_holds Sync on named s session h is held = none_behind s.base held
-  statement_holds ShowHeader on named s session h is held = none_behind s.base held
-  statement_holds ShowPages on named s session h is held = guarded s _ _ held (λ none. none_behind s.base held)
-  statement_holds ShowImage on named s session h is held = none_behind s.base held
-  statement_holds ShowCache on named s session h is held = none_behind s.base held
-  statement_holds (CreateTable table) on named s session h is held = (create_keeps s h is table named).held q bytes of_history held
-  statement_holds (DropTable table) on named s session h is held = (drop_keeps s h is table).held q bytes of_history held
-  statement_holds (Insert table key text) on named s session h is held = (insert_keeps s h is table key text).held q bytes of_history held
-  statement_holds (Update table key text) on named s session h is held = (update_keeps s h is table key text).held q bytes of_history held
-  statement_holds (Delete table key) on named s session h is held = (delete_keeps s h is table key).held q bytes of_history held
-  statement_holds (Get table key) on named s session h is held = (get_keeps s h is table key).held q bytes of_history held
-  statement_holds (Scan table) on named s session h is held = (scan_keeps s h is table).held q bytes of_history held
-  statement_holds other on named s session h is held = absurd (true≢false (sym on))
+  unfolding first_turn read_turn forced_turn access_turn header_turn pages_turn image_turn cache_turn check_turn
+  statement_holds (CreateDb name size raw cache) on named s session h is leads held = none_behind s.base held
+  statement_holds (OpenDb name cache) on named s session h is leads held = none_behind s.base held
+  statement_holds PageNew on named s session h is leads held = new_holds s session h is leads held
+  statement_holds (Write p text) on named s session h is leads held = write_holds p text s session h is leads held
+  statement_holds (Read p) on named s session h is leads held = guarded s _ _ held (λ none. none_behind s.base held)
+  statement_holds (Free p) on named s session h is leads held = free_holds p s session h is leads held
+  statement_holds (Forced forced) on named s session h is leads held = guarded s _ _ held (λ none. byte_holds 64 _ s.base h is (omega arith) held)
+  statement_holds (Access closed) on named s session h is leads held = guarded s _ _ held (λ none. byte_holds 65 _ s.base h is (omega arith) held)
+  statement_holds Sync on named s session h is leads held = none_behind s.base held
+  statement_holds Check on named s session h is leads held = guarded s _ _ held (λ none. none_behind s.base held)
+  statement_holds Reclaim on named s session h is leads held = reclaim_holds s h is q bytes leads held
+  statement_holds ShowHeader on named s session h is leads held = none_behind s.base held
+  statement_holds ShowPages on named s session h is leads held = guarded s _ _ held (λ none. none_behind s.base held)
+  statement_holds ShowImage on named s session h is leads held = none_behind s.base held
+  statement_holds ShowCache on named s session h is leads held = none_behind s.base held
+  statement_holds (CreateTable table) on named s session h is leads held = (create_keeps s h is table named).held q bytes of_history held
+  statement_holds (DropTable table) on named s session h is leads held = (drop_keeps s h is table).held q bytes of_history held
+  statement_holds (Insert table key text) on named s session h is leads held = (insert_keeps s h is table key text).held q bytes of_history held
+  statement_holds (Update table key text) on named s session h is leads held = (update_keeps s h is table key text).held q bytes of_history held
+  statement_holds (Delete table key) on named s session h is leads held = (delete_keeps s h is table key).held q bytes of_history held
+  statement_holds (Get table key) on named s session h is leads held = (get_keeps s h is table key).held q bytes of_history held
+  statement_holds (Scan table) on named s session h is leads held = (scan_keeps s h is table).held q bytes of_history held
+  statement_holds other on named s session h is leads held = absurd (true≢false (sym on))

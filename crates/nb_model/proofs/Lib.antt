@@ -82,6 +82,9 @@ pub mod SpotLaws
 pub mod TableDrafts
 pub mod HeldLaws
 pub mod HeldRoom
+pub mod FoundSpots
+pub mod LeadLaws
+pub mod LeakTurns
 pub mod HeldTurns
 pub mod BackupWell
 pub mod TurnCases

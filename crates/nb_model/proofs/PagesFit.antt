@@ -3,12 +3,13 @@ use Rattle.std.proofs.Common.{◌≡◌, ℕ, List, refl, sym, arith}
 use Rattle.std.specs.Prelude.{Bool, true, Some, None}
 use Rattle.std.proofs.lemmas.Bool.{true≢false}
 use Rattle.nb_model.specs.declared.statement.Statement.{Statement}
-use Rattle.nb_model.specs.declared.statement.Statement.TheVariants.{CreateDb, OpenDb, PageNew, Write, Read, Free, CreateTable, DropTable, Insert, Update, Delete, Get, Scan, Forced, Access, Sync, ShowHeader, ShowPages, ShowImage, ShowCache}
+use Rattle.nb_model.specs.declared.statement.Statement.TheVariants.{CreateDb, OpenDb, PageNew, Write, Read, Free, CreateTable, DropTable, Insert, Update, Delete, Get, Scan, Forced, Access, Sync, Check, Reclaim, ShowHeader, ShowPages, ShowImage, ShowCache}
 use Rattle.nb_model.specs.Causes.{Cause}
 use Rattle.nb_model.specs.Going.{IsNamed}
 use Rattle.nb_model.specs.Outcomes.{Begins, Seen, Outcome, unless, changes}
 use Rattle.nb_model.specs.Pages.{new_turn, write_turn, read_turn, free_turn, forced_turn, access_turn, header_turn, image_turn, cache_turn}
 use Rattle.nb_model.specs.Backups.{pages_turn}
+use Rattle.nb_model.specs.Checks.{check_turn}
 use Rattle.nb_model.specs.Turns.{first_turn}
 use Rattle.nb_model.specs.Sound.{IsSoundImage, HasHeader}
 use Rattle.nb_model.specs.Well.{is_on_pages}
@@ -17,6 +18,7 @@ use Rattle.nb_model.proofs.PutSound.{no_first, short_text, text_fits}
 use Rattle.nb_model.proofs.NoRows.{HasNoRows, no_rows}
 use Rattle.nb_model.proofs.HeadSound.{byte_fits}
 use Rattle.nb_model.proofs.BitSound.{give_fits}
+use Rattle.nb_model.proofs.LeakTurns.{reclaim_fits}
 use Rattle.nb_model.proofs.NewSound.{new_raw_fits}
 use Rattle.nb_model.proofs.TableTurns.{create_keeps, drop_keeps, insert_keeps, update_keeps, delete_keeps, get_keeps, scan_keeps}
 
@@ -59,7 +61,7 @@ unfolding first_turn access_turn
 access_fits closed s session h is = guarded_fits s _ _ (λ none. byte_fits HasNoRows (no_rows 1 (omega arith)) s.base 65 _ h is (omega arith))
 
 pub pages_fit : (statement : Statement) → is_on_pages statement ≡ true → IsNamed (Begins statement) → IsFittingStatement statement
-unfolding first_turn header_turn pages_turn image_turn cache_turn
+unfolding first_turn header_turn pages_turn image_turn cache_turn check_turn
 pages_fit (CreateDb name size raw cache) h named = λ s session header is. tt
 pages_fit (OpenDb name cache) h named = λ s session header is. tt
 pages_fit PageNew h named = new_fits
@@ -69,6 +71,8 @@ pages_fit (Free p) h named = free_fits p
 pages_fit (Forced on) h named = forced_fits on
 pages_fit (Access closed) h named = access_fits closed
 pages_fit Sync h named = λ s session header is. tt
+pages_fit Check h named = λ s session header is. guarded_fits s _ _ (λ none. tt)
+pages_fit Reclaim h named = λ s session header is. reclaim_fits s header is
 pages_fit ShowHeader h named = λ s session header is. tt
 pages_fit ShowPages h named = λ s session header is. guarded_fits s _ _ (λ none. tt)
 pages_fit ShowImage h named = λ s session header is. tt

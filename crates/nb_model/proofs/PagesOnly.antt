@@ -12,7 +12,7 @@ use Rattle.nb_fields.proofs.PartLemmas.{number_in-take}
 use Rattle.nb_host.specs.declared.refusals.Refusal.{Refusal}
 use Rattle.nb_model.specs.declared.reply.Reply.{Reply}
 use Rattle.nb_model.specs.declared.statement.Statement.{Statement}
-use Rattle.nb_model.specs.declared.statement.Statement.TheVariants.{CreateDb, OpenDb, PageNew, Write, Read, Free, CreateTable, DropTable, Insert, Update, Delete, Get, Scan, Forced, Access, Sync, ShowHeader, ShowPages, ShowImage, ShowCache}
+use Rattle.nb_model.specs.declared.statement.Statement.TheVariants.{CreateDb, OpenDb, PageNew, Write, Read, Free, Check, Reclaim, CreateTable, DropTable, Insert, Update, Delete, Get, Scan, Forced, Access, Sync, ShowHeader, ShowPages, ShowImage, ShowCache}
 use Rattle.nb_model.specs.Account.{Base}
 use Rattle.nb_model.specs.Backups.{close_backup, pages_turn}
 use Rattle.nb_model.specs.Causes.{Cause}
@@ -24,6 +24,8 @@ use Rattle.nb_model.specs.Pages.{new_turn, write_turn, read_turn, free_turn, for
 use Rattle.nb_model.specs.Sound.{HasHeader}
 use Rattle.nb_model.specs.Strokes.{Stroke, page, merged_page, on_base, base_after}
 use Rattle.nb_model.specs.Tables.{with_spot, in_table, in_row, create_turn, drop_turn, insert_turn, update_turn, delete_turn, get_turn, scan_turn}
+use Rattle.nb_model.specs.Checks.{check_turn, reclaim_turn}
+use Rattle.nb_model.specs.Leaks.{leaked}
 use Rattle.nb_model.specs.Turns.{first_turn}
 use Rattle.nb_model.specs.Well.{is_on_pages}
 use Rattle.nb_model.proofs.DraftLaws.{IsKept, put_keeps, set_bit_keeps, new_keeps, slot_keeps, at_keeps, place_keeps, given_keeps}
@@ -174,7 +176,7 @@ unfolding byte_strokes
 byte_pages at value image = (tt, tt)
 
 pub pages_only : (statement : Statement) → is_on_pages statement ≡ true → (s : Seen) (session : ℕ) → ArePages (first_turn s session statement).strokes
-unfolding first_turn new_turn write_turn read_turn free_turn forced_turn access_turn header_turn pages_turn image_turn cache_turn create_turn drop_turn insert_turn update_turn delete_turn get_turn scan_turn
+unfolding first_turn check_turn reclaim_turn new_turn write_turn read_turn free_turn forced_turn access_turn header_turn pages_turn image_turn cache_turn create_turn drop_turn insert_turn update_turn delete_turn get_turn scan_turn
 pages_only (CreateDb name size raw cache) on s session = tt
 pages_only (OpenDb name cache) on s session = tt
 pages_only PageNew on s session = changes_pages s _ _ _ (new_keeps WritesPages drafts_write_pages _ 8 _ (drafted s.base.image) tt)
@@ -188,6 +190,8 @@ pages_only ShowHeader on s session = tt
 pages_only ShowPages on s session = unless_pages s _ _ tt
 pages_only ShowImage on s session = tt
 pages_only ShowCache on s session = tt
+pages_only Check on s session = unless_pages s _ _ tt
+pages_only Reclaim on s session = unless_pages s _ _ (given_keeps WritesPages drafts_write_pages (leaked s.base.image) (drafted s.base.image) tt)
 pages_only (CreateTable table) on s session = changes_pages s _ _ _
     (at_keeps WritesPages drafts_write_pages _ _ _ _ _ (new_keeps WritesPages drafts_write_pages _ 5 _ (drafted s.base.image) tt))
 pages_only (DropTable table) on s session = table_pages s _ table _ _ (λ spot chain. changes_pages s _ _ _

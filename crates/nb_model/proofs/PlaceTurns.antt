@@ -29,7 +29,8 @@ use Rattle.nb_model.proofs.NeatGrows.{GrowsChain}
 use Rattle.nb_model.proofs.NeatLaws.{all_go, all_both, pages_among, chain_apart, chains_are, same_pages, stays_neat, other_rows, rows_of_none, used_yes, used_not, ChangesChain}
 use Rattle.nb_model.proofs.NeatMakes.{no_page, a_page, MakesTable, table_made}
 use Rattle.nb_model.proofs.NewSlots.{IsFree}
-use Rattle.nb_model.proofs.SlotPuts.{each_held, found_there, slot_between, keeps as slot_keeps, IsSlotPut, slot_put}
+use Rattle.nb_model.proofs.FoundSpots.{each_held, found_there}
+use Rattle.nb_model.proofs.SlotPuts.{slot_between, keeps as slot_keeps, IsSlotPut, slot_put}
 use Rattle.nb_model.proofs.SpotKeys.{ChangesOnce, Absent}
 use Rattle.nb_model.proofs.SpotLaws.{IsSpotOn}
 use Rattle.nb_model.proofs.SpotMaps.{ChangesOne, all_spots, both_spots, is_free_slot, free_unused as not_used, none_such, no_such, such_passes, first_true, first_false, others_found, now_found, same_some}

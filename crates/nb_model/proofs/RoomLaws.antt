@@ -302,6 +302,9 @@ module _ (b : Base) (h : HasHeader b.image) (is : IsSoundImage b.image) (unbroke
       no_scn_page = ap (λ (s : ℕ). is_scn_place s last) made_size ∙ last_plain.no_scn_page;
     }
 
+    pub link_low : last < length made.0.image
+    link_low = omega (arith, last_low, made_long)
+
     module _ (left : made.0.full ≡ false) where
       new : IsNew b.image 5 made
       new = new_is_new (length b.image + 4) 5 (λ p. data_payload 0 1 []) b.image whole refl data_short left

@@ -15,7 +15,8 @@ use Rattle.nb_model.proofs.HeldChains.{nothing_changes}
 use Rattle.nb_model.proofs.NeatLaws.{distinct_right, chain_apart, pages_first, once_table, chain_held, table_found, IsFoundTable, rows_of_some, ChangesChain, chains_are, same_table, stays_neat, other_rows, used_each}
 use Rattle.nb_model.proofs.RoomLaws.{first_passes, pages_found}
 use Rattle.nb_model.proofs.RowSlots.{row_used, row_key, row_text, row_is_slot, row_has_key, free_not_used, free_is_slot}
-use Rattle.nb_model.proofs.SlotPuts.{held_at, each_held, found_there, slot_between, IsSlotPut, slot_put}
+use Rattle.nb_model.proofs.FoundSpots.{each_held, found_there}
+use Rattle.nb_model.proofs.SlotPuts.{held_at, slot_between, IsSlotPut, slot_put}
 use Rattle.nb_model.proofs.SpotKeys.{keys_in, once_key, same_keys, fewer_keys, more_keys, ChangesOnce}
 use Rattle.nb_model.proofs.SpotLaws.{IsSpotOn}
 use Rattle.nb_model.proofs.SpotMaps.{ChangesOne, has_key, is_free_slot, free_unused, none_such, such_passes, updated_rows, inserted_rows, deleted_rows}

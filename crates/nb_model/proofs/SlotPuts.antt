@@ -1,12 +1,12 @@
 -- A slot of a chain is written in a neat image: the chain's slots are as before but for that one, and no other chain changes.
 use Rattle.std.proofs.Common.{◌≡◌, ◌≢◌, ℕ, zero, suc, ◌+◌, ◌*◌, ◌/◌, ◌≤◌, List, [], ◌∷◌, map, length, drop, refl, sym, ap, subst, ◌∙◌, arith}
-use Rattle.std.specs.Prelude.{Bool, true, Some, Ok, Contains}
+use Rattle.std.specs.Prelude.{Bool, true, Ok, Contains}
 use Rattle.std.specs.List.{AllByRecursion, list_all}
 use Rattle.std.proofs.lemmas.Bool.{and_parts, and_from}
 use Rattle.nb_fields.specs.Bytes.{with_part}
 use Rattle.nb_fields.specs.Page.{stamped}
 use Rattle.nb_fields.specs.Places.{bits_in, entries_in, is_scn_place}
-use Rattle.nb_model.specs.Chains.{Chain, History, Slot, Spot, is_slot, next_in, slots_in, first_such, pages_of, found_pages, spots_of, spots, put_slot}
+use Rattle.nb_model.specs.Chains.{Chain, History, Slot, Spot, is_slot, next_in, slots_in, pages_of, found_pages, spots, put_slot}
 use Rattle.nb_model.specs.Forms.{drafted, raised, inventory_of, scn_page_of}
 use Rattle.nb_model.specs.Image.{Page, Image, page_at, image_size, image_scn}
 use Rattle.nb_model.specs.Rows.{chains, IsNeat}
@@ -19,11 +19,11 @@ use Rattle.nb_model.proofs.HeldRoom.{held_here}
 use Rattle.nb_model.proofs.NeatLaws.{all_go, ChangesChain}
 use Rattle.nb_model.proofs.NewSound.{stamped_kind, places_apart}
 use Rattle.nb_model.proofs.PutSound.{IsPlace, IsPlain, Raises, header_whole}
-use Rattle.nb_model.proofs.RoomLaws.{chain_plain, first_passes, old_there}
+use Rattle.nb_model.proofs.RoomLaws.{chain_plain, old_there}
 use Rattle.nb_model.proofs.RoundLaws.{no_place, bit_by, raises, put_here, put_longer}
 use Rattle.nb_model.proofs.SlotLaws.{IsSlotWritten, slot_is_written, written_owner, written_next, rows_written}
 use Rattle.nb_model.proofs.SoundLaws.{all_at, inventory_there, scn_page_there}
-use Rattle.nb_model.proofs.SpotLaws.{IsSpotOn, all_on, spot_within}
+use Rattle.nb_model.proofs.SpotLaws.{IsSpotOn, spot_within}
 use Rattle.nb_model.proofs.SpotWrites.{put_at, spots_written}
 
 -- what holds of each holds of one of them
@@ -31,21 +31,6 @@ pub held_at : {X : Type 0} (P : X → Type 0) (xs : List X) (x : X) → Contains
 held_at P [] x here all = absurd (omega (arith, here.1))
 held_at P (y ∷ xs) x (zero, low, is) all = subst P is all.0
 held_at P (y ∷ xs) x (suc k, low, is) all = held_at P xs x (k, omega (arith, low), is) all.1
-
-pub each_held : (ps : List ℕ) → AllByRecursion (Contains ps) ps
-each_held ps = from ps (λ q at. at)
-  where
-    from : (qs : List ℕ) → ((q : ℕ) → Contains qs q → Contains ps q) → AllByRecursion (Contains ps) qs
-    from [] among = tt
-    from (q ∷ qs) among = (among q (0, omega arith, refl), from qs (λ r at. among r (later r at)))
-      where
-        later : (r : ℕ) → Contains qs r → Contains (q ∷ qs) r
-        later r (k, low, is) = (suc k, omega (arith, low), is)
-
--- a spot of a chain that is found stands on a page of it
-pub found_there : (c : Chain) (x : Image) (test : Spot → Bool) (s : Spot) → first_such test (spots c x) ≡ Some s → IsSpotOn (Contains (found_pages c x)) x s
-unfolding spots
-found_there c x test s found = first_passes test (IsSpotOn (Contains (found_pages c x)) x) (spots_of x (found_pages c x)) s found (all_on (Contains (found_pages c x)) x (found_pages c x) (each_held (found_pages c x)))
 
 -- Where the entry of a page is raised no page that is held changes.
 pub raised_keeps : (x : Image) (h : IsWhole x) (p : ℕ) (at : IsPlace x p) → KeepsEach x (raised p (drafted x)).image

@@ -16,15 +16,18 @@ use Rattle.nb_model.specs.Outcomes.{Turn, Begins, Copies, ClosesBackup, ClosesCo
 use Rattle.nb_model.specs.Pages.{end_strokes, ends_by}
 use Rattle.nb_model.specs.Run.{Event, Now, Played, base_now, event_of, outcome, stands_then, one_turn, play}
 use Rattle.nb_model.specs.Steps.{Step, settles, after_step, after_steps, made, steps_of}
+use Rattle.nb_model.specs.Sound.{HasHeader}
 use Rattle.nb_model.specs.Strokes.{Stroke, begin, ends, finish, base_after}
 use Rattle.nb_model.specs.Trail.{Trail, settled}
 use Rattle.nb_model.specs.Turns.{first_turn, turn}
 use Rattle.nb_model.specs.Well.{is_on_pages}
 use Rattle.nb_model.specs.WellTrail.{IsWellTrail}
-use Rattle.nb_model.proofs.BackupWell.{IsRecorded, StartsWell, made_base, recorded_on, recorded_settled, start_well, close_well}
+use Rattle.nb_model.proofs.BackupWell.{IsLedTo, IsRecorded, StartsWell, made_base, recorded_on, recorded_settled, start_well, close_well}
 use Rattle.nb_model.proofs.GoingLaws.{next_sixteen, one_runs, name_short, then_base, own_todo, other_todo, one_cases, going_turn, named_turn}
-use Rattle.nb_model.proofs.HeldLaws.{IsHeld}
 use Rattle.nb_model.proofs.HeldTurns.{statement_holds}
+use Rattle.nb_model.proofs.LeadLaws.{strokes_lead}
+use Rattle.nb_model.proofs.PagesFit.{pages_fit}
+use Rattle.nb_model.proofs.PutSound.{header_whole}
 use Rattle.nb_model.proofs.OutputLaws.{strokes_one}
 use Rattle.nb_model.proofs.RoomLaws.{HasPlainRoom}
 use Rattle.nb_model.proofs.SoundTurns.{HasPlace}
@@ -123,14 +126,17 @@ module _ (kept : List Kept) (t : Trail) (now : Now) (session : ℕ) (base : t.ba
     pages_turn : (statement : Statement) → is_on_pages statement ≡ true → IsNamed (Begins statement) → Does (first_turn s session statement)
     pages_turn statement on named =
         let strokes : List Stroke = (first_turn s session statement).strokes in
+        let its_header : HasHeader t.base.image = record { header = w.base.well.header; scn = w.base.well.scn } in
         let keeps : KeepsAlong kept t (made strokes) = pages_along kept statement on named s session t refl w in
         record {
           along = keeps.along;
           own = subst (λ (ts : List Turn). AreRecorded (kept_along kept t (made strokes)) (after_steps t (made strokes)) (ts ++ rest)) (sym (pages_once statement on s session).next)
               (waits_then (after_steps t (made strokes)) (kept_along kept t (made strokes)));
           others = λ place b off runs. recorded_on kept t (made strokes) keeps b (λ bytes of_history held.
-              subst (λ (x : Base). IsHeld b.page bytes x.image) (sym (made_base t strokes))
-              (statement_holds b.page bytes of_history statement on named s session (record { header = w.base.well.header; scn = w.base.well.scn }) w.base.well.sound held));
+              subst (λ (x : Base). IsLedTo b.page bytes x.image) (sym (made_base t strokes)) (
+                statement_holds b.page bytes of_history statement on named s session its_header w.base.well.sound held.1 held.0,
+                strokes_lead b.page strokes t.base (header_whole t.base.image its_header w.base.well.sound) (pages_fit statement on named s session its_header w.base.well.sound) held.1,
+              ));
         }
 
     begun_turn : MayBegin t.base.image → Does (cases.begun s)

@@ -1,5 +1,5 @@
 -- Rounds of an order, and what statements answer: never the refusal of a call that is none.
-use Rattle.std.proofs.Common.{◌≡◌, ◌≢◌, ℕ, zero, suc, ◌+◌, ◌-◌, List, [], ◌∷◌, ◌++◌, length, max, refl, sym, ap, ◌∙◌, arith, append_assoc}
+use Rattle.std.proofs.Common.{◌≡◌, ◌≢◌, ℕ, zero, suc, ◌+◌, ◌-◌, List, [], ◌∷◌, ◌++◌, length, map, max, refl, sym, ap, ◌∙◌, arith, append_assoc}
 use Rattle.nb_fields.specs.Header.{is_header, size_of}
 use Rattle.std.specs.Prelude.{Bool, Option, Some, None, Result, Ok, Err, true, false, nat_lt, not, min, ◌/◌, ◌%◌, ◌==◌, ◌||◌, if◌then◌else◌}
 use Rattle.std.specs.List.{AllByRecursion, slice_index_or}
@@ -8,7 +8,7 @@ use Rattle.nb_host.specs.declared.refusals.Refusal.TheVariants.{Usage, NotDataba
 use Rattle.nb_model.specs.declared.reply.Reply.{Reply}
 use Rattle.nb_model.specs.declared.reply.Reply.TheVariants.{Done, Refused}
 use Rattle.nb_model.specs.declared.statement.Statement.{Statement}
-use Rattle.nb_model.specs.declared.statement.Statement.TheVariants.{CreateDb, OpenDb, PageNew, Write, Read, Free, BeginBackup, EndBackup, Backup, BackupSince, CopyTo, CreateTable, DropTable, Insert, Update, Delete, Get, Scan, Forced, Access as SetAccess, Sync, ShowHeader, ShowPages, ShowImage, ShowCache}
+use Rattle.nb_model.specs.declared.statement.Statement.TheVariants.{CreateDb, OpenDb, PageNew, Write, Read, Free, BeginBackup, EndBackup, Backup, BackupSince, CopyTo, CreateTable, DropTable, Insert, Update, Delete, Get, Scan, Forced, Access as SetAccess, Sync, Check, Reclaim, ShowHeader, ShowPages, ShowImage, ShowCache}
 use Rattle.nb_model.specs.Account.{Ask}
 use Rattle.nb_model.specs.Image.{Image}
 use Rattle.nb_model.specs.Forms.{Draft}
@@ -18,6 +18,9 @@ use Rattle.nb_model.specs.Outcomes.{Turn, Seen, Outcome, unless, changes}
 use Rattle.nb_model.specs.Pages.{new_turn, write_turn, read_turn, free_turn, begin_turn, end_turn, ends_by, forced_turn, access_turn, header_turn, image_turn, cache_turn}
 use Rattle.nb_model.specs.Tables.{with_spot, in_table, in_row, create_turn, drop_turn, insert_turn, update_turn, delete_turn, get_turn, scan_turn}
 use Rattle.nb_model.specs.Backups.{room_in, starts, backup_turn, since_turn, copy_turn, all_needed, pages_turn}
+use Rattle.nb_model.specs.Checks.{unsound_by, check_cause, check_turn, reclaim_turn}
+use Rattle.nb_model.specs.Facts.{unsound}
+use Rattle.nb_model.specs.Rows.{chains}
 use Rattle.nb_model.specs.Turns.{first_turn}
 use Rattle.nb_model.specs.Run.{Now, take_turn, one_turn, rounds, all_sessions}
 use Rattle.nb_model.specs.Output.{status_after}
@@ -243,6 +246,26 @@ pub scan_never_usage : (s : Seen) (session : ℕ) (table : List ℕ) → (first_
 unfolding first_turn scan_turn
 scan_never_usage s session table = table_other s _ table _ _ none_other none_other (λ spot chain e. cc)
 
+-- nor is a check, or a reclaim
+other_unsound : (broken : Option (ℕ × ℕ)) → IsOther (unsound_by broken)
+other_unsound None = none_other
+other_unsound (Some broken) = λ e. cc
+
+other_chains : (image : Image) (cs : List Chain) → AllByRecursion IsOther (map (λ c. broken_at (pages_of c image)) cs)
+other_chains image [] = tt
+other_chains image (c ∷ cs) = (other_pages (pages_of c image), other_chains image cs)
+
+other_check : (image : Image) → IsOther (check_cause image)
+other_check image = other_first _ (other_unsound (unsound image), (other_first _ (other_chains image (chains image)), tt))
+
+check_never_usage : (s : Seen) (session : ℕ) → (first_turn s session Check).reply ≢ Some (Refused Usage)
+unfolding first_turn check_turn
+check_never_usage s session = guarded_other s _ _ (other_check s.base.image) (λ e. cc)
+
+reclaim_never_usage : (s : Seen) (session : ℕ) → (first_turn s session Reclaim).reply ≢ Some (Refused Usage)
+unfolding first_turn reclaim_turn
+reclaim_never_usage s session = guarded_other s _ _ (other_first _ (other_read_only s.base.image, (other_check s.base.image, tt))) (λ e. cc)
+
 pub never_usage : (statement : Statement) → (s : Seen) (session : ℕ) → (first_turn s session statement).reply ≢ Some (Refused Usage)
 unfolding first_turn header_turn image_turn cache_turn
 never_usage (CreateDb name size raw cache) = λ s session e. cc
@@ -259,6 +282,8 @@ never_usage (CopyTo name) = λ s session. copy_never_usage s session name
 never_usage (Forced on) = λ s session. forced_never_usage s session on
 never_usage (SetAccess closed) = λ s session. access_never_usage s session closed
 never_usage Sync = λ s session e. cc
+never_usage Check = λ s session. check_never_usage s session
+never_usage Reclaim = λ s session. reclaim_never_usage s session
 never_usage ShowHeader = λ s session e. cc
 never_usage ShowPages = λ s session. pages_never_usage s session
 never_usage ShowImage = λ s session e. cc

@@ -8,7 +8,7 @@ use Rattle.nb_host.specs.declared.refusals.Refusal.TheVariants.{WrongState, NoHi
 use Rattle.nb_model.specs.declared.reply.Reply.{Reply}
 use Rattle.nb_model.specs.declared.reply.Reply.TheVariants.{Scn, Refused}
 use Rattle.nb_model.specs.declared.statement.Statement.{Statement}
-use Rattle.nb_model.specs.declared.statement.Statement.TheVariants.{CreateDb, OpenDb, PageNew, Write, Read, Free, BeginBackup, EndBackup, Backup, BackupSince, CopyTo, CreateTable, DropTable, Insert, Update, Delete, Get, Scan, Forced, Access as SetAccess, Sync, ShowHeader, ShowPages, ShowImage, ShowCache}
+use Rattle.nb_model.specs.declared.statement.Statement.TheVariants.{CreateDb, OpenDb, PageNew, Write, Read, Free, BeginBackup, EndBackup, Backup, BackupSince, CopyTo, CreateTable, DropTable, Insert, Update, Delete, Get, Scan, Forced, Access as SetAccess, Sync, Check, Reclaim, ShowHeader, ShowPages, ShowImage, ShowCache}
 use Rattle.nb_model.specs.Account.{Ask}
 use Rattle.nb_host.specs.Names.{same_name}
 use Rattle.nb_model.specs.Backups.{room_in, ask_of, level_behind, starts, backup_turn, since_turn, copy_turn, close_backup, close_copy, pages_turn}
@@ -20,6 +20,7 @@ use Rattle.nb_model.specs.Outcomes.{Turn, Begins, Copies, ClosesBackup, ClosesCo
 use Rattle.nb_model.specs.Pages.{new_turn, write_turn, read_turn, free_turn, begin_turn, end_turn, ends_by, end_scn, forced_turn, access_turn, header_turn, image_turn, cache_turn}
 use Rattle.nb_model.specs.Strokes.{begin}
 use Rattle.nb_model.specs.Tables.{with_spot, in_table, in_row, create_turn, drop_turn, insert_turn, update_turn, delete_turn, get_turn, scan_turn}
+use Rattle.nb_model.specs.Checks.{check_turn, reclaim_turn}
 use Rattle.nb_model.specs.Turns.{first_turn, turn}
 use Rattle.nb_model.specs.Well.{is_on_pages}
 use Rattle.nb_model.proofs.PutSound.{no_first, not_when}
@@ -282,7 +283,7 @@ says_once : (s : Seen) (reply : Reply) → IsOnce s s.given (says s reply [])
 says_once s reply = record { next = refl; running = refl; made = refl; given = refl }
 
 pub pages_once : (statement : Statement) → is_on_pages statement ≡ true → (s : Seen) (session : ℕ) → IsOnce s (left_by statement s.given) (first_turn s session statement)
-unfolding first_turn new_turn write_turn read_turn free_turn forced_turn access_turn header_turn pages_turn image_turn cache_turn create_turn drop_turn insert_turn update_turn delete_turn get_turn scan_turn
+unfolding first_turn new_turn write_turn read_turn free_turn forced_turn access_turn header_turn pages_turn image_turn cache_turn create_turn drop_turn insert_turn update_turn delete_turn get_turn scan_turn check_turn reclaim_turn
 pages_once (CreateDb name size raw cache) on s session = record { next = refl; running = refl; made = refl; given = refl }
 pages_once (OpenDb name cache) on s session = record { next = refl; running = refl; made = refl; given = refl }
 pages_once PageNew on s session = changes_once s _ _ _
@@ -292,6 +293,8 @@ pages_once (Free p) on s session = changes_once s _ _ _
 pages_once (Forced forced) on s session = unless_once s _ _ (record { next = refl; running = refl; made = refl; given = refl })
 pages_once (SetAccess closed) on s session = unless_once s _ _ (record { next = refl; running = refl; made = refl; given = refl })
 pages_once Sync on s session = record { next = refl; running = refl; made = refl; given = refl }
+pages_once Check on s session = unless_once s _ _ (says_once s _)
+pages_once Reclaim on s session = unless_once s _ _ (record { next = refl; running = refl; made = refl; given = refl })
 pages_once ShowHeader on s session = record { next = refl; running = refl; made = refl; given = refl }
 pages_once ShowPages on s session = unless_once s _ _ (record { next = refl; running = refl; made = refl; given = refl })
 pages_once ShowImage on s session = record { next = refl; running = refl; made = refl; given = refl }

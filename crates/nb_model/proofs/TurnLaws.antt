@@ -6,7 +6,7 @@ use Rattle.nb_host.specs.declared.refusals.Refusal.{Refusal}
 use Rattle.nb_model.specs.declared.reply.Reply.{Reply}
 use Rattle.nb_model.specs.declared.reply.Reply.TheVariants.{Refused}
 use Rattle.nb_model.specs.declared.statement.Statement.{Statement}
-use Rattle.nb_model.specs.declared.statement.Statement.TheVariants.{CreateDb, OpenDb, PageNew, Write, Read, Free, BeginBackup, EndBackup, Backup, BackupSince, CopyTo, CreateTable, DropTable, Insert, Update, Delete, Get, Scan, Forced, Access, Sync, ShowHeader, ShowPages, ShowImage, ShowCache}
+use Rattle.nb_model.specs.declared.statement.Statement.TheVariants.{CreateDb, OpenDb, PageNew, Write, Read, Free, BeginBackup, EndBackup, Backup, BackupSince, CopyTo, CreateTable, DropTable, Insert, Update, Delete, Get, Scan, Forced, Access, Sync, Check, Reclaim, ShowHeader, ShowPages, ShowImage, ShowCache}
 use Rattle.nb_model.specs.Account.{Ask}
 use Rattle.nb_model.specs.Forms.{Draft}
 use Rattle.nb_model.specs.Causes.{Cause}
@@ -14,6 +14,7 @@ use Rattle.nb_model.specs.Chains.{Chain, Slot, Spot}
 use Rattle.nb_model.specs.Outcomes.{DoesNothing, Seen, Outcome, says, unless, changes}
 use Rattle.nb_model.specs.Pages.{new_turn, write_turn, read_turn, free_turn, begin_turn, end_turn, ends_by, forced_turn, access_turn, header_turn, image_turn, cache_turn}
 use Rattle.nb_model.specs.Tables.{with_spot, in_table, in_row, create_turn, drop_turn, insert_turn, update_turn, delete_turn, get_turn, scan_turn}
+use Rattle.nb_model.specs.Checks.{check_turn, reclaim_turn}
 use Rattle.nb_model.specs.Backups.{starts, backup_turn, since_turn, copy_turn, pages_turn}
 use Rattle.nb_model.specs.Turns.{first_turn}
 
@@ -68,7 +69,7 @@ backed s session (suc below) name = started s session name _ _
 
 -- the first turn of each statement
 pub first_quiet : (s : Seen) (session : ℕ) (statement : Statement) → IsQuiet s (first_turn s session statement)
-unfolding first_turn new_turn write_turn read_turn free_turn begin_turn end_turn ends_by forced_turn access_turn header_turn image_turn cache_turn create_turn drop_turn insert_turn update_turn delete_turn get_turn scan_turn since_turn copy_turn pages_turn
+unfolding first_turn new_turn write_turn read_turn free_turn begin_turn end_turn ends_by forced_turn access_turn header_turn image_turn cache_turn create_turn drop_turn insert_turn update_turn delete_turn get_turn scan_turn check_turn reclaim_turn since_turn copy_turn pages_turn
 first_quiet s session (CreateDb name size raw cache) = answers s _ refl
 first_quiet s session (OpenDb name cache) = answers s _ refl
 first_quiet s session PageNew = changed s _ _ _ refl
@@ -90,6 +91,8 @@ first_quiet s session (Scan table) = tabled s _ table _ _ (λ spot chain. answer
 first_quiet s session (Forced on) = guarded s _ _ (answers s _ refl)
 first_quiet s session (Access closed) = guarded s _ _ (answers s _ refl)
 first_quiet s session Sync = answers s _ refl
+first_quiet s session Check = guarded s _ _ (answers s _ refl)
+first_quiet s session Reclaim = guarded s _ _ (answers s _ refl)
 first_quiet s session ShowHeader = answers s _ refl
 first_quiet s session ShowPages = guarded s _ _ (answers s _ refl)
 first_quiet s session ShowImage = answers s _ refl

@@ -6,11 +6,11 @@ use Rattle.nb_host.specs.Files.{File, Files}
 use Rattle.nb_host.specs.declared.refusals.Refusal.{Refusal}
 use Rattle.nb_host.specs.declared.refusals.Refusal.TheVariants.{NoFile, WrongState, DeltaPresent}
 use Rattle.nb_model.specs.declared.job.Job.{Job}
-use Rattle.nb_model.specs.declared.job.Job.TheVariants.{Stat, Backup, BackupSince, Restore, Apply, Lock, LockWithSize, Unlock, Fixup}
+use Rattle.nb_model.specs.declared.job.Job.TheVariants.{Stat, Check, Reclaim, Backup, BackupSince, Restore, Apply, Lock, LockWithSize, Unlock, Fixup}
 use Rattle.nb_model.specs.declared.reply.Reply.{Reply}
 use Rattle.nb_model.specs.declared.reply.Reply.TheVariants.{Done, Pages, Scn, ScnPages, Refused}
 use Rattle.nb_model.specs.declared.statement.Statement.{Statement}
-use Rattle.nb_model.specs.declared.statement.Statement.TheVariants.{OpenDb, BeginBackup, EndBackup, ShowHeader, ShowPages}
+use Rattle.nb_model.specs.declared.statement.Statement.TheVariants.{OpenDb, BeginBackup, EndBackup, Check as CheckIt, Reclaim as ReclaimIt, ShowHeader, ShowPages}
 use Rattle.nb_model.specs.declared.statement.Statement.TheVariants.{Backup as BackupTo, BackupSince as BackupOf}
 use Rattle.nb_model.specs.Image.{image_in}
 use Rattle.nb_model.specs.Account.{Account}
@@ -33,6 +33,8 @@ pub record Asks : Type 0 where
 
 unfoldable pub asks_of : Job → Option Asks
 asks_of (Stat db) = Some (record { db = db; statements = ShowHeader ∷ ShowPages ∷ [] })
+asks_of (Check db) = Some (record { db = db; statements = CheckIt ∷ [] })
+asks_of (Reclaim db) = Some (record { db = db; statements = ReclaimIt ∷ [] })
 asks_of (Backup level db file) = Some (record { db = db; statements = BackupTo level file ∷ [] })
 asks_of (BackupSince guid db file) = Some (record { db = db; statements = BackupOf guid file ∷ [] })
 asks_of (Lock db) = Some (record { db = db; statements = BeginBackup ∷ [] })

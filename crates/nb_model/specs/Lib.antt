@@ -12,6 +12,9 @@ pub mod Chains
 pub mod Rows
 pub mod RowChanges
 pub mod Tables
+pub mod Facts
+pub mod Leaks
+pub mod Checks
 pub mod Levels
 pub mod Backups
 pub mod Turns

@@ -6,7 +6,7 @@ use Rattle.hex.specs.Hex.{encode_lower}
 use Rattle.nb_host.specs.declared.refusals.Refusal.{Refusal}
 use Rattle.nb_host.specs.declared.refusals.Refusal.TheVariants.{Usage, BadScript, NoFile, FileExists, NotDatabase, WrongState, BadDelta, Unfinished, PageRange, NotAllocated, SystemPage, Full, ScnExhausted, NoHistory, BadLevel, ChainLevel, ChainGuid, ChainSize, ChainScn, Access, TextLong, NoTable, TableExists, KeyExists, NoKey, TooManyTables, BackupRunning, DeltaPresent, ScriptLong, NoGuid, Unsound, ShadowName}
 use Rattle.nb_model.specs.declared.reply.Reply.{Reply}
-use Rattle.nb_model.specs.declared.reply.Reply.TheVariants.{Done, Pages, Opened, PageMade, Value, Scn, ScnPages, Level, Rows, HeaderShown, PagesShown, ImageShown, CacheShown, Planned, Refused}
+use Rattle.nb_model.specs.declared.reply.Reply.TheVariants.{Done, Pages, Opened, PageMade, Value, Scn, ScnPages, Level, Rows, HeaderShown, PagesShown, ImageShown, CacheShown, Leaked, Freed, Planned, Refused}
 
 -- one word of a line: a fixed one, a number, a name, a GUID, a digest or a quoted text
 pub data Word : Type 0 where
@@ -77,6 +77,10 @@ row_words (row ∷ rows) = number row.0 ∷ quoted row.1 ∷ row_words rows
 abbrev pub name_words : List (List ℕ) → List Word
 name_words names = map is names
 
+-- each page
+abbrev pub page_words : List ℕ → List Word
+page_words pages = map number pages
+
 -- `ok` and what follows, or `refused` and what follows
 abbrev pub reply_words : Reply → List Word
 reply_words Done = is (codes "ok") ∷ []
@@ -94,6 +98,8 @@ reply_words (PagesShown header inventory scn data_pages raw other free) = is (co
     ∷ is (codes "data") ∷ number data_pages ∷ is (codes "raw") ∷ number raw ∷ is (codes "other") ∷ number other ∷ is (codes "free") ∷ number free ∷ []
 reply_words (ImageShown pages sha256) = is (codes "ok") ∷ is (codes "pages") ∷ number pages ∷ is (codes "sha256") ∷ hex sha256 ∷ []
 reply_words (CacheShown capacity held) = is (codes "ok") ∷ is (codes "cache") ∷ number capacity ∷ is (codes "held") ∷ number held ∷ []
+reply_words (Leaked pages) = is (codes "ok") ∷ is (codes "leaked") ∷ number (length pages) ∷ page_words pages
+reply_words (Freed pages) = is (codes "ok") ∷ is (codes "freed") ∷ number pages ∷ []
 reply_words (Planned kept dropped orphans) = is (codes "ok") ∷ is (codes "keep") ∷ number kept ∷ is (codes "drop") ∷ number (length dropped) ∷ is (codes "orphan") ∷ number (length orphans)
     ∷ (name_words dropped ++ name_words orphans)
 reply_words (Refused refusal) = is (codes "refused") ∷ refusal_words refusal

@@ -2,11 +2,12 @@
 use Rattle.std.specs.Prelude.{ℕ, [], ◌∷◌, Some, None}
 use Rattle.nb_model.specs.declared.reply.Reply.TheVariants.{Done}
 use Rattle.nb_model.specs.declared.statement.Statement.{Statement}
-use Rattle.nb_model.specs.declared.statement.Statement.TheVariants.{CreateDb, OpenDb, PageNew, Write, Read, Free, BeginBackup, EndBackup, Backup, BackupSince, CopyTo, CreateTable, DropTable, Insert, Update, Delete, Get, Scan, Forced, Access, Sync, ShowHeader, ShowPages, ShowImage, ShowCache}
+use Rattle.nb_model.specs.declared.statement.Statement.TheVariants.{CreateDb, OpenDb, PageNew, Write, Read, Free, BeginBackup, EndBackup, Backup, BackupSince, CopyTo, CreateTable, DropTable, Insert, Update, Delete, Get, Scan, Forced, Access, Sync, Check, Reclaim, ShowHeader, ShowPages, ShowImage, ShowCache}
 use Rattle.nb_model.specs.Strokes.{finish}
 use Rattle.nb_model.specs.Outcomes.{Turn, Begins, Copies, ClosesBackup, ClosesCopy, Ends, Merges, Finishes, Seen, Outcome, says, passes}
 use Rattle.nb_model.specs.Pages.{new_turn, write_turn, read_turn, free_turn, begin_turn, end_turn, ends_by, forced_turn, access_turn, header_turn, image_turn, cache_turn}
 use Rattle.nb_model.specs.Tables.{create_turn, drop_turn, insert_turn, update_turn, delete_turn, get_turn, scan_turn}
+use Rattle.nb_model.specs.Checks.{check_turn, reclaim_turn}
 use Rattle.nb_model.specs.Backups.{backup_turn, since_turn, close_backup, copy_turn, close_copy, pages_turn}
 
 -- The first turn of a statement. Creating and opening stand in front of all turns: no session asks for them here.
@@ -32,6 +33,8 @@ first_turn s session (Scan table) = scan_turn s table
 first_turn s session (Forced on) = forced_turn s on
 first_turn s session (Access closed) = access_turn s closed
 first_turn s session Sync = says s Done []
+first_turn s session Check = check_turn s
+first_turn s session Reclaim = reclaim_turn s
 first_turn s session ShowHeader = header_turn s
 first_turn s session ShowPages = pages_turn s
 first_turn s session ShowImage = image_turn s

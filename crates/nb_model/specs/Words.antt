@@ -5,7 +5,7 @@ use Rattle.std.specs.Str.Parse.{digits_value}
 use Rattle.uuid.specs.Text.{parsed_hyphenated}
 use Rattle.nb_host.specs.Names.{is_name, is_delta, same_name}
 use Rattle.nb_model.specs.declared.job.Job.{Job}
-use Rattle.nb_model.specs.declared.job.Job.TheVariants.{Run, Stat, Gen, Backup, BackupSince, Restore, Apply, Lock, LockWithSize, Unlock, Fixup, Fold, Plan}
+use Rattle.nb_model.specs.declared.job.Job.TheVariants.{Run, Stat, Check, Reclaim, Gen, Backup, BackupSince, Restore, Apply, Lock, LockWithSize, Unlock, Fixup, Fold, Plan}
 
 abbrev pub Word : Type 0
 Word = List ℕ
@@ -72,13 +72,20 @@ abbrev pub job_if : Bool → Job → Option Job
 job_if true job = Some job
 job_if false job = None
 
--- the run of a script, or the statistics of a database
-abbrev pub run_or_stat : List Word → Option Job
-run_or_stat (verb ∷ name ∷ []) = elim (same_name verb (codes "run")) [
-  | true ↦ job_if (is_file name) (Run name)
-  | false ↦ job_if (same_name verb (codes "stat") && is_database name) (Stat name)
+-- what the first word asks of one database: its statistics, a check, or its leaked pages back
+abbrev pub asks_one : (verb name : Word) → Option Job
+asks_one verb name = elim (same_name verb (codes "stat")) [
+  | true ↦ Some (Stat name)
+  | false ↦ elim (same_name verb (codes "check")) [ true ↦ Some (Check name) | false ↦ job_if (same_name verb (codes "reclaim")) (Reclaim name) ]
 ]
-run_or_stat other = None
+
+-- the run of a script, or a job on one database that is named by its first word
+abbrev pub named_job : List Word → Option Job
+named_job (verb ∷ name ∷ []) = elim (same_name verb (codes "run")) [
+  | true ↦ job_if (is_file name) (Run name)
+  | false ↦ elim (is_database name) [ true ↦ asks_one verb name | false ↦ None ]
+]
+named_job other = None
 
 -- the script of a number
 abbrev pub gen_job : (number name : Word) → Option Job
@@ -102,7 +109,7 @@ fold_job other = None
 
 -- what the first word names where no flag is given
 abbrev pub plain_job : List Word → Option Job
-plain_job (verb ∷ name ∷ []) = run_or_stat (verb ∷ name ∷ [])
+plain_job (verb ∷ name ∷ []) = named_job (verb ∷ name ∷ [])
 plain_job (verb ∷ number ∷ name ∷ []) = gen_or_plan (verb ∷ number ∷ name ∷ [])
 plain_job (verb ∷ out ∷ file ∷ other ∷ files) = fold_job (verb ∷ out ∷ file ∷ other ∷ files)
 plain_job other = None

@@ -63,6 +63,14 @@ pub enum Job {
     Stat {
         db: Name,
     },
+    /// `check DB`: whether its inventories and chains agree with its pages, and which pages are leaked.
+    Check {
+        db: Name,
+    },
+    /// `reclaim DB`: its leaked pages are given back.
+    Reclaim {
+        db: Name,
+    },
     /// `gen N SCRIPT`: the script of that number is written and run.
     Gen {
         number: u64,

@@ -2,15 +2,17 @@
 //!
 //! It rests on `nb_fields` and `nb_host`. The types are those of the final program. The definitions stand in `specs/` and
 //! compute: `Image`, `Account` and `Strokes` (what stands, and its single changes), `Forms` and `Causes` (how a change is drafted,
-//! and why it is refused), `Turns` over `Pages`, `Tables` and `Backups` (what one turn of a session does), `Run` and `Output` (a
+//! and why it is refused), `Turns` over `Pages`, `Tables`, `Backups` and `Checks` (what one turn of a session does), `Facts` and `Leaks` (what a check tells), `Run` and `Output` (a
 //! script, what it says and what is acknowledged), `Owner`, `Main`, `Sound` and `Stands` (what files mean), `Levels`, `Restoring`,
 //! `InPlace` and `Follows` (level files and lineage), `Waiting` and `Pagewise` (forced writes off), `Trail` and `WellTrail` (what a
 //! stop may leave), `Words` and `Jobs`. A layer above cites them in its contracts. `laws`, `table_laws` and `waiting_laws` show that they mean what they
 //! say, and `worked` computes examples.
 #![tactic(auto)]
 
+mod fact;
 mod job;
 pub mod laws;
+mod page_list;
 mod reply;
 mod rows;
 mod statement;
@@ -20,7 +22,9 @@ mod text;
 pub mod waiting_laws;
 pub mod worked;
 
+pub use fact::Fact;
 pub use job::{Job, NameList};
+pub use page_list::PageList;
 pub use reply::Reply;
 pub use rows::RowList;
 pub use statement::Statement;

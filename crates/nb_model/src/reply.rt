@@ -1,4 +1,4 @@
-use crate::{NameList, RowList, Text};
+use crate::{NameList, PageList, RowList, Text};
 use nb_host::Refusal;
 
 /// What a statement or a job is answered. Each is one line of the output.
@@ -73,6 +73,14 @@ pub enum Reply {
     CacheShown {
         capacity: u32,
         held: u32,
+    },
+    /// `ok leaked N` and then the numbers of these pages, each after a space
+    Leaked {
+        pages: PageList,
+    },
+    /// `ok freed N`
+    Freed {
+        pages: u32,
     },
     /// `ok keep A drop B orphan C` and then the names of the files that are dropped and of the orphans, each after a space
     Planned {

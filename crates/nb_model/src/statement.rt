@@ -96,6 +96,10 @@ pub enum Statement {
     },
     /// `sync`
     Sync,
+    /// `check`: whether the inventories and the chains agree with the pages, and which pages are leaked.
+    Check,
+    /// `reclaim`: each leaked page is given back.
+    Reclaim,
     /// `show header`
     ShowHeader,
     /// `show pages`

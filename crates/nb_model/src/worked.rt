@@ -1,7 +1,7 @@
 // Worked examples, computed from the definitions alone: each is a public function with an empty body, whose contract states
 // what a session is answered, which pages it writes, which files are refused. All databases have pages of 1,024 bytes.
 ghost use Rattle.nb_fields.specs.Bytes.{with_part};
-ghost use Rattle.nb_host.specs.declared.refusals.Refusal.TheVariants.{NotAllocated, SystemPage, TextLong, WrongState, BackupRunning, ChainLevel, ChainGuid, NoFile, PageRange, NoGuid, NoHistory, NotDatabase, BadDelta, NoTable, TableExists, KeyExists, NoKey, Usage, Access as NoAccess, DeltaPresent, Unfinished};
+ghost use Rattle.nb_host.specs.declared.refusals.Refusal.TheVariants.{NotAllocated, SystemPage, TextLong, WrongState, BackupRunning, ChainLevel, ChainGuid, NoFile, PageRange, NoGuid, NoHistory, NotDatabase, BadDelta, NoTable, TableExists, KeyExists, NoKey, Usage, Access as NoAccess, DeltaPresent, Unfinished, Unsound};
 ghost use Rattle.nb_model.specs.Generated.{lines_from};
 ghost use Rattle.nb_model.specs.Image.{page_at};
 ghost use Rattle.nb_model.specs.Levels.{joined};
@@ -11,9 +11,9 @@ ghost use Rattle.nb_model.specs.Run.{replies_of, rounds, strokes_of};
 ghost use Rattle.nb_model.specs.Seeds.{seeded};
 ghost use Rattle.nb_model.specs.Words.{job_of};
 ghost use Rattle.nb_model.specs.Worked.{g, run_of, says, replies, marks, strokes, base_then, pages_held, refused, chain_files, level_1_file, broken_place, not_open, main_file, stalled_file, delta_file, standby, merged_standby, apply_reply, restore_reply, restored_text, fixup_reply};
-ghost use Rattle.nb_model.specs.declared.job.Job.TheVariants.{Run, Restore, LockWithSize, Backup as JobBackup, BackupSince as JobBackupSince, Fold, Plan};
-ghost use Rattle.nb_model.specs.declared.reply.Reply.TheVariants.{Done, Opened, Value, Scn, ScnPages, Level, Rows, HeaderShown, PagesShown, PageMade, Planned, ImageShown, CacheShown, Refused, Pages};
-ghost use Rattle.nb_model.specs.declared.statement.Statement.TheVariants.{Write, Read, Free, PageNew, BeginBackup, EndBackup, Backup, BackupSince, CreateTable, DropTable, Insert, Update, Delete, Get, Scan, Access, ShowHeader, ShowPages, ShowCache};
+ghost use Rattle.nb_model.specs.declared.job.Job.TheVariants.{Run, Restore, LockWithSize, Backup as JobBackup, BackupSince as JobBackupSince, Fold, Plan, Check as JobCheck, Reclaim as JobReclaim};
+ghost use Rattle.nb_model.specs.declared.reply.Reply.TheVariants.{Done, Opened, Value, Scn, ScnPages, Level, Rows, HeaderShown, PagesShown, PageMade, Leaked, Freed, Planned, ImageShown, CacheShown, Refused, Pages};
+ghost use Rattle.nb_model.specs.declared.statement.Statement.TheVariants.{Write, Read, Free, PageNew, BeginBackup, EndBackup, Backup, BackupSince, CreateTable, DropTable, Insert, Update, Delete, Get, Scan, Access, Check, Reclaim, ShowHeader, ShowPages, ShowCache};
 ghost use Rattle.std.specs.Prelude.{[], ◌++◌, ◌∷◌, ◌≡◌, None, Some, codes, drop, length, replicate, take, true, false};
 
 /// A first session: a database is made, and a page is written and read. The entry of the page is current, so that the write is one
@@ -152,6 +152,13 @@ pub fn pages_shown()
     ensures { says 8 (ShowPages ∷ Free 7 ∷ ShowPages ∷ ShowCache ∷ []) ≡ (1, PagesShown 1 1 1 2 8 0 0) ∷ (1, Done) ∷ (1, PagesShown 1 1 1 2 7 0 1) ∷ (1, CacheShown 64 7) ∷ [] }
 {}
 
+/// A check of a database from which nothing is leaked, and giving back nothing. So it is behind statements on tables.
+pub fn checks()
+    ensures fresh { says 0 (Check ∷ Reclaim ∷ []) ≡ (1, Leaked []) ∷ (1, Freed 0) ∷ [] }
+    ensures tables { says 0 (CreateTable (codes "t") ∷ Insert (codes "t") 1 (codes "a") ∷ DropTable (codes "t") ∷ Check ∷ Reclaim ∷ []) ≡ (1, Done) ∷ (1, Done) ∷ (1, Done) ∷ (1, Leaked []) ∷ (1, Freed 0) ∷ [] }
+    ensures closed { says 0 (Access true ∷ Check ∷ Reclaim ∷ []) ≡ (1, Done) ∷ (1, Leaked []) ∷ (1, Refused (NoAccess 1)) ∷ [] }
+{}
+
 /// Each kind of line.
 pub fn lines_of_replies()
     ensures done { line_text 1 Done ≡ codes "1: ok" ++ 10 ∷ [] }
@@ -168,6 +175,10 @@ pub fn lines_of_replies()
     ensures pages_shown { line_text 1 (PagesShown 1 1 1 2 7 0 1) ≡ codes "1: ok header 1 inventory 1 scn 1 data 2 raw 7 other 0 free 1" ++ 10 ∷ [] }
     ensures image { line_text 1 (ImageShown 13 (replicate 31 0 ++ 171 ∷ [])) ≡ codes "1: ok pages 13 sha256 00000000000000000000000000000000000000000000000000000000000000ab" ++ 10 ∷ [] }
     ensures cache { line_text 1 (CacheShown 64 7) ≡ codes "1: ok cache 64 held 7" ++ 10 ∷ [] }
+    ensures leaked { line_text 1 (Leaked (6 ∷ 12 ∷ [])) ≡ codes "1: ok leaked 2 6 12" ++ 10 ∷ [] }
+    ensures none_leaked { line_text 1 (Leaked []) ≡ codes "1: ok leaked 0" ++ 10 ∷ [] }
+    ensures freed { line_text 1 (Freed 2) ≡ codes "1: ok freed 2" ++ 10 ∷ [] }
+    ensures unsound { line_text 1 (Refused (Unsound 5 6)) ≡ codes "1: refused 31 Unsound 5 6" ++ 10 ∷ [] }
     ensures planned { line_text 1 (Planned 3 (codes "z.0" ∷ []) (codes "a.1" ∷ codes "a.2" ∷ [])) ≡ codes "1: ok keep 3 drop 1 orphan 2 z.0 a.1 a.2" ++ 10 ∷ [] }
     ensures not_planned { line_text 1 (Planned 4 [] []) ≡ codes "1: ok keep 4 drop 0 orphan 0" ++ 10 ∷ [] }
     ensures refused { line_text 1 (Refused (ChainLevel (codes "a.1") 1 0)) ≡ codes "1: refused 16 ChainLevel a.1 1 0" ++ 10 ∷ [] }
@@ -182,6 +193,9 @@ pub fn words_name_jobs()
     ensures apart { job_of (codes "-S" ∷ codes "a.db" ∷ codes "-L" ∷ []) ≡ Some (LockWithSize (codes "a.db")) }
     ensures twice { job_of (codes "-L" ∷ codes "-L" ∷ codes "a.db" ∷ []) ≡ None }
     ensures restore { job_of (codes "-R" ∷ codes "b.db" ∷ codes "a.0" ∷ codes "a.1" ∷ []) ≡ Some (Restore (codes "b.db") (codes "a.0" ∷ codes "a.1" ∷ [])) }
+    ensures check { job_of (codes "check" ∷ codes "a.db" ∷ []) ≡ Some (JobCheck (codes "a.db")) }
+    ensures reclaim { job_of (codes "reclaim" ∷ codes "a.db" ∷ []) ≡ Some (JobReclaim (codes "a.db")) }
+    ensures check_two { job_of (codes "check" ∷ codes "a.db" ∷ codes "b.db" ∷ []) ≡ None }
     ensures since { job_of (codes "-B" ∷ codes "00000000-0000-0000-0000-000000000001" ∷ codes "a.db" ∷ codes "a.y" ∷ []) ≡ Some (JobBackupSince (g 1) (codes "a.db") (codes "a.y")) }
     ensures dashes { job_of (codes "--" ∷ codes "run" ∷ codes "-s" ∷ []) ≡ Some (Run (codes "-s")) }
     ensures number { job_of (codes "gen" ∷ codes "07" ∷ codes "g.s" ∷ []) ≡ None }

@@ -7,7 +7,7 @@ use Rattle.std.specs.Map.{keys_of, lookup_entry, remove_entry}
 use Rattle.std.proofs.lemmas.Bool.{true≢false, eqb-false}
 use Rattle.std.proofs.lemmas.Bool.Decides.{leb_tells}
 use Rattle.lru.specs.LruCache.{lru_cache, promoted, put_entries}
-use Rattle.nb_model.specs.Image.{Page, Image, page_at, image_scn, image_guid, trimmed, with_page}
+use Rattle.nb_model.specs.Image.{Page, Image, page_at, first_page, image_scn, image_guid, trimmed, with_page}
 use Rattle.nb_model.specs.Account.{Ask, Base}
 use Rattle.nb_model.specs.Strokes.{page, begin, ends, finish, on_base, with_control}
 use Rattle.nb_model.specs.Trail.{Trail, after_stroke}
@@ -20,9 +20,9 @@ use Rattle.nb_base.proofs.ControlLaws.{with_control-behind}
 use Rattle.nb_base.proofs.EndLaws.{finished_length}
 use Rattle.nb_base.proofs.LeftLaws.{merged_fits, stroke-image}
 use Rattle.nb_cache.specs.Held.{Slot, slot_of, rank_of, with_rank, dropped, NoneWaits, IsNoLater, GoesFirst}
-use Rattle.nb_owner.specs.Open.{Pages, AreOf, IsValid, bare, used, behind_first, but_below}
+use Rattle.nb_owner.specs.Open.{Held, Pages, IsOpen, HasBlock, AreOf, IsValid, bare, used, behind_first, but_below}
 use Rattle.nb_owner.proofs.UsedLaws.{All-dropped, All-put, All-found, once_put, once_removed, promoted_put, promoted_absent}
-use Rattle.nb_owner.proofs.RankLaws.{none_found, marked_keys, marked_long, found_rank}
+use Rattle.nb_owner.proofs.RankLaws.{none_found, marked_keys, marked_long, found_rank, slot_put}
 
 -- the pages once this one is first, with that rank
 abbrev pub put_first : Pages → (cap p : ℕ) → Slot → Pages
@@ -294,6 +294,17 @@ missed_slot (Some slot) is = cc
 -- it is that page of the image
 pub found_page : (image : Image) (pages : Pages) (p : ℕ) (slot : Slot) → slot_of pages p ≡ Some slot → AreOf image pages → slot.bytes ≡ page_at image p
 found_page image pages p slot there all = All-found p pages slot there (λ e. e.1.bytes ≡ page_at image e.0) all
+
+pub put_page : (image : Image) (pages : Pages) (cap p : ℕ) (slot : Slot) → AreOf image (put_first pages cap p slot) → slot.bytes ≡ page_at image p
+put_page image pages cap p slot all = found_page image (put_first pages cap p slot) p slot (slot_put p slot pages cap) all
+
+-- page 0 has its control block
+pub first_block : (image : Image) (p : ℕ) (bytes : Page) → p ≡ 0 → bytes ≡ page_at image p → take 64 bytes ≡ take 64 (first_page image)
+first_block image p bytes first is = ap (take 64) (is ∙ ap (page_at image) first)
+
+-- a page that may be written
+pub may_write : (w : World) (held : Held) (t : Trail) (p : ℕ) (bytes : Page) → IsOpen w held t → p ≤ length t.base.image → (p ≡ 0 → HasBlock w held bytes) → Fits p bytes t.base.image
+may_write w held t p bytes is low block = record { low = low; front = λ first. block first t is }
 
 -- a new one
 pub valid_blank : (cache : Rattle.nb_cache.specs.Held.Held) (pages made size : ℕ) → cache ≡ record { pages = []; cap = pages; page_size = made } → size ≡ made → 0 < pages → IsValid cache size

@@ -150,12 +150,15 @@ pub own_true : (p : ℕ) → nat_eq p p ≡ true
 own_true p = elim (eqb_tells p p) [ inl w ↦ w.0 | inr w ↦ absurd (w.1 refl) ]
 
 -- a page that was kept is there
-pub slot_kept : (p : ℕ) (v : Slot) (es : Pages) (cap : ℕ) → is_some (slot_of (put_entries nat_eq (lru_cache es cap) p v) p) ≡ true
-slot_kept p v es cap = by (lookup_entry (nat_eq p) es) refl
+pub slot_put : (p : ℕ) (v : Slot) (es : Pages) (cap : ℕ) → slot_of (put_entries nat_eq (lru_cache es cap) p v) p ≡ Some v
+slot_put p v es cap = by (lookup_entry (nat_eq p) es) refl
   where
-    by : (o : Option (ℕ × Slot)) → lookup_entry (nat_eq p) es ≡ o → is_some (slot_of (option_map_or (λ e. (e.0, v) ∷ remove_entry (nat_eq p) es) o ((p, v) ∷ take (cap - 1) es)) p) ≡ true
+    by : (o : Option (ℕ × Slot)) → lookup_entry (nat_eq p) es ≡ o → slot_of (option_map_or (λ e. (e.0, v) ∷ remove_entry (nat_eq p) es) o ((p, v) ∷ take (cap - 1) es)) p ≡ Some v
     by None is = let own : nat_eq p p ≡ true = own_true p in rw own refl
     by (Some e) is = let own : nat_eq p e.0 ≡ true = (Contains-lookup_entry (nat_eq p) es e is).1 in rw own refl
+
+pub slot_kept : (p : ℕ) (v : Slot) (es : Pages) (cap : ℕ) → is_some (slot_of (put_entries nat_eq (lru_cache es cap) p v) p) ≡ true
+slot_kept p v es cap = ap is_some (slot_put p v es cap)
 
 -- a page that is marked has the bytes that it had
 pub marked_of : (image : Image) (p : ℕ) (rank : Option ℕ) (es : Pages) → AreOf image es → AreOf image (with_rank p rank es)

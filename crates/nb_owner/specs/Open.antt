@@ -1,5 +1,5 @@
 -- A database that is open: its two files, the pages of it that are in memory, and which of them wait to be written.
-use Rattle.std.specs.Prelude.{◌≡◌, ◌≢◌, ℕ, zero, suc, ◌-◌, ◌<◌, ◌≤◌, ◌==◌, ◌&&◌, not, nat_eq, nat_lt, List, [], ◌++◌, length, map, Some, Bool, true, false, is_some}
+use Rattle.std.specs.Prelude.{◌≡◌, ◌≢◌, ℕ, zero, suc, ◌-◌, ◌<◌, ◌≤◌, ◌==◌, ◌&&◌, not, nat_eq, nat_lt, List, [], ◌++◌, length, take, map, Some, Bool, true, false, is_some}
 use Rattle.std.specs.List.{AllByRecursion, IsDistinct}
 use Rattle.std.specs.Map.{keys_of, remove_entry}
 use Rattle.lru.specs.LruCache.{lru_cache, put_entries}
@@ -8,7 +8,7 @@ use Rattle.nb_fields.specs.Places.{is_scn_place}
 use Rattle.nb_host.specs.Files.{Files}
 use Rattle.nb_host.specs.World.{World}
 use Rattle.nb_host.specs.Crash.{LeavesAll}
-use Rattle.nb_model.specs.Image.{Image, page_at, image_size, image_state, is_forced}
+use Rattle.nb_model.specs.Image.{Page, Image, page_at, first_page, image_size, image_state, is_forced}
 use Rattle.nb_model.specs.Account.{Base}
 use Rattle.nb_model.specs.Trail.{Trail, StandsIn}
 use Rattle.nb_model.specs.Behind.{IsBehind, IsRead}
@@ -93,6 +93,10 @@ pub record IsOpen (w : World) (held : Held) (t : Trail) : Type 0 where
   pub sees : Trail
   pub files : IsSeen w held.files.name sees
   pub waits : Waits held.pages held.files.drafted sees t
+
+-- The page begins with the control block, as page 0 has it: its first 64 bytes, whatever was seen.
+abbrev pub HasBlock : World → Held → Page → Type 0
+HasBlock w held page = (t : Trail) → IsOpen w held t → take 64 page ≡ take 64 (first_page t.base.image)
 
 -- no SCN page waits
 abbrev pub NoScnWaits : Trail → Pages → Type 0

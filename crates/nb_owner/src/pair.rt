@@ -14,7 +14,7 @@ ghost use Rattle.nb_base.specs.Takes.{Takes, Strikes, IsNoRefusal};
 ghost use Rattle.nb_base.specs.Touches.{WritesIn};
 ghost use Rattle.nb_cache.specs.Held.{slot_of, rank_of, dropped, NoneWaits};
 ghost use Rattle.lru.specs.LruCache.{lru_cache, put_entries};
-ghost use Rattle.nb_owner.specs.Open.{IsOpen, may_wait, waits, cache_of, but_drafts, bare, used};
+ghost use Rattle.nb_owner.specs.Open.{IsOpen, HasBlock, may_wait, waits, cache_of, but_drafts, bare, used};
 
 use nb_base::TwoFiles;
 use nb_cache::Cache;
@@ -98,9 +98,9 @@ impl Pair {
         self.cache.held()
     }
 
-    /// Fills in page `number` of the database, from memory or from the file that holds it. It then is the page in memory that was used
-    /// last; but where it would drop a page that waits, nothing in memory changes. Of the host a page in memory asks nothing, page 0 at
-    /// most two reads, and every other page at most one.
+    /// Fills in page `number` of the database, from memory or from the file that holds it, page 0 with the control block that `write` asks
+    /// for. It then is the page in memory that was used last; but where it would drop a page that waits, nothing in memory changes. Of the
+    /// host a page in memory asks nothing, page 0 at most two reads, and every other page at most one.
     pub fn read<H: Host>(
         &mut self,
         host: &mut H,
@@ -109,6 +109,7 @@ impl Pair {
     ) -> Result<(), HostFault>
         requires size { length into.old ≡ self.old.files.page_size }
         ensures page { (t : Trail) → IsTrue H.tells → IsOpen (H.world host.old) self.old t → number < length t.base.image → OnOk result (into.new ≡ page_at t.base.image number) }
+        ensures control_block { number ≡ 0 → IsTrue H.tells → OnOk result (HasBlock (H.world host.new) self.new into.new) }
         ensures open { (t : Trail) → IsTrue H.tells → IsOpen (H.world host.old) self.old t → IsOpen (H.world host.new) self.new t }
         ensures used { number < self.old.files.count → dropped (cache_of self.old) number ≡ None → OnOk result (bare self.new.pages ≡ used (bare self.old.pages) self.old.cap number into.new) }
         ensures ranks { (p : ℕ) → rank_of self.new.pages p ≡ rank_of self.old.pages p }
@@ -138,6 +139,7 @@ impl Pair {
         requires size { length into.old ≡ self.old.files.page_size }
         requires absent { slot_of self.old.pages number ≡ None }
         ensures page { (t : Trail) → IsTrue H.tells → IsOpen (H.world host.old) self.old t → number < length t.base.image → OnOk result (into.new ≡ page_at t.base.image number) }
+        ensures control_block { number ≡ 0 → IsTrue H.tells → OnOk result (HasBlock (H.world host.new) self.new into.new) }
         ensures open { (t : Trail) → IsTrue H.tells → IsOpen (H.world host.old) self.old t → IsOpen (H.world host.new) self.new t }
         ensures used { number < self.old.files.count → dropped (cache_of self.old) number ≡ None → OnOk result (bare self.new.pages ≡ used (bare self.old.pages) self.old.cap number into.new) }
         ensures ranks { (p : ℕ) → rank_of self.new.pages p ≡ rank_of self.old.pages p }
@@ -169,7 +171,8 @@ impl Pair {
         }
     }
 
-    /// Replaces page `number` of the database, or adds it at the end. It then is the page in memory that was used last.
+    /// Replaces page `number` of the database, or adds it at the end. It then is the page in memory that was used last. Page 0 has to be given
+    /// with its control block, the first 64 bytes, as `read` gives it.
     ///
     /// Where writes aren't forced, in the normal and the stalled state, a page below the length other than page 0 waits in memory, unless to
     /// keep it drops a page that waits: then no call is made, and it is seen at once. In the stalled state its entry is drafted, unless it has
@@ -189,10 +192,11 @@ impl Pair {
         requires size { length page.now ≡ self.old.files.page_size }
         requires most { number < 1048576 }
         requires some { is_zeros page.now ≡ false }
-        ensures takes { (t : Trail) → IsTrue H.tells → IsOpen (H.world host.old) self.old t → Fits number page.now t.base.image → forced ≡ is_forced t.base.image
+        requires control_block { number ≡ 0 → IsTrue H.tells → HasBlock (H.world host.old) self.old page.now }
+        ensures takes { (t : Trail) → IsTrue H.tells → IsOpen (H.world host.old) self.old t → number ≤ length t.base.image → forced ≡ is_forced t.base.image
             → Takes result (H.world host.old) (H.world host.new) self.old.files.name (IsOpen (H.world host.new) self.new) t (page_stroke number page.now ∷ []) }
         ensures touches { (t : Trail) → IsTrue H.tells → IsOpen (H.world host.old) self.old t → WritesIn (H.world host.old) (H.world host.new) self.old.files.state self.old.files.name }
-        ensures merged { (t : Trail) (k : ℕ) → IsTrue H.tells → IsOpen (H.world host.old) self.old t → Fits number page.now t.base.image → self.old.files.state ≡ 2
+        ensures merged { (t : Trail) (k : ℕ) → IsTrue H.tells → IsOpen (H.world host.old) self.old t → number ≤ length t.base.image → self.old.files.state ≡ 2
             → AreMerged (H.world host.old) self.old.files k → OnOk result (AreMerged (H.world host.new) self.new.files k) }
         ensures waits { may_wait self.old number forced ≡ true → (self.old.files.state ≡ 0 → IsOk result) × IfErr result (λ fault. fault ≡ Fault.Memory) × (host.new ≡ host.old) × OnOk result (waits self.new.pages number ≡ true) }
         ensures others { may_wait self.old number forced ≡ true → (p : ℕ) → p ≢ number → rank_of self.new.pages p ≡ rank_of self.old.pages p }

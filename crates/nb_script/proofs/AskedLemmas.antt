@@ -8,7 +8,7 @@ use Rattle.std.proofs.lemmas.List.{length-set}
 use Rattle.nb_host.specs.declared.refusals.Refusal.{Refusal}
 use Rattle.nb_host.specs.declared.refusals.Refusal.TheVariants.{ScriptLong}
 use Rattle.nb_model.specs.declared.statement.Statement.{Statement}
-use Rattle.nb_model.specs.declared.statement.Statement.TheVariants.{CreateDb, OpenDb, PageNew, Write, Read, Free, BeginBackup, EndBackup, Backup, BackupSince, CopyTo, CreateTable, DropTable, Insert, Update, Delete, Get, Scan, Forced, Access, Sync, ShowHeader, ShowPages, ShowImage, ShowCache}
+use Rattle.nb_model.specs.declared.statement.Statement.TheVariants.{CreateDb, OpenDb, PageNew, Write, Read, Free, BeginBackup, EndBackup, Backup, BackupSince, CopyTo, CreateTable, DropTable, Insert, Update, Delete, Get, Scan, Forced, Access, Sync, Check, Reclaim, ShowHeader, ShowPages, ShowImage, ShowCache}
 use Rattle.nb_script.specs.Words.{Bytes, after, session_at}
 use Rattle.nb_script.specs.Statements.{statement_at, session_line, command_at}
 use Rattle.nb_script.specs.FirstLine.{first_at, database_at}
@@ -58,6 +58,8 @@ opens_none (Scan table) fits = refl
 opens_none (Forced on) fits = refl
 opens_none (Access read_only) fits = refl
 opens_none Sync fits = refl
+opens_none Check fits = refl
+opens_none Reclaim fits = refl
 opens_none ShowHeader fits = refl
 opens_none ShowPages fits = refl
 opens_none ShowImage fits = refl
@@ -86,6 +88,8 @@ opens_one (Scan table) fits = absurd fits
 opens_one (Forced on) fits = absurd fits
 opens_one (Access read_only) fits = absurd fits
 opens_one Sync fits = absurd fits
+opens_one Check fits = absurd fits
+opens_one Reclaim fits = absurd fits
 opens_one ShowHeader fits = absurd fits
 opens_one ShowPages fits = absurd fits
 opens_one ShowImage fits = absurd fits

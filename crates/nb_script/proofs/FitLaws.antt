@@ -6,7 +6,7 @@ use Rattle.std.specs.Str.Parse.{digits_value}
 use Rattle.std.proofs.lemmas.Bool.{cases_Bool, and_parts, cond-true, cond-false, ltb-true, leb-true, and_from}
 use Rattle.nb_host.specs.Files.{is_page_size}
 use Rattle.nb_model.specs.declared.statement.Statement.{Statement}
-use Rattle.nb_model.specs.declared.statement.Statement.TheVariants.{PageNew, Write, Read, Free, BeginBackup, EndBackup, CopyTo, CreateTable, DropTable, Insert, Update, Delete, Get, Scan, Forced, Access, Sync, ShowHeader, ShowPages, ShowImage, ShowCache}
+use Rattle.nb_model.specs.declared.statement.Statement.TheVariants.{PageNew, Write, Read, Free, BeginBackup, EndBackup, CopyTo, CreateTable, DropTable, Insert, Update, Delete, Get, Scan, Forced, Access, Sync, Check, Reclaim, ShowHeader, ShowPages, ShowImage, ShowCache}
 use Rattle.nb_model.specs.TableNames.{is_table_name, is_table_byte}
 use Rattle.nb_script.specs.Words.{Bytes, ◌>>=◌, after, digit_count, is_plain, value_of, number_at, within, page_at, is_text_byte, closed, text_at, name_len, is_given, named, name_at, table_at, alone}
 use Rattle.nb_script.specs.Statements.{or_next, or_else, command_at, without_text, fixed, of_page, of_file, of_table, of_row, scan_at, backup_at, last_page, last_name, last_table, row_at, last_row, row_text, page_text}
@@ -156,7 +156,7 @@ fixed_fits : (bytes : Bytes) → If Fits (fixed bytes)
 unfolding fixed
 fixed_fits bytes =
     fixed_one _ PageNew _ tt (fixed_one _ BeginBackup _ tt (fixed_one _ EndBackup _ tt (fixed_one _ (Forced true) _ tt (fixed_one _ (Forced false) _ tt (fixed_one _ (Access true) _ tt
-    (fixed_one _ (Access false) _ tt (fixed_one _ Sync _ tt (fixed_one _ ShowHeader _ tt (fixed_one _ ShowPages _ tt (fixed_one _ ShowImage _ tt (fixed_one _ ShowCache _ tt nothing)))))))))))
+    (fixed_one _ (Access false) _ tt (fixed_one _ Sync _ tt (fixed_one _ Check _ tt (fixed_one _ Reclaim _ tt (fixed_one _ ShowHeader _ tt (fixed_one _ ShowPages _ tt (fixed_one _ ShowImage _ tt (fixed_one _ ShowCache _ tt nothing)))))))))))))
 
 of_page_fits : (bytes : Bytes) → If Fits (of_page bytes)
 unfolding of_page

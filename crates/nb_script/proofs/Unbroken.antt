@@ -7,7 +7,7 @@ use Rattle.std.proofs.lemmas.List.Folds.{list_all-append}
 use Rattle.nb_host.specs.Names.{is_name, is_name_byte}
 use Rattle.nb_host.specs.Files.{is_page_size}
 use Rattle.nb_model.specs.declared.statement.Statement.{Statement}
-use Rattle.nb_model.specs.declared.statement.Statement.TheVariants.{CreateDb, OpenDb, PageNew, Write, Read, Free, BeginBackup, EndBackup, Backup, BackupSince, CopyTo, CreateTable, DropTable, Insert, Update, Delete, Get, Scan, Forced, Access, Sync, ShowHeader, ShowPages, ShowImage, ShowCache}
+use Rattle.nb_model.specs.declared.statement.Statement.TheVariants.{CreateDb, OpenDb, PageNew, Write, Read, Free, BeginBackup, EndBackup, Backup, BackupSince, CopyTo, CreateTable, DropTable, Insert, Update, Delete, Get, Scan, Forced, Access, Sync, Check, Reclaim, ShowHeader, ShowPages, ShowImage, ShowCache}
 use Rattle.nb_model.specs.TableNames.{is_table_byte}
 use Rattle.nb_script.specs.Words.{Bytes, is_digit, is_text_byte, is_given}
 use Rattle.nb_script.specs.Spelling.{quoted, cache_text, sizes_text, row_text_of, command_text, line_text, spaced_sessions}
@@ -100,6 +100,8 @@ command_unbroken (Forced false) fits = refl
 command_unbroken (Access true) fits = refl
 command_unbroken (Access false) fits = refl
 command_unbroken Sync fits = refl
+command_unbroken Check fits = refl
+command_unbroken Reclaim fits = refl
 command_unbroken ShowHeader fits = refl
 command_unbroken ShowPages fits = refl
 command_unbroken ShowImage fits = refl
@@ -129,6 +131,8 @@ database_unbroken (Scan table) fits = absurd fits
 database_unbroken (Forced on) fits = absurd fits
 database_unbroken (Access read_only) fits = absurd fits
 database_unbroken Sync fits = absurd fits
+database_unbroken Check fits = absurd fits
+database_unbroken Reclaim fits = absurd fits
 database_unbroken ShowHeader fits = absurd fits
 database_unbroken ShowPages fits = absurd fits
 database_unbroken ShowImage fits = absurd fits

@@ -3,7 +3,7 @@ use Rattle.std.specs.Prelude.{◌≡◌, ℕ, ◌^◌, ◌<◌, ◌≤◌, true,
 use Rattle.std.specs.List.{list_all, AllByRecursion}
 use Rattle.nb_host.specs.Files.{is_page_size}
 use Rattle.nb_model.specs.declared.statement.Statement.{Statement}
-use Rattle.nb_model.specs.declared.statement.Statement.TheVariants.{CreateDb, OpenDb, PageNew, Write, Read, Free, BeginBackup, EndBackup, Backup, BackupSince, CopyTo, CreateTable, DropTable, Insert, Update, Delete, Get, Scan, Forced, Access, Sync, ShowHeader, ShowPages, ShowImage, ShowCache}
+use Rattle.nb_model.specs.declared.statement.Statement.TheVariants.{CreateDb, OpenDb, PageNew, Write, Read, Free, BeginBackup, EndBackup, Backup, BackupSince, CopyTo, CreateTable, DropTable, Insert, Update, Delete, Get, Scan, Forced, Access, Sync, Check, Reclaim, ShowHeader, ShowPages, ShowImage, ShowCache}
 use Rattle.nb_model.specs.TableNames.{is_table_name}
 use Rattle.nb_script.specs.Words.{Bytes, is_text_byte, is_given}
 
@@ -49,6 +49,8 @@ Fits (Scan table) = IsTable table
 Fits (Forced on) = Unit {0}
 Fits (Access read_only) = Unit {0}
 Fits Sync = Unit {0}
+Fits Check = Unit {0}
+Fits Reclaim = Unit {0}
 Fits ShowHeader = Unit {0}
 Fits ShowPages = Unit {0}
 Fits ShowImage = Unit {0}

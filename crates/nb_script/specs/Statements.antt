@@ -2,7 +2,7 @@
 use Rattle.std.specs.Prelude.{ℕ, ◌==◌, true, false, length, Option, Some, None, if◌then◌else◌, option_map, codes}
 use Rattle.std.specs.Str.{bytes_eq}
 use Rattle.nb_model.specs.declared.statement.Statement.{Statement}
-use Rattle.nb_model.specs.declared.statement.Statement.TheVariants.{PageNew, Write, Read, Free, BeginBackup, EndBackup, Backup, CopyTo, CreateTable, DropTable, Insert, Update, Delete, Get, Scan, Forced, Access, Sync, ShowHeader, ShowPages, ShowImage, ShowCache}
+use Rattle.nb_model.specs.declared.statement.Statement.TheVariants.{PageNew, Write, Read, Free, BeginBackup, EndBackup, Backup, CopyTo, CreateTable, DropTable, Insert, Update, Delete, Get, Scan, Forced, Access, Sync, Check, Reclaim, ShowHeader, ShowPages, ShowImage, ShowCache}
 use Rattle.nb_script.specs.Words.{Bytes, ◌>>=◌, after, number_at, within, session_at, page_at, text_at, name_at, table_at, alone}
 
 -- what a word's rest gives, where the line begins with that word; otherwise what is next
@@ -71,6 +71,8 @@ fixed bytes =
     else if bytes_eq bytes (codes "access read_only") then Some (Access true)
     else if bytes_eq bytes (codes "access read_write") then Some (Access false)
     else if bytes_eq bytes (codes "sync") then Some Sync
+    else if bytes_eq bytes (codes "check") then Some Check
+    else if bytes_eq bytes (codes "reclaim") then Some Reclaim
     else if bytes_eq bytes (codes "show header") then Some ShowHeader
     else if bytes_eq bytes (codes "show pages") then Some ShowPages
     else if bytes_eq bytes (codes "show image") then Some ShowImage

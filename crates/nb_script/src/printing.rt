@@ -171,6 +171,8 @@ fn put_command(out: &mut Vec<u8>, statement: &Statement) -> Result<(), AllocErro
         Statement::Access { read_only: true } => out.extend_from_slice(b"access read_only"),
         Statement::Access { read_only: false } => out.extend_from_slice(b"access read_write"),
         Statement::Sync => out.extend_from_slice(b"sync"),
+        Statement::Check => out.extend_from_slice(b"check"),
+        Statement::Reclaim => out.extend_from_slice(b"reclaim"),
         Statement::ShowHeader => out.extend_from_slice(b"show header"),
         Statement::ShowPages => out.extend_from_slice(b"show pages"),
         Statement::ShowImage => out.extend_from_slice(b"show image"),

@@ -123,6 +123,10 @@ fn fixed(bytes: &[u8]) -> Option<Statement>
         Some(Statement::Access { read_only: false })
     } else if bytes == b"sync".as_slice() {
         Some(Statement::Sync)
+    } else if bytes == b"check".as_slice() {
+        Some(Statement::Check)
+    } else if bytes == b"reclaim".as_slice() {
+        Some(Statement::Reclaim)
     } else if bytes == b"show header".as_slice() {
         Some(Statement::ShowHeader)
     } else if bytes == b"show pages".as_slice() {

@@ -41,7 +41,7 @@ use Rattle.nb_session.specs.Acts.{Says, Grows, shown_by, Touched, TurnLeft, AreK
 use Rattle.nb_session.specs.Ready.{IsReady}
 use Rattle.nb_state.specs.Does.{has_only_told}
 use Rattle.nb_session.specs.Replies.{some_said, only_told}
-use Rattle.nb_session.proofs.EventLaws.{strokes_are_steps, told_reply, unsaid}
+use Rattle.nb_session.proofs.EventLaws.{strokes_are_steps, told_reply}
 use Rattle.nb_session.proofs.GiftLaws.{given_nothing, grows_none}
 use Rattle.nb_session.proofs.KeepLaws.{begin_gives, begin_refused, begin_running, begin_made}
 use Rattle.nb_session.proofs.TurnLaws.{seen_now, outcome_is}

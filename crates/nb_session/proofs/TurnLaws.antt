@@ -37,7 +37,7 @@ use Rattle.nb_session.specs.Says.{SaysLine}
 use Rattle.nb_session.specs.Steps.{as_played, touching, GoesFurther, IsBehind, Turns}
 use Rattle.nb_session.specs.Stops.{Plays}
 use Rattle.nb_session.specs.Told.{told_line, told_reply, told_turns}
-use Rattle.nb_session.proofs.EventLaws.{Marks, ended, event_failed, event_quiet, event_unsaid, event_said}
+use Rattle.nb_session.proofs.EventLaws.{Marks, event_failed, event_quiet, event_unsaid, event_said}
 use Rattle.nb_session.proofs.GiftLaws.{foretold_still, grows_joined, grows_none}
 use Rattle.nb_session.proofs.SaysLaws.{says_other}
 use Rattle.nb_session.proofs.ToldLaws.{refusal_line}

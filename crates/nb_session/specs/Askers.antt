@@ -3,7 +3,7 @@ use Rattle.std.proofs.Common.{sym, ◌∙◌}
 use Rattle.std.specs.Prelude.{◌≡◌, ◌≢◌, ◌<◌, ◌^◌, ℕ, zero, suc, ◌+◌, ◌-◌, Bool, false, List, [], ◌∷◌, ◌++◌, length, map, replicate, Option, Some, None}
 use Rattle.std.specs.List.{AllByRecursion, list_any, slice_index_or}
 use Rattle.nb_model.specs.declared.statement.Statement.{Statement}
-use Rattle.nb_model.specs.declared.statement.Statement.TheVariants.{EndBackup, Backup as BackupTo, BackupSince, CopyTo, CreateTable, DropTable, Insert, Update, Delete, Get, Scan}
+use Rattle.nb_model.specs.declared.statement.Statement.TheVariants.{EndBackup, Backup as BackupTo, BackupSince, CopyTo, Check, Reclaim, CreateTable, DropTable, Insert, Update, Delete, Get, Scan}
 use Rattle.nb_model.specs.Outcomes.{Turn, Begins, Copies, ClosesBackup, ClosesCopy, Ends, Merges, Finishes}
 use Rattle.nb_model.specs.Run.{Now, all_sessions}
 use Rattle.nb_copy.specs.FileCopying.{file_count, file_next}
@@ -35,6 +35,12 @@ IsOnTables (Delete table key) = Unit {0}
 IsOnTables (Get table key) = Unit {0}
 IsOnTables (Scan table) = Unit {0}
 IsOnTables other = ⊥
+
+-- the statement checks the database, or gives its leaked pages back
+abbrev pub IsCheck : Statement → Type 0
+IsCheck Check = Unit {0}
+IsCheck Reclaim = Unit {0}
+IsCheck other = ⊥
 
 -- the statement asks for a backup
 abbrev pub IsBackup : Statement → Type 0

@@ -1,9 +1,9 @@
 -- Replies as they are answered.
-use Rattle.std.specs.Prelude.{[], ◌∷◌, length, Option, Some, None, Result, Ok, Err, Bool, true, false}
+use Rattle.std.specs.Prelude.{[], ◌∷◌, length, Option, Some, Result, Ok, Err, Bool, true, false}
 use Rattle.nb_host.specs.declared.faults.Fault.{Fault}
 use Rattle.nb_host.specs.declared.faults.Fault.TheVariants.{Refused, Device, Memory}
 use Rattle.nb_model.specs.declared.reply.Reply.{Reply}
-use Rattle.nb_model.specs.declared.reply.Reply.TheVariants.{Refused as RefusedBy, Opened, Value, Rows, HeaderShown, PagesShown, ImageShown, CacheShown}
+use Rattle.nb_model.specs.declared.reply.Reply.TheVariants.{Refused as RefusedBy, HeaderShown}
 use Rattle.nb_model.specs.Account.{Base}
 use Rattle.nb_model.specs.Image.{image_size, image_state, image_scn, image_guid, is_forced, is_read_only}
 use Rattle.nb_model.specs.Lines.{flag}

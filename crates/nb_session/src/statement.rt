@@ -18,6 +18,7 @@ ghost use Rattle.nb_session.specs.Askers.{IsOneTurn, KeepsOthers};
 ghost use Rattle.nb_session.specs.Ready.{IsReady};
 ghost use Rattle.nb_session.specs.Replies.{some_said, HasEnded, header_of};
 
+use crate::checks::do_checks;
 use crate::tables::do_on_tables;
 use nb_engine::Engine;
 use nb_host::{Fault, Host};
@@ -126,6 +127,7 @@ pub fn do_statement<H: Host>(
             capacity: engine.capacity(),
             held: engine.held(),
         }),
+        Statement::Check | Statement::Reclaim => do_checks(alloc, host, engine, statement),
         Statement::CreateTable { .. }
         | Statement::DropTable { .. }
         | Statement::Insert { .. }

@@ -1,8 +1,8 @@
 -- What is held of page 0 behind a stroke.
 use Rattle.std.proofs.Common.{◌≡◌, inl, inr, ℕ, zero, suc, ◌<◌, ◌≤◌, List, length, refl, sym, ap, subst, ◌∙◌, arith}
-use Rattle.std.specs.Prelude.{true, false, not, ◌==◌}
+use Rattle.std.specs.Prelude.{true, not, ◌==◌}
 use Rattle.std.proofs.lemmas.Bool.Decides.{eqb_tells}
-use Rattle.nb_fields.specs.Bytes.{is_zeros, number_in, part}
+use Rattle.nb_fields.specs.Bytes.{number_in, part}
 use Rattle.nb_fields.specs.Header.{is_header, scn_of, guid_of}
 use Rattle.nb_fields.proofs.PartLemmas.{part-take}
 use Rattle.nb_host.specs.World.{World}
@@ -21,8 +21,6 @@ use Rattle.nb_base.proofs.LeftLaws.{merged_fits, stroke-image, later_front}
 use Rattle.nb_owner.specs.Open.{IsOpen as PairOpen}
 use Rattle.nb_state.specs.Open.{Held, AgreesWith, IsOpen}
 use Rattle.nb_state.specs.Does.{Goes}
-use Rattle.nb_state.specs.Whole.{StaysWhole}
-use Rattle.nb_state.proofs.WholeLaws.{whole_written}
 
 -- what is held of page 0 goes by page 0 alone
 pub agrees_front : (held : Held) (a b : Base) → first_page b.image ≡ first_page a.image → AgreesWith held a → AgreesWith held b
@@ -62,10 +60,6 @@ module _ (t : Trail) (p : ℕ) (bytes : Page) (fits : Fits p bytes t.base.image)
   written =
       ap (λ (b : Base). b.image) (trail_base (page p bytes) t) ∙ stroke-image t.base p bytes
       ∙ ap (λ (x : Page). with_page p x t.base.image) (merged_fits p bytes t.base.image fits.front)
-
-  -- it goes on whole, where the page isn't all zeros
-  pub page_whole : is_zeros bytes ≡ false → StaysWhole t.base.image later
-  page_whole some = subst (λ (x : Image). StaysWhole t.base.image x) (sym written) (whole_written p bytes t.base.image fits.low some)
 
   first_written : p ≡ 0 → first_page later ≡ bytes
   first_written e = ap first_page written ∙ ap (λ (n : ℕ). first_page (with_page n bytes t.base.image)) e ∙ with_page_same 0 bytes t.base.image (omega arith)

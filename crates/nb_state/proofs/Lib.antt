@@ -1,4 +1,3 @@
-pub mod WholeLaws
 pub mod MakesLaws
 pub mod TestLaws
 pub mod ShownLaws

@@ -21,8 +21,6 @@ use Rattle.nb_base.specs.Takes.{Strikes, after_strokes, IsNoRefusal}
 use Rattle.nb_owner.proofs.WaitLaws.{still_open as pair_still}
 use Rattle.nb_state.specs.Open.{Held, IsOpen, but_pages, name_of, pair_of}
 use Rattle.nb_state.specs.Does.{WhereEnded, WhereRefused, Goes, Makes}
-use Rattle.nb_state.specs.Whole.{StaysWhole}
-use Rattle.nb_state.proofs.WholeLaws.{whole_same, whole_then}
 
 -- a database stays open
 pub still_open : (old new : World) (held : Held) (t : Trail) → IsStill old new → IsOpen old held t → IsOpen new held t
@@ -68,12 +66,6 @@ ended_more (Ok value) P Q more is = more is
 ended_more (Err (Refused refusal)) P Q more is = more is
 ended_more (Err Device) P Q more is = tt
 ended_more (Err Memory) P Q more is = tt
-
-pub ended_both : {T : Type 0} (result : Result T Fault) (P Q R : Type 0) → (P → Q → R) → WhereEnded result P → WhereEnded result Q → WhereEnded result R
-ended_both (Ok value) P Q R more one two = more one two
-ended_both (Err (Refused refusal)) P Q R more one two = more one two
-ended_both (Err Device) P Q R more one two = tt
-ended_both (Err Memory) P Q R more one two = tt
 
 -- where it failed, nothing is promised of its end, and it was not refused
 pub never_ended : (T : Type 0) (fault : Fault) (P : Type 0) → IsNoRefusal fault → WhereEnded {T = T} (Err fault) P
@@ -122,7 +114,6 @@ pub makes_none : {T : Type 0} (result : Result T Fault) (old new : World) (a b :
 makes_none result old new a b t same quiet is still = record {
   left = none_yet old new a t [] quiet is;
   opened = where_ended result _ still;
-  whole = where_ended result _ (whole_same t.base.image);
   goes = goes_nowhere a b same;
   gave = gave_none old new quiet;
 }
@@ -132,7 +123,6 @@ pub makes_not : (T : Type 0) (fault : Fault) (old new : World) (a b : Held) (t :
 makes_not T fault old new a b t xs fails same quiet is = record {
   left = none_yet old new a t xs quiet is;
   opened = never_ended T fault _ fails;
-  whole = never_ended T fault _ fails;
   goes = goes_nowhere a b same;
   gave = gave_none old new quiet;
 }
@@ -144,8 +134,6 @@ makes_then value result old mid new a b c t xs ys first second = record {
   left = strokes_composed after_stroke (StandsIn (name_of a)) (OfFiles (name_of a)) old mid new t xs ys first.left
       (subst (λ (n : List ℕ). Strikes mid new n (after_strokes t xs) ys) first.goes.name second.left);
   opened = subst (λ (u : Trail). WhereEnded result (IsOpen new c u)) (sym (after_all-joined after_stroke t xs ys)) second.opened;
-  whole = subst (λ (u : Trail). WhereEnded result (StaysWhole t.base.image u.base.image)) (sym (after_all-joined after_stroke t xs ys))
-      (ended_more result _ _ (whole_then t.base.image (after_strokes t xs).base.image (after_strokes (after_strokes t xs) ys).base.image first.whole) second.whole);
   goes = goes_on a b c first.goes second.goes;
   gave = nothing_joined old mid new first.gave second.gave;
 }
@@ -156,7 +144,6 @@ pub makes_front : (S T : Type 0) (fault : Fault) (old new : World) (a b : Held) 
 makes_front S T fault old new a b t xs ys fails first = record {
   left = weaker_has old new (OfFiles (name_of a)) _ _ first.left (reached_front after_stroke (StandsIn (name_of a)) t xs ys);
   opened = never_ended T fault _ fails;
-  whole = never_ended T fault _ fails;
   goes = first.goes;
   gave = first.gave;
 }
@@ -168,7 +155,6 @@ makes_after result old mid new a b c t xs same quiet is makes = record {
   left = strokes_composed after_stroke (StandsIn (name_of a)) (OfFiles (name_of a)) old mid new t [] xs (none_yet old mid a t [] quiet is)
       (subst (λ (n : List ℕ). Strikes mid new n t xs) (ap (λ (h : Held). name_of h) same) makes.left);
   opened = makes.opened;
-  whole = makes.whole;
   goes = goes_on a b c (goes_nowhere a b same) makes.goes;
   gave = nothing_joined old mid new (gave_none old mid quiet) makes.gave;
 }

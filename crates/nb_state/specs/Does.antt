@@ -5,7 +5,7 @@ use Rattle.nb_host.specs.declared.faults.Fault.{Fault}
 use Rattle.nb_host.specs.declared.faults.Fault.TheVariants.{Refused, Device, Memory}
 use Rattle.nb_page.specs.Quiet.{Quiet}
 use Rattle.nb_model.specs.declared.reply.Reply.{Reply}
-use Rattle.nb_model.specs.declared.reply.Reply.TheVariants.{Refused as RefusedBy, Opened, Value, Rows, HeaderShown, PagesShown, ImageShown, CacheShown}
+use Rattle.nb_model.specs.declared.reply.Reply.TheVariants.{Refused as RefusedBy, Opened, Value, Rows, HeaderShown, PagesShown, ImageShown, CacheShown, Leaked}
 use Rattle.nb_model.specs.Causes.{Cause}
 use Rattle.nb_model.specs.Outcomes.{Outcome}
 use Rattle.nb_model.specs.Strokes.{Stroke}
@@ -13,7 +13,6 @@ use Rattle.nb_model.specs.Trail.{Trail}
 use Rattle.nb_change.specs.Gave.{GaveNothing}
 use Rattle.nb_base.specs.Takes.{Strikes, after_strokes}
 use Rattle.nb_state.specs.Open.{Held, IsOpen, name_of}
-use Rattle.nb_state.specs.Whole.{StaysWhole}
 
 -- the refusal is the one that there is a cause for, and there is none at Ok
 abbrev pub Tested : {T : Type 0} → Result T Fault → Cause → Type 0
@@ -53,6 +52,7 @@ only_tells (HeaderShown size pages state scn guid forced access delta) = true
 only_tells (PagesShown header inventory scn rows raw other free) = true
 only_tells (ImageShown pages digest) = true
 only_tells (CacheShown pages held) = true
+only_tells (Leaked pages) = true
 only_tells other = false
 
 -- so it is with what is said, if anything is
@@ -76,11 +76,10 @@ pub record Goes (before after : Held) : Type 0 where
   pub cap : after.cap ≡ before.cap
 
 -- The call makes these strokes in order: at each moment a stop leaves what may be left of what was seen behind a front of them, and
--- once the call has ended the database is open behind all of them, and its image goes on whole. It asks for no GUID and no time.
+-- once the call has ended the database is open behind all of them. It asks for no GUID and no time.
 pub record Makes {T : Type 0} (result : Result T Fault) (old new : World) (before after : Held) (t : Trail) (strokes : List Stroke) : Type 0 where
   pub left : Strikes old new (name_of before) t strokes
   pub opened : WhereEnded result (IsOpen new after (after_strokes t strokes))
-  pub whole : WhereEnded result (StaysWhole t.base.image (after_strokes t strokes).base.image)
   pub goes : Goes before after
   pub gave : GaveNothing old new
 

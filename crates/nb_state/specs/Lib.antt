@@ -2,4 +2,3 @@ pub mod Open
 pub mod Does
 pub mod Beginnings
 pub mod Turns
-pub mod Whole

@@ -2,11 +2,11 @@
 use Rattle.std.specs.Prelude.{◌≡◌, ◌<◌, ◌≤◌, ℕ, List, [], length, Option, Bool}
 use Rattle.nb_host.specs.World.{World}
 use Rattle.nb_model.specs.Account.{Base}
-use Rattle.nb_model.specs.Image.{image_scn, image_guid, is_forced, is_read_only}
+use Rattle.nb_model.specs.Image.{Page, image_scn, image_guid, is_forced, is_read_only}
 use Rattle.nb_model.specs.Trail.{Trail}
 use Rattle.nb_base.specs.Open.{AreMerged}
 use Rattle.nb_cache.specs.Held.{NoneWaits}
-use Rattle.nb_owner.specs.Open.{Pages, IsOpen as IsPairOpen, but_drafts}
+use Rattle.nb_owner.specs.Open.{Pages, IsOpen as IsPairOpen, HasBlock as HasPairBlock, but_drafts}
 
 -- What a contract sees of an open database.
 pub record Held : Type 0 where
@@ -34,6 +34,10 @@ name_of held = held.files.name
 -- its two files, and the pages in memory
 abbrev pub pair_of : Held → Rattle.nb_owner.specs.Open.Held
 pair_of held = record { files = held.files; pages = held.pages; cap = held.cap }
+
+-- the page begins with the control block, as page 0 has it
+abbrev pub HasBlock : World → Held → Page → Type 0
+HasBlock w held page = HasPairBlock w (pair_of held) page
 
 -- no page waits in memory to be written, and no entry is drafted
 abbrev pub NoPageWaits : Held → Type 0

@@ -8,12 +8,11 @@ ghost use Rattle.nb_page.specs.Quiet.{Quiet};
 ghost use Rattle.nb_model.specs.Image.{page_at};
 ghost use Rattle.nb_model.specs.Strokes.{page as page_stroke};
 ghost use Rattle.nb_model.specs.Trail.{Trail, settled};
-ghost use Rattle.nb_base.specs.Open.{Fits};
 ghost use Rattle.nb_base.specs.Takes.{Takes, Strikes, IsNoRefusal};
 ghost use Rattle.nb_base.specs.Touches.{WritesIn};
 ghost use Rattle.nb_cache.specs.Held.{slot_of};
 ghost use Rattle.nb_owner.specs.Open.{may_wait};
-ghost use Rattle.nb_state.specs.Open.{IsOpen, NoPageWaits, but_pages, name_of, pair_of};
+ghost use Rattle.nb_state.specs.Open.{IsOpen, HasBlock, NoPageWaits, but_pages, name_of, pair_of};
 ghost use Rattle.nb_state.specs.Does.{Makes, Goes};
 
 use crate::front::front_of;
@@ -141,8 +140,8 @@ impl Store {
         self.pair.held()
     }
 
-    /// Fills in page `number`, from memory or from the files. Nothing changes but which pages are in memory. Of the host a page in memory
-    /// asks nothing, page 0 at most two reads, and every other page at most one.
+    /// Fills in page `number`, from memory or from the files, page 0 with the control block that `write` asks for. Nothing changes but which
+    /// pages are in memory. Of the host a page in memory asks nothing, page 0 at most two reads, and every other page at most one.
     pub fn read<H: Host>(
         &mut self,
         host: &mut H,
@@ -152,6 +151,7 @@ impl Store {
         requires size { length into.old ≡ self.old.files.page_size }
         ensures page { (t : Trail) → IsTrue H.tells → IsOpen (H.world host.old) self.old t → number < length t.base.image → OnOk result (into.new ≡ page_at t.base.image number) }
         ensures open { (t : Trail) → IsTrue H.tells → IsOpen (H.world host.old) self.old t → IsOpen (H.world host.new) self.new t }
+        ensures control_block { number ≡ 0 → IsTrue H.tells → OnOk result (HasBlock (H.world host.new) self.new into.new) }
         ensures same { but_pages self.new ≡ but_pages self.old }
         ensures in_memory { IsSome (slot_of self.old.pages number) → IsOk result × (host.new ≡ host.old) }
         ensures quiet { Quiet (H.world host.old) (H.world host.new) }
@@ -180,9 +180,9 @@ impl Store {
         self.pair.read_main(host, number, into)
     }
 
-    /// Replaces page `number`, or adds it at the end. Page 0 has to be given with its first 64 bytes, the control block, as they stand. It is
-    /// kept for good where writes are forced, where it makes the database longer, and where it is page 0. Every other write may wait in memory,
-    /// and then makes no call. In the normal state the difference file isn't touched, and in the stalled state the main file isn't.
+    /// Replaces page `number`, or adds it at the end. Page 0 has to be given with its control block, the first 64 bytes, as `read` gives it. It
+    /// is kept for good where writes are forced, where it makes the database longer, and where it is page 0. Every other write may wait in
+    /// memory, and then makes no call. In the normal state the difference file isn't touched, and in the stalled state the main file isn't.
     ///
     /// It wants memory in the stalled state alone, and has changed no page then. It has made no call then but to write out what waited, so none
     /// where writes are forced.
@@ -190,7 +190,8 @@ impl Store {
         requires size { length page.now ≡ self.old.files.page_size }
         requires most { number < 1048576 }
         requires some { is_zeros page.now ≡ false }
-        ensures makes { (t : Trail) → IsTrue H.tells → IsOpen (H.world host.old) self.old t → Fits number page.now t.base.image
+        requires control_block { number ≡ 0 → IsTrue H.tells → HasBlock (H.world host.old) self.old page.now }
+        ensures makes { (t : Trail) → IsTrue H.tells → IsOpen (H.world host.old) self.old t → number ≤ length t.base.image
             → Makes result (H.world host.old) (H.world host.new) self.old self.new t (page_stroke number page.now ∷ []) }
         ensures touches { (t : Trail) → IsTrue H.tells → IsOpen (H.world host.old) self.old t → WritesIn (H.world host.old) (H.world host.new) self.old.files.state (name_of self.old) }
         ensures goes { Goes self.old self.new }

@@ -1,6 +1,6 @@
 -- What a row's turn does, once its table's rows are come by.
-use Rattle.std.proofs.Common.{◌≡◌, ℕ, ◌<◌, List, [], ◌∷◌, refl, sym, ap, ◌∙◌}
-use Rattle.std.specs.Prelude.{true, false, Option, Some, None, Result, Ok, Err, IfOk, IfSome, is_some}
+use Rattle.std.proofs.Common.{◌≡◌, ℕ, List, [], ◌∷◌, refl, sym, ap, ◌∙◌}
+use Rattle.std.specs.Prelude.{true, false, Option, Some, None, Result, Ok, Err, IfOk, is_some}
 use Rattle.nb_host.specs.World.{World}
 use Rattle.nb_host.specs.declared.faults.Fault.{Fault}
 use Rattle.nb_host.specs.declared.refusals.Refusal.{Refusal}
@@ -23,11 +23,10 @@ use Rattle.nb_engine.proofs.DoesLaws.{seeing, tries_does}
 use Rattle.nb_engine.proofs.RoomsLaws.{slot_alone}
 use Rattle.nb_engine.proofs.TestLaws.{applies, rests}
 use Rattle.nb_table.specs.declared.look.Found.{Found}
-use Rattle.nb_table.specs.declared.look.Place.{Place}
 use Rattle.nb_table.specs.declared.look.Sought.TheVariants.{Row}
 use Rattle.nb_table.specs.declared.look.Walked.{Walked}
 use Rattle.nb_table.specs.Rows.{rows_cause, place_cause}
-use Rattle.nb_table.specs.Walks.{gathered, found_at, place_at, IsPlaced}
+use Rattle.nb_table.specs.Walks.{gathered, found_at, place_at}
 use Rattle.nb_table.proofs.InTableLaws.{table_refused, table_goes_from}
 use Rattle.nb_table.proofs.PlaceLaws.{IsPlaceOf, found_some, found_there}
 use Rattle.nb_table.proofs.SpotPages.{row_kind}
@@ -122,11 +121,6 @@ module _ (first key : ℕ) (ss : List Spot) (walked : Walked) (is : walked ≡ g
 
   pub walked_key : is_some walked.found ≡ is_some (row_spot key ss)
   walked_key = ap (λ (o : Option Found). is_some o) walked_found ∙ found_there (row_spot key ss)
-
--- no slot that is found is one of page 0
-pub low_of : (size : ℕ) (room : Option Place) → IfSome room (IsPlaced size) → IfSome room (λ place. 0 < place.page)
-low_of size (Some place) is = is.low
-low_of size None is = tt
 
 -- The turns, by what was tested.
 module _ (s : Seen) (table : List ℕ) (key : ℕ) (text : List ℕ) where

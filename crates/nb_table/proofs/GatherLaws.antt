@@ -1,8 +1,9 @@
 -- What a walk has come by, and one slot more.
 use Rattle.std.proofs.Common.{◌≡◌, ◌≢◌, ℕ, ◌+◌, List, [], ◌∷◌, ◌++◌, length, refl, sym, ap, ◌∙◌, arith}
-use Rattle.std.specs.Prelude.{Bool, true, false, ◌&&◌, ◌||◌, nat_eq, min, Option, Some, None, slice_index, is_some}
-use Rattle.std.proofs.lemmas.Bool.{and_parts, eqb-true}
-use Rattle.nb_model.specs.Chains.{Chain, Slot, Spot, is_used, is_slot, is_filled, first_such, free_spot}
+use Rattle.std.specs.Prelude.{Bool, true, false, ◌&&◌, nat_eq, min, Option, Some, None, slice_index, is_some}
+use Rattle.std.proofs.lemmas.Bool.{eqb-true}
+use Rattle.nb_model.specs.Chains.{Slot, Spot, is_used, first_such, free_spot, spots_of}
+use Rattle.nb_model.specs.Image.{Image}
 use Rattle.nb_model.specs.Rows.{used}
 use Rattle.nb_model.proofs.ReadLaws.{eq_no, eq_yes}
 use Rattle.nb_engine.proofs.SlotLaws.{first_held, first_hit, first_miss}
@@ -12,32 +13,6 @@ use Rattle.nb_table.specs.declared.look.Place.{Place}
 use Rattle.nb_table.specs.declared.look.Found.{Found}
 use Rattle.nb_table.specs.declared.look.Walked.{Walked}
 use Rattle.nb_table.specs.Walks.{has, is_sought, place_of, found_of, place_at, found_at, gathered}
-
--- which slots are of the form, by the first byte
-module _ (chain : Chain) (slot : Slot) where
-  abbrev first : ℕ
-  first = slice_index slot 0
-
-  pub slot_free : first ≡ 0 → is_slot chain slot ≡ true
-  unfolding is_slot
-  slot_free e = ap (λ (t : Bool). t || (is_used slot && is_filled chain slot)) (eq_yes first 0 e)
-
-  by_use : first ≢ 0 → is_slot chain slot ≡ (is_used slot && is_filled chain slot)
-  unfolding is_slot
-  by_use e = ap (λ (t : Bool). t || (is_used slot && is_filled chain slot)) (eq_no first 0 e)
-
-  pub slot_used : first ≡ 1 → is_slot chain slot ≡ is_filled chain slot
-  slot_used e = by_use (λ d. absurd (omega (arith, d, e))) ∙ ap (λ (t : Bool). t && is_filled chain slot) (eq_yes first 1 e)
-
-  pub slot_other : first ≢ 0 → first ≢ 1 → is_slot chain slot ≡ false
-  slot_other no_zero no_one = by_use no_zero ∙ ap (λ (t : Bool). t && is_filled chain slot) (eq_no first 1 no_one)
-
-  -- a slot of the form that isn't free is used
-  pub used_of : is_slot chain slot ≡ true → first ≢ 0 → is_used slot ≡ true
-  used_of form e = (and_parts (is_used slot) (is_filled chain slot) (sym (by_use e) ∙ form)).0
-
-  pub filled_of : is_slot chain slot ≡ true → first ≢ 0 → is_filled chain slot ≡ true
-  filled_of form e = (and_parts (is_used slot) (is_filled chain slot) (sym (by_use e) ∙ form)).1
 
 sought_is : (sought : Sought) (slot : Slot) → is_sought sought slot ≡ (is_used slot && has sought slot)
 sought_is (Table name) slot = refl
@@ -165,7 +140,11 @@ module _ (sought : Sought) (ss : List Spot) (s : Spot) (old : Walked) (is : old 
     pub used_more_of : (n : ℕ) → UsedMore n → is_some old.found ≡ true → walked_of old.found old.room n ≡ gathered sought more
     used_more_of n count some = three _ _ _ _ _ _ (stays found_at wanted ss s old.found its_found refl (λ x. refl) some) room_same count
 
--- nothing was come by yet
-pub gathered_none : (sought : Sought) → walked_of None None 0 ≡ gathered sought []
-unfolding first_such free_spot used
-gathered_none sought = refl
+-- a walk has come by the slots of these pages
+abbrev pub Gathers : Sought → Image → Walked → List ℕ → Type 0
+Gathers sought image walked ps = walked ≡ gathered sought (spots_of image ps)
+
+-- of none yet
+pub gathered_none : (sought : Sought) (image : Image) → Gathers sought image (walked_of None None 0) []
+unfolding first_such free_spot used spots_of
+gathered_none sought image = refl

@@ -11,7 +11,7 @@ pub mod CreateLaws
 pub mod CreateTurnLaws
 pub mod SlotLaws
 pub mod GatherLaws
-pub mod WalkLaws
+pub mod SpotLaws
 pub mod FindLaws
 pub mod SortedLaws
 pub mod ReadTurns

@@ -7,13 +7,15 @@ use Rattle.std.specs.Map.{lookup}
 use Rattle.std.specs.BTreeMap.{insert_entry, is_at}
 use Rattle.std.proofs.lemmas.Bool.{and_from}
 use Rattle.std.proofs.lemmas.Bool.Decides.{eqb_tells, leb_tells}
-use Rattle.nb_model.specs.Chains.{RowsFrom, Slot, Spot, is_used, is_slot, key_of, text_in, first_such, row_spot}
+use Rattle.nb_model.specs.Chains.{RowsFrom, Slot, Spot, is_used, is_slot, key_of, text_in, first_such, row_spot, slots_in, spots_on, spots_of}
+use Rattle.nb_model.specs.Image.{Page, Image, page_at}
 use Rattle.nb_model.specs.Rows.{RowMap, with_row, row_at, rows_in}
 use Rattle.nb_model.proofs.ReadLaws.{eq_yes, eq_no, lt_yes, lt_no}
 use Rattle.nb_model.proofs.RowMaps.{rows_rise, same_maps, rows_at}
 use Rattle.nb_model.proofs.SpotMaps.{has_key, unused_key, other_key}
 use Rattle.nb_model.proofs.SpotMore.{more_rows}
 use Rattle.nb_engine.proofs.SlotLaws.{first_held, first_miss}
+use Rattle.nb_table.proofs.SpotLaws.{spots_more}
 
 -- How two numbers compare.
 cmp_less : (a b : ℕ) → a < b → nat_cmp a b ≡ Less
@@ -152,6 +154,16 @@ pub any_rows : (first : ℕ) (slots : List Slot) → list_all (is_slot (RowsFrom
 unfolding is_slot
 any_rows first slots = refl
 
-pub rows_none : [] ≡ rows_in []
-unfolding rows_in
-rows_none = refl
+-- a scan has come by the rows in the slots of these pages
+abbrev pub HoldsRows : Image → RowMap → List ℕ → Type 0
+HoldsRows image entries ps = entries ≡ rows_in (spots_of image ps)
+
+-- of none yet
+pub rows_none : (image : Image) → HoldsRows image [] []
+unfolding rows_in spots_of
+rows_none image = refl
+
+-- and of one more
+pub rows_more : (image : Image) (ps : List ℕ) (p : ℕ) (page : Page) (entries : RowMap) → page ≡ page_at image p → entries ≡ rows_in (spots_of image ps ++ spots_on p 0 (slots_in page)) → HoldsRows image entries (ps ++ p ∷ [])
+rows_more image ps p page entries there is =
+    is ∙ ap (λ (x : Page). rows_in (spots_of image ps ++ spots_on p 0 (slots_in x))) there ∙ ap rows_in (sym (spots_more image ps p))

@@ -3,7 +3,7 @@ use Rattle.std.proofs.Common.{◌≡◌, ℕ, ◌<◌, List, length}
 use Rattle.std.specs.Prelude.{true, Bool, Some, None}
 use Rattle.nb_model.specs.Image.{Image}
 use Rattle.nb_model.specs.Causes.{not_kind, broken_at}
-use Rattle.nb_model.specs.Chains.{Chain, Catalogue, Spot, is_in_chain, pages_of, found_pages, spots, spots_of, first_such, free_spot, table_spot, row_spot, last_of}
+use Rattle.nb_model.specs.Chains.{Chain, Spot, is_in_chain, pages_of, found_pages, spots, spots_of, first_such, free_spot, row_spot, last_of}
 use Rattle.nb_model.proofs.RoomLaws.{in_chain, pages_found, first_passes, last_of_all}
 use Rattle.nb_model.proofs.SpotLaws.{IsSpotOn, all_on}
 use Rattle.nb_engine.proofs.TestLaws.{kind_is}
@@ -37,8 +37,3 @@ module _ (chain : Chain) (image : Image) (formed : broken_at (pages_of chain ima
 
   pub last_kind : not_kind image 5 (last_of (found_pages chain image)) ≡ None
   last_kind = let parts = in_chain chain image (last_of (found_pages chain image)) last_in in kind_is image 5 (last_of (found_pages chain image)) parts.0 parts.1
-
--- and a table's in the catalogue
-pub table_kind : (image : Image) → broken_at (pages_of Catalogue image) ≡ None → (table : List ℕ) (s : Spot) → table_spot table image ≡ Some s → not_kind image 5 s.page ≡ None
-unfolding table_spot
-table_kind image formed table s found = spot_kind Catalogue image formed _ s found

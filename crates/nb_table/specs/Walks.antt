@@ -1,27 +1,13 @@
 -- What a walk over a chain comes by.
-use Rattle.std.specs.Prelude.{ℕ, ◌+◌, ◌*◌, ◌<◌, ◌≤◌, List, length, min, Option, Some, None, Bool, not, ◌&&◌, ◌==◌}
+use Rattle.std.specs.Prelude.{ℕ, ◌+◌, ◌*◌, ◌<◌, ◌≤◌, List, length, min, Option, Some, None, Bool, ◌&&◌, ◌==◌}
 use Rattle.nb_host.specs.Names.{same_name}
-use Rattle.nb_host.specs.declared.refusals.Refusal.TheVariants.{NotDatabase}
-use Rattle.nb_model.specs.Image.{Image}
-use Rattle.nb_model.specs.Causes.{Cause, when}
-use Rattle.nb_model.specs.Chains.{Chain, Catalogue, RowsFrom, Slot, Spot, is_used, is_in_chain, key_of, table_of, first_such, free_spot}
+use Rattle.nb_model.specs.Chains.{Chain, Catalogue, RowsFrom, Slot, Spot, is_used, key_of, table_of, first_such, free_spot}
 use Rattle.nb_model.specs.Rows.{used}
-use Rattle.nb_table.specs.declared.look.Chain as look
-use Rattle.nb_table.specs.declared.look.Chain.TheVariants.{Tables, Rows}
 use Rattle.nb_table.specs.declared.look.Sought.{Sought}
 use Rattle.nb_table.specs.declared.look.Sought.TheVariants.{Table, Row}
 use Rattle.nb_table.specs.declared.look.Place.{Place}
 use Rattle.nb_table.specs.declared.look.Found.{Found}
 use Rattle.nb_table.specs.declared.look.Walked.{Walked}
-
--- the chain whose slots hold tables, or the rows of one table
-abbrev pub chain_by : look.Chain → Chain
-chain_by Tables = Catalogue
-chain_by (Rows first) = RowsFrom first
-
--- the page isn't one of the chain
-abbrev pub not_linked : Chain → Image → ℕ → Cause
-not_linked chain image p = when (not (is_in_chain chain image p)) (NotDatabase p)
 
 -- the chain that it goes along
 abbrev pub chain_of : Sought → Chain

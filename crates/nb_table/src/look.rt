@@ -1,59 +1,18 @@
 // What is looked for in a chain, and what a walk comes by.
 ghost use Rattle.std.specs.Prelude.{◌≡◌, IsTrue, length};
-ghost use Rattle.nb_model.specs.Chains.{first_of, owner_of, is_filled};
-ghost use Rattle.nb_table.specs.Walks.{chain_by, chain_of, has};
+ghost use Rattle.nb_model.specs.Chains.{is_filled};
+ghost use Rattle.nb_table.specs.Walks.{chain_of, has};
+ghost use Rattle.nb_walk.specs.Walks.{chain_by};
 
-use crate::slots::{is_named, is_row, is_table, key_of};
-use nb_fields::layouts::header;
+use crate::slots::{is_named, key_of};
 use nb_model::TableName;
+use nb_walk::Chain;
 
 /// As many tables as a database may have.
 pub(crate) const MOST_TABLES: u32 = 12;
 
 /// As many bytes as a slot has.
 pub(crate) const SLOT: usize = 256;
-
-/// A chain of data pages, by what its slots hold.
-#[derive(Clone, Copy, Debug, PartialEq, Eq)]
-pub(crate) enum Chain {
-    /// The tables: the catalogue.
-    Tables,
-    /// The rows of the table whose chain begins with that page.
-    Rows(u32),
-}
-
-impl Chain {
-    /// Its first page.
-    pub(crate) fn first(self) -> u32
-        ensures { result ≡ first_of (chain_by self) }
-    {
-        match self {
-            Chain::Tables => header::CATALOGUE_PAGE,
-            Chain::Rows(first) => first,
-        }
-    }
-
-    /// What stands in the owner field of each of its pages.
-    pub(crate) fn owner(self) -> u32
-        ensures { result ≡ owner_of (chain_by self) }
-    {
-        match self {
-            Chain::Tables => 0,
-            Chain::Rows(first) => first,
-        }
-    }
-
-    /// Whether what a used slot of it holds is of the form.
-    pub(crate) fn is_filled(self, slot: &[u8]) -> bool
-        requires { length slot.now ≡ 256 }
-        ensures { result ≡ is_filled (chain_by self) slot.now }
-    {
-        match self {
-            Chain::Tables => is_table(slot),
-            Chain::Rows(_) => is_row(slot),
-        }
-    }
-}
 
 /// What is looked for.
 #[derive(Drop)]

@@ -19,14 +19,13 @@ ghost use Rattle.nb_state.specs.Open.{IsOpen, but_pages};
 ghost use Rattle.nb_state.specs.Does.{Does, Goes, Tested};
 
 use crate::LARGEST_PAGE;
-use crate::look::Chain;
-use crate::slots::{first_page, key_of, slot_at, slot_count, text_of, use_of};
+use crate::slots::{key_of, text_of};
 use crate::table::{find_row, find_table};
-use crate::walk::take_page;
 use arrayvec::ArrayVec;
 use nb_engine::Engine;
 use nb_host::{Fault, Host, Refusal};
 use nb_model::{RowList, TableName, Text};
+use nb_walk::{Chain, first_page, slot_at, slot_count, take_page, use_of};
 use std::alloc::Global;
 use std::collections::BTreeMap;
 use std::collections::btree_map::Entry;

@@ -13,13 +13,13 @@ ghost use Rattle.nb_table.specs.Rows.{rows_cause};
 ghost use Rattle.nb_table.specs.Walks.{spot_of, gathered, IsPlaced};
 
 use crate::look::{Found, Sought, Walked};
-use crate::slots::first_page;
 use crate::table::find_table;
 use crate::walk::walk;
 use nb_engine::Engine;
 use nb_fields::layouts::row::MOST_TEXT;
 use nb_host::{Fault, Host, Refusal};
 use nb_model::TableName;
+use nb_walk::first_page;
 
 /// What was come by of a table's rows.
 #[derive(Drop)]

@@ -7,78 +7,17 @@ ghost use Rattle.nb_change.specs.Counts.{CountsDevice};
 ghost use Rattle.nb_page.specs.Quiet.{Quiet};
 ghost use Rattle.nb_model.specs.Image.{page_at};
 ghost use Rattle.nb_model.specs.Causes.{broken_at};
-ghost use Rattle.nb_model.specs.Chains.{Spot, is_slot, is_filled, slots_in, spots_on, next_in, pages_of, found_pages, spots, last_of};
+ghost use Rattle.nb_model.specs.Chains.{Spot, is_slot, is_filled, slots_in, spots_on, spots_of, next_in, pages_of, found_pages, spots, last_of};
 ghost use Rattle.nb_model.specs.Trail.{Trail};
 ghost use Rattle.nb_state.specs.Open.{IsOpen, but_pages};
 ghost use Rattle.nb_state.specs.Does.{Tested};
-ghost use Rattle.nb_table.specs.Walks.{chain_by, chain_of, not_linked, gathered, IsPlaced};
+ghost use Rattle.nb_table.specs.Walks.{chain_of, gathered, IsPlaced};
+ghost use Rattle.nb_walk.specs.Walks.{not_linked};
 
-use crate::look::{Chain, Found, MOST_TABLES, Place, SLOT, Sought, Walked};
-use crate::slots::{slot_at, slot_count, use_of};
+use crate::look::{Found, MOST_TABLES, Place, SLOT, Sought, Walked};
 use nb_engine::Engine;
-use nb_fields::layouts::data;
 use nb_host::{Fault, Host, Refusal};
-
-/// Whether a slot of the chain is of the form.
-fn is_slot(chain: Chain, slot: &[u8]) -> bool
-    requires { length slot.now ≡ 256 }
-    ensures { result ≡ is_slot (chain_by chain) slot.now }
-{
-    let used = use_of(slot);
-    if used == 0 {
-        return true;
-    }
-    used == 1 && chain.is_filled(slot)
-}
-
-/// Whether all slots of a page of the chain are of the form.
-fn are_slots(chain: Chain, page: &[u8]) -> bool
-    requires { IsTrue (is_page_size (length page.now)) }
-    ensures { result ≡ list_all (is_slot (chain_by chain)) (slots_in page.now) }
-{
-    let count = slot_count(page);
-    let mut slot = 0;
-    while slot < count {
-        if !is_slot(chain, slot_at(page, slot)) {
-            return false;
-        }
-        slot += 1;
-    }
-    true
-}
-
-/// Reads page `number` of the chain, and answers the page that it is linked to, or 0. The refusal is `NotDatabase` of the page, where it
-/// isn't one of the chain. It takes one read at most.
-pub(crate) fn take_page<H: Host>(
-    host: &mut H,
-    engine: &mut Engine,
-    chain: Chain,
-    number: u32,
-    page: &mut [u8],
-) -> Result<u32, Fault>
-    requires size { length page.old ≡ engine.old.files.page_size }
-    ensures test { (t : Trail) → IsTrue H.tells → IsOpen (H.world host.old) engine.old t → Tested result (not_linked (chain_by chain) t.base.image number) }
-    ensures page { (t : Trail) → IsTrue H.tells → IsOpen (H.world host.old) engine.old t → OnOk result (page.new ≡ page_at t.base.image number) }
-    ensures next { IfOk result (λ next. next ≡ next_in page.new) }
-    ensures form { OnOk result (list_all (is_slot (chain_by chain)) (slots_in page.new) ≡ true) }
-    ensures low { OnOk result (0 < number) }
-    ensures high { OnOk result (number < 1048576) }
-    ensures sized { length page.new ≡ length page.old }
-    ensures open { (t : Trail) → IsTrue H.tells → IsOpen (H.world host.old) engine.old t → IsOpen (H.world host.new) engine.new t }
-    ensures same { but_pages engine.new ≡ but_pages engine.old }
-    ensures quiet { Quiet (H.world host.old) (H.world host.new) }
-    ensures once { IsTrue H.tells → (H.world host.new).reads ≤ (H.world host.old).reads + 1 }
-    ensures cause { CountsDevice result (H.faults host.old) (H.faults host.new) }
-    ensures takes_none { IfErr result (λ fault. fault ≢ Memory) }
-{
-    // Slots are counted by the size of a page, which is one of six.
-    let _size = engine.page_size();
-    engine.data_read(host, number, chain.owner(), page)?;
-    if !are_slots(chain, page) {
-        return Err(Fault::Refused(Refusal::NotDatabase { page: number }));
-    }
-    Ok(data::Next::get(page) as u32)
-}
+use nb_walk::{slot_at, slot_count, take_page, use_of};
 
 /// What a slot holds, and where it stands.
 fn found(slot: &[u8], place: Place) -> Found
@@ -146,8 +85,8 @@ fn take_link<H: Host>(
     requires size { length page.old ≡ engine.old.files.page_size }
     ensures test { (t : Trail) → IsTrue H.tells → IsOpen (H.world host.old) engine.old t → Tested result (not_linked (chain_of sought.now) t.base.image number) }
     ensures next { (t : Trail) → IsTrue H.tells → IsOpen (H.world host.old) engine.old t → IfOk result (λ next. next ≡ next_in (page_at t.base.image number)) }
-    ensures walked { (t : Trail) (ss : List Spot) → IsTrue H.tells → IsOpen (H.world host.old) engine.old t → walked.old ≡ gathered sought.now ss
-        → OnOk result (walked.new ≡ gathered sought.now (ss ++ spots_on number 0 (slots_in (page_at t.base.image number)))) }
+    ensures walked { (t : Trail) (ps : List ℕ) → IsTrue H.tells → IsOpen (H.world host.old) engine.old t → walked.old ≡ gathered sought.now (spots_of t.base.image ps)
+        → OnOk result (walked.new ≡ gathered sought.now (spots_of t.base.image (ps ++ number ∷ []))) }
     ensures found { IfSome walked.old.found (λ f. IsPlaced engine.old.files.page_size f.place) → OnOk result (IfSome walked.new.found (λ f. IsPlaced engine.old.files.page_size f.place)) }
     ensures filled { IfSome walked.old.found (λ f. IsTrue (is_filled (chain_of sought.now) f.bytes)) → OnOk result (IfSome walked.new.found (λ f. IsTrue (is_filled (chain_of sought.now) f.bytes))) }
     ensures room { IfSome walked.old.room (IsPlaced engine.old.files.page_size) → OnOk result (IfSome walked.new.room (IsPlaced engine.old.files.page_size)) }

@@ -3,9 +3,9 @@ use Rattle.std.proofs.Common.{◌≡◌, ℕ, List, [], ◌∷◌, refl, subst}
 use Rattle.std.specs.Prelude.{Option, Some, None}
 use Rattle.nb_host.specs.Files.{Files}
 use Rattle.nb_model.specs.declared.job.Job.{Job}
-use Rattle.nb_model.specs.declared.job.Job.TheVariants.{Run, Stat, Gen, Backup, BackupSince, Restore, Apply, Lock, LockWithSize, Unlock, Fixup, Fold, Plan}
+use Rattle.nb_model.specs.declared.job.Job.TheVariants.{Run, Stat, Check, Reclaim, Gen, Backup, BackupSince, Restore, Apply, Lock, LockWithSize, Unlock, Fixup, Fold, Plan}
 use Rattle.nb_model.specs.declared.statement.Statement.{Statement}
-use Rattle.nb_model.specs.declared.statement.Statement.TheVariants.{BeginBackup, EndBackup, ShowHeader, ShowPages, Backup as BackupTo, BackupSince as BackupOf}
+use Rattle.nb_model.specs.declared.statement.Statement.TheVariants.{BeginBackup, EndBackup, ShowHeader, ShowPages, Check as CheckIt, Reclaim as ReclaimIt, Backup as BackupTo, BackupSince as BackupOf}
 use Rattle.nb_model.specs.Account.{Account}
 use Rattle.nb_model.specs.Jobs.{Asks, IsAttaching, asks_of, restore_turn, fixup_turn, apply_turn, turn_of}
 use Rattle.nb_model.specs.Outcomes.{Given}
@@ -28,25 +28,27 @@ same_asked a b h = cc
 none_asked : (asks : Asks) → ◌≡◌ {A = Option Asks} None (Some asks) → ⊥
 none_asked asks h = cc
 
--- What holds of backups, of locks, of unlock and of the statistics holds of each job that attaches and is done today.
+-- What holds of backups, of locks, of unlock, of the statistics, of a check and of a reclaim holds of each job that attaches and is done today.
 attaching_jobs : (P : Job → Asks → Type 0) → ((level : ℕ) (db file : List ℕ) → P (Backup level db file) (one_asked db (BackupTo level file))) → ((guid db file : List ℕ) → P (BackupSince guid db file) (one_asked db (BackupOf guid file)))
     → ((db : List ℕ) → P (Lock db) (one_asked db BeginBackup)) → ((db : List ℕ) → P (LockWithSize db) (one_asked db BeginBackup)) → ((db : List ℕ) → P (Unlock db) (one_asked db EndBackup))
-    → ((db : List ℕ) → P (Stat db) (stat_asked db)) → (job : Job) (asks : Asks) → asks_of job ≡ Some asks → P job asks
+    → ((db : List ℕ) → P (Stat db) (stat_asked db)) → ((db : List ℕ) → P (Check db) (one_asked db CheckIt)) → ((db : List ℕ) → P (Reclaim db) (one_asked db ReclaimIt)) → (job : Job) (asks : Asks) → asks_of job ≡ Some asks → P job asks
 unfolding asks_of
-attaching_jobs P backup since lock sized unlock stat (Backup level db file) asks is = subst (P (Backup level db file)) (same_asked (one_asked db (BackupTo level file)) asks is) (backup level db file)
-attaching_jobs P backup since lock sized unlock stat (BackupSince guid db file) asks is =
+attaching_jobs P backup since lock sized unlock stat check reclaim (Backup level db file) asks is = subst (P (Backup level db file)) (same_asked (one_asked db (BackupTo level file)) asks is) (backup level db file)
+attaching_jobs P backup since lock sized unlock stat check reclaim (BackupSince guid db file) asks is =
     subst (P (BackupSince guid db file)) (same_asked (one_asked db (BackupOf guid file)) asks is) (since guid db file)
-attaching_jobs P backup since lock sized unlock stat (Lock db) asks is = subst (P (Lock db)) (same_asked (one_asked db BeginBackup) asks is) (lock db)
-attaching_jobs P backup since lock sized unlock stat (LockWithSize db) asks is = subst (P (LockWithSize db)) (same_asked (one_asked db BeginBackup) asks is) (sized db)
-attaching_jobs P backup since lock sized unlock stat (Unlock db) asks is = subst (P (Unlock db)) (same_asked (one_asked db EndBackup) asks is) (unlock db)
-attaching_jobs P backup since lock sized unlock stat (Stat db) asks is = subst (P (Stat db)) (same_asked (stat_asked db) asks is) (stat db)
-attaching_jobs P backup since lock sized unlock stat (Run script) asks is = absurd (none_asked asks is)
-attaching_jobs P backup since lock sized unlock stat (Gen number script) asks is = absurd (none_asked asks is)
-attaching_jobs P backup since lock sized unlock stat (Restore db names) asks is = absurd (none_asked asks is)
-attaching_jobs P backup since lock sized unlock stat (Apply db file) asks is = absurd (none_asked asks is)
-attaching_jobs P backup since lock sized unlock stat (Fixup db) asks is = absurd (none_asked asks is)
-attaching_jobs P backup since lock sized unlock stat (Fold out files) asks is = absurd (none_asked asks is)
-attaching_jobs P backup since lock sized unlock stat (Plan keep list) asks is = absurd (none_asked asks is)
+attaching_jobs P backup since lock sized unlock stat check reclaim (Lock db) asks is = subst (P (Lock db)) (same_asked (one_asked db BeginBackup) asks is) (lock db)
+attaching_jobs P backup since lock sized unlock stat check reclaim (LockWithSize db) asks is = subst (P (LockWithSize db)) (same_asked (one_asked db BeginBackup) asks is) (sized db)
+attaching_jobs P backup since lock sized unlock stat check reclaim (Unlock db) asks is = subst (P (Unlock db)) (same_asked (one_asked db EndBackup) asks is) (unlock db)
+attaching_jobs P backup since lock sized unlock stat check reclaim (Stat db) asks is = subst (P (Stat db)) (same_asked (stat_asked db) asks is) (stat db)
+attaching_jobs P backup since lock sized unlock stat check reclaim (Check db) asks is = subst (P (Check db)) (same_asked (one_asked db CheckIt) asks is) (check db)
+attaching_jobs P backup since lock sized unlock stat check reclaim (Reclaim db) asks is = subst (P (Reclaim db)) (same_asked (one_asked db ReclaimIt) asks is) (reclaim db)
+attaching_jobs P backup since lock sized unlock stat check reclaim (Run script) asks is = absurd (none_asked asks is)
+attaching_jobs P backup since lock sized unlock stat check reclaim (Gen number script) asks is = absurd (none_asked asks is)
+attaching_jobs P backup since lock sized unlock stat check reclaim (Restore db names) asks is = absurd (none_asked asks is)
+attaching_jobs P backup since lock sized unlock stat check reclaim (Apply db file) asks is = absurd (none_asked asks is)
+attaching_jobs P backup since lock sized unlock stat check reclaim (Fixup db) asks is = absurd (none_asked asks is)
+attaching_jobs P backup since lock sized unlock stat check reclaim (Fold out files) asks is = absurd (none_asked asks is)
+attaching_jobs P backup since lock sized unlock stat check reclaim (Plan keep list) asks is = absurd (none_asked asks is)
 
 module _ (files : Files) (before last : Account) (given : Given) (events : List Event) where
   -- what such a job asks for is the run of its script
@@ -61,6 +63,8 @@ module _ (files : Files) (before last : Account) (given : Given) (events : List 
       (λ db left done. record { whole = done.whole; left = left; run = done.run; said = done.said })
       (λ db left done. record { whole = done.whole; left = left; run = done.run; said = done.said })
       (λ db left done. record { whole = done.whole; left = left; run = done.run; said = done.said })
+      (λ db left done. record { whole = done.whole; left = left; run = done.run; said = done.said })
+      (λ db left done. record { whole = done.whole; left = left; run = done.run; said = done.said })
 
   -- and the other way
   abbrev IsAttached : Job → Asks → Type 0
@@ -70,6 +74,8 @@ module _ (files : Files) (before last : Account) (given : Given) (events : List 
   performed_attaches = attaching_jobs IsAttached
       (λ level db file attaching. record { whole = attaching.whole; run = attaching.run; said = attaching.said })
       (λ guid db file attaching. record { whole = attaching.whole; run = attaching.run; said = attaching.said })
+      (λ db attaching. record { whole = attaching.whole; run = attaching.run; said = attaching.said })
+      (λ db attaching. record { whole = attaching.whole; run = attaching.run; said = attaching.said })
       (λ db attaching. record { whole = attaching.whole; run = attaching.run; said = attaching.said })
       (λ db attaching. record { whole = attaching.whole; run = attaching.run; said = attaching.said })
       (λ db attaching. record { whole = attaching.whole; run = attaching.run; said = attaching.said })
@@ -101,4 +107,4 @@ turn_done files other row account is = absurd (no_row row is)
 
 -- what is asked for by a job that attaches is a run
 pub attaches_runs : (files : Files) (job : Job) (asks : Asks) → asks_of job ≡ Some asks → request_of files job ≡ Runs (run_of files job)
-attaches_runs files = attaching_jobs (λ job asks. request_of files job ≡ Runs (run_of files job)) (λ level db file. refl) (λ guid db file. refl) (λ db. refl) (λ db. refl) (λ db. refl) (λ db. refl)
+attaches_runs files = attaching_jobs (λ job asks. request_of files job ≡ Runs (run_of files job)) (λ level db file. refl) (λ guid db file. refl) (λ db. refl) (λ db. refl) (λ db. refl) (λ db. refl) (λ db. refl) (λ db. refl)

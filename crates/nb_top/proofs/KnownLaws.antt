@@ -10,7 +10,7 @@ use Rattle.nb_host.specs.declared.refusals.Refusal.{Refusal}
 use Rattle.nb_host.specs.declared.refusals.Refusal.TheVariants.{Usage}
 use Rattle.nb_page.specs.Free.{has_delta, is_free_name}
 use Rattle.nb_model.specs.declared.job.Job.{Job}
-use Rattle.nb_model.specs.declared.job.Job.TheVariants.{Run, Stat, Gen, Backup, BackupSince, Restore, Apply, Lock, LockWithSize, Unlock, Fixup, Fold, Plan as PlanOf}
+use Rattle.nb_model.specs.declared.job.Job.TheVariants.{Run, Stat, Check, Reclaim, Gen, Backup, BackupSince, Restore, Apply, Lock, LockWithSize, Unlock, Fixup, Fold, Plan as PlanOf}
 use Rattle.nb_model.specs.declared.statement.Statement.{Statement}
 use Rattle.nb_model.specs.declared.statement.Statement.TheVariants.{OpenDb}
 use Rattle.nb_model.specs.Account.{Base, IsBase, Account}
@@ -29,7 +29,7 @@ use Rattle.nb_top.specs.Performed.{Knows, KnowsAsked, KnowsNames, KnowsOpened, a
 use Rattle.nb_top.specs.Requests.{Asked, Runs, ToRun, FitsJob, request_asked, request_of, script_in, to_plan, to_run}
 use Rattle.nb_top.specs.Worlds.{HaveNames}
 use Rattle.nb_top.proofs.FirstReady.{base_name}
-use Rattle.nb_top.proofs.RequestLaws.{askable_in, backup_askable, since_askable, begin_askable, end_askable, stat_askable, fits_words, plain_file}
+use Rattle.nb_top.proofs.RequestLaws.{askable_in, backup_askable, since_askable, begin_askable, end_askable, stat_askable, check_askable, reclaim_askable, fits_words, plain_file}
 
 module _ (files : Files) (names : HaveNames files) where
   -- no difference file stands beside a long name
@@ -79,6 +79,8 @@ module _ (files : Files) (names : HaveNames files) (account : Account) (same : I
   known_job (Backup level db file) fits may = known_plan _ (backup_askable level db file fits) may
   known_job (BackupSince guid db file) fits may = known_plan _ (since_askable guid db file fits) may
   known_job (Stat db) fits may = known_plan _ (stat_askable db fits) may
+  known_job (Check db) fits may = known_plan _ (check_askable db fits) may
+  known_job (Reclaim db) fits may = known_plan _ (reclaim_askable db fits) may
   known_job (Lock db) fits may = known_plan _ (begin_askable db fits) may
   known_job (LockWithSize db) fits may = known_plan _ (begin_askable db fits) may
   known_job (Unlock db) fits may = known_plan _ (end_askable db fits) may

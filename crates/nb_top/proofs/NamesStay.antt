@@ -13,7 +13,7 @@ use Rattle.nb_host.specs.declared.refusals.Refusal.TheVariants.{Usage}
 use Rattle.nb_change.specs.Changes.{Names, Other}
 use Rattle.nb_change.proofs.MomentLaws.{left_before, weaker}
 use Rattle.nb_model.specs.declared.job.Job.{Job}
-use Rattle.nb_model.specs.declared.job.Job.TheVariants.{Run, Stat, Gen, Backup, BackupSince, Restore, Apply, Lock, LockWithSize, Unlock, Fixup, Fold, Plan as PlanOf}
+use Rattle.nb_model.specs.declared.job.Job.TheVariants.{Run, Stat, Check, Reclaim, Gen, Backup, BackupSince, Restore, Apply, Lock, LockWithSize, Unlock, Fixup, Fold, Plan as PlanOf}
 use Rattle.nb_model.specs.declared.statement.Statement.{Statement}
 use Rattle.nb_model.specs.declared.statement.Statement.TheVariants.{Backup as BackupTo, BackupSince as BackupOf, CopyTo}
 use Rattle.nb_model.specs.Generated.{generated}
@@ -33,7 +33,7 @@ use Rattle.nb_top.specs.Requests.{Asked, FitsJob, Runs, request_asked, request_o
 use Rattle.nb_top.specs.Touched.{OfAsked, OfTarget, ReadMakes}
 use Rattle.nb_top.specs.Worlds.{HaveNames, LeaveNames, StartsFrom}
 use Rattle.nb_top.proofs.FirstReady.{base_name, named_further}
-use Rattle.nb_top.proofs.RequestLaws.{askable_in, backup_askable, begin_askable, end_askable, fits_words, since_askable, stat_askable}
+use Rattle.nb_top.proofs.RequestLaws.{askable_in, backup_askable, begin_askable, check_askable, end_askable, fits_words, reclaim_askable, since_askable, stat_askable}
 use Rattle.nb_top.proofs.ScriptRuns.{creates, first_opens, opens}
 
 -- ---- the name of a database's difference file
@@ -125,6 +125,8 @@ module _ (files : Files) where
   job_named (Backup level db file) fits m own = plan_named _ (backup_askable level db file fits) m own
   job_named (BackupSince guid db file) fits m own = plan_named _ (since_askable guid db file fits) m own
   job_named (Stat db) fits m own = plan_named _ (stat_askable db fits) m own
+  job_named (Check db) fits m own = plan_named _ (check_askable db fits) m own
+  job_named (Reclaim db) fits m own = plan_named _ (reclaim_askable db fits) m own
   job_named (Lock db) fits m own = plan_named _ (begin_askable db fits) m own
   job_named (LockWithSize db) fits m own = plan_named _ (begin_askable db fits) m own
   job_named (Unlock db) fits m own = plan_named _ (end_askable db fits) m own

@@ -10,11 +10,11 @@ use Rattle.nb_host.specs.declared.faults.Fault.TheVariants.{Refused, Device, Mem
 use Rattle.nb_host.specs.declared.refusals.Refusal.{Refusal}
 use Rattle.nb_host.specs.declared.refusals.Refusal.TheVariants.{Usage}
 use Rattle.nb_model.specs.declared.job.Job.{Job}
-use Rattle.nb_model.specs.declared.job.Job.TheVariants.{Run, Stat, Gen, Backup, BackupSince, Restore, Apply, Lock, LockWithSize, Unlock, Fixup, Fold, Plan as PlanOf}
+use Rattle.nb_model.specs.declared.job.Job.TheVariants.{Run, Stat, Check, Reclaim, Gen, Backup, BackupSince, Restore, Apply, Lock, LockWithSize, Unlock, Fixup, Fold, Plan as PlanOf}
 use Rattle.nb_model.specs.declared.statement.Statement.{Statement}
-use Rattle.nb_model.specs.declared.statement.Statement.TheVariants.{BeginBackup, EndBackup, ShowHeader, ShowPages, Backup as BackupTo, BackupSince as BackupOf}
+use Rattle.nb_model.specs.declared.statement.Statement.TheVariants.{BeginBackup, EndBackup, ShowHeader, ShowPages, Check as CheckIt, Reclaim as ReclaimIt, Backup as BackupTo, BackupSince as BackupOf}
 use Rattle.nb_model.proofs.GoingLaws.{name_short}
-use Rattle.nb_model.specs.Words.{Word, Read, are_flags, is_database, is_file, job_if, number_in_word, count_in_word, run_or_stat, gen_job, plan_job, gen_or_plan, fold_job, plain_job, backup_job, restore_job, apply_job, database_job, read_words, job_of_flags, job_read, job_of}
+use Rattle.nb_model.specs.Words.{Word, Read, are_flags, is_database, is_file, job_if, number_in_word, count_in_word, asks_one, named_job, gen_job, plan_job, gen_or_plan, fold_job, plain_job, backup_job, restore_job, apply_job, database_job, read_words, job_of_flags, job_read, job_of}
 use Rattle.nb_catalog.specs.Turns.{names_in}
 use Rattle.nb_script.specs.Asked.{IsFurther, IsAskable}
 use Rattle.nb_script.specs.Fits.{IsBase, IsFile}
@@ -109,15 +109,24 @@ backup_fits (since ∷ db ∷ file ∷ []) = by _
     by None = if_fits is_level (Backup (slice_index since 0 - 48) db file) fits
 backup_fits (since ∷ db ∷ file ∷ w ∷ ws) = tt
 
-run_fits : (plain : List Word) → IfJob (run_or_stat plain)
-run_fits [] = tt
-run_fits (verb ∷ []) = tt
-run_fits (verb ∷ name ∷ []) = by (same_name verb (codes "run"))
+one_fits : (verb name : Word) → is_database name ≡ true → IfJob (asks_one verb name)
+one_fits verb name is = by (same_name verb (codes "stat")) (same_name verb (codes "check"))
   where
-    by : (b : Bool) → IfJob (elim b as (λ z. Option Job) [ true ↦ job_if (is_file name) (Run name) | false ↦ job_if (same_name verb (codes "stat") && is_database name) (Stat name) ])
-    by true = if_fits (is_file name) (Run name) (λ is. tt)
-    by false = if_fits (same_name verb (codes "stat") && is_database name) (Stat name) (λ is. (and_parts (same_name verb (codes "stat")) (is_database name) is).1)
-run_fits (verb ∷ name ∷ w ∷ ws) = tt
+    by : (s c : Bool) → IfJob (elim s as (λ z. Option Job) [ true ↦ Some (Stat name) | false ↦ elim c as (λ z. Option Job) [ true ↦ Some (Check name) | false ↦ job_if (same_name verb (codes "reclaim")) (Reclaim name) ] ])
+    by true c = is
+    by false true = is
+    by false false = if_fits (same_name verb (codes "reclaim")) (Reclaim name) (λ yes. is)
+
+named_fits : (plain : List Word) → IfJob (named_job plain)
+named_fits [] = tt
+named_fits (verb ∷ []) = tt
+named_fits (verb ∷ name ∷ []) = by (same_name verb (codes "run")) (is_database name) refl
+  where
+    by : (b d : Bool) → is_database name ≡ d → IfJob (elim b as (λ z. Option Job) [ true ↦ job_if (is_file name) (Run name) | false ↦ elim d as (λ z. Option Job) [ true ↦ asks_one verb name | false ↦ None ] ])
+    by true d is = if_fits (is_file name) (Run name) (λ yes. tt)
+    by false true is = one_fits verb name is
+    by false false is = tt
+named_fits (verb ∷ name ∷ w ∷ ws) = tt
 
 gen_fits : (number name : Word) → IfJob (gen_job number name)
 gen_fits number name = by (number_in_word number)
@@ -160,7 +169,7 @@ fold_fits (verb ∷ out ∷ files) = if_fits (same_name verb (codes "fold") && i
 plain_fits : (plain : List Word) → IfJob (plain_job plain)
 plain_fits [] = tt
 plain_fits (verb ∷ []) = tt
-plain_fits (verb ∷ name ∷ []) = run_fits (verb ∷ name ∷ [])
+plain_fits (verb ∷ name ∷ []) = named_fits (verb ∷ name ∷ [])
 plain_fits (verb ∷ number ∷ name ∷ []) = three_fits (verb ∷ number ∷ name ∷ [])
 plain_fits (verb ∷ out ∷ file ∷ other ∷ files) = fold_fits (verb ∷ out ∷ file ∷ other ∷ files)
 
@@ -236,6 +245,12 @@ pub stat_askable : (db : List ℕ) → is_database db ≡ true → IsAskable (pl
 stat_askable db is =
     plan_askable db (ShowHeader ∷ ShowPages ∷ []) is (record { opens_none = refl; fits = tt }, (record { opens_none = refl; fits = tt }, tt)) (omega arith)
 
+pub check_askable : (db : List ℕ) → is_database db ≡ true → IsAskable (plan_of db (CheckIt ∷ []))
+check_askable db is = plan_askable db (CheckIt ∷ []) is (record { opens_none = refl; fits = tt }, tt) (omega arith)
+
+pub reclaim_askable : (db : List ℕ) → is_database db ≡ true → IsAskable (plan_of db (ReclaimIt ∷ []))
+reclaim_askable db is = plan_askable db (ReclaimIt ∷ []) is (record { opens_none = refl; fits = tt }, tt) (omega arith)
+
 -- a name of a file has 100 bytes at most
 file_given : (name : List ℕ) → is_file name ≡ true → IsFile name
 file_given name is =
@@ -301,6 +316,8 @@ module _ (files : Files) where
   job_can (Backup level db file) fits = backup_askable level db file fits
   job_can (BackupSince guid db file) fits = since_askable guid db file fits
   job_can (Stat db) fits = stat_askable db fits
+  job_can (Check db) fits = check_askable db fits
+  job_can (Reclaim db) fits = reclaim_askable db fits
   job_can (Lock db) fits = begin_askable db fits
   job_can (LockWithSize db) fits = begin_askable db fits
   job_can (Unlock db) fits = end_askable db fits
@@ -317,10 +334,6 @@ module _ (files : Files) where
       by : (job : Option Job) → job_of words ≡ job → CanBeMet (elim job as (λ z. Asked) [ None ↦ Runs (Err Usage) | Some k ↦ request_of files k ])
       by None is = tt
       by (Some job) is = job_can job (fits_words words job is)
-
--- the answer of a reading
-pub asked_read : (files : Files) (words : List Word) (answer : Result Job Fault) (job : Job) → answer ≡ Ok job → IfOk answer (λ (j : Job). job_of words ≡ Some j) → request_asked files words ≡ request_of files job
-asked_read files words answer job is read = asked_job files words job (subst (λ (a : Result Job Fault). IfOk a (λ (j : Job). job_of words ≡ Some j)) is read)
 
 pub unread_words : (words : List Word) (answer : Result Job Fault) (refusal : Refusal) → answer ≡ Err (Refused refusal) → IfErr answer (λ (fault : Fault). (fault ≡ Memory) ⊎ ((fault ≡ Refused Usage) × (job_of words ≡ None)))
     → job_of words ≡ None

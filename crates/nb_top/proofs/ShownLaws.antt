@@ -1,14 +1,13 @@
 -- The line that is shown of a script which breaks its form.
-use Rattle.std.proofs.Common.{◌≡◌, ◌≢◌, ℕ, List, refl, sym, ap, subst}
+use Rattle.std.proofs.Common.{◌≡◌, ◌≢◌, ℕ, List, sym, ap, subst}
 use Rattle.std.specs.Prelude.{Option, Some, None, Result, Ok, Err, IsErr}
 use Rattle.nb_host.specs.declared.refusals.Refusal.{Refusal}
 use Rattle.nb_host.specs.declared.refusals.Refusal.TheVariants.{BadScript, Usage}
 use Rattle.nb_session.specs.declared.stop.Stop.{Stop}
 use Rattle.nb_top.specs.declared.broken.Broken.{Broken}
 use Rattle.nb_top.specs.declared.status.Status.{Status}
-use Rattle.nb_top.specs.declared.status.Status.TheVariants.{Device, Memory}
 use Rattle.nb_top.specs.Requests.{Request, Deed, Asked, Runs, Does, to_plan}
-use Rattle.nb_top.specs.Shown.{Names, BreaksAt, IfShown, IsShownOf, IsShown}
+use Rattle.nb_top.specs.Shown.{Names, BreaksAt, IfShown, IsShownOf}
 
 -- it isn't refused for a line
 abbrev pub IsUnbroken : Asked → Type 0
@@ -47,14 +46,3 @@ shown_by (Ok status) (Some b) refusal names = ap (λ (r : Refusal). Runs (Err r)
 shown_by (Ok status) None refusal names = λ line h. names line (same_refusal refusal (BadScript line) h)
 shown_by (Err e) (Some b) refusal names = ap (λ (r : Refusal). Runs (Err r)) names
 shown_by (Err e) None refusal names = tt
-
--- behind the run
-pub shown_ended : (status : Status) (broken : Option Broken) (asked : Asked) → IsShownOf (Ok status) broken asked → IsShown status broken asked
-shown_ended status None asked shown = record { right = tt; exact = λ d m. shown }
-shown_ended status (Some b) asked shown = record { right = shown; exact = λ d m. shown }
-
-pub shown_device : (stop : Stop) (broken : Option Broken) (asked : Asked) → IsShownOf (Err stop) broken asked → IsShown Device broken asked
-shown_device stop broken asked shown = record { right = shown; exact = λ d m. absurd (d refl) }
-
-pub shown_memory : (stop : Stop) (broken : Option Broken) (asked : Asked) → IsShownOf (Err stop) broken asked → IsShown Memory broken asked
-shown_memory stop broken asked shown = record { right = shown; exact = λ d m. absurd (m refl) }

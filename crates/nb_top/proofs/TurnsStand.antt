@@ -111,9 +111,6 @@ sound_on old account name job plain named done = sound_named old account name jo
 
 -- ---- the name of a job, as it is known
 
-as_named : (was : Was) (o : Option (List ℕ)) (files : Files) (name : List ℕ) → o ≡ Some name → IsAsWas was o files → was name (files name)
-as_named was o files name is as_it = subst (λ (x : Option (List ℕ)). IsAsWas was x files) is as_it
-
 other_named : (o : Option (List ℕ)) (name m : List ℕ) → o ≡ Some name → m ≢ name → Other (OfName o) m
 other_named o name m is off = subst (λ (x : Option (List ℕ)). Other (OfName x) m) (sym is) off
 

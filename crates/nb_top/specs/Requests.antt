@@ -7,9 +7,9 @@ use Rattle.nb_host.specs.declared.faults.Fault.TheVariants.{Refused as RefusedFa
 use Rattle.nb_host.specs.declared.refusals.Refusal.{Refusal}
 use Rattle.nb_host.specs.declared.refusals.Refusal.TheVariants.{Usage, NoFile}
 use Rattle.nb_model.specs.declared.job.Job.{Job}
-use Rattle.nb_model.specs.declared.job.Job.TheVariants.{Run, Stat, Gen, Backup, BackupSince, Restore, Apply, Lock, LockWithSize, Unlock, Fixup, Fold, Plan as PlanOf}
+use Rattle.nb_model.specs.declared.job.Job.TheVariants.{Run, Stat, Check, Reclaim, Gen, Backup, BackupSince, Restore, Apply, Lock, LockWithSize, Unlock, Fixup, Fold, Plan as PlanOf}
 use Rattle.nb_model.specs.declared.statement.Statement.{Statement}
-use Rattle.nb_model.specs.declared.statement.Statement.TheVariants.{OpenDb, BeginBackup, EndBackup, ShowHeader, ShowPages, Backup as BackupTo, BackupSince as BackupOf}
+use Rattle.nb_model.specs.declared.statement.Statement.TheVariants.{OpenDb, BeginBackup, EndBackup, ShowHeader, ShowPages, Check as CheckIt, Reclaim as ReclaimIt, Backup as BackupTo, BackupSince as BackupOf}
 use Rattle.nb_model.specs.Jobs.{usual_cache}
 use Rattle.nb_model.specs.Words.{job_of, is_database, is_file}
 use Rattle.nb_catalog.specs.Turns.{names_in}
@@ -20,6 +20,8 @@ use Rattle.nb_top.specs.declared.telling.Telling.TheVariants.{All, Quietly, With
 -- the names of a job are those that words may give
 abbrev pub FitsJob : Job → Type 0
 FitsJob (Stat db) = is_database db ≡ true
+FitsJob (Check db) = is_database db ≡ true
+FitsJob (Reclaim db) = is_database db ≡ true
 FitsJob (Gen number script) = is_file script ≡ true
 FitsJob (Lock db) = is_database db ≡ true
 FitsJob (LockWithSize db) = is_database db ≡ true
@@ -85,6 +87,8 @@ run_of files (Run script) = to_run (script_in script (files script))
 run_of files (Backup level db file) = Ok (ToRun (plan_of db (BackupTo level file ∷ [])) Quietly)
 run_of files (BackupSince guid db file) = Ok (ToRun (plan_of db (BackupOf guid file ∷ [])) Quietly)
 run_of files (Stat db) = Ok (ToRun (plan_of db (ShowHeader ∷ ShowPages ∷ [])) Quietly)
+run_of files (Check db) = Ok (ToRun (plan_of db (CheckIt ∷ [])) Quietly)
+run_of files (Reclaim db) = Ok (ToRun (plan_of db (ReclaimIt ∷ [])) Quietly)
 run_of files (Lock db) = Ok (ToRun (plan_of db (BeginBackup ∷ [])) Quietly)
 run_of files (LockWithSize db) = Ok (ToRun (plan_of db (BeginBackup ∷ [])) WithSize)
 run_of files (Unlock db) = Ok (ToRun (plan_of db (EndBackup ∷ [])) Quietly)

@@ -195,6 +195,8 @@ fn run_job<H: Host>(
             )
         }
         Job::Stat { db } => run_stat(alloc, host, db),
+        Job::Check { db } => run_asking(alloc, host, db, Statement::Check, Telling::Quietly),
+        Job::Reclaim { db } => run_asking(alloc, host, db, Statement::Reclaim, Telling::Quietly),
         Job::Lock { db } => run_asking(alloc, host, db, Statement::BeginBackup, Telling::Quietly),
         Job::LockWithSize { db } => run_asking(
             alloc,

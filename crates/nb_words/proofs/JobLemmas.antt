@@ -1,13 +1,13 @@
 -- The jobs of the cells, by the words that they ask for.
 use Rattle.uuid.specs.Text.{parsed_hyphenated}
-use Rattle.nb_model.specs.declared.job.Job.TheVariants.{Backup, BackupSince, Fold, Restore}
+use Rattle.nb_model.specs.declared.job.Job.TheVariants.{Backup, BackupSince, Fold, Restore, Run}
 use Rattle.std.proofs.lemmas.List.{take_more, take_all, map-append, get_or_default, length-map}
 use Rattle.std.proofs.Common.{drop, nat_le, take, ◌++◌, ◌-◌, ap₂, slice_index, ◌≡◌, ◌∙◌, ◌+◌, ◌<◌, ◌≤◌, ℕ, zero, suc, ◌&&◌, Bool, true, false, List, [], ◌∷◌, length, get_or, Option, Some, None, refl, ap, sym, subst, cond, arith, Bor, codes}
 use Rattle.std.specs.List.{list_all}
 use Rattle.std.specs.Prelude.{not}
 use Rattle.std.proofs.lemmas.Bool.{and_left, and_right, and_from, le-leb, true≢false}
 use Rattle.nb_host.specs.Names.{same_name}
-use Rattle.nb_model.specs.Words.{Word, is_database, is_file, job_if, backup_job, fold_job, restore_job}
+use Rattle.nb_model.specs.Words.{Word, is_database, is_file, job_if, asks_one, named_job, backup_job, fold_job, restore_job}
 use Rattle.nb_model.specs.declared.job.Job.{Job}
 use Rattle.nb_words.specs.Parts.{is_level, named}
 use Rattle.nb_words.specs.Read.{words_of}
@@ -15,6 +15,19 @@ use Rattle.nb_words.specs.Read.{words_of}
 refused : (b : Bool) (w : Word) → cond b (Some w) None ≡ None → b ≡ false
 refused true w e = absurd (cc)
 refused false w e = refl
+
+-- ---- a database that is named by its verb
+
+pub asked_by_name : (verb name db : Word) (asked : Option Job) → same_name verb (codes "run") ≡ false → cond (is_database name) (Some name) None ≡ Some db → asked ≡ asks_one verb db → asked ≡ named_job (verb ∷ name ∷ [])
+asked_by_name verb name db asked other is asks =
+    subst (λ (b : Bool). asked ≡ elim b [ true ↦ job_if (is_file name) (Run name) | false ↦ elim (is_database name) [ true ↦ asks_one verb name | false ↦ None ] ]) (sym other) (by (is_database name) is)
+  where
+    inner : (a b : Word) → Some a ≡ Some b → a ≡ b
+    inner a b e = cc
+
+    by : (b : Bool) → cond b (Some name) None ≡ Some db → asked ≡ elim b [ true ↦ asks_one verb name | false ↦ None ]
+    by true e = asks ∙ ap (λ (n : Word). asks_one verb n) (sym (inner name db e))
+    by false e = absurd (cc e)
 
 -- ---- files
 

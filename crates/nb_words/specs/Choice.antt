@@ -4,7 +4,7 @@ use Rattle.std.specs.List.{position_or_len, range_with_len}
 use Rattle.std.specs.Cmp.Lexicographic.{pointwise}
 use Rattle.nb_fields.specs.Cases.{cell}
 use Rattle.nb_words.specs.Read.{counts_of}
-use Rattle.nb_model.specs.Words.{Word, are_flags, job_read, run_or_stat, gen_or_plan, fold_job, backup_job, restore_job, apply_job, database_job}
+use Rattle.nb_model.specs.Words.{Word, are_flags, job_read, named_job, gen_or_plan, fold_job, backup_job, restore_job, apply_job, database_job}
 use Rattle.nb_model.specs.declared.job.Job.{Job}
 use Rattle.nb_model.specs.declared.job.Job.TheVariants.{Lock, LockWithSize, Unlock, Fixup}
 
@@ -50,7 +50,7 @@ choices = map (λ row. map (choice places row) (range_with_len 0 13)) (range_wit
 -- the job that a cell stands for
 abbrev pub job_in : ℕ → List Word → Option Job
 job_in cell plain = elim (cell == 1) [
-  | true ↦ run_or_stat plain
+  | true ↦ named_job plain
   | false ↦ elim (cell == 2) [
     | true ↦ gen_or_plan plain
     | false ↦ elim (cell == 3) [

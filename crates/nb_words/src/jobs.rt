@@ -3,7 +3,7 @@ ghost use Rattle.std.specs.Prelude.{◌≡◌, [], ◌∷◌, Some, None, cond, 
 ghost use Rattle.std.specs.List.{list_all};
 ghost use Rattle.nb_host.specs.declared.faults.Fault.TheVariants.{Memory};
 ghost use Rattle.nb_model.specs.declared.job.Job.TheVariants.{Lock, LockWithSize, Unlock, Fixup};
-ghost use Rattle.nb_model.specs.Words.{is_file, run_or_stat, gen_job, plan_job, gen_or_plan, fold_job, backup_job, restore_job, apply_job, database_job};
+ghost use Rattle.nb_model.specs.Words.{is_file, asks_one, named_job, gen_job, plan_job, gen_or_plan, fold_job, backup_job, restore_job, apply_job, database_job};
 ghost use Rattle.nb_words.specs.Choice.{job_in};
 ghost use Rattle.nb_words.specs.Parts.{one_database};
 ghost use Rattle.nb_words.specs.Read.{words_of};
@@ -13,24 +13,36 @@ use nb_host::{Fault, Name};
 use nb_model::{Job, NameList};
 use std::alloc::Global;
 
-/// What the first of two words names.
-fn of_two(verb: &str, name: &str) -> Option<Job>
-    ensures { result ≡ run_or_stat (verb.now ∷ name.now ∷ []) }
+/// What the first of two words asks of a database.
+fn asked_of(verb: &str, db: Name) -> Option<Job>
+    ensures { result ≡ asks_one verb.now db }
 {
-    if verb == "run" {
-        let script = word::file(name)?;
-        Some(Job::Run { script })
-    } else if verb == "stat" {
-        let db = word::database(name)?;
+    if verb == "stat" {
         Some(Job::Stat { db })
+    } else if verb == "check" {
+        Some(Job::Check { db })
+    } else if verb == "reclaim" {
+        Some(Job::Reclaim { db })
     } else {
         None
     }
 }
 
-/// `run SCRIPT` and `stat DB`
-fn run_or_stat(words: &[&str]) -> Option<Job>
-    ensures { result ≡ run_or_stat (words_of words.now) }
+/// What the first of two words names.
+fn of_two(verb: &str, name: &str) -> Option<Job>
+    ensures { result ≡ named_job (verb.now ∷ name.now ∷ []) }
+{
+    if verb == "run" {
+        let script = word::file(name)?;
+        return Some(Job::Run { script });
+    }
+    let db = word::database(name)?;
+    asked_of(verb, db)
+}
+
+/// `run SCRIPT`, `stat DB`, `check DB` and `reclaim DB`
+fn named(words: &[&str]) -> Option<Job>
+    ensures { result ≡ named_job (words_of words.now) }
 {
     match words {
         [verb, name] => of_two(verb, name),
@@ -229,7 +241,7 @@ pub(crate) fn of_cell(alloc: Global, cell: u8, words: &[&str]) -> Result<Option<
     ensures only_memory { IfErr result (λ fault. fault ≡ Memory) }
 {
     match cell {
-        1 => Ok(run_or_stat(words)),
+        1 => Ok(named(words)),
         2 => Ok(gen_or_plan(words)),
         3 => Ok(backup(words)),
         4 => restore(alloc, words),

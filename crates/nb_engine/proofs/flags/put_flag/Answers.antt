@@ -1,4 +1,4 @@
-use Rattle.std.proofs.Common.{◌≤◌, List, [], length, refl, sym, ap, subst, ◌∙◌, arith}
+use Rattle.std.proofs.Common.{◌≤◌, List, [], length, take, refl, sym, ap, subst, ◌∙◌, arith}
 use Rattle.std.specs.Prelude.{Ok, Err, None}
 use Rattle.nb_fields.proofs.SizeLemmas.{size_facts}
 use Rattle.nb_model.specs.Lines.{flag}
@@ -10,7 +10,7 @@ use Rattle.nb_state.specs.Open.{Held, but_pages}
 use Rattle.nb_state.specs.Does.{Makes}
 use Rattle.nb_engine.specs.Tries.{Tries}
 use Rattle.nb_engine.proofs.DoesLaws.{tries_early, tries_passed, tries_after, tries_made}
-use Rattle.nb_engine.proofs.FlagLaws.{byte_is, flagged-some, flag_fits, flag_strokes}
+use Rattle.nb_engine.proofs.FlagLaws.{byte_is, front_stays, flagged-some, flag_strokes}
 use Rattle.nb_engine.proofs.WantLaws.{strikes_after}
 use Rattle.nb_engine.proofs.flags.put_flag.Goals as goal
 
@@ -20,6 +20,12 @@ write-requires-clause-some g c =
     let long : c.args.at ≤ length c.read_first.new.page = omega (arith, c.read_first.auto.page, size.at_least, c.requires.inside) in
     flagged-some c.args.at _ c.read_first.new.page c.put_number.new.page c.put_number.ensures.written c.requires.behind long c.in_ok-read_first.ensures.header
 
+pub write-requires-clause-control_block : goal.write-requires-clause-control_block
+write-requires-clause-control_block g c first tells t opened =
+    let size = size_facts (length c.args.page.now) c.requires.size in
+    let long : c.args.at ≤ length c.read_first.new.page = omega (arith, c.read_first.auto.page, size.at_least, c.requires.inside) in
+    ap (take 64) c.put_number.ensures.written ∙ front_stays c.args.at _ c.read_first.new.page c.requires.behind long ∙ c.in_ok-read_first.ensures.control_block tells t opened
+
 pub returns-in_err-read_first-clause-tries : goal.returns-in_err-read_first-clause-tries
 returns-in_err-read_first-clause-tries g c t tells is =
     let read = c.in_err-read_first.ensures in
@@ -28,15 +34,13 @@ returns-in_err-read_first-clause-tries g c t tells is =
 pub returns-in_err-write-clause-tries : goal.returns-in_err-write-clause-tries
 returns-in_err-write-clause-tries g c t tells is =
     let image = t.base.image in
-    let size = size_facts (length c.args.page.now) c.requires.size in
-    let long : c.args.at ≤ length c.read_first.new.page = omega (arith, c.read_first.auto.page, size.at_least, c.requires.inside) in
     let read = c.in_ok-read_first.ensures in
     let first = (read.reads t tells is).page in
     let still = read.open t tells is in
     let new = g.H.Host.world c.write.new.host in
     let fault = c.in_err-write.field-0.0 in
     let strokes = flag_strokes c.args.at c.from.result c.args.on c.read_first.new.page c.put_number.new.page image (c.from.ensures ∙ byte_is c.args.on) first c.put_number.ensures.written in
-    let makes = c.in_err-write.ensures.makes t tells still (flag_fits c.args.at _ c.read_first.new.page c.put_number.new.page image first c.put_number.ensures.written c.requires.behind long) in
+    let makes = c.in_err-write.ensures.makes t tells still (omega arith) in
     tries_passed c.from_residual-in_err-write.result fault (λ r. Tries r (g.H.Host.world c.args.host.now) new c.args.store.now c.write.new.self t None (byte_strokes c.args.at (flag c.args.on) image)) c.from_residual-in_err-write.ensures
     (tries_after {T = Unit {0}} (Err fault) _ _ _ _ _ _ t _ _ read.same read.quiet is
     (tries_made {T = Unit {0}} (Err fault) _ _ _ _ t None _ refl c.in_err-write.ensures.not_refused
@@ -45,13 +49,11 @@ returns-in_err-write-clause-tries g c t tells is =
 pub returns-clause-tries : goal.returns-clause-tries
 returns-clause-tries g c t tells is =
     let image = t.base.image in
-    let size = size_facts (length c.args.page.now) c.requires.size in
-    let long : c.args.at ≤ length c.read_first.new.page = omega (arith, c.read_first.auto.page, size.at_least, c.requires.inside) in
     let read = c.in_ok-read_first.ensures in
     let first = (read.reads t tells is).page in
     let still = read.open t tells is in
     let strokes = flag_strokes c.args.at c.from.result c.args.on c.read_first.new.page c.put_number.new.page image (c.from.ensures ∙ byte_is c.args.on) first c.put_number.ensures.written in
-    let makes = c.in_ok-write.ensures.makes t tells still (flag_fits c.args.at _ c.read_first.new.page c.put_number.new.page image first c.put_number.ensures.written c.requires.behind long) in
+    let makes = c.in_ok-write.ensures.makes t tells still (omega arith) in
     tries_after {T = Unit {0}} (Ok tt) _ _ _ _ _ _ t _ _ read.same read.quiet is
     (tries_made {T = Unit {0}} (Ok tt) _ _ _ _ t None _ refl tt
     (subst (λ (ss : List Stroke). Makes {T = Unit {0}} (Ok tt) (g.H.Host.world c.read_first.new.host) (g.H.Host.world c.write.new.host) c.read_first.new.store c.write.new.self t ss) strokes makes))

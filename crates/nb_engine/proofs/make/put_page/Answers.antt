@@ -38,8 +38,8 @@ returns-in_err-write-clause-tries g c t payload tells is low room filled =
     let bytes = stamped_page image p c.code.result kind c.scn.result payload c.args.page.now c.stamp.new.page filled c.stamp.ensures.written c.code.ensures (c.scn.ensures ∙ is.agrees.scn) room in
     tries_passed c.from_residual-in_err-write.result fault
     (λ r. Tries r (g.H.Host.world c.args.host.now) (g.H.Host.world c.write.new.host) c.args.store.now c.write.new.self t (entry_cause image p) (page_strokes image p kind payload)) c.from_residual-in_err-write.ensures
-    (put_then {T = Unit {0}} (Err fault) _ (g.H.Host.world c.raise_entry.new.host) _ _ c.raise_entry.new.store _ t p c.stamp.new.page _ (c.in_ok-raise_entry.ensures.tries t tells is) bytes c.requires.low low c.in_err-write.ensures.not_refused
-    (λ u opened fit. c.in_err-write.ensures.makes u tells opened fit))
+    (put_then {T = Unit {0}} (Err fault) _ (g.H.Host.world c.raise_entry.new.host) _ _ c.raise_entry.new.store _ t p c.stamp.new.page _ (c.in_ok-raise_entry.ensures.tries t tells is) bytes low c.in_err-write.ensures.not_refused
+    (λ u opened behind. c.in_err-write.ensures.makes u tells opened behind))
 
 pub returns-clause-tries : goal.returns-clause-tries
 returns-clause-tries g c t payload tells is low room filled =
@@ -47,5 +47,5 @@ returns-clause-tries g c t payload tells is low room filled =
     let p : ℕ = c.args.number in
     let kind : ℕ = code_of c.args.kind in
     let bytes = stamped_page image p c.code.result kind c.scn.result payload c.args.page.now c.stamp.new.page filled c.stamp.ensures.written c.code.ensures (c.scn.ensures ∙ is.agrees.scn) room in
-    put_then {T = Unit {0}} (Ok tt) _ (g.H.Host.world c.raise_entry.new.host) _ _ c.raise_entry.new.store _ t p c.stamp.new.page _ (c.in_ok-raise_entry.ensures.tries t tells is) bytes c.requires.low low tt
-    (λ u opened fit. c.in_ok-write.ensures.makes u tells opened fit)
+    put_then {T = Unit {0}} (Ok tt) _ (g.H.Host.world c.raise_entry.new.host) _ _ c.raise_entry.new.store _ t p c.stamp.new.page _ (c.in_ok-raise_entry.ensures.tries t tells is) bytes low tt
+    (λ u opened behind. c.in_ok-write.ensures.makes u tells opened behind)

@@ -37,6 +37,12 @@ returns-in-ImageShown c = rw c.in-ImageShown.is c.push_words-in-ImageShown.ensur
 pub returns-in-CacheShown : goal.returns-in-CacheShown
 returns-in-CacheShown c = rw c.in-CacheShown.is c.push_words-in-CacheShown.ensures
 
+pub returns-in-Leaked : goal.returns-in-Leaked
+returns-in-Leaked c = rw c.in-Leaked.is c.push_leaked.ensures
+
+pub returns-in-Freed : goal.returns-in-Freed
+returns-in-Freed c = rw c.in-Freed.is c.push_words-in-Freed.ensures
+
 pub returns-in-Planned : goal.returns-in-Planned
 returns-in-Planned c = rw c.in-Planned.is c.push_plan.ensures
 

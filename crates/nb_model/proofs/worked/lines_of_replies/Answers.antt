@@ -80,3 +80,19 @@ returns-clause-planned c = refl
 pub returns-clause-not_planned : goal.returns-clause-not_planned
 unfolding opened digits by_index
 returns-clause-not_planned c = refl
+
+pub returns-clause-leaked : goal.returns-clause-leaked
+unfolding opened digits by_index
+returns-clause-leaked c = refl
+
+pub returns-clause-none_leaked : goal.returns-clause-none_leaked
+unfolding opened digits by_index
+returns-clause-none_leaked c = refl
+
+pub returns-clause-freed : goal.returns-clause-freed
+unfolding opened digits by_index
+returns-clause-freed c = refl
+
+pub returns-clause-unsound : goal.returns-clause-unsound
+unfolding opened digits by_index
+returns-clause-unsound c = refl

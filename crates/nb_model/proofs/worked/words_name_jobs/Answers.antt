@@ -54,3 +54,15 @@ returns-clause-plan c = refl
 pub returns-clause-points : goal.returns-clause-points
 unfolding opened by_index
 returns-clause-points c = refl
+
+pub returns-clause-check : goal.returns-clause-check
+unfolding opened by_index
+returns-clause-check c = refl
+
+pub returns-clause-reclaim : goal.returns-clause-reclaim
+unfolding opened by_index
+returns-clause-reclaim c = refl
+
+pub returns-clause-check_two : goal.returns-clause-check_two
+unfolding opened by_index
+returns-clause-check_two c = refl

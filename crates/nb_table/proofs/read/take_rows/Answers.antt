@@ -1,22 +1,22 @@
-use Rattle.std.proofs.Common.{◌≡◌, ℕ, ◌++◌, List, refl, sym, ap, subst, ◌∙◌, arith}
+use Rattle.std.proofs.Common.{ℕ, List, refl, sym, ap, subst, ◌∙◌, arith}
 use Rattle.std.specs.Prelude.{IsTrue}
 use Rattle.std.specs.BTreeMap.{BTreeMap}
 use Rattle.nb_fields.specs.Places.{is_page_size}
 use Rattle.nb_page.proofs.QuietLemmas.{quiet_begun, quiet_joined}
 use Rattle.nb_model.specs.Causes.{broken_at}
-use Rattle.nb_model.specs.Chains.{RowsFrom, pages_of, slots_in, spots_on, next_in}
-use Rattle.nb_model.specs.Image.{Page}
+use Rattle.nb_model.specs.Chains.{RowsFrom, pages_of, slots_in, spots_of, next_in}
 use Rattle.nb_model.specs.Rows.{rows_in}
 use Rattle.nb_engine.proofs.DoesLaws.{tested_on}
-use Rattle.nb_table.specs.Walks.{not_linked}
-use Rattle.nb_table.proofs.SortedLaws.{any_rows, rows_none}
-use Rattle.nb_table.proofs.WalkLaws.{walks_first, walks_broken, walks_next, walks_none, walks_all, walks_over}
+use Rattle.nb_walk.specs.Walks.{not_linked}
+use Rattle.nb_walk.proofs.WalkLaws.{walks_first, walks_broken, walks_next, walks_none, walks_all, walks_over}
+use Rattle.nb_table.proofs.SortedLaws.{HoldsRows, any_rows, rows_none, rows_more}
+use Rattle.nb_table.proofs.SpotLaws.{spots_found}
 use Rattle.nb_table.proofs.read.take_rows.Goals as goal
 
 pub loop-left-init : goal.loop-left-init
 loop-left-init g c = record {
   walks = λ t tells is.
-      walks_first (RowsFrom c.args.first) t.base.image (λ ss. c.new-rows.result.entries ≡ rows_in ss) c.count-left.result c.args.first (c.count-left.ensures.value ∙ is.files.agrees.count) refl (c.new-rows.ensures.empty ∙ rows_none);
+      walks_first (RowsFrom c.args.first) t.base.image (HoldsRows t.base.image c.new-rows.result.entries) c.count-left.result c.args.first (c.count-left.ensures.value ∙ is.files.agrees.count) refl (c.new-rows.ensures.empty ∙ rows_none t.base.image);
   sized = refl;
   opened = λ t tells is. is;
   same = refl;
@@ -30,7 +30,7 @@ returns-in_err-next-clause-test g c t tells is =
     let chain = RowsFrom c.args.first in
     let still = l.invariant.opened t tells is in
     tested_on ℕ (BTreeMap ℕ (List ℕ)) _ _ (not_linked chain t.base.image l.number) (broken_at (pages_of chain t.base.image)) c.from_residual.ensures
-    (walks_broken chain t.base.image (λ ss. l.rows.entries ≡ rows_in ss) l.left l.number c.loop-left-test.true (l.invariant.walks t tells is)) (c.in_err-next.ensures.test t tells still)
+    (walks_broken chain t.base.image (HoldsRows t.base.image l.rows.entries) l.left l.number c.loop-left-test.true (l.invariant.walks t tells is)) (c.in_err-next.ensures.test t tells still)
 
 pub returns-then-next-eq0-clause-test : goal.returns-then-next-eq0-clause-test
 returns-then-next-eq0-clause-test g c t tells is =
@@ -38,8 +38,8 @@ returns-then-next-eq0-clause-test g c t tells is =
     let image = t.base.image in
     let still = l.invariant.opened t tells is in
     let page = c.in_ok-next.ensures.page t tells still in
-    walks_none (RowsFrom c.args.first) image (λ ss. l.rows.entries ≡ rows_in ss) l.left l.number c.loop-left-test.true (l.invariant.walks t tells is) (c.in_ok-next.ensures.test t tells still) (λ ss. c.add_rows.new.rows.entries ≡ rows_in ss)
-    (λ ss was. c.in_ok-add_rows.ensures.rows ss l.number was ∙ ap (λ (x : Page). rows_in (ss ++ spots_on l.number 0 (slots_in x))) page) c.in_ok-next.next (c.in_ok-next.ensures.next ∙ ap next_in page) c.if-next-eq0.true
+    walks_none (RowsFrom c.args.first) image (HoldsRows image l.rows.entries) l.left l.number c.loop-left-test.true (l.invariant.walks t tells is) (c.in_ok-next.ensures.test t tells still) (HoldsRows image c.add_rows.new.rows.entries)
+    (λ ps was. rows_more image ps l.number c.take_page.new.page c.add_rows.new.rows.entries page (c.in_ok-add_rows.ensures.rows (spots_of image ps) l.number was)) c.in_ok-next.next (c.in_ok-next.ensures.next ∙ ap next_in page) c.if-next-eq0.true
 
 pub returns-then-next-eq0-clause-rows : goal.returns-then-next-eq0-clause-rows
 returns-then-next-eq0-clause-rows g c t tells is =
@@ -47,8 +47,9 @@ returns-then-next-eq0-clause-rows g c t tells is =
     let image = t.base.image in
     let still = l.invariant.opened t tells is in
     let page = c.in_ok-next.ensures.page t tells still in
-    walks_all (RowsFrom c.args.first) image (λ ss. l.rows.entries ≡ rows_in ss) l.left l.number c.loop-left-test.true (l.invariant.walks t tells is) (c.in_ok-next.ensures.test t tells still) (λ ss. c.add_rows.new.rows.entries ≡ rows_in ss)
-    (λ ss was. c.in_ok-add_rows.ensures.rows ss l.number was ∙ ap (λ (x : Page). rows_in (ss ++ spots_on l.number 0 (slots_in x))) page) c.in_ok-next.next (c.in_ok-next.ensures.next ∙ ap next_in page) c.if-next-eq0.true
+    walks_all (RowsFrom c.args.first) image (HoldsRows image l.rows.entries) l.left l.number c.loop-left-test.true (l.invariant.walks t tells is) (c.in_ok-next.ensures.test t tells still) (HoldsRows image c.add_rows.new.rows.entries)
+    (λ ps was. rows_more image ps l.number c.take_page.new.page c.add_rows.new.rows.entries page (c.in_ok-add_rows.ensures.rows (spots_of image ps) l.number was)) c.in_ok-next.next (c.in_ok-next.ensures.next ∙ ap next_in page) c.if-next-eq0.true
+    ∙ ap rows_in (spots_found (RowsFrom c.args.first) image)
 
 pub loop-left-preserved : goal.loop-left-preserved
 loop-left-preserved g c =
@@ -58,8 +59,8 @@ loop-left-preserved g c =
           let image = t.base.image in
           let still = l.invariant.opened t tells is in
           let page = c.in_ok-next.ensures.page t tells still in
-          walks_next (RowsFrom c.args.first) image (λ ss. l.rows.entries ≡ rows_in ss) l.left l.number c.loop-left-test.true (l.invariant.walks t tells is) (c.in_ok-next.ensures.test t tells still) (λ ss. c.add_rows.new.rows.entries ≡ rows_in ss)
-          (λ ss was. c.in_ok-add_rows.ensures.rows ss l.number was ∙ ap (λ (x : Page). rows_in (ss ++ spots_on l.number 0 (slots_in x))) page) c.in_ok-next.next (c.in_ok-next.ensures.next ∙ ap next_in page) c.if-next-eq0.false;
+          walks_next (RowsFrom c.args.first) image (HoldsRows image l.rows.entries) l.left l.number c.loop-left-test.true (l.invariant.walks t tells is) (c.in_ok-next.ensures.test t tells still) (HoldsRows image c.add_rows.new.rows.entries)
+          (λ ps was. rows_more image ps l.number c.take_page.new.page c.add_rows.new.rows.entries page (c.in_ok-add_rows.ensures.rows (spots_of image ps) l.number was)) c.in_ok-next.next (c.in_ok-next.ensures.next ∙ ap next_in page) c.if-next-eq0.false;
       sized = c.in_ok-next.ensures.sized ∙ l.invariant.sized;
       opened = λ t tells is. c.in_ok-next.ensures.open t tells (l.invariant.opened t tells is);
       same = c.in_ok-next.ensures.same ∙ l.invariant.same;
@@ -70,7 +71,7 @@ loop-left-preserved g c =
 pub returns-clause-test : goal.returns-clause-test
 returns-clause-test g c t tells is =
     let l = c.loop-left in
-    walks_over (RowsFrom c.args.first) t.base.image (λ ss. l.rows.entries ≡ rows_in ss) l.left l.number (omega (arith, c.loop-left-test.false)) (l.invariant.walks t tells is)
+    walks_over (RowsFrom c.args.first) t.base.image (HoldsRows t.base.image l.rows.entries) l.left l.number (omega (arith, c.loop-left-test.false)) (l.invariant.walks t tells is)
 
 pub add_rows-requires-clause-size : goal.add_rows-requires-clause-size
 add_rows-requires-clause-size g c =

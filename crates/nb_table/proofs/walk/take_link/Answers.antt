@@ -1,9 +1,11 @@
-use Rattle.std.proofs.Common.{ℕ, ◌++◌, sym, ap, ◌∙◌}
+use Rattle.std.proofs.Common.{ℕ, List, ◌++◌, sym, ap, ◌∙◌}
 use Rattle.std.specs.List.{list_all}
 use Rattle.nb_model.specs.Image.{Page}
-use Rattle.nb_model.specs.Chains.{Chain, is_slot, slots_in, spots_on, next_in}
+use Rattle.nb_model.specs.Chains.{Chain, Spot, is_slot, slots_in, spots_on, spots_of, next_in}
 use Rattle.nb_engine.proofs.DoesLaws.{tested_on}
-use Rattle.nb_table.specs.Walks.{chain_of, gathered, not_linked}
+use Rattle.nb_walk.specs.Walks.{not_linked}
+use Rattle.nb_table.specs.Walks.{chain_of, gathered}
+use Rattle.nb_table.proofs.SpotLaws.{spots_more}
 use Rattle.nb_table.proofs.walk.take_link.Goals as goal
 
 pub returns-in_err-next-clause-test : goal.returns-in_err-next-clause-test
@@ -21,5 +23,7 @@ pub returns-clause-next : goal.returns-clause-next
 returns-clause-next g c t tells is = c.in_ok-next.ensures.next ∙ ap next_in (c.in_ok-next.ensures.page t tells is)
 
 pub returns-clause-walked : goal.returns-clause-walked
-returns-clause-walked g c t ss tells is was =
+returns-clause-walked g c t ps tells is was =
+    let ss : List Spot = spots_of t.base.image ps in
     c.add_slots.ensures.walked ss was ∙ ap (λ (x : Page). gathered c.args.sought.now (ss ++ spots_on c.args.number 0 (slots_in x))) (c.in_ok-next.ensures.page t tells is)
+    ∙ ap (gathered c.args.sought.now) (sym (spots_more t.base.image ps c.args.number))

@@ -1,18 +1,21 @@
-use Rattle.std.proofs.Common.{◌≡◌, rules, ℕ, refl, ap, ◌∙◌, arith}
+use Rattle.std.proofs.Common.{rules, ℕ, refl, ap, ◌∙◌, arith}
+use Rattle.std.specs.Prelude.{None}
 use Rattle.nb_page.proofs.QuietLemmas.{quiet_begun, quiet_joined}
 use Rattle.nb_model.specs.Causes.{broken_at}
 use Rattle.nb_model.specs.Chains.{first_of, pages_of}
 use Rattle.nb_engine.proofs.DoesLaws.{tested_on}
 use Rattle.nb_table.specs.declared.look.Walked.{Walked}
-use Rattle.nb_table.specs.Walks.{chain_of, gathered, not_linked}
-use Rattle.nb_table.proofs.GatherLaws.{gathered_none}
-use Rattle.nb_table.proofs.WalkLaws.{walks_first, walks_broken, walks_next, walks_none, walks_all, walks_last, walks_length, walks_over}
+use Rattle.nb_walk.specs.Walks.{not_linked}
+use Rattle.nb_walk.proofs.WalkLaws.{walks_first, walks_broken, walks_next, walks_none, walks_all, walks_last, walks_length, walks_over}
+use Rattle.nb_table.specs.Walks.{chain_of, gathered}
+use Rattle.nb_table.proofs.GatherLaws.{Gathers, walked_of, gathered_none}
+use Rattle.nb_table.proofs.SpotLaws.{spots_found}
 use Rattle.nb_table.proofs.walk.walk.Goals as goal
 
 pub loop-left-init : goal.loop-left-init
 loop-left-init g c = record {
   walks = λ t tells is.
-      walks_first (chain_of c.args.sought.now) t.base.image (λ ss. _ ≡ gathered c.args.sought.now ss) c.count-left.result _ (c.count-left.ensures.value ∙ is.files.agrees.count) (c.first-number.ensures ∙ ap first_of c.chain.ensures) (gathered_none c.args.sought.now);
+      walks_first (chain_of c.args.sought.now) t.base.image (Gathers c.args.sought.now t.base.image (walked_of None None 0)) c.count-left.result _ (c.count-left.ensures.value ∙ is.files.agrees.count) (c.first-number.ensures ∙ ap first_of c.chain.ensures) (gathered_none c.args.sought.now t.base.image);
   found = tt;
   filled = tt;
   room = tt;
@@ -31,31 +34,32 @@ returns-in_err-next-clause-test g c t tells is =
     let chain = chain_of c.args.sought.now in
     let still = l.invariant.opened t tells is in
     tested_on ℕ (Walked × ℕ) _ _ (not_linked chain t.base.image l.number) (broken_at (pages_of chain t.base.image)) c.from_residual.ensures
-    (walks_broken chain t.base.image (λ ss. l.walked ≡ gathered c.args.sought.now ss) l.left l.number c.loop-left-test.true (l.invariant.walks t tells is)) (c.in_err-next.ensures.test t tells still)
+    (walks_broken chain t.base.image (Gathers c.args.sought.now t.base.image l.walked) l.left l.number c.loop-left-test.true (l.invariant.walks t tells is)) (c.in_err-next.ensures.test t tells still)
 
 pub returns-then-next-eq0-clause-test : goal.returns-then-next-eq0-clause-test
 returns-then-next-eq0-clause-test g c t tells is =
     let l = c.loop-left in
     let sought = c.args.sought.now in
     let still = l.invariant.opened t tells is in
-    walks_none (chain_of sought) t.base.image (λ ss. l.walked ≡ gathered sought ss) l.left l.number c.loop-left-test.true (l.invariant.walks t tells is) (c.in_ok-next.ensures.test t tells still) (λ ss. c.take_link.new.walked ≡ gathered sought ss)
-    (λ ss was. c.in_ok-next.ensures.walked t ss tells still was) c.in_ok-next.next (c.in_ok-next.ensures.next t tells still) c.if-next-eq0.true
+    walks_none (chain_of sought) t.base.image (Gathers sought t.base.image l.walked) l.left l.number c.loop-left-test.true (l.invariant.walks t tells is) (c.in_ok-next.ensures.test t tells still) (Gathers sought t.base.image c.take_link.new.walked)
+    (λ ps was. c.in_ok-next.ensures.walked t ps tells still was) c.in_ok-next.next (c.in_ok-next.ensures.next t tells still) c.if-next-eq0.true
 
 pub returns-then-next-eq0-clause-walked : goal.returns-then-next-eq0-clause-walked
 returns-then-next-eq0-clause-walked g c t tells is =
     let l = c.loop-left in
     let sought = c.args.sought.now in
     let still = l.invariant.opened t tells is in
-    walks_all (chain_of sought) t.base.image (λ ss. l.walked ≡ gathered sought ss) l.left l.number c.loop-left-test.true (l.invariant.walks t tells is) (c.in_ok-next.ensures.test t tells still) (λ ss. c.take_link.new.walked ≡ gathered sought ss)
-    (λ ss was. c.in_ok-next.ensures.walked t ss tells still was) c.in_ok-next.next (c.in_ok-next.ensures.next t tells still) c.if-next-eq0.true
+    walks_all (chain_of sought) t.base.image (Gathers sought t.base.image l.walked) l.left l.number c.loop-left-test.true (l.invariant.walks t tells is) (c.in_ok-next.ensures.test t tells still) (Gathers sought t.base.image c.take_link.new.walked)
+    (λ ps was. c.in_ok-next.ensures.walked t ps tells still was) c.in_ok-next.next (c.in_ok-next.ensures.next t tells still) c.if-next-eq0.true
+    ∙ ap (gathered sought) (spots_found (chain_of sought) t.base.image)
 
 pub returns-then-next-eq0-clause-last : goal.returns-then-next-eq0-clause-last
 returns-then-next-eq0-clause-last g c t tells is =
     let l = c.loop-left in
     let sought = c.args.sought.now in
     let still = l.invariant.opened t tells is in
-    walks_last (chain_of sought) t.base.image (λ ss. l.walked ≡ gathered sought ss) l.left l.number c.loop-left-test.true (l.invariant.walks t tells is) (c.in_ok-next.ensures.test t tells still) (λ ss. c.take_link.new.walked ≡ gathered sought ss)
-    (λ ss was. c.in_ok-next.ensures.walked t ss tells still was) c.in_ok-next.next (c.in_ok-next.ensures.next t tells still) c.if-next-eq0.true
+    walks_last (chain_of sought) t.base.image (Gathers sought t.base.image l.walked) l.left l.number c.loop-left-test.true (l.invariant.walks t tells is) (c.in_ok-next.ensures.test t tells still) (Gathers sought t.base.image c.take_link.new.walked)
+    (λ ps was. c.in_ok-next.ensures.walked t ps tells still was) c.in_ok-next.next (c.in_ok-next.ensures.next t tells still) c.if-next-eq0.true
 
 pub returns-then-next-eq0-clause-once : goal.returns-then-next-eq0-clause-once
 returns-then-next-eq0-clause-once g c t tells is =
@@ -63,8 +67,8 @@ returns-then-next-eq0-clause-once g c t tells is =
     let sought = c.args.sought.now in
     let still = l.invariant.opened t tells is in
     let long =
-    walks_length (chain_of sought) t.base.image (λ ss. l.walked ≡ gathered sought ss) l.left l.number c.loop-left-test.true (l.invariant.walks t tells is) (c.in_ok-next.ensures.test t tells still) (λ ss. c.take_link.new.walked ≡ gathered sought ss)
-    (λ ss was. c.in_ok-next.ensures.walked t ss tells still was) c.in_ok-next.next (c.in_ok-next.ensures.next t tells still) c.if-next-eq0.true in
+    walks_length (chain_of sought) t.base.image (Gathers sought t.base.image l.walked) l.left l.number c.loop-left-test.true (l.invariant.walks t tells is) (c.in_ok-next.ensures.test t tells still) (Gathers sought t.base.image c.take_link.new.walked)
+    (λ ps was. c.in_ok-next.ensures.walked t ps tells still was) c.in_ok-next.next (c.in_ok-next.ensures.next t tells still) c.if-next-eq0.true in
     omega (arith, long, is.files.agrees.count, l.invariant.once tells, c.in_ok-next.ensures.once tells, c.loop-left-test.true, l.invariant.few)
 
 pub loop-left-preserved : goal.loop-left-preserved
@@ -74,8 +78,8 @@ loop-left-preserved g c =
     record {
       walks = λ t tells is.
           let still = l.invariant.opened t tells is in
-          walks_next (chain_of sought) t.base.image (λ ss. l.walked ≡ gathered sought ss) l.left l.number c.loop-left-test.true (l.invariant.walks t tells is) (c.in_ok-next.ensures.test t tells still) (λ ss. c.take_link.new.walked ≡ gathered sought ss)
-          (λ ss was. c.in_ok-next.ensures.walked t ss tells still was) c.in_ok-next.next (c.in_ok-next.ensures.next t tells still) c.if-next-eq0.false;
+          walks_next (chain_of sought) t.base.image (Gathers sought t.base.image l.walked) l.left l.number c.loop-left-test.true (l.invariant.walks t tells is) (c.in_ok-next.ensures.test t tells still) (Gathers sought t.base.image c.take_link.new.walked)
+          (λ ps was. c.in_ok-next.ensures.walked t ps tells still was) c.in_ok-next.next (c.in_ok-next.ensures.next t tells still) c.if-next-eq0.false;
       found = search rules;
       filled = search rules;
       room = search rules;
@@ -91,4 +95,4 @@ loop-left-preserved g c =
 pub returns-clause-test : goal.returns-clause-test
 returns-clause-test g c t tells is =
     let l = c.loop-left in
-    walks_over (chain_of c.args.sought.now) t.base.image (λ ss. l.walked ≡ gathered c.args.sought.now ss) l.left l.number (omega (arith, c.loop-left-test.false)) (l.invariant.walks t tells is)
+    walks_over (chain_of c.args.sought.now) t.base.image (Gathers c.args.sought.now t.base.image l.walked) l.left l.number (omega (arith, c.loop-left-test.false)) (l.invariant.walks t tells is)

@@ -4,13 +4,14 @@ use Rattle.nb_page.specs.Quiet.{Quiet}
 use Rattle.nb_model.specs.Chains.{is_filled}
 use Rattle.nb_model.specs.Trail.{Trail}
 use Rattle.nb_state.specs.Open.{IsOpen, but_pages}
-use Rattle.nb_table.specs.Walks.{chain_of, gathered, IsPlaced}
-use Rattle.nb_table.proofs.WalkLaws.{Walks}
+use Rattle.nb_table.specs.Walks.{chain_of, IsPlaced}
+use Rattle.nb_table.proofs.GatherLaws.{Gathers}
+use Rattle.nb_walk.proofs.WalkLaws.{Walks}
 use Rattle.nb_table.proofs.walk.walk.Given as goal
 
 abbrev pub invariant-loop-left : goal.invariant-loop-left
 invariant-loop-left g l = record {
-  walks : (t : Trail) → IsTrue g.H.Host.tells → IsOpen (g.H.Host.world l.fn.host) l.fn.engine t → Walks (chain_of l.fn.sought) t.base.image (λ ss. l.walked ≡ gathered l.fn.sought ss) l.left l.number;
+  walks : (t : Trail) → IsTrue g.H.Host.tells → IsOpen (g.H.Host.world l.fn.host) l.fn.engine t → Walks (chain_of l.fn.sought) t.base.image (Gathers l.fn.sought t.base.image l.walked) l.left l.number;
   found : IfSome l.walked.found (λ f. IsPlaced l.fn.engine.files.page_size f.place);
   filled : IfSome l.walked.found (λ f. IsTrue (is_filled (chain_of l.fn.sought) f.bytes));
   room : IfSome l.walked.room (IsPlaced l.fn.engine.files.page_size);

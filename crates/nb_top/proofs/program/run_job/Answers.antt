@@ -71,6 +71,30 @@ returns-in-Unlock-clause-shown g c tells =
     subst (λ job. IsShownOf c.run_asking-in-Unlock.result c.args.broken.now (request_of old.files job)) (sym c.in-Unlock.is)
     (unshown c.run_asking-in-Unlock.result c.args.broken.now _ c.requires.none (run_unbroken _))
 
+pub returns-in-Check-clause-goes : goal.returns-in-Check-clause-goes
+returns-in-Check-clause-goes g c =
+    let old = g.H.Host.world c.args.host.now in
+    subst (λ job. Goes g.H.Host.world g.H.Host.tells c.run_asking-in-Check.result c.args.host.now c.run_asking-in-Check.new.host (request_of old.files job)) (sym c.in-Check.is)
+    c.run_asking-in-Check.ensures.goes
+
+pub returns-in-Check-clause-shown : goal.returns-in-Check-clause-shown
+returns-in-Check-clause-shown g c tells =
+    let old = g.H.Host.world c.args.host.now in
+    subst (λ job. IsShownOf c.run_asking-in-Check.result c.args.broken.now (request_of old.files job)) (sym c.in-Check.is)
+    (unshown c.run_asking-in-Check.result c.args.broken.now _ c.requires.none (run_unbroken _))
+
+pub returns-in-Reclaim-clause-goes : goal.returns-in-Reclaim-clause-goes
+returns-in-Reclaim-clause-goes g c =
+    let old = g.H.Host.world c.args.host.now in
+    subst (λ job. Goes g.H.Host.world g.H.Host.tells c.run_asking-in-Reclaim.result c.args.host.now c.run_asking-in-Reclaim.new.host (request_of old.files job)) (sym c.in-Reclaim.is)
+    c.run_asking-in-Reclaim.ensures.goes
+
+pub returns-in-Reclaim-clause-shown : goal.returns-in-Reclaim-clause-shown
+returns-in-Reclaim-clause-shown g c tells =
+    let old = g.H.Host.world c.args.host.now in
+    subst (λ job. IsShownOf c.run_asking-in-Reclaim.result c.args.broken.now (request_of old.files job)) (sym c.in-Reclaim.is)
+    (unshown c.run_asking-in-Reclaim.result c.args.broken.now _ c.requires.none (run_unbroken _))
+
 pub returns-in-LockWithSize-clause-goes : goal.returns-in-LockWithSize-clause-goes
 returns-in-LockWithSize-clause-goes g c =
     let old = g.H.Host.world c.args.host.now in

@@ -1,9 +1,12 @@
 use Rattle.std.proofs.Common.{◌≡◌, ◌<◌, ⊎_elim, length, refl, ap, sym, subst, ◌∙◌, arith}
 use Rattle.std.specs.Prelude.{None, is_some}
+use Rattle.nb_host.specs.Files.{Files}
+use Rattle.nb_model.specs.Trail.{ShowsIn}
+use Rattle.nb_model.proofs.MainLaws.{some_page}
 use Rattle.nb_cache.specs.Held.{slot_of, rank_of, dropped}
-use Rattle.nb_owner.specs.Open.{Held, IsOpen, IsValid, cache_of, bare, used}
+use Rattle.nb_owner.specs.Open.{Held, IsOpen, AreOf, IsValid, cache_of, bare, used}
 use Rattle.nb_owner.specs.contracts.pair.Pair.{the_view}
-use Rattle.nb_owner.proofs.OpenLaws.{bare_put}
+use Rattle.nb_owner.proofs.OpenLaws.{bare_put, put_page, first_block}
 use Rattle.nb_owner.proofs.WaitLaws.{still_open, read_open, absent_page, absent_waits, clean_entry, sees_size, kept_ranks}
 use Rattle.nb_owner.proofs.pair.Pair.fetch.Goals as goal
 
@@ -49,6 +52,23 @@ returns-clause-page g c t tells given low =
     let absent : slot_of c.self.inside.cache.pages c.args.number ≡ None = ap (λ (h : Held). slot_of h.pages c.args.number) c.self.view_is ∙ c.requires.absent in
     c.in_ok-read.ensures.page is.sees.base tells is.files.shows (sees_size old (the_view c.self.inside) t is) (clean_entry old (the_view c.self.inside) t is c.args.number (ap is_some (absent_waits c.self.inside.cache.pages c.args.number absent)))
     (omega (arith, low, is.waits.behind.long)) ∙ absent_page old (the_view c.self.inside) t is c.args.number absent
+
+pub returns-clause-control_block : goal.returns-clause-control_block
+returns-clause-control_block g c first tells t given =
+    let new = g.H.Host.world c.read.new.host in
+    let now : Held = record { files = c.read.new.self; pages = c.self.inside.cache.pages; cap = c.self.inside.cache.cap } in
+    let absent : slot_of c.self.inside.cache.pages c.args.number ≡ None = ap (λ (h : Held). slot_of h.pages c.args.number) c.self.view_is ∙ c.requires.absent in
+    first_block t.base.image c.args.number c.read.new.into first
+    (⊎_elim
+    (λ (same : c.keep_read.new.self ≡ now).
+    let is : IsOpen new (the_view c.self.inside) t = subst (λ (f : Rattle.nb_base.specs.Open.Held). let h : Held = record { files = f; pages = c.self.inside.cache.pages; cap = c.self.inside.cache.cap } in IsOpen new h t) c.read.ensures.same
+    (subst (λ (h : Held). IsOpen new h t) same given) in
+    let shows = subst (λ (files : Files). ShowsIn c.self.inside.files.name is.sees.base files) c.read.ensures.quiet.still.files is.files.shows in
+    let low : c.args.number < length is.sees.base.image = omega (arith, first, some_page t.base.image is.agrees.header, is.waits.behind.long) in
+    c.in_ok-read.ensures.page is.sees.base tells shows (sees_size new (the_view c.self.inside) t is) (clean_entry new (the_view c.self.inside) t is c.args.number (ap is_some (absent_waits c.self.inside.cache.pages c.args.number absent))) low
+    ∙ absent_page new (the_view c.self.inside) t is c.args.number absent)
+    (λ kept. put_page t.base.image c.self.inside.cache.pages c.self.inside.cache.cap c.args.number (record { bytes = c.read.new.into; rank = None }) (subst (λ (h : Held). AreOf t.base.image h.pages) kept.2 given.pages))
+    c.keep_read.ensures.either)
 
 pub returns-clause-ranks : goal.returns-clause-ranks
 returns-clause-ranks g c p =

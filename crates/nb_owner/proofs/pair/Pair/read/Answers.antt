@@ -4,7 +4,7 @@ use Rattle.nb_cache.specs.Held.{dropped}
 use Rattle.nb_owner.specs.Open.{Held, Pages, IsOpen, AreOf, cache_of, bare, used}
 use Rattle.nb_owner.specs.contracts.pair.Pair.{the_view}
 use Rattle.nb_owner.proofs.RankLaws.{rank_promoted}
-use Rattle.nb_owner.proofs.OpenLaws.{of_read, valid_looked, found_put, found_slot, missed_slot, missed_same, found_page, on_err, bare_put, looked_none, kept_drops}
+use Rattle.nb_owner.proofs.OpenLaws.{of_read, valid_looked, found_put, found_slot, missed_slot, missed_same, found_page, put_page, first_block, on_err, bare_put, looked_none, kept_drops}
 use Rattle.nb_owner.proofs.WaitLaws.{open_with}
 use Rattle.nb_owner.proofs.pair.Pair.read.Goals as goal
 
@@ -27,6 +27,13 @@ returns-then-look-clause-page g c t tells given low =
     let is = subst (λ (h : Held). IsOpen (g.H.Host.world c.args.host.now) h t) (sym c.self.view_is) given in
     let slot = found_slot _ c.look.new.into c.args.into.now (sym c.look.ensures.found ∙ c.if-look.true) c.look.ensures.filled in
     slot.2 ∙ found_page t.base.image c.self.inside.cache.pages c.args.number slot.0 slot.1 is.pages
+
+pub returns-then-look-clause-control_block : goal.returns-then-look-clause-control_block
+returns-then-look-clause-control_block g c first tells t given =
+    let slot = found_slot _ c.look.new.into c.args.into.now (sym c.look.ensures.found ∙ c.if-look.true) c.look.ensures.filled in
+    let now = found_put c.self.inside.cache c.look.new.self c.self.inside.files.page_size c.self.inside.files.page_size c.self.invariant.0 refl c.args.number c.look.ensures.moved slot.0 slot.1 in
+    first_block t.base.image c.args.number c.look.new.into first
+    (slot.2 ∙ put_page t.base.image c.self.inside.cache.pages c.self.inside.cache.cap c.args.number slot.0 (subst (λ (ps : Pages). AreOf t.base.image ps) now given.pages))
 
 pub returns-then-look-clause-open : goal.returns-then-look-clause-open
 returns-then-look-clause-open g c t tells given =

@@ -1,0 +1,61 @@
+// A check that found the database unsound, and pages that couldn't be given back.
+use crate::opening::opening;
+use crate::refused::Refused;
+use crate::seen::Seen;
+use nb_host::Name;
+use std::alloc::{AllocError, Global};
+
+/// What is wrong with a page that breaks the fact of that number, none where there is no such fact.
+fn broken_fact(fact: &str) -> Option<&'static str> {
+    match fact {
+        "1" => Some("is all zeros"),
+        "2" => Some("isn't the inventory page that its place has to hold"),
+        "3" => Some("is marked as taken, and the database ends before it"),
+        "4" => Some("has a newer stamp than the database itself"),
+        "5" => Some(
+            "has an SCN entry that doesn't agree with it, so a backup may leave its change out",
+        ),
+        "6" => Some("hasn't the current SCN as its stamp"),
+        _ => None,
+    }
+}
+
+/// The inventories of the database aren't sound.
+fn unsound(alloc: Global, db: &Name, fact: &str, page: &str) -> Result<Option<String>, AllocError> {
+    let Some(what) = broken_fact(fact) else {
+        return Ok(None);
+    };
+    let text = format!(in alloc;
+        "page {page} of {db} {what}: back {db} up no more, and restore a chain from before that: nehumiro -R NEW FILE.."
+    )?;
+    Ok(Some(text))
+}
+
+/// What is to be said where a check is refused.
+pub(crate) fn check(
+    alloc: Global,
+    db: &Name,
+    refused: &Refused<'_>,
+    seen: &Seen,
+) -> Result<Option<String>, AllocError> {
+    let [fact, page, _] = refused.values;
+    match refused.name {
+        "Unsound" => unsound(alloc, db, fact, page),
+        _ => opening(alloc, db, refused, seen),
+    }
+}
+
+/// What is to be said where leaked pages aren't given back.
+pub(crate) fn reclaim(
+    alloc: Global,
+    db: &Name,
+    refused: &Refused<'_>,
+    seen: &Seen,
+) -> Result<Option<String>, AllocError> {
+    match refused.name {
+        "Access" => Ok(Some(format!(in alloc;
+            "{db} is read-only, and giving pages back writes to it: a script with the line '1: access read_write' lifts that"
+        )?)),
+        _ => check(alloc, db, refused, seen),
+    }
+}

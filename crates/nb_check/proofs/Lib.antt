@@ -1,0 +1,20 @@
+pub mod FirstLaws
+pub mod BreakLaws
+pub mod FactLaws
+pub mod SoundLaws
+pub mod PassLaws
+pub mod SetLaws
+pub mod ListLaws
+pub mod SameLaws
+pub mod AmongLaws
+pub mod LeakLaws
+mod GiveLaws
+mod BackLaws
+mod NeatBack
+mod SetBits
+mod ReportLaws
+mod EntryLaws
+mod CoverLaws
+mod CauseLaws
+mod TriesLaws
+pub mod TakenLaws

@@ -1,0 +1,101 @@
+use Rattle.std.proofs.Common.{◌≡◌, ℕ, List, [], length, sym, ap, subst, ◌∙◌, arith}
+use Rattle.std.specs.Prelude.{IsTrue}
+use Rattle.nb_fields.specs.Places.{is_page_size}
+use Rattle.nb_page.proofs.QuietLemmas.{quiet_joined}
+use Rattle.nb_model.specs.declared.reply.Reply.TheVariants.{Leaked}
+use Rattle.nb_model.specs.Image.{Page, image_size}
+use Rattle.nb_model.specs.Outcomes.{says}
+use Rattle.nb_model.specs.Rows.{chains}
+use Rattle.nb_model.proofs.SoundLaws.{all_from}
+use Rattle.nb_state.proofs.MakesLaws.{goes_nowhere}
+use Rattle.nb_engine.proofs.DoesLaws.{seeing, valued_does, tested_does, tested_on}
+use Rattle.nb_model.specs.Facts.{unsound}
+use Rattle.nb_model.specs.Leaks.{leaked}
+use Rattle.nb_model.specs.Checks.{unsound_by, chains_cause, check_cause, check_turn}
+use Rattle.nb_check.proofs.CauseLaws.{unsound_fails, chain_fails, check_free, check_refused, check_says}
+use Rattle.nb_check.proofs.ReportLaws.{leaked_pages}
+use Rattle.nb_check.proofs.SoundLaws.{check_long, sound_whole, no_unsound}
+use Rattle.nb_check.proofs.checking.check.Goals as goal
+
+pub returns-in_err-rest-clause-turn : goal.returns-in_err-rest-clause-turn
+returns-in_err-rest-clause-turn g c s t tells same is =
+    let found = c.in_err-rest.ensures in
+    tested_does (List ℕ) (List ℕ) Leaked _ _ _ _ _ _ t s check_turn (unsound_by (unsound t.base.image)) c.from_residual.ensures same found.same found.quiet is (found.open t tells is) (found.test t tells is)
+    (λ r e. check_refused (seeing s t.base) r (unsound_fails t.base.image r e))
+
+pub returns-in_err-leave_out_reached-clause-turn : goal.returns-in_err-leave_out_reached-clause-turn
+returns-in_err-leave_out_reached-clause-turn g c s t tells same is =
+    let found = c.in_ok-rest.ensures in
+    let left = c.in_err-leave_out_reached.ensures in
+    let still = found.open t tells is in
+    tested_does (Unit {0}) (List ℕ) Leaked _ _ _ _ _ _ t s check_turn (chains_cause t.base.image (chains t.base.image)) c.from_residual-in_err-leave_out_reached.ensures same (left.same ∙ found.same) (quiet_joined _ _ _ found.quiet left.quiet) is (left.open t tells still)
+    (left.test t tells still) (λ r e. check_refused (seeing s t.base) r (chain_fails t.base.image (found.test t tells is) r e))
+
+pub returns-clause-turn : goal.returns-clause-turn
+returns-clause-turn g c s t tells same is =
+    let found = c.in_ok-rest.ensures in
+    let left = c.in_ok-leave_out_reached.ensures in
+    let still = found.open t tells is in
+    let free = check_free t.base.image (found.test t tells is) (left.test t tells still) in
+    let pages : c.of.result ≡ leaked t.base.image =
+    c.of.ensures
+    ∙ leaked_pages t.base.image c.in_ok-rest.rest c.leave_out_reached.new.rest (found.taken t tells is (check_long t.base.image free)) (left.rest t tells still) (omega (arith, found.set_room, left.room, is.files.agrees.count)) in
+    valued_does Leaked _ _ _ _ _ t s check_turn same (left.same ∙ found.same) (quiet_joined _ _ _ found.quiet left.quiet) is (left.open t tells still)
+    (check_says (seeing s t.base) free ∙ ap (λ (ps : List ℕ). says (seeing s t.base) (Leaked ps) []) (sym pages))
+
+pub returns-in_err-rest-clause-test : goal.returns-in_err-rest-clause-test
+returns-in_err-rest-clause-test g c t tells is =
+    tested_on (List ℕ) (List ℕ) _ _ (unsound_by (unsound t.base.image)) (check_cause t.base.image) c.from_residual.ensures (unsound_fails t.base.image) (c.in_err-rest.ensures.test t tells is)
+
+pub returns-in_err-leave_out_reached-clause-test : goal.returns-in_err-leave_out_reached-clause-test
+returns-in_err-leave_out_reached-clause-test g c t tells is =
+    let found = c.in_ok-rest.ensures in
+    tested_on (Unit {0}) (List ℕ) _ _ (chains_cause t.base.image (chains t.base.image)) (check_cause t.base.image) c.from_residual-in_err-leave_out_reached.ensures (chain_fails t.base.image (found.test t tells is))
+    (c.in_err-leave_out_reached.ensures.test t tells (found.open t tells is))
+
+pub returns-clause-test : goal.returns-clause-test
+returns-clause-test g c t tells is =
+    let found = c.in_ok-rest.ensures in
+    check_free t.base.image (found.test t tells is) (c.in_ok-leave_out_reached.ensures.test t tells (found.open t tells is))
+
+pub returns-clause-leaked : goal.returns-clause-leaked
+returns-clause-leaked g c t tells is =
+    let found = c.in_ok-rest.ensures in
+    let left = c.in_ok-leave_out_reached.ensures in
+    let still = found.open t tells is in
+    let free = check_free t.base.image (found.test t tells is) (left.test t tells still) in
+    c.of.ensures
+    ∙ leaked_pages t.base.image c.in_ok-rest.rest c.leave_out_reached.new.rest (found.taken t tells is (check_long t.base.image free)) (left.rest t tells still) (omega (arith, found.set_room, left.room, is.files.agrees.count))
+
+pub returns-clause-sound : goal.returns-clause-sound
+returns-clause-sound g c t tells is =
+    let image = t.base.image in
+    let found = c.in_ok-rest.ensures in
+    let free = check_free image (found.test t tells is) (c.in_ok-leave_out_reached.ensures.test t tells (found.open t tells is)) in
+    sound_whole image (subst (λ (s : ℕ). IsTrue (is_page_size s)) (c.page_size-size.ensures.value ∙ is.files.agrees.page_size) c.page_size-size.ensures.one_of) free (all_from (λ (page : Page). length page ≡ image_size image) image (found.sizes t tells is))
+    (omega (arith, c.count-count.ensures.value, c.count-count.ensures.most, is.files.agrees.count))
+
+pub returns-clause-once : goal.returns-clause-once
+returns-clause-once g c t tells is =
+    let found = c.in_ok-rest.ensures in
+    let reads = found.once tells in
+    let more = c.in_ok-leave_out_reached.ensures.once t tells (found.open t tells is) in
+    omega (arith, reads, more)
+
+pub returns-in_err-rest-clause-early : goal.returns-in_err-rest-clause-early
+returns-in_err-rest-clause-early g c t tells is some = c.in_err-rest.ensures.once tells
+
+pub returns-in_err-leave_out_reached-clause-early : goal.returns-in_err-leave_out_reached-clause-early
+returns-in_err-leave_out_reached-clause-early g c t tells is some = absurd (no_unsound (unsound t.base.image) (c.in_ok-rest.ensures.test t tells is) some)
+
+pub returns-clause-early : goal.returns-clause-early
+returns-clause-early g c t tells is some = absurd (no_unsound (unsound t.base.image) (c.in_ok-rest.ensures.test t tells is) some)
+
+pub returns-in_err-rest-clause-goes : goal.returns-in_err-rest-clause-goes
+returns-in_err-rest-clause-goes g c = goes_nowhere _ _ c.in_err-rest.ensures.same
+
+pub returns-in_err-leave_out_reached-clause-goes : goal.returns-in_err-leave_out_reached-clause-goes
+returns-in_err-leave_out_reached-clause-goes g c = goes_nowhere _ _ (c.in_err-leave_out_reached.ensures.same ∙ c.in_ok-rest.ensures.same)
+
+pub returns-clause-goes : goal.returns-clause-goes
+returns-clause-goes g c = goes_nowhere _ _ (c.in_ok-leave_out_reached.ensures.same ∙ c.in_ok-rest.ensures.same)

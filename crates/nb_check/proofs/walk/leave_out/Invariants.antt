@@ -1,0 +1,26 @@
+use Rattle.std.proofs.Common.{◌≡◌, ◌+◌, ◌-◌, ◌≤◌, length}
+use Rattle.std.specs.Prelude.{IsTrue}
+use Rattle.nb_page.specs.Quiet.{Quiet}
+use Rattle.nb_model.specs.Trail.{Trail}
+use Rattle.nb_state.specs.Open.{IsOpen, but_pages}
+use Rattle.nb_check.specs.Sets.{IsWithout}
+use Rattle.nb_walk.specs.Walks.{chain_by}
+use Rattle.nb_walk.proofs.WalkLaws.{Walks}
+use Rattle.nb_check.proofs.walk.leave_out.Given as goal
+
+-- the pages so far are out of the set
+abbrev pub invariant-loop-left : goal.invariant-loop-left
+invariant-loop-left g l = record {
+  walks : (t : Trail) → IsTrue g.H.Host.tells → IsOpen (g.H.Host.world l.fn.host) l.fn.engine t → Walks (chain_by l.fn.chain) t.base.image (λ ps. IsWithout l.fn.rest ps l.rest) l.left l.number;
+  few : l.left ≤ l.fn.engine.files.count;
+  kept : length l.rest ≡ length l.fn.rest;
+  sized : length l.page ≡ length l.fn.page;
+  opened : (t : Trail) → IsTrue g.H.Host.tells → IsOpen (g.H.Host.world l.fn.host) l.fn.engine t → IsOpen (g.H.Host.world l.host) l.engine t;
+  same : but_pages l.engine ≡ but_pages l.fn.engine;
+  quiet : Quiet (g.H.Host.world l.fn.host) (g.H.Host.world l.host);
+  once : IsTrue g.H.Host.tells → (g.H.Host.world l.host).reads ≤ (g.H.Host.world l.fn.host).reads + (l.fn.engine.files.count - l.left);
+  cause : g.H.Host.faults l.host ≡ g.H.Host.faults l.fn.host;
+}
+
+abbrev pub decreases-loop-left : goal.decreases-loop-left
+decreases-loop-left g l = l.left

@@ -1,0 +1,107 @@
+use Rattle.std.proofs.Common.{◌≡◌, ◌≢◌, ℕ, ◌+◌, ◌*◌, ◌≤◌, length, refl, sym, ap, subst, ◌∙◌, arith}
+use Rattle.std.specs.Prelude.{true, false, slice_index}
+use Rattle.nb_fields.specs.Bytes.{part}
+use Rattle.nb_page.proofs.QuietLemmas.{quiet_begun, quiet_joined}
+use Rattle.nb_model.specs.Causes.{broken_at}
+use Rattle.nb_model.specs.Chains.{RowsFrom, Slot, is_used, first_in, pages_of, found_pages}
+use Rattle.nb_model.specs.Checks.{chains_cause}
+use Rattle.nb_model.proofs.ReadLaws.{eq_no, eq_yes}
+use Rattle.nb_engine.proofs.DoesLaws.{tested_on}
+use Rattle.nb_state.specs.Open.{Held}
+use Rattle.nb_check.specs.Sets.{IsWithout}
+use Rattle.nb_check.specs.Walks.{chains_on}
+use Rattle.nb_check.proofs.ListLaws.{lists_first, lists_free, lists_used, lists_broken, lists_last}
+use Rattle.nb_engine.proofs.WalkLaws.{slot_inside}
+use Rattle.nb_check.proofs.walk.leave_out_listed.Goals as goal
+
+-- whether a slot is used, by its first byte
+other_use : (bytes here : Slot) (first : ℕ) → first ≡ slice_index bytes 0 → bytes ≡ here → first ≢ 1 → is_used here ≡ false
+other_use bytes here first is at other = eq_no (slice_index here 0) 1 (λ e. other (is ∙ ap (λ (s : Slot). slice_index s 0) at ∙ e))
+
+one_use : (bytes here : Slot) (first : ℕ) → first ≡ slice_index bytes 0 → bytes ≡ here → first ≡ 1 → is_used here ≡ true
+one_use bytes here first is at one = eq_yes (slice_index here 0) 1 (sym (is ∙ ap (λ (s : Slot). slice_index s 0) at) ∙ one)
+
+pub loop-slot-init : goal.loop-slot-init
+loop-slot-init g c = record {
+  many = c.slot_count-count.ensures;
+  lists = λ t tells is. lists_first t.base.image c.args.listed.now c.args.rest.now (g.H.Host.world c.args.host.now).reads c.slot_count-count.result c.slot_count-count.ensures;
+  kept = refl;
+  sized = refl;
+  opened = λ t tells is. is;
+  same = refl;
+  quiet = quiet_begun (g.H.Host.world c.args.host.now) (g.met.H.Host.timely c.args.host.now);
+  cause = refl;
+}
+
+pub slot_at-bytes-requires : goal.slot_at-bytes-requires
+slot_at-bytes-requires g c = slot_inside (length c.args.listed.now) c.slot_count-count.result c.loop-slot.slot c.slot_count-count.ensures c.loop-slot-test.true
+
+pub loop-slot-preserved-then-use_of-ne1 : goal.loop-slot-preserved-then-use_of-ne1
+loop-slot-preserved-then-use_of-ne1 g c =
+    let l = c.loop-slot in
+    record {
+      many = l.invariant.many;
+      lists = λ t tells is.
+          lists_free t.base.image c.args.listed.now c.args.rest.now (g.H.Host.world c.args.host.now).reads c.slot_count-count.result l.slot c.loop-slot-test.true l.rest (g.H.Host.world l.host).reads (l.invariant.lists t tells is)
+          (other_use c.slot_at-bytes.result.now (part (32 + 256 * l.slot) 256 c.args.listed.now) c.use_of.result c.use_of.ensures c.slot_at-bytes.ensures.bytes c.if-use_of-ne1.true);
+      kept = l.invariant.kept;
+      sized = l.invariant.sized;
+      opened = l.invariant.opened;
+      same = l.invariant.same;
+      quiet = l.invariant.quiet;
+      cause = l.invariant.cause;
+    }
+
+pub leave_out-requires : goal.leave_out-requires
+leave_out-requires g c = omega (arith, c.loop-slot.invariant.sized, c.requires.size, ap (λ (h : Held). h.files.page_size) c.loop-slot.invariant.same)
+
+pub returns-in_err-leave_out-clause-test : goal.returns-in_err-leave_out-clause-test
+returns-in_err-leave_out-clause-test g c t tells is =
+    let l = c.loop-slot in
+    let image = t.base.image in
+    let here : Slot = part (32 + 256 * l.slot) 256 c.args.listed.now in
+    let at : c.first_page.result ≡ first_in here = c.first_page.ensures ∙ ap first_in c.slot_at-bytes.ensures.bytes in
+    tested_on (Unit {0}) (Unit {0}) _ _ (broken_at (pages_of (RowsFrom c.first_page.result) image)) (chains_cause image (chains_on c.args.listed.now)) c.from_residual.ensures
+    (λ r e.
+    lists_broken image c.args.listed.now c.args.rest.now (g.H.Host.world c.args.host.now).reads c.slot_count-count.result l.slot c.loop-slot-test.true l.rest (g.H.Host.world l.host).reads (l.invariant.lists t tells is) r
+    (one_use c.slot_at-bytes.result.now here c.use_of.result c.use_of.ensures c.slot_at-bytes.ensures.bytes c.if-use_of-ne1.false) (ap (λ (n : ℕ). broken_at (pages_of (RowsFrom n) image)) (sym at) ∙ e))
+    (c.in_err-leave_out.ensures.test t tells (l.invariant.opened t tells is))
+
+pub loop-slot-preserved : goal.loop-slot-preserved
+loop-slot-preserved g c =
+    let l = c.loop-slot in
+    let left = c.in_ok-leave_out.ensures in
+    record {
+      many = l.invariant.many;
+      lists = λ t tells is.
+          let image = t.base.image in
+          let still = l.invariant.opened t tells is in
+          let here : Slot = part (32 + 256 * l.slot) 256 c.args.listed.now in
+          let at : c.first_page.result ≡ first_in here = c.first_page.ensures ∙ ap first_in c.slot_at-bytes.ensures.bytes in
+          lists_used image c.args.listed.now c.args.rest.now (g.H.Host.world c.args.host.now).reads c.slot_count-count.result l.slot c.loop-slot-test.true l.rest (g.H.Host.world l.host).reads (l.invariant.lists t tells is) c.leave_out.new.rest
+          (g.H.Host.world c.leave_out.new.host).reads (one_use c.slot_at-bytes.result.now here c.use_of.result c.use_of.ensures c.slot_at-bytes.ensures.bytes c.if-use_of-ne1.false)
+          (ap (λ (n : ℕ). broken_at (pages_of (RowsFrom n) image)) (sym at) ∙ left.test t tells still)
+          (subst (λ (n : ℕ). IsWithout l.rest (found_pages (RowsFrom n) image) c.leave_out.new.rest) at (left.rest t tells still))
+          (subst (λ (n : ℕ). (g.H.Host.world c.leave_out.new.host).reads ≤ (g.H.Host.world l.host).reads + length (found_pages (RowsFrom n) image)) at (left.once t tells still));
+      kept = left.room ∙ l.invariant.kept;
+      sized = left.sized ∙ l.invariant.sized;
+      opened = λ t tells is. left.open t tells (l.invariant.opened t tells is);
+      same = left.same ∙ l.invariant.same;
+      quiet = quiet_joined _ _ _ l.invariant.quiet left.quiet;
+      cause = left.cause ∙ l.invariant.cause;
+    }
+
+pub returns-clause-test : goal.returns-clause-test
+returns-clause-test g c t tells is =
+    let l = c.loop-slot in
+    (lists_last t.base.image c.args.listed.now c.args.rest.now l.rest (g.H.Host.world c.args.host.now).reads (g.H.Host.world l.host).reads c.slot_count-count.result l.slot (omega (arith, c.loop-slot-test.false)) (l.invariant.lists t tells is)).formed
+
+pub returns-clause-rest : goal.returns-clause-rest
+returns-clause-rest g c t tells is =
+    let l = c.loop-slot in
+    (lists_last t.base.image c.args.listed.now c.args.rest.now l.rest (g.H.Host.world c.args.host.now).reads (g.H.Host.world l.host).reads c.slot_count-count.result l.slot (omega (arith, c.loop-slot-test.false)) (l.invariant.lists t tells is)).out
+
+pub returns-clause-once : goal.returns-clause-once
+returns-clause-once g c t tells is =
+    let l = c.loop-slot in
+    (lists_last t.base.image c.args.listed.now c.args.rest.now l.rest (g.H.Host.world c.args.host.now).reads (g.H.Host.world l.host).reads c.slot_count-count.result l.slot (omega (arith, c.loop-slot-test.false)) (l.invariant.lists t tells is)).few

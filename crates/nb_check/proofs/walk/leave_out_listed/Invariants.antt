@@ -1,0 +1,23 @@
+use Rattle.std.proofs.Common.{◌≡◌, ◌-◌, ◌/◌, length}
+use Rattle.std.specs.Prelude.{IsTrue}
+use Rattle.nb_page.specs.Quiet.{Quiet}
+use Rattle.nb_model.specs.Trail.{Trail}
+use Rattle.nb_state.specs.Open.{IsOpen, but_pages}
+use Rattle.nb_check.proofs.ListLaws.{Lists}
+use Rattle.nb_check.proofs.walk.leave_out_listed.Given as goal
+
+-- the chains of the slots so far are out of the set
+abbrev pub invariant-loop-slot : goal.invariant-loop-slot
+invariant-loop-slot g l = record {
+  many : l.count ≡ (length l.listed - 32) / 256;
+  lists : (t : Trail) → IsTrue g.H.Host.tells → IsOpen (g.H.Host.world l.fn.host) l.fn.engine t → Lists t.base.image l.listed l.fn.rest l.rest (g.H.Host.world l.fn.host).reads (g.H.Host.world l.host).reads l.count l.slot;
+  kept : length l.rest ≡ length l.fn.rest;
+  sized : length l.page ≡ length l.fn.page;
+  opened : (t : Trail) → IsTrue g.H.Host.tells → IsOpen (g.H.Host.world l.fn.host) l.fn.engine t → IsOpen (g.H.Host.world l.host) l.engine t;
+  same : but_pages l.engine ≡ but_pages l.fn.engine;
+  quiet : Quiet (g.H.Host.world l.fn.host) (g.H.Host.world l.host);
+  cause : g.H.Host.faults l.host ≡ g.H.Host.faults l.fn.host;
+}
+
+abbrev pub decreases-loop-slot : goal.decreases-loop-slot
+decreases-loop-slot g l = l.count - l.slot

@@ -1,0 +1,158 @@
+use Rattle.std.proofs.Common.{◌≡◌, ℕ, List, ◌+◌, length, refl, sym, ap, subst, ◌∙◌, arith}
+use Rattle.std.specs.Prelude.{None, Some}
+use Rattle.nb_host.specs.declared.refusals.Refusal.{Refusal}
+use Rattle.nb_page.proofs.QuietLemmas.{quiet_begun, quiet_joined}
+use Rattle.nb_model.specs.Image.{Image}
+use Rattle.nb_model.specs.Chains.{Catalogue, Chain, next_in, found_pages}
+use Rattle.nb_model.specs.Checks.{chains_cause}
+use Rattle.nb_state.specs.Open.{Held}
+use Rattle.nb_engine.proofs.DoesLaws.{tested_on}
+use Rattle.nb_walk.specs.Walks.{not_linked}
+use Rattle.nb_check.specs.Walks.{chains_on}
+use Rattle.nb_check.proofs.ListLaws.{AreOut, chains_of_pages, tables, tables_begun, tables_more, tables_are, tables_broken}
+use Rattle.nb_walk.proofs.WalkLaws.{so, walks_first, walks_broken, walks_split, walks_next, walks_all, walks_over}
+use Rattle.nb_check.proofs.walk.leave_out_tables.Goals as goal
+
+none_some : (r : Refusal) → None ≡ Some r → ⊥
+none_some r e = cc
+
+-- what came of the pages of the catalogue so far
+abbrev Out : Image → (before after : List ℕ) (old now : ℕ) → List ℕ → Type 0
+Out image before after old now ps = AreOut image (chains_of_pages image ps) before after (old + length ps) now
+
+pub loop-left-init : goal.loop-left-init
+loop-left-init g c = record {
+  walks = λ t tells is formed.
+      let reads : ℕ = (g.H.Host.world c.args.host.now).reads in
+      walks_first Catalogue t.base.image (Out t.base.image c.args.rest.now c.args.rest.now reads reads) c.count-left.result 3 (c.count-left.ensures.value ∙ is.files.agrees.count) refl (tables_begun t.base.image c.args.rest.now reads);
+  kept = refl;
+  sized = refl;
+  listed_sized = refl;
+  opened = λ t tells is. is;
+  same = refl;
+  quiet = quiet_begun (g.H.Host.world c.args.host.now) (g.met.H.Host.timely c.args.host.now);
+  cause = refl;
+}
+
+pub take_page-requires : goal.take_page-requires
+take_page-requires g c = omega (arith, c.loop-left.invariant.listed_sized, c.requires.size, c.requires.listed, ap (λ (h : Held). h.files.page_size) c.loop-left.invariant.same)
+
+pub returns-in_err-next-clause-test : goal.returns-in_err-next-clause-test
+returns-in_err-next-clause-test g c t tells is formed =
+    let l = c.loop-left in
+    let image = t.base.image in
+    let reads : ℕ = (g.H.Host.world c.args.host.now).reads in
+    tested_on ℕ (Unit {0}) _ _ (not_linked Catalogue image l.number) (chains_cause image (tables image)) c.from_residual.ensures
+    (λ r e. absurd (none_some r (sym formed ∙ walks_broken Catalogue image (Out image c.args.rest.now l.rest reads (g.H.Host.world l.host).reads) l.left l.number c.loop-left-test.true (l.invariant.walks t tells is formed) r e)))
+    (c.in_err-next.ensures.test t tells (l.invariant.opened t tells is))
+
+pub leave_out_listed-requires-clause-size : goal.leave_out_listed-requires-clause-size
+leave_out_listed-requires-clause-size g c =
+    omega (arith, c.loop-left.invariant.sized, c.requires.size, ap (λ (h : Held). h.files.page_size) c.loop-left.invariant.same, ap (λ (h : Held). h.files.page_size) c.in_ok-next.ensures.same)
+
+pub leave_out_listed-requires-clause-listed : goal.leave_out_listed-requires-clause-listed
+leave_out_listed-requires-clause-listed g c = omega (arith, c.in_ok-next.ensures.sized, c.loop-left.invariant.listed_sized, c.loop-left.invariant.sized, c.requires.listed)
+
+pub returns-in_err-leave_out_listed-clause-test : goal.returns-in_err-leave_out_listed-clause-test
+returns-in_err-leave_out_listed-clause-test g c t tells is formed =
+    let l = c.loop-left in
+    let image = t.base.image in
+    let reads : ℕ = (g.H.Host.world c.args.host.now).reads in
+    let still = l.invariant.opened t tells is in
+    let was = l.invariant.walks t tells is formed in
+    let walks = so Catalogue image (Out image c.args.rest.now l.rest reads (g.H.Host.world l.host).reads) l.left l.number c.loop-left-test.true was in
+    let split =
+    walks_split Catalogue image (Out image c.args.rest.now l.rest reads (g.H.Host.world l.host).reads) l.left l.number c.loop-left-test.true was (c.in_ok-next.ensures.test t tells still) formed in
+    tested_on (Unit {0}) (Unit {0}) _ _ (chains_cause image (chains_on c.take_page.new.page)) (chains_cause image (tables image)) c.from_residual-in_err-leave_out_listed.ensures
+    (λ r e. tables_broken image walks.seen l.number split.0 c.take_page.new.page r split.1 (c.in_ok-next.ensures.page t tells still) walks.is.formed e)
+    (c.in_err-leave_out_listed.ensures.test t tells (c.in_ok-next.ensures.open t tells still))
+
+pub loop-left-preserved : goal.loop-left-preserved
+loop-left-preserved g c =
+    let l = c.loop-left in
+    let next = c.in_ok-next.ensures in
+    let listed = c.in_ok-leave_out_listed.ensures in
+    record {
+      walks = λ t tells is formed.
+          let image = t.base.image in
+          let reads : ℕ = (g.H.Host.world c.args.host.now).reads in
+          let still = l.invariant.opened t tells is in
+          let on = next.open t tells still in
+          let at = next.page t tells still in
+          walks_next Catalogue image (Out image c.args.rest.now l.rest reads (g.H.Host.world l.host).reads) l.left l.number c.loop-left-test.true (l.invariant.walks t tells is formed) (next.test t tells still)
+          (Out image c.args.rest.now c.leave_out_listed.new.rest reads (g.H.Host.world c.leave_out_listed.new.host).reads)
+          (λ ps was.
+          tables_more image ps l.number c.take_page.new.page c.args.rest.now l.rest c.leave_out_listed.new.rest reads (g.H.Host.world l.host).reads (g.H.Host.world c.take_page.new.host).reads (g.H.Host.world c.leave_out_listed.new.host).reads at was (next.once tells)
+          (listed.test t tells on) (listed.rest t tells on) (listed.once t tells on))
+          c.in_ok-next.next (next.next ∙ ap next_in at) c.if-next-eq0.false;
+      kept = listed.room ∙ l.invariant.kept;
+      sized = listed.sized ∙ l.invariant.sized;
+      listed_sized = next.sized ∙ l.invariant.listed_sized;
+      opened = λ t tells is. listed.open t tells (next.open t tells (l.invariant.opened t tells is));
+      same = listed.same ∙ next.same ∙ l.invariant.same;
+      quiet = quiet_joined _ _ _ (quiet_joined _ _ _ l.invariant.quiet next.quiet) listed.quiet;
+      cause = listed.cause ∙ next.cause ∙ l.invariant.cause;
+    }
+
+pub returns-then-next-eq0-clause-test : goal.returns-then-next-eq0-clause-test
+returns-then-next-eq0-clause-test g c t tells is formed =
+    let l = c.loop-left in
+    let next = c.in_ok-next.ensures in
+    let listed = c.in_ok-leave_out_listed.ensures in
+    let image = t.base.image in
+    let reads : ℕ = (g.H.Host.world c.args.host.now).reads in
+    let still = l.invariant.opened t tells is in
+    let on = next.open t tells still in
+    let at = next.page t tells still in
+    let all : Out image c.args.rest.now c.leave_out_listed.new.rest reads (g.H.Host.world c.leave_out_listed.new.host).reads (found_pages Catalogue image) =
+    walks_all Catalogue image (Out image c.args.rest.now l.rest reads (g.H.Host.world l.host).reads) l.left l.number c.loop-left-test.true (l.invariant.walks t tells is formed) (next.test t tells still)
+    (Out image c.args.rest.now c.leave_out_listed.new.rest reads (g.H.Host.world c.leave_out_listed.new.host).reads)
+    (λ ps was.
+    tables_more image ps l.number c.take_page.new.page c.args.rest.now l.rest c.leave_out_listed.new.rest reads (g.H.Host.world l.host).reads (g.H.Host.world c.take_page.new.host).reads (g.H.Host.world c.leave_out_listed.new.host).reads at was (next.once tells)
+    (listed.test t tells on) (listed.rest t tells on) (listed.once t tells on))
+    c.in_ok-next.next (next.next ∙ ap next_in at) c.if-next-eq0.true in
+    ap (chains_cause image) (sym (tables_are image)) ∙ all.formed
+
+pub returns-then-next-eq0-clause-rest : goal.returns-then-next-eq0-clause-rest
+returns-then-next-eq0-clause-rest g c t tells is formed =
+    let l = c.loop-left in
+    let next = c.in_ok-next.ensures in
+    let listed = c.in_ok-leave_out_listed.ensures in
+    let image = t.base.image in
+    let reads : ℕ = (g.H.Host.world c.args.host.now).reads in
+    let still = l.invariant.opened t tells is in
+    let on = next.open t tells still in
+    let at = next.page t tells still in
+    let all : AreOut image (chains_of_pages image (found_pages Catalogue image)) c.args.rest.now c.leave_out_listed.new.rest (reads + length (found_pages Catalogue image)) (g.H.Host.world c.leave_out_listed.new.host).reads =
+    walks_all Catalogue image (Out image c.args.rest.now l.rest reads (g.H.Host.world l.host).reads) l.left l.number c.loop-left-test.true (l.invariant.walks t tells is formed) (next.test t tells still)
+    (Out image c.args.rest.now c.leave_out_listed.new.rest reads (g.H.Host.world c.leave_out_listed.new.host).reads)
+    (λ ps was.
+    tables_more image ps l.number c.take_page.new.page c.args.rest.now l.rest c.leave_out_listed.new.rest reads (g.H.Host.world l.host).reads (g.H.Host.world c.take_page.new.host).reads (g.H.Host.world c.leave_out_listed.new.host).reads at was (next.once tells)
+    (listed.test t tells on) (listed.rest t tells on) (listed.once t tells on))
+    c.in_ok-next.next (next.next ∙ ap next_in at) c.if-next-eq0.true in
+    (subst (λ (cs : List Chain). AreOut image cs c.args.rest.now c.leave_out_listed.new.rest (reads + length (found_pages Catalogue image)) (g.H.Host.world c.leave_out_listed.new.host).reads) (tables_are image) all).out
+
+pub returns-then-next-eq0-clause-once : goal.returns-then-next-eq0-clause-once
+returns-then-next-eq0-clause-once g c t tells is formed =
+    let l = c.loop-left in
+    let next = c.in_ok-next.ensures in
+    let listed = c.in_ok-leave_out_listed.ensures in
+    let image = t.base.image in
+    let reads : ℕ = (g.H.Host.world c.args.host.now).reads in
+    let still = l.invariant.opened t tells is in
+    let on = next.open t tells still in
+    let at = next.page t tells still in
+    let all : AreOut image (chains_of_pages image (found_pages Catalogue image)) c.args.rest.now c.leave_out_listed.new.rest (reads + length (found_pages Catalogue image)) (g.H.Host.world c.leave_out_listed.new.host).reads =
+    walks_all Catalogue image (Out image c.args.rest.now l.rest reads (g.H.Host.world l.host).reads) l.left l.number c.loop-left-test.true (l.invariant.walks t tells is formed) (next.test t tells still)
+    (Out image c.args.rest.now c.leave_out_listed.new.rest reads (g.H.Host.world c.leave_out_listed.new.host).reads)
+    (λ ps was.
+    tables_more image ps l.number c.take_page.new.page c.args.rest.now l.rest c.leave_out_listed.new.rest reads (g.H.Host.world l.host).reads (g.H.Host.world c.take_page.new.host).reads (g.H.Host.world c.leave_out_listed.new.host).reads at was (next.once tells)
+    (listed.test t tells on) (listed.rest t tells on) (listed.once t tells on))
+    c.in_ok-next.next (next.next ∙ ap next_in at) c.if-next-eq0.true in
+    (subst (λ (cs : List Chain). AreOut image cs c.args.rest.now c.leave_out_listed.new.rest (reads + length (found_pages Catalogue image)) (g.H.Host.world c.leave_out_listed.new.host).reads) (tables_are image) all).few
+
+pub returns-clause-test : goal.returns-clause-test
+returns-clause-test g c t tells is formed =
+    let l = c.loop-left in
+    let reads : ℕ = (g.H.Host.world c.args.host.now).reads in
+    absurd (none_some _ (sym formed ∙ walks_over Catalogue t.base.image (Out t.base.image c.args.rest.now l.rest reads (g.H.Host.world l.host).reads) l.left l.number (omega (arith, c.loop-left-test.false)) (l.invariant.walks t tells is formed)))

@@ -1,0 +1,27 @@
+use Rattle.std.proofs.Common.{◌≡◌, ◌+◌, length}
+use Rattle.std.specs.Prelude.{IsTrue, None}
+use Rattle.nb_page.specs.Quiet.{Quiet}
+use Rattle.nb_model.specs.Causes.{broken_at}
+use Rattle.nb_model.specs.Chains.{Catalogue, pages_of}
+use Rattle.nb_model.specs.Trail.{Trail}
+use Rattle.nb_state.specs.Open.{IsOpen, but_pages}
+use Rattle.nb_check.proofs.ListLaws.{AreOut, chains_of_pages}
+use Rattle.nb_walk.proofs.WalkLaws.{Walks}
+use Rattle.nb_check.proofs.walk.leave_out_tables.Given as goal
+
+-- the chains that the pages of the catalogue so far name are out of the set
+abbrev pub invariant-loop-left : goal.invariant-loop-left
+invariant-loop-left g l = record {
+  walks : (t : Trail) → IsTrue g.H.Host.tells → IsOpen (g.H.Host.world l.fn.host) l.fn.engine t → broken_at (pages_of Catalogue t.base.image) ≡ None
+      → Walks Catalogue t.base.image (λ ps. AreOut t.base.image (chains_of_pages t.base.image ps) l.fn.rest l.rest ((g.H.Host.world l.fn.host).reads + length ps) (g.H.Host.world l.host).reads) l.left l.number;
+  kept : length l.rest ≡ length l.fn.rest;
+  sized : length l.page ≡ length l.fn.page;
+  listed_sized : length l.listed ≡ length l.fn.listed;
+  opened : (t : Trail) → IsTrue g.H.Host.tells → IsOpen (g.H.Host.world l.fn.host) l.fn.engine t → IsOpen (g.H.Host.world l.host) l.engine t;
+  same : but_pages l.engine ≡ but_pages l.fn.engine;
+  quiet : Quiet (g.H.Host.world l.fn.host) (g.H.Host.world l.host);
+  cause : g.H.Host.faults l.host ≡ g.H.Host.faults l.fn.host;
+}
+
+abbrev pub decreases-loop-left : goal.decreases-loop-left
+decreases-loop-left g l = l.left

@@ -1,0 +1,4 @@
+pub mod Sets
+pub mod Passes
+pub mod Walks
+pub mod Laws

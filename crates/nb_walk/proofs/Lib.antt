@@ -1,0 +1,4 @@
+pub mod NameLaws
+pub mod SlotLaws
+pub mod LinkLaws
+pub mod WalkLaws

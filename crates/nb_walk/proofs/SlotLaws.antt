@@ -1,0 +1,83 @@
+-- The slots of a page, one by one.
+use Rattle.std.proofs.Common.{◌≡◌, ◌≢◌, ℕ, ◌+◌, ◌-◌, ◌*◌, ◌/◌, ◌<◌, ◌≤◌, List, [], ◌∷◌, ◌++◌, length, refl, sym, ap, ◌∙◌, arith, append_assoc}
+use Rattle.std.specs.Prelude.{Bool, true, false, ◌&&◌, ◌||◌, slice_index}
+use Rattle.std.specs.List.{list_all}
+use Rattle.std.proofs.lemmas.Bool.{and_parts}
+use Rattle.nb_fields.specs.Bytes.{part}
+use Rattle.nb_model.specs.Image.{Page, Image, page_at}
+use Rattle.nb_model.specs.Chains.{Chain, Slot, Spot, is_used, is_filled, is_slot, slots_from, slots_in, spots_on, spots_of}
+use Rattle.nb_model.proofs.ReadLaws.{eq_no, eq_yes}
+use Rattle.nb_engine.proofs.WalkLaws.{slots_step}
+
+-- The slots of a page from one on, by a test.
+module _ (test : Slot → Bool) (page : Page) (count slot : ℕ) (low : slot < count) where
+  abbrev here : Slot
+  here = part (32 + 256 * slot) 256 page
+
+  abbrev these : List Slot
+  these = slots_from (count - slot) (32 + 256 * slot) page
+
+  abbrev rest : List Slot
+  rest = slots_from (count - (slot + 1)) (32 + 256 * (slot + 1)) page
+
+  parted : list_all test these ≡ (test here && list_all test rest)
+  parted = ap (list_all test) (slots_step page count slot low)
+
+  pub test_here : (whole : Bool) → whole ≡ list_all test these → test here ≡ false → whole ≡ false
+  test_here whole is bad = is ∙ parted ∙ ap (λ (t : Bool). t && list_all test rest) bad
+
+  pub test_next : (whole : Bool) → whole ≡ list_all test these → test here ≡ true → whole ≡ list_all test rest
+  test_next whole is good = is ∙ parted ∙ ap (λ (t : Bool). t && list_all test rest) good
+
+  -- where all pass
+  pub passes_here : list_all test these ≡ true → test here ≡ true
+  passes_here all = (and_parts (test here) (list_all test rest) (sym parted ∙ all)).0
+
+  pub passes_next : list_all test these ≡ true → list_all test rest ≡ true
+  passes_next all = (and_parts (test here) (list_all test rest) (sym parted ∙ all)).1
+
+pub test_first : (test : Slot → Bool) (page : Page) (count : ℕ) → count ≡ (length page - 32) / 256 → list_all test (slots_in page) ≡ list_all test (slots_from (count - 0) 32 page)
+unfolding slots_in
+test_first test page count many =
+    let all : (length page - 32) / 256 ≡ count - 0 = omega (arith, many) in
+    ap (λ (n : ℕ). list_all test (slots_from n 32 page)) all
+
+pub test_last : (test : Slot → Bool) (whole : Bool) (page : Page) (count slot : ℕ) → count ≤ slot → whole ≡ list_all test (slots_from (count - slot) (32 + 256 * slot) page) → whole ≡ true
+unfolding slots_from
+test_last test whole page count slot far is =
+    let none : count - slot ≡ 0 = omega (arith, far) in
+    is ∙ ap (λ (n : ℕ). list_all test (slots_from n (32 + 256 * slot) page)) none
+
+-- whether a slot is of the form, by its first byte
+module _ (chain : Chain) (slot : Slot) where
+  abbrev first : ℕ
+  first = slice_index slot 0
+
+  pub slot_free : first ≡ 0 → is_slot chain slot ≡ true
+  unfolding is_slot
+  slot_free e = ap (λ (t : Bool). t || (is_used slot && is_filled chain slot)) (eq_yes first 0 e)
+
+  by_use : first ≢ 0 → is_slot chain slot ≡ (is_used slot && is_filled chain slot)
+  unfolding is_slot
+  by_use e = ap (λ (t : Bool). t || (is_used slot && is_filled chain slot)) (eq_no first 0 e)
+
+  pub slot_used : first ≡ 1 → is_slot chain slot ≡ is_filled chain slot
+  slot_used e = by_use (λ d. absurd (omega (arith, d, e))) ∙ ap (λ (t : Bool). t && is_filled chain slot) (eq_yes first 1 e)
+
+  pub slot_other : first ≢ 0 → first ≢ 1 → is_slot chain slot ≡ false
+  slot_other no_zero no_one = by_use no_zero ∙ ap (λ (t : Bool). t && is_filled chain slot) (eq_no first 1 no_one)
+
+  -- a slot of the form that isn't free is used
+  pub used_of : is_slot chain slot ≡ true → first ≢ 0 → is_used slot ≡ true
+  used_of form e = (and_parts (is_used slot) (is_filled chain slot) (sym (by_use e) ∙ form)).0
+
+  pub filled_of : is_slot chain slot ≡ true → first ≢ 0 → is_filled chain slot ≡ true
+  filled_of form e = (and_parts (is_used slot) (is_filled chain slot) (sym (by_use e) ∙ form)).1
+
+-- the slots of pages, and of pages behind them
+pub spots_both : (image : Image) (ps qs : List ℕ) → spots_of image (ps ++ qs) ≡ spots_of image ps ++ spots_of image qs
+unfolding spots_of
+spots_both image [] qs = refl
+spots_both image (p ∷ ps) qs =
+    ap (λ (xs : List Spot). spots_on p 0 (slots_in (page_at image p)) ++ xs) (spots_both image ps qs)
+    ∙ sym (append_assoc (spots_on p 0 (slots_in (page_at image p))) (spots_of image ps) (spots_of image qs))
