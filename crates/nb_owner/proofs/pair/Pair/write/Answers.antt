@@ -192,3 +192,11 @@ pub returns-in_err-hold-clause-takes_none : goal.returns-in_err-hold-clause-take
 returns-in_err-hold-clause-takes_none g c plain =
     let parts = may_wait_parts c.args.self.now c.args.number c.args.forced (sym c.may_wait.ensures.value ∙ c.if-may_wait.true) in
     absurd (true≢false (sym (c.in_err-hold.ensures.normal (omega (arith, plain, parts.1))).0))
+
+pub returns-in_err-hold-clause-on_memory : goal.returns-in_err-hold-clause-on_memory
+returns-in_err-hold-clause-on_memory g c t tells is memory =
+    let old = g.H.Host.world c.args.host.now in
+    let name = c.args.self.now.files.name in (
+      subst (λ host. Strikes old (g.H.Host.world host) name t []) (sym c.hold.ensures.no_call) (begun old (OfFiles name) (Reached after_stroke (StandsIn name) t []) (g.met.H.Host.timely c.args.host.now) (λ files all. is.left files all)),
+      subst (λ host. IsOpen (g.H.Host.world host) c.hold.new.self t) (sym c.hold.ensures.no_call) (subst (λ (h : Held). IsOpen old h t) (sym c.in_err-hold.ensures.only_memory.1) is),
+    )
