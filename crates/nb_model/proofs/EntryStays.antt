@@ -9,21 +9,21 @@ use Rattle.nb_fields.specs.Page.{kind_of}
 use Rattle.nb_fields.specs.Places.{is_page_size, bits_in, entries_in, is_inventory_place, is_scn_place, is_system_place}
 use Rattle.nb_host.specs.declared.refusals.Refusal.{Refusal}
 use Rattle.nb_model.specs.declared.statement.Statement.{Statement}
-use Rattle.nb_model.specs.declared.statement.Statement.TheVariants.{CreateDb, OpenDb, PageNew, Write, Read, Free, Check, Reclaim, CreateTable, DropTable, Insert, Update, Delete, Get, Scan, Forced, Access, Sync, ShowHeader, ShowPages, ShowImage, ShowCache}
-use Rattle.nb_model.specs.Backups.{pages_turn}
+use Rattle.nb_model.specs.declared.statement.Statement.TheVariants.{CreateDb, OpenDb, PageNew, Write, Free, Reclaim, CreateTable, DropTable, Insert, Update, Delete, Get, Scan, Forced, Access, ShowCache}
 use Rattle.nb_model.specs.Causes.{broken_at, not_raw}
 use Rattle.nb_model.specs.Chains.{Chain, Catalogue, Slot, Spot, spots, spots_of, found_pages, pages_of, is_in_chain, first_such, last_of, free_spot, table_spot, row_spot, put_slot, grown, place_at, place_slot}
 use Rattle.nb_model.specs.Forms.{HasItsEntry, Draft, drafted, wrote, written, old_page, needs, is_kind, has_entry, scn_entry, scn_page_of, inventory_of, entry_written, entry_raised, raised, put, set_bit, give_page, take_page, lowest_free, first_not, needed_at, system_kind, system_page, no_page, new_within}
 use Rattle.nb_model.specs.Image.{Page, Image, page_at, first_page, image_size, image_scn, with_page}
 use Rattle.nb_model.specs.Outcomes.{Seen, Outcome}
-use Rattle.nb_model.specs.Pages.{new_turn, write_turn, read_turn, free_turn, forced_turn, access_turn, byte_strokes, header_turn, image_turn, cache_turn}
+use Rattle.nb_model.specs.Pages.{new_turn, write_turn, free_turn, forced_turn, access_turn, byte_strokes, cache_turn}
 use Rattle.nb_model.specs.Sound.{HasHeader}
-use Rattle.nb_model.specs.Strokes.{merged_page, on_base, base_after}
+use Rattle.nb_model.specs.Strokes.{Stroke, merged_page, on_base, base_after}
 use Rattle.nb_model.specs.Tables.{all_given}
-use Rattle.nb_model.specs.Checks.{check_turn, reclaim_turn, reclaimed}
+use Rattle.nb_model.specs.Checks.{reclaim_turn, reclaimed}
 use Rattle.nb_model.specs.Leaks.{leaked}
 use Rattle.nb_model.specs.Turns.{first_turn}
 use Rattle.nb_model.specs.Well.{is_on_pages}
+use Rattle.nb_model.proofs.ToldTurns.{does_more, told_strokes, pages_cases}
 use Rattle.nb_model.proofs.DraftLaws.{IsOf, drafts_are, drafted_is, either, put_keeps, set_bit_keeps, new_keeps, slot_keeps, at_keeps, place_keeps, given_keeps}
 use Rattle.nb_model.proofs.HeaderLaws.{header-size}
 use Rattle.nb_model.proofs.NewSound.{places_apart, stamped_kind, plain_place}
@@ -225,41 +225,39 @@ module _ (n q : ℕ) (place : is_scn_place n q ≡ true) where
         draft_after (row_written s.base.image row bytes) (slot_keeps Of (drafts_are s.base) row.page row.slot bytes (drafted s.base.image) (drafted_is s.base))
         (slot_has row.page row.slot bytes (drafted s.base.image) (row_apart s.base.image h (chain_at spot) key may.its_row.its_table.formed row may.its_row.found) h)
 
-    pub statement_stays : (statement : Statement) → is_on_pages statement ≡ true → (session : ℕ) → HasScn (base_after s.base (first_turn s session statement).strokes).image
-    unfolding first_turn check_turn reclaim_turn new_turn write_turn read_turn free_turn forced_turn access_turn header_turn pages_turn image_turn cache_turn
-    statement_stays (CreateDb name size raw cache) on session = none_after
-    statement_stays (OpenDb name cache) on session = none_after
-    statement_stays PageNew on session = changes_either After s denied _ _ _ (λ may. draft_after _ (new_keeps Of (drafts_are s.base) _ 8 _ (drafted s.base.image) (drafted_is s.base)) (new_has _ 8 _ (drafted s.base.image) h))
-    statement_stays (Write p text) on session = changes_either After s denied _ _ _ (λ c.
+    more_stays : (statement : Statement) → does_more statement ≡ true → (session : ℕ) → HasScn (base_after s.base (first_turn s session statement).strokes).image
+    unfolding first_turn reclaim_turn new_turn write_turn free_turn forced_turn access_turn cache_turn
+    more_stays (CreateDb name size raw cache) on session = none_after
+    more_stays (OpenDb name cache) on session = none_after
+    more_stays PageNew on session = changes_either After s denied _ _ _ (λ may. draft_after _ (new_keeps Of (drafts_are s.base) _ 8 _ (drafted s.base.image) (drafted_is s.base)) (new_has _ 8 _ (drafted s.base.image) h))
+    more_stays (Write p text) on session = changes_either After s denied _ _ _ (λ c.
         let raw = raw_facts s.base.image p (no_first (not_raw s.base.image p) _ c.may).0 in
         draft_after _ (put_keeps Of (drafts_are s.base) p 8 _ (drafted s.base.image) (drafted_is s.base))
         (put_has p 8 _ (drafted s.base.image) (λ e. absurd (data_apart s.base.image h p (λ ten. absurd (omega (arith, raw.1, ten))) e)) h))
-    statement_stays (Read p) on session = unless_either After s _ _ denied (λ none. none_after)
-    statement_stays (Free p) on session = changes_either After s denied _ _ _ (λ c. draft_after _ (set_bit_keeps Of (drafts_are s.base) 1 p (drafted s.base.image) (drafted_is s.base)) (bit_has 1 p (drafted s.base.image) h))
-    statement_stays (Forced forced) on session = unless_either After s _ _ denied (λ none. byte_after 64 _)
-    statement_stays (Access closed) on session = unless_either After s _ _ denied (λ none. byte_after 65 _)
-    statement_stays Sync on session = none_after
-    statement_stays ShowHeader on session = none_after
-    statement_stays ShowPages on session = unless_either After s _ _ denied (λ none. none_after)
-    statement_stays ShowImage on session = none_after
-    statement_stays ShowCache on session = none_after
-    statement_stays Check on session = unless_either After s _ _ denied (λ none. none_after)
-    statement_stays Reclaim on session = unless_either After s _ _ denied (λ none.
+    more_stays (Free p) on session = changes_either After s denied _ _ _ (λ c. draft_after _ (set_bit_keeps Of (drafts_are s.base) 1 p (drafted s.base.image) (drafted_is s.base)) (bit_has 1 p (drafted s.base.image) h))
+    more_stays (Forced forced) on session = unless_either After s _ _ denied (λ none. byte_after 64 _)
+    more_stays (Access closed) on session = unless_either After s _ _ denied (λ none. byte_after 65 _)
+    more_stays ShowCache on session = none_after
+    more_stays Reclaim on session = unless_either After s _ _ denied (λ none.
         draft_after (reclaimed s.base.image) (given_keeps Of (drafts_are s.base) (leaked s.base.image) (drafted s.base.image) (drafted_is s.base)) (given_has (leaked s.base.image) (drafted s.base.image) h))
-    statement_stays (CreateTable table) on session = create_either After s denied table (λ may.
+    more_stays (CreateTable table) on session = create_either After s denied table (λ may.
         draft_after (created s.base.image table) (at_keeps Of (drafts_are s.base) _ _ _ _ _ (new_keeps Of (drafts_are s.base) _ 5 _ (drafted s.base.image) (drafted_is s.base)))
         (at_has Catalogue _ _ _ _ (λ spot is. free_apart s.base.image h Catalogue may.catalogue spot is) (last_apart s.base.image h Catalogue may.catalogue) (new_has _ 5 _ (drafted s.base.image) h)))
-    statement_stays (DropTable table) on session = drop_either After s denied table (λ spot may.
+    more_stays (DropTable table) on session = drop_either After s denied table (λ spot may.
         draft_after (dropped s.base.image spot) (given_keeps Of (drafts_are s.base) _ _ (slot_keeps Of (drafts_are s.base) spot.page spot.slot _ (drafted s.base.image) (drafted_is s.base)))
         (given_has _ _ (slot_has spot.page spot.slot _ (drafted s.base.image) (table_apart s.base.image h table may.its_table.catalogue spot may.its_table.found) h)))
-    statement_stays (Insert table key text) on session = insert_either After s denied table key text (λ spot may.
+    more_stays (Insert table key text) on session = insert_either After s denied table key text (λ spot may.
         draft_after (inserted s.base.image spot key text) (place_keeps Of (drafts_are s.base) _ _ _ (drafted s.base.image) (drafted_is s.base))
         (inserted_has s.base.image h (chain_at spot) _ may.its_table.formed))
-    statement_stays (Update table key text) on session = update_either After s denied table key text (λ spot row short may. row_after spot row _ table key may)
-    statement_stays (Delete table key) on session = delete_either After s denied table key (λ spot row may. row_after spot row _ table key may)
-    statement_stays (Get table key) on session = get_either After s denied table key (λ spot row may. none_after)
-    statement_stays (Scan table) on session = scan_either After s denied table (λ spot has. none_after)
-    statement_stays other on session = absurd (true≢false (sym on))
+    more_stays (Update table key text) on session = update_either After s denied table key text (λ spot row short may. row_after spot row _ table key may)
+    more_stays (Delete table key) on session = delete_either After s denied table key (λ spot row may. row_after spot row _ table key may)
+    more_stays (Get table key) on session = get_either After s denied table key (λ spot row may. none_after)
+    more_stays (Scan table) on session = scan_either After s denied table (λ spot has. none_after)
+    more_stays other on session = absurd (true≢false (sym on))
+
+    pub statement_stays : (statement : Statement) → is_on_pages statement ≡ true → (session : ℕ) → HasScn (base_after s.base (first_turn s session statement).strokes).image
+    statement_stays = pages_cases (λ statement. (session : ℕ) → HasScn (base_after s.base (first_turn s session statement).strokes).image)
+        (λ statement is session. subst (λ (ss : List Stroke). HasScn (base_after s.base ss).image) (sym (told_strokes statement is s session)) none_after) more_stays
 
 -- the place of an SCN page
 pub scn_there : (image : Image) (p : ℕ) → HasHeader image → is_scn_place (image_size image) (scn_page_of image p) ≡ true

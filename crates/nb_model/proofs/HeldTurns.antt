@@ -6,20 +6,19 @@ use Rattle.nb_fields.specs.Page.{kind_of}
 use Rattle.nb_fields.specs.Payloads.{text_payload}
 use Rattle.nb_fields.specs.Places.{bits_in, is_inventory_place}
 use Rattle.nb_model.specs.declared.statement.Statement.{Statement}
-use Rattle.nb_model.specs.declared.statement.Statement.TheVariants.{CreateDb, OpenDb, PageNew, Write, Read, Free, CreateTable, DropTable, Insert, Update, Delete, Get, Scan, Forced, Access, Sync, Check, Reclaim, ShowHeader, ShowPages, ShowImage, ShowCache}
+use Rattle.nb_model.specs.declared.statement.Statement.TheVariants.{CreateDb, OpenDb, PageNew, Write, Free, CreateTable, DropTable, Insert, Update, Delete, Get, Scan, Forced, Access, Reclaim, ShowCache}
 use Rattle.nb_model.specs.Account.{Base}
-use Rattle.nb_model.specs.Backups.{pages_turn}
 use Rattle.nb_model.specs.Causes.{Cause, not_raw}
-use Rattle.nb_model.specs.Checks.{check_turn}
 use Rattle.nb_model.specs.Forms.{Draft, drafted, put, give_page, new_page}
 use Rattle.nb_model.specs.Image.{Page, Image, page_at, image_size}
 use Rattle.nb_model.specs.Going.{IsNamed}
 use Rattle.nb_model.specs.Outcomes.{Begins, Seen, Outcome, unless, changes}
-use Rattle.nb_model.specs.Pages.{new_turn, write_turn, read_turn, free_turn, forced_turn, access_turn, header_turn, image_turn, cache_turn, byte_strokes}
+use Rattle.nb_model.specs.Pages.{new_turn, write_turn, free_turn, forced_turn, access_turn, cache_turn, byte_strokes}
 use Rattle.nb_model.specs.Sound.{IsSoundImage, HasHeader}
 use Rattle.nb_model.specs.Strokes.{Stroke, on_base, base_after}
 use Rattle.nb_model.specs.Turns.{first_turn}
 use Rattle.nb_model.specs.Well.{is_on_pages}
+use Rattle.nb_model.proofs.ToldTurns.{does_more, told_strokes, pages_cases}
 use Rattle.nb_model.proofs.FitLaws.{IsWhole, Fits}
 use Rattle.nb_model.proofs.BitSound.{give_fits}
 use Rattle.nb_model.proofs.HeadSound.{byte_fits}
@@ -94,28 +93,26 @@ module _ (q : ℕ) (bytes : Page) (of_history : IsOfHistory bytes) where
       held_write q bytes b.image 0 _ whole fits.0.0 (λ e. absurd (let some = held.behind in omega (arith, some, e)))
       (λ e. absurd (let some = inventory_place_some (image_size b.image) (q / bits_in (image_size b.image)) whole.fields.size in omega (arith, some, e))) held
 
+  more_holds : (statement : Statement) → does_more statement ≡ true → IsNamed (Begins statement) → KeepsHeld statement
+  unfolding first_turn forced_turn access_turn cache_turn
+  more_holds (CreateDb name size raw cache) on named s session h is leads held = none_behind s.base held
+  more_holds (OpenDb name cache) on named s session h is leads held = none_behind s.base held
+  more_holds PageNew on named s session h is leads held = new_holds s session h is leads held
+  more_holds (Write p text) on named s session h is leads held = write_holds p text s session h is leads held
+  more_holds (Free p) on named s session h is leads held = free_holds p s session h is leads held
+  more_holds (Forced forced) on named s session h is leads held = guarded s _ _ held (λ none. byte_holds 64 _ s.base h is (omega arith) held)
+  more_holds (Access closed) on named s session h is leads held = guarded s _ _ held (λ none. byte_holds 65 _ s.base h is (omega arith) held)
+  more_holds Reclaim on named s session h is leads held = reclaim_holds s h is q bytes leads held
+  more_holds ShowCache on named s session h is leads held = none_behind s.base held
+  more_holds (CreateTable table) on named s session h is leads held = (create_keeps s h is table named).held q bytes of_history held
+  more_holds (DropTable table) on named s session h is leads held = (drop_keeps s h is table).held q bytes of_history held
+  more_holds (Insert table key text) on named s session h is leads held = (insert_keeps s h is table key text).held q bytes of_history held
+  more_holds (Update table key text) on named s session h is leads held = (update_keeps s h is table key text).held q bytes of_history held
+  more_holds (Delete table key) on named s session h is leads held = (delete_keeps s h is table key).held q bytes of_history held
+  more_holds (Get table key) on named s session h is leads held = (get_keeps s h is table key).held q bytes of_history held
+  more_holds (Scan table) on named s session h is leads held = (scan_keeps s h is table).held q bytes of_history held
+  more_holds other on named s session h is leads held = absurd (true≢false (sym on))
+
   pub statement_holds : (statement : Statement) → is_on_pages statement ≡ true → IsNamed (Begins statement) → KeepsHeld statement
-  unfolding first_turn read_turn forced_turn access_turn header_turn pages_turn image_turn cache_turn check_turn
-  statement_holds (CreateDb name size raw cache) on named s session h is leads held = none_behind s.base held
-  statement_holds (OpenDb name cache) on named s session h is leads held = none_behind s.base held
-  statement_holds PageNew on named s session h is leads held = new_holds s session h is leads held
-  statement_holds (Write p text) on named s session h is leads held = write_holds p text s session h is leads held
-  statement_holds (Read p) on named s session h is leads held = guarded s _ _ held (λ none. none_behind s.base held)
-  statement_holds (Free p) on named s session h is leads held = free_holds p s session h is leads held
-  statement_holds (Forced forced) on named s session h is leads held = guarded s _ _ held (λ none. byte_holds 64 _ s.base h is (omega arith) held)
-  statement_holds (Access closed) on named s session h is leads held = guarded s _ _ held (λ none. byte_holds 65 _ s.base h is (omega arith) held)
-  statement_holds Sync on named s session h is leads held = none_behind s.base held
-  statement_holds Check on named s session h is leads held = guarded s _ _ held (λ none. none_behind s.base held)
-  statement_holds Reclaim on named s session h is leads held = reclaim_holds s h is q bytes leads held
-  statement_holds ShowHeader on named s session h is leads held = none_behind s.base held
-  statement_holds ShowPages on named s session h is leads held = guarded s _ _ held (λ none. none_behind s.base held)
-  statement_holds ShowImage on named s session h is leads held = none_behind s.base held
-  statement_holds ShowCache on named s session h is leads held = none_behind s.base held
-  statement_holds (CreateTable table) on named s session h is leads held = (create_keeps s h is table named).held q bytes of_history held
-  statement_holds (DropTable table) on named s session h is leads held = (drop_keeps s h is table).held q bytes of_history held
-  statement_holds (Insert table key text) on named s session h is leads held = (insert_keeps s h is table key text).held q bytes of_history held
-  statement_holds (Update table key text) on named s session h is leads held = (update_keeps s h is table key text).held q bytes of_history held
-  statement_holds (Delete table key) on named s session h is leads held = (delete_keeps s h is table key).held q bytes of_history held
-  statement_holds (Get table key) on named s session h is leads held = (get_keeps s h is table key).held q bytes of_history held
-  statement_holds (Scan table) on named s session h is leads held = (scan_keeps s h is table).held q bytes of_history held
-  statement_holds other on named s session h is leads held = absurd (true≢false (sym on))
+  statement_holds = pages_cases (λ statement. IsNamed (Begins statement) → KeepsHeld statement)
+      (λ statement is named s session h sound leads held. subst (HoldsBehind s.base) (sym (told_strokes statement is s session)) (none_behind s.base held)) more_holds

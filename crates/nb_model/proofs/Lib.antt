@@ -44,6 +44,10 @@ pub mod NormalLaws
 pub mod StandsLaws
 pub mod OutputLaws
 pub mod TodoLaws
+pub mod UsageCauses
+pub mod ToldTurns
+pub mod UsageLaws
+pub mod StatusLaws
 pub mod OpeningLaws
 pub mod ReopenLaws
 pub mod PagesFit

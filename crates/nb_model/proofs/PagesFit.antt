@@ -1,18 +1,17 @@
 -- Each stroke of a statement on pages fits at its point, in whatever state, and writes no rows of the history.
-use Rattle.std.proofs.Common.{◌≡◌, ℕ, List, refl, sym, arith}
+use Rattle.std.proofs.Common.{◌≡◌, ℕ, List, refl, sym, arith, subst}
 use Rattle.std.specs.Prelude.{Bool, true, Some, None}
 use Rattle.std.proofs.lemmas.Bool.{true≢false}
 use Rattle.nb_model.specs.declared.statement.Statement.{Statement}
-use Rattle.nb_model.specs.declared.statement.Statement.TheVariants.{CreateDb, OpenDb, PageNew, Write, Read, Free, CreateTable, DropTable, Insert, Update, Delete, Get, Scan, Forced, Access, Sync, Check, Reclaim, ShowHeader, ShowPages, ShowImage, ShowCache}
+use Rattle.nb_model.specs.declared.statement.Statement.TheVariants.{CreateDb, OpenDb, PageNew, Write, Free, CreateTable, DropTable, Insert, Update, Delete, Get, Scan, Forced, Access, Reclaim, ShowCache}
 use Rattle.nb_model.specs.Causes.{Cause}
 use Rattle.nb_model.specs.Going.{IsNamed}
 use Rattle.nb_model.specs.Outcomes.{Begins, Seen, Outcome, unless, changes}
-use Rattle.nb_model.specs.Pages.{new_turn, write_turn, read_turn, free_turn, forced_turn, access_turn, header_turn, image_turn, cache_turn}
-use Rattle.nb_model.specs.Backups.{pages_turn}
-use Rattle.nb_model.specs.Checks.{check_turn}
+use Rattle.nb_model.specs.Pages.{new_turn, write_turn, free_turn, forced_turn, access_turn, cache_turn}
 use Rattle.nb_model.specs.Turns.{first_turn}
 use Rattle.nb_model.specs.Sound.{IsSoundImage, HasHeader}
 use Rattle.nb_model.specs.Well.{is_on_pages}
+use Rattle.nb_model.proofs.ToldTurns.{does_more, told_strokes, pages_cases}
 use Rattle.nb_model.proofs.FitLaws.{AreFitting}
 use Rattle.nb_model.proofs.PutSound.{no_first, short_text, text_fits}
 use Rattle.nb_model.proofs.NoRows.{HasNoRows, no_rows}
@@ -48,10 +47,6 @@ new_fits : IsFittingStatement PageNew
 unfolding first_turn new_turn changes
 new_fits s session h is = guarded_fits s _ _ (λ none. (new_raw_fits HasNoRows (record { inventories = no_rows 2 (omega arith); scn_pages = no_rows 10 (omega arith) }) (no_rows 8 (omega arith)) s.base h is).each)
 
-read_fits : (p : ℕ) → IsFittingStatement (Read p)
-unfolding first_turn read_turn
-read_fits p s session h is = guarded_fits s _ _ (λ none. tt)
-
 forced_fits : (on : Bool) → IsFittingStatement (Forced on)
 unfolding first_turn forced_turn
 forced_fits on s session h is = guarded_fits s _ _ (λ none. byte_fits HasNoRows (no_rows 1 (omega arith)) s.base 64 _ h is (omega arith))
@@ -60,28 +55,26 @@ access_fits : (closed : Bool) → IsFittingStatement (Access closed)
 unfolding first_turn access_turn
 access_fits closed s session h is = guarded_fits s _ _ (λ none. byte_fits HasNoRows (no_rows 1 (omega arith)) s.base 65 _ h is (omega arith))
 
+more_fit : (statement : Statement) → does_more statement ≡ true → IsNamed (Begins statement) → IsFittingStatement statement
+unfolding first_turn cache_turn
+more_fit (CreateDb name size raw cache) h named = λ s session header is. tt
+more_fit (OpenDb name cache) h named = λ s session header is. tt
+more_fit PageNew h named = new_fits
+more_fit (Write p text) h named = write_fits p text
+more_fit (Free p) h named = free_fits p
+more_fit (Forced on) h named = forced_fits on
+more_fit (Access closed) h named = access_fits closed
+more_fit Reclaim h named = λ s session header is. reclaim_fits s header is
+more_fit ShowCache h named = λ s session header is. tt
+more_fit (CreateTable table) h named = λ s session header is. (create_keeps s header is table named).fits
+more_fit (DropTable table) h named = λ s session header is. (drop_keeps s header is table).fits
+more_fit (Insert table key text) h named = λ s session header is. (insert_keeps s header is table key text).fits
+more_fit (Update table key text) h named = λ s session header is. (update_keeps s header is table key text).fits
+more_fit (Delete table key) h named = λ s session header is. (delete_keeps s header is table key).fits
+more_fit (Get table key) h named = λ s session header is. (get_keeps s header is table key).fits
+more_fit (Scan table) h named = λ s session header is. (scan_keeps s header is table).fits
+more_fit other h named = absurd (true≢false (sym h))
+
 pub pages_fit : (statement : Statement) → is_on_pages statement ≡ true → IsNamed (Begins statement) → IsFittingStatement statement
-unfolding first_turn header_turn pages_turn image_turn cache_turn check_turn
-pages_fit (CreateDb name size raw cache) h named = λ s session header is. tt
-pages_fit (OpenDb name cache) h named = λ s session header is. tt
-pages_fit PageNew h named = new_fits
-pages_fit (Write p text) h named = write_fits p text
-pages_fit (Read p) h named = read_fits p
-pages_fit (Free p) h named = free_fits p
-pages_fit (Forced on) h named = forced_fits on
-pages_fit (Access closed) h named = access_fits closed
-pages_fit Sync h named = λ s session header is. tt
-pages_fit Check h named = λ s session header is. guarded_fits s _ _ (λ none. tt)
-pages_fit Reclaim h named = λ s session header is. reclaim_fits s header is
-pages_fit ShowHeader h named = λ s session header is. tt
-pages_fit ShowPages h named = λ s session header is. guarded_fits s _ _ (λ none. tt)
-pages_fit ShowImage h named = λ s session header is. tt
-pages_fit ShowCache h named = λ s session header is. tt
-pages_fit (CreateTable table) h named = λ s session header is. (create_keeps s header is table named).fits
-pages_fit (DropTable table) h named = λ s session header is. (drop_keeps s header is table).fits
-pages_fit (Insert table key text) h named = λ s session header is. (insert_keeps s header is table key text).fits
-pages_fit (Update table key text) h named = λ s session header is. (update_keeps s header is table key text).fits
-pages_fit (Delete table key) h named = λ s session header is. (delete_keeps s header is table key).fits
-pages_fit (Get table key) h named = λ s session header is. (get_keeps s header is table key).fits
-pages_fit (Scan table) h named = λ s session header is. (scan_keeps s header is table).fits
-pages_fit other h named = absurd (true≢false (sym h))
+pages_fit = pages_cases (λ statement. IsNamed (Begins statement) → IsFittingStatement statement)
+    (λ statement is named s session header sound. subst (AreFitting HasNoRows s.base) (sym (told_strokes statement is s session)) tt) more_fit

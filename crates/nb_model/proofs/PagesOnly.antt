@@ -12,22 +12,23 @@ use Rattle.nb_fields.proofs.PartLemmas.{number_in-take}
 use Rattle.nb_host.specs.declared.refusals.Refusal.{Refusal}
 use Rattle.nb_model.specs.declared.reply.Reply.{Reply}
 use Rattle.nb_model.specs.declared.statement.Statement.{Statement}
-use Rattle.nb_model.specs.declared.statement.Statement.TheVariants.{CreateDb, OpenDb, PageNew, Write, Read, Free, Check, Reclaim, CreateTable, DropTable, Insert, Update, Delete, Get, Scan, Forced, Access, Sync, ShowHeader, ShowPages, ShowImage, ShowCache}
+use Rattle.nb_model.specs.declared.statement.Statement.TheVariants.{CreateDb, OpenDb, PageNew, Write, Free, Reclaim, CreateTable, DropTable, Insert, Update, Delete, Get, Scan, Forced, Access, ShowCache}
 use Rattle.nb_model.specs.Account.{Base}
-use Rattle.nb_model.specs.Backups.{close_backup, pages_turn}
+use Rattle.nb_model.specs.Backups.{close_backup}
 use Rattle.nb_model.specs.Causes.{Cause}
 use Rattle.nb_model.specs.Chains.{Chain, Slot, Spot}
 use Rattle.nb_model.specs.Forms.{Draft, drafted, wrote, written}
 use Rattle.nb_model.specs.Image.{Page, Image, page_at, first_page, image_size, image_state, image_scn, with_page}
 use Rattle.nb_model.specs.Outcomes.{Backing, Seen, Outcome, unless, changes}
-use Rattle.nb_model.specs.Pages.{new_turn, write_turn, read_turn, free_turn, forced_turn, access_turn, byte_strokes, header_turn, image_turn, cache_turn}
+use Rattle.nb_model.specs.Pages.{new_turn, write_turn, free_turn, forced_turn, access_turn, byte_strokes, cache_turn}
 use Rattle.nb_model.specs.Sound.{HasHeader}
 use Rattle.nb_model.specs.Strokes.{Stroke, page, merged_page, on_base, base_after}
 use Rattle.nb_model.specs.Tables.{with_spot, in_table, in_row, create_turn, drop_turn, insert_turn, update_turn, delete_turn, get_turn, scan_turn}
-use Rattle.nb_model.specs.Checks.{check_turn, reclaim_turn}
+use Rattle.nb_model.specs.Checks.{reclaim_turn}
 use Rattle.nb_model.specs.Leaks.{leaked}
 use Rattle.nb_model.specs.Turns.{first_turn}
 use Rattle.nb_model.specs.Well.{is_on_pages}
+use Rattle.nb_model.proofs.ToldTurns.{does_more, told_strokes, pages_cases}
 use Rattle.nb_model.proofs.DraftLaws.{IsKept, put_keeps, set_bit_keeps, new_keeps, slot_keeps, at_keeps, place_keeps, given_keeps}
 use Rattle.nb_model.proofs.FitLaws.{Stays, stays_still, stays_both}
 use Rattle.nb_model.proofs.HeaderLaws.{header-long}
@@ -175,33 +176,30 @@ byte_pages : (at value : ℕ) (image : Image) → ArePages (byte_strokes at valu
 unfolding byte_strokes
 byte_pages at value image = (tt, tt)
 
-pub pages_only : (statement : Statement) → is_on_pages statement ≡ true → (s : Seen) (session : ℕ) → ArePages (first_turn s session statement).strokes
-unfolding first_turn check_turn reclaim_turn new_turn write_turn read_turn free_turn forced_turn access_turn header_turn pages_turn image_turn cache_turn create_turn drop_turn insert_turn update_turn delete_turn get_turn scan_turn
-pages_only (CreateDb name size raw cache) on s session = tt
-pages_only (OpenDb name cache) on s session = tt
-pages_only PageNew on s session = changes_pages s _ _ _ (new_keeps WritesPages drafts_write_pages _ 8 _ (drafted s.base.image) tt)
-pages_only (Write p text) on s session = changes_pages s _ _ _ (put_keeps WritesPages drafts_write_pages p 8 _ (drafted s.base.image) tt)
-pages_only (Read p) on s session = unless_pages s _ _ tt
-pages_only (Free p) on s session = changes_pages s _ _ _ (set_bit_keeps WritesPages drafts_write_pages 1 p (drafted s.base.image) tt)
-pages_only (Forced forced) on s session = unless_pages s _ _ (byte_pages 64 _ s.base.image)
-pages_only (Access closed) on s session = unless_pages s _ _ (byte_pages 65 _ s.base.image)
-pages_only Sync on s session = tt
-pages_only ShowHeader on s session = tt
-pages_only ShowPages on s session = unless_pages s _ _ tt
-pages_only ShowImage on s session = tt
-pages_only ShowCache on s session = tt
-pages_only Check on s session = unless_pages s _ _ tt
-pages_only Reclaim on s session = unless_pages s _ _ (given_keeps WritesPages drafts_write_pages (leaked s.base.image) (drafted s.base.image) tt)
-pages_only (CreateTable table) on s session = changes_pages s _ _ _
+more_pages : (statement : Statement) → does_more statement ≡ true → (s : Seen) (session : ℕ) → ArePages (first_turn s session statement).strokes
+unfolding first_turn reclaim_turn new_turn write_turn free_turn forced_turn access_turn cache_turn create_turn drop_turn insert_turn update_turn delete_turn get_turn scan_turn
+more_pages (CreateDb name size raw cache) on s session = tt
+more_pages (OpenDb name cache) on s session = tt
+more_pages PageNew on s session = changes_pages s _ _ _ (new_keeps WritesPages drafts_write_pages _ 8 _ (drafted s.base.image) tt)
+more_pages (Write p text) on s session = changes_pages s _ _ _ (put_keeps WritesPages drafts_write_pages p 8 _ (drafted s.base.image) tt)
+more_pages (Free p) on s session = changes_pages s _ _ _ (set_bit_keeps WritesPages drafts_write_pages 1 p (drafted s.base.image) tt)
+more_pages (Forced forced) on s session = unless_pages s _ _ (byte_pages 64 _ s.base.image)
+more_pages (Access closed) on s session = unless_pages s _ _ (byte_pages 65 _ s.base.image)
+more_pages ShowCache on s session = tt
+more_pages Reclaim on s session = unless_pages s _ _ (given_keeps WritesPages drafts_write_pages (leaked s.base.image) (drafted s.base.image) tt)
+more_pages (CreateTable table) on s session = changes_pages s _ _ _
     (at_keeps WritesPages drafts_write_pages _ _ _ _ _ (new_keeps WritesPages drafts_write_pages _ 5 _ (drafted s.base.image) tt))
-pages_only (DropTable table) on s session = table_pages s _ table _ _ (λ spot chain. changes_pages s _ _ _
+more_pages (DropTable table) on s session = table_pages s _ table _ _ (λ spot chain. changes_pages s _ _ _
     (given_keeps WritesPages drafts_write_pages _ _ (slot_keeps WritesPages drafts_write_pages spot.page spot.slot _ (drafted s.base.image) tt)))
-pages_only (Insert table key text) on s session = table_pages s _ table _ _ (λ spot chain. changes_pages s _ _ _ (place_keeps WritesPages drafts_write_pages chain _ _ (drafted s.base.image) tt))
-pages_only (Update table key text) on s session = table_pages s _ table _ _ (λ spot chain. row_pages s chain key _)
-pages_only (Delete table key) on s session = table_pages s _ table _ _ (λ spot chain. row_pages s chain key _)
-pages_only (Get table key) on s session = table_pages s _ table _ _ (λ spot chain. spot_pages s _ _ _ (λ row. tt))
-pages_only (Scan table) on s session = table_pages s _ table _ _ (λ spot chain. tt)
-pages_only other on s session = absurd (true≢false (sym on))
+more_pages (Insert table key text) on s session = table_pages s _ table _ _ (λ spot chain. changes_pages s _ _ _ (place_keeps WritesPages drafts_write_pages chain _ _ (drafted s.base.image) tt))
+more_pages (Update table key text) on s session = table_pages s _ table _ _ (λ spot chain. row_pages s chain key _)
+more_pages (Delete table key) on s session = table_pages s _ table _ _ (λ spot chain. row_pages s chain key _)
+more_pages (Get table key) on s session = table_pages s _ table _ _ (λ spot chain. spot_pages s _ _ _ (λ row. tt))
+more_pages (Scan table) on s session = table_pages s _ table _ _ (λ spot chain. tt)
+more_pages other on s session = absurd (true≢false (sym on))
+
+pub pages_only : (statement : Statement) → is_on_pages statement ≡ true → (s : Seen) (session : ℕ) → ArePages (first_turn s session statement).strokes
+pages_only = pages_cases (λ statement. (s : Seen) (session : ℕ) → ArePages (first_turn s session statement).strokes) (λ statement is s session. subst ArePages (sym (told_strokes statement is s session)) tt) more_pages
 
 -- and the close of a backup
 pub close_pages : (s : Seen) (b : Backing) → ArePages (close_backup s b).strokes

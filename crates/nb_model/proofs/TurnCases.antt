@@ -1,5 +1,5 @@
 -- The first turn of a statement is refused, or nothing stood in the way of what it does.
-use Rattle.std.proofs.Common.{◌≡◌, ◌≢◌, inl, inr, ℕ, zero, suc, ◌+◌, ◌≤◌, List, [], ◌∷◌, ◌++◌, length, replicate, refl, sym, ap, ◌∙◌, arith}
+use Rattle.std.proofs.Common.{◌≡◌, ◌≢◌, inl, inr, ℕ, zero, suc, ◌+◌, ◌≤◌, List, [], ◌∷◌, ◌++◌, length, replicate, refl, sym, ap, ◌∙◌, arith, subst}
 use Rattle.std.specs.Prelude.{Bool, true, false, not, ◌==◌, nat_lt, Option, Some, None, is_none}
 use Rattle.std.proofs.lemmas.Bool.{true≢false, eqb-true, lt-ltb}
 use Rattle.std.proofs.lemmas.Bool.Decides.{leb_tells}
@@ -8,22 +8,23 @@ use Rattle.nb_host.specs.declared.refusals.Refusal.TheVariants.{WrongState, NoHi
 use Rattle.nb_model.specs.declared.reply.Reply.{Reply}
 use Rattle.nb_model.specs.declared.reply.Reply.TheVariants.{Scn, Refused}
 use Rattle.nb_model.specs.declared.statement.Statement.{Statement}
-use Rattle.nb_model.specs.declared.statement.Statement.TheVariants.{CreateDb, OpenDb, PageNew, Write, Read, Free, BeginBackup, EndBackup, Backup, BackupSince, CopyTo, CreateTable, DropTable, Insert, Update, Delete, Get, Scan, Forced, Access as SetAccess, Sync, Check, Reclaim, ShowHeader, ShowPages, ShowImage, ShowCache}
+use Rattle.nb_model.specs.declared.statement.Statement.TheVariants.{CreateDb, OpenDb, PageNew, Write, Free, BeginBackup, EndBackup, Backup, BackupSince, CopyTo, CreateTable, DropTable, Insert, Update, Delete, Get, Scan, Forced, Access as SetAccess, Reclaim, ShowCache}
 use Rattle.nb_model.specs.Account.{Ask}
 use Rattle.nb_host.specs.Names.{same_name}
-use Rattle.nb_model.specs.Backups.{room_in, ask_of, level_behind, starts, backup_turn, since_turn, copy_turn, close_backup, close_copy, pages_turn}
+use Rattle.nb_model.specs.Backups.{room_in, ask_of, level_behind, starts, backup_turn, since_turn, copy_turn, close_backup, close_copy}
 use Rattle.nb_model.specs.Causes.{Cause, first_cause, when, read_only, not_state, no_scn, not_free, is_free_entry, runs_other, runs_any, broken_at, not_of_form, no_room, short_for}
 use Rattle.nb_model.specs.Chains.{Chain, History, Slot, Spot, pages_of, backup_spot, level_in, guid_in, free_spot, spots}
 use Rattle.nb_model.specs.Forms.{Draft}
 use Rattle.nb_model.specs.Image.{Image, image_state, image_scn, is_read_only}
 use Rattle.nb_model.specs.Outcomes.{Turn, Begins, Copies, ClosesBackup, ClosesCopy, Ends, Merges, Finishes, Seen, Given, Outcome, next_guid, without_guid, without_hold, says, unless, changes}
-use Rattle.nb_model.specs.Pages.{new_turn, write_turn, read_turn, free_turn, begin_turn, end_turn, ends_by, end_scn, forced_turn, access_turn, header_turn, image_turn, cache_turn}
+use Rattle.nb_model.specs.Pages.{new_turn, write_turn, free_turn, begin_turn, end_turn, ends_by, end_scn, forced_turn, access_turn, cache_turn}
 use Rattle.nb_model.specs.Strokes.{begin}
 use Rattle.nb_model.specs.Tables.{with_spot, in_table, in_row, create_turn, drop_turn, insert_turn, update_turn, delete_turn, get_turn, scan_turn}
-use Rattle.nb_model.specs.Checks.{check_turn, reclaim_turn}
+use Rattle.nb_model.specs.Checks.{reclaim_turn}
 use Rattle.nb_model.specs.Turns.{first_turn, turn}
 use Rattle.nb_model.specs.Well.{is_on_pages}
 use Rattle.nb_model.proofs.PutSound.{no_first, not_when}
+use Rattle.nb_model.proofs.ToldTurns.{is_told, does_more, told_turn, pages_cases}
 
 false_true : false ≡ true → ⊥
 false_true h = cc
@@ -282,35 +283,38 @@ row_once s chain key bytes = spot_once s _ _ _ (λ row. changes_once s _ _ _)
 says_once : (s : Seen) (reply : Reply) → IsOnce s s.given (says s reply [])
 says_once s reply = record { next = refl; running = refl; made = refl; given = refl }
 
+-- one that only tells something leaves all that was to be given
+told_left : (statement : Statement) → is_told statement ≡ true → (given : Given) → left_by statement given ≡ given
+told_left ShowCache is given = absurd (false_true is)
+told_left other is given = refl
+
+told_once : (statement : Statement) → is_told statement ≡ true → (s : Seen) (session : ℕ) → IsOnce s (left_by statement s.given) (first_turn s session statement)
+told_once statement is s session =
+    let tells = told_turn statement is s session in
+    subst (λ (g : Given). IsOnce s g (first_turn s session statement)) (sym (told_left statement is s.given)) (subst (IsOnce s s.given) (sym tells.is) (unless_once s _ _ (says_once s tells.reply)))
+
+more_once : (statement : Statement) → does_more statement ≡ true → (s : Seen) (session : ℕ) → IsOnce s (left_by statement s.given) (first_turn s session statement)
+unfolding first_turn new_turn write_turn free_turn forced_turn access_turn cache_turn create_turn drop_turn insert_turn update_turn delete_turn get_turn scan_turn reclaim_turn
+more_once (CreateDb name size raw cache) on s session = record { next = refl; running = refl; made = refl; given = refl }
+more_once (OpenDb name cache) on s session = record { next = refl; running = refl; made = refl; given = refl }
+more_once PageNew on s session = changes_once s _ _ _
+more_once (Write p text) on s session = changes_once s _ _ _
+more_once (Free p) on s session = changes_once s _ _ _
+more_once (Forced forced) on s session = unless_once s _ _ (record { next = refl; running = refl; made = refl; given = refl })
+more_once (SetAccess closed) on s session = unless_once s _ _ (record { next = refl; running = refl; made = refl; given = refl })
+more_once Reclaim on s session = unless_once s _ _ (record { next = refl; running = refl; made = refl; given = refl })
+more_once ShowCache on s session = record { next = refl; running = refl; made = refl; given = refl }
+more_once (CreateTable table) on s session = changes_once s _ _ _
+more_once (DropTable table) on s session = table_once s _ table _ _ (λ spot chain. changes_once s _ _ _)
+more_once (Insert table key text) on s session = table_once s _ table _ _ (λ spot chain. changes_once s _ _ _)
+more_once (Update table key text) on s session = table_once s _ table _ _ (λ spot chain. row_once s chain key _)
+more_once (Delete table key) on s session = table_once s _ table _ _ (λ spot chain. row_once s chain key _)
+more_once (Get table key) on s session = table_once s _ table _ _ (λ spot chain. spot_once s _ _ _ (λ row. says_once s _))
+more_once (Scan table) on s session = table_once s _ table _ _ (λ spot chain. says_once s _)
+more_once other on s session = absurd (false_true on)
+
 pub pages_once : (statement : Statement) → is_on_pages statement ≡ true → (s : Seen) (session : ℕ) → IsOnce s (left_by statement s.given) (first_turn s session statement)
-unfolding first_turn new_turn write_turn read_turn free_turn forced_turn access_turn header_turn pages_turn image_turn cache_turn create_turn drop_turn insert_turn update_turn delete_turn get_turn scan_turn check_turn reclaim_turn
-pages_once (CreateDb name size raw cache) on s session = record { next = refl; running = refl; made = refl; given = refl }
-pages_once (OpenDb name cache) on s session = record { next = refl; running = refl; made = refl; given = refl }
-pages_once PageNew on s session = changes_once s _ _ _
-pages_once (Write p text) on s session = changes_once s _ _ _
-pages_once (Read p) on s session = unless_once s _ _ (record { next = refl; running = refl; made = refl; given = refl })
-pages_once (Free p) on s session = changes_once s _ _ _
-pages_once (Forced forced) on s session = unless_once s _ _ (record { next = refl; running = refl; made = refl; given = refl })
-pages_once (SetAccess closed) on s session = unless_once s _ _ (record { next = refl; running = refl; made = refl; given = refl })
-pages_once Sync on s session = record { next = refl; running = refl; made = refl; given = refl }
-pages_once Check on s session = unless_once s _ _ (says_once s _)
-pages_once Reclaim on s session = unless_once s _ _ (record { next = refl; running = refl; made = refl; given = refl })
-pages_once ShowHeader on s session = record { next = refl; running = refl; made = refl; given = refl }
-pages_once ShowPages on s session = unless_once s _ _ (record { next = refl; running = refl; made = refl; given = refl })
-pages_once ShowImage on s session = record { next = refl; running = refl; made = refl; given = refl }
-pages_once ShowCache on s session = record { next = refl; running = refl; made = refl; given = refl }
-pages_once BeginBackup on s session = absurd (false_true on)
-pages_once EndBackup on s session = absurd (false_true on)
-pages_once (Backup level name) on s session = absurd (false_true on)
-pages_once (BackupSince guid name) on s session = absurd (false_true on)
-pages_once (CopyTo name) on s session = absurd (false_true on)
-pages_once (CreateTable table) on s session = changes_once s _ _ _
-pages_once (DropTable table) on s session = table_once s _ table _ _ (λ spot chain. changes_once s _ _ _)
-pages_once (Insert table key text) on s session = table_once s _ table _ _ (λ spot chain. changes_once s _ _ _)
-pages_once (Update table key text) on s session = table_once s _ table _ _ (λ spot chain. row_once s chain key _)
-pages_once (Delete table key) on s session = table_once s _ table _ _ (λ spot chain. row_once s chain key _)
-pages_once (Get table key) on s session = table_once s _ table _ _ (λ spot chain. spot_once s _ _ _ (λ row. says_once s _))
-pages_once (Scan table) on s session = table_once s _ table _ _ (λ spot chain. says_once s _)
+pages_once = pages_cases (λ statement. (s : Seen) (session : ℕ) → IsOnce s (left_by statement s.given) (first_turn s session statement)) told_once more_once
 
 -- The first turn of a statement leaves these numbers to be given.
 pub first_holds : (s : Seen) (session : ℕ) (statement : Statement) → (first_turn s session statement).given.holds ≡ (left_by statement s.given).holds

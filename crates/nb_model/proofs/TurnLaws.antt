@@ -1,22 +1,24 @@
 -- A refused statement changes nothing and leaves nothing to do.
-use Rattle.std.proofs.Common.{◌≡◌, ℕ, zero, suc, List, [], refl, sym, ap, ◌∙◌}
+use Rattle.std.proofs.Common.{◌≡◌, ℕ, zero, suc, List, [], refl, sym, ap, subst, ◌∙◌}
 use Rattle.std.specs.Prelude.{Bool, true, false, Option, Some, None}
 use Rattle.std.proofs.lemmas.Bool.{true≢false}
 use Rattle.nb_host.specs.declared.refusals.Refusal.{Refusal}
 use Rattle.nb_model.specs.declared.reply.Reply.{Reply}
 use Rattle.nb_model.specs.declared.reply.Reply.TheVariants.{Refused}
 use Rattle.nb_model.specs.declared.statement.Statement.{Statement}
-use Rattle.nb_model.specs.declared.statement.Statement.TheVariants.{CreateDb, OpenDb, PageNew, Write, Read, Free, BeginBackup, EndBackup, Backup, BackupSince, CopyTo, CreateTable, DropTable, Insert, Update, Delete, Get, Scan, Forced, Access, Sync, Check, Reclaim, ShowHeader, ShowPages, ShowImage, ShowCache}
+use Rattle.nb_model.specs.declared.statement.Statement.TheVariants.{CreateDb, OpenDb, PageNew, Write, Free, BeginBackup, EndBackup, Backup, BackupSince, CopyTo, CreateTable, DropTable, Insert, Update, Delete, Get, Scan, Forced, Access, Reclaim, ShowCache}
 use Rattle.nb_model.specs.Account.{Ask}
 use Rattle.nb_model.specs.Forms.{Draft}
 use Rattle.nb_model.specs.Causes.{Cause}
 use Rattle.nb_model.specs.Chains.{Chain, Slot, Spot}
 use Rattle.nb_model.specs.Outcomes.{DoesNothing, Seen, Outcome, says, unless, changes}
-use Rattle.nb_model.specs.Pages.{new_turn, write_turn, read_turn, free_turn, begin_turn, end_turn, ends_by, forced_turn, access_turn, header_turn, image_turn, cache_turn}
+use Rattle.nb_model.specs.Pages.{new_turn, write_turn, free_turn, begin_turn, end_turn, ends_by, forced_turn, access_turn, cache_turn}
 use Rattle.nb_model.specs.Tables.{with_spot, in_table, in_row, create_turn, drop_turn, insert_turn, update_turn, delete_turn, get_turn, scan_turn}
-use Rattle.nb_model.specs.Checks.{check_turn, reclaim_turn}
-use Rattle.nb_model.specs.Backups.{starts, backup_turn, since_turn, copy_turn, pages_turn}
+use Rattle.nb_model.specs.Checks.{reclaim_turn}
+use Rattle.nb_model.specs.Backups.{starts, backup_turn, since_turn, copy_turn}
 use Rattle.nb_model.specs.Turns.{first_turn}
+use Rattle.nb_model.proofs.StatusLaws.{is_refusal}
+use Rattle.nb_model.proofs.ToldTurns.{Tells, told_turn}
 
 -- where it is refused it does nothing
 pub record IsQuiet (s : Seen) (o : Outcome) : Type 0 where
@@ -25,15 +27,15 @@ pub record IsQuiet (s : Seen) (o : Outcome) : Type 0 where
 refuses : (s : Seen) (r : Refusal) → IsQuiet s (says s (Refused r) [])
 refuses s r = record { quiet = λ q e. record { strokes = refl; next = refl; made = refl; running = refl; given = refl } }
 
-abbrev is_refusal : Option Reply → Bool
-is_refusal (Some (Refused r)) = true
-is_refusal other = false
+abbrev is_refused : Option Reply → Bool
+is_refused None = false
+is_refused (Some reply) = is_refusal reply
 
-refused_is : (r : Option Reply) (q : Refusal) → r ≡ Some (Refused q) → is_refusal r ≡ true
-refused_is r q e = ap is_refusal e
+refused_is : (r : Option Reply) (q : Refusal) → r ≡ Some (Refused q) → is_refused r ≡ true
+refused_is r q e = ap is_refused e
 
 -- it says something else, or nothing
-answers : (s : Seen) (o : Outcome) → is_refusal o.reply ≡ false → IsQuiet s o
+answers : (s : Seen) (o : Outcome) → is_refused o.reply ≡ false → IsQuiet s o
 answers s o e = record { quiet = λ r is. absurd (true≢false (sym (refused_is o.reply r is) ∙ e)) }
 
 guarded : (s : Seen) (c : Cause) (o : Outcome) → IsQuiet s o → IsQuiet s (unless s c o)
@@ -41,7 +43,7 @@ unfolding unless
 guarded s None o h = h
 guarded s (Some r) o h = refuses s r
 
-changed : (s : Seen) (cs : List Cause) (d : Draft) (reply : Reply) → is_refusal (Some reply) ≡ false → IsQuiet s (changes s cs d reply)
+changed : (s : Seen) (cs : List Cause) (d : Draft) (reply : Reply) → is_refusal reply ≡ false → IsQuiet s (changes s cs d reply)
 unfolding changes
 changed s cs d reply h = guarded s _ _ (answers s _ h)
 
@@ -67,14 +69,16 @@ unfolding backup_turn
 backed s session zero name = started s session name _ _
 backed s session (suc below) name = started s session name _ _
 
+told_quiet : (s : Seen) (o : Outcome) → Tells s o → IsQuiet s o
+told_quiet s o tells = subst (IsQuiet s) (sym tells.is) (guarded s _ _ (answers s _ tells.told))
+
 -- the first turn of each statement
 pub first_quiet : (s : Seen) (session : ℕ) (statement : Statement) → IsQuiet s (first_turn s session statement)
-unfolding first_turn new_turn write_turn read_turn free_turn begin_turn end_turn ends_by forced_turn access_turn header_turn image_turn cache_turn create_turn drop_turn insert_turn update_turn delete_turn get_turn scan_turn check_turn reclaim_turn since_turn copy_turn pages_turn
+unfolding first_turn new_turn write_turn free_turn begin_turn end_turn ends_by forced_turn access_turn cache_turn create_turn drop_turn insert_turn update_turn delete_turn get_turn scan_turn reclaim_turn since_turn copy_turn
 first_quiet s session (CreateDb name size raw cache) = answers s _ refl
 first_quiet s session (OpenDb name cache) = answers s _ refl
 first_quiet s session PageNew = changed s _ _ _ refl
 first_quiet s session (Write p text) = changed s _ _ _ refl
-first_quiet s session (Read p) = guarded s _ _ (answers s _ refl)
 first_quiet s session (Free p) = changed s _ _ _ refl
 first_quiet s session BeginBackup = guarded s _ _ (answers s _ refl)
 first_quiet s session EndBackup = guarded s _ _ (answers s _ refl)
@@ -90,10 +94,6 @@ first_quiet s session (Get table key) = tabled s _ table _ _ (λ spot chain. spo
 first_quiet s session (Scan table) = tabled s _ table _ _ (λ spot chain. answers s _ refl)
 first_quiet s session (Forced on) = guarded s _ _ (answers s _ refl)
 first_quiet s session (Access closed) = guarded s _ _ (answers s _ refl)
-first_quiet s session Sync = answers s _ refl
-first_quiet s session Check = guarded s _ _ (answers s _ refl)
 first_quiet s session Reclaim = guarded s _ _ (answers s _ refl)
-first_quiet s session ShowHeader = answers s _ refl
-first_quiet s session ShowPages = guarded s _ _ (answers s _ refl)
-first_quiet s session ShowImage = answers s _ refl
 first_quiet s session ShowCache = answers s _ refl
+first_quiet s session other = told_quiet s _ (told_turn other refl s session)

@@ -2,7 +2,7 @@
 use Rattle.std.specs.Prelude.{◌≡◌, ℕ, ◌<◌, ◌≤◌, List, [], Bool, true, false}
 use Rattle.nb_fields.specs.Header.{is_header}
 use Rattle.nb_model.specs.declared.statement.Statement.{Statement}
-use Rattle.nb_model.specs.declared.statement.Statement.TheVariants.{CreateDb, OpenDb, PageNew, Write, Read, Free, BeginBackup, EndBackup, Backup, BackupSince, CopyTo, CreateTable, DropTable, Insert, Update, Delete, Get, Scan, Forced, Access, Sync, Check, Reclaim, ShowHeader, ShowPages, ShowImage, ShowCache}
+use Rattle.nb_model.specs.declared.statement.Statement.TheVariants.{BeginBackup, EndBackup, Backup, BackupSince, CopyTo}
 use Rattle.nb_model.specs.Image.{Image, first_page, image_state, image_scn, image_guid}
 use Rattle.nb_model.specs.Account.{Kept, Base, base_of}
 use Rattle.nb_model.specs.Sound.{IsSoundImage}
@@ -46,33 +46,11 @@ pub record IsWellBaseIn (kept : List Kept) (b : Base) : Type 0 where
   pub merge : image_state b.image ≡ 2 → b.frozen ≡ []
 
 -- A statement on raw pages, on tables or on a byte of the header, or one that shows or checks what stands, gives leaked pages back, or waits
--- for it to be durable. Behind
--- the first statement of a run, creating and opening do nothing.
+-- for it to be durable: any but those that begin, end or copy a backup. Behind the first statement of a run, creating and opening do nothing.
 abbrev pub is_on_pages : Statement → Bool
-is_on_pages (CreateDb name page_size raw cache) = true
-is_on_pages (OpenDb name cache) = true
-is_on_pages PageNew = true
-is_on_pages (Write page text) = true
-is_on_pages (Read page) = true
-is_on_pages (Free page) = true
 is_on_pages BeginBackup = false
 is_on_pages EndBackup = false
 is_on_pages (Backup level name) = false
 is_on_pages (BackupSince guid name) = false
 is_on_pages (CopyTo name) = false
-is_on_pages (CreateTable table) = true
-is_on_pages (DropTable table) = true
-is_on_pages (Insert table key text) = true
-is_on_pages (Update table key text) = true
-is_on_pages (Delete table key) = true
-is_on_pages (Get table key) = true
-is_on_pages (Scan table) = true
-is_on_pages (Forced on) = true
-is_on_pages (Access read_only) = true
-is_on_pages Sync = true
-is_on_pages Check = true
-is_on_pages Reclaim = true
-is_on_pages ShowHeader = true
-is_on_pages ShowPages = true
-is_on_pages ShowImage = true
-is_on_pages ShowCache = true
+is_on_pages other = true

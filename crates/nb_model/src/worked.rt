@@ -18,6 +18,7 @@ ghost use Rattle.std.specs.Prelude.{[], ◌++◌, ◌∷◌, ◌≡◌, None, So
 
 /// A first session: a database is made, and a page is written and read. The entry of the page is current, so that the write is one
 /// stroke.
+#[tactic(auto, unfolding(crate::specs::Opened::opened))]
 pub fn create_write_read()
     ensures replies { replies_of (run_of 8 ((Write 6 (codes "hello") ∷ Read 6 ∷ []) ∷ []) (1 ∷ 1 ∷ [])) ≡ (1, Pages 13) ∷ (1, Done) ∷ (1, Value (codes "hello")) ∷ [] }
     ensures output { output (run_of 8 ((Write 6 (codes "hello") ∷ Read 6 ∷ []) ∷ []) (1 ∷ 1 ∷ []))
@@ -31,6 +32,7 @@ pub fn create_write_read()
 {}
 
 /// Reading, writing and freeing raw pages.
+#[tactic(auto, unfolding(crate::specs::Opened::opened))]
 pub fn page_refusals()
     ensures replies { says 8 (Write 2 (codes "x") ∷ Free 7 ∷ Write 7 (codes "x") ∷ Write 6 (replicate 200 65) ∷ Write 6 (replicate 201 65) ∷ Read 13 ∷ [])
         ≡ (1, Refused (SystemPage 2)) ∷ (1, Done) ∷ (1, Refused (NotAllocated 7)) ∷ (1, Done) ∷ (1, Refused (TextLong 201)) ∷ (1, Refused (PageRange 13 13)) ∷ [] }
@@ -38,24 +40,28 @@ pub fn page_refusals()
 {}
 
 /// A new page goes past a system place, which becomes its system page.
+#[tactic(auto, unfolding(crate::specs::Opened::opened))]
 pub fn system_places_on_growth()
     ensures replies { says 242 (PageNew ∷ PageNew ∷ []) ≡ (1, PageMade 247) ∷ (1, PageMade 249) ∷ [] }
     ensures strokes { strokes 242 ((PageNew ∷ PageNew ∷ []) ∷ []) (1 ∷ 1 ∷ []) ≡ 247 ∷ 1 ∷ 248 ∷ 1 ∷ 249 ∷ 1 ∷ [] }
 {}
 
 /// Begin and end in each state.
+#[tactic(auto, unfolding(crate::specs::Opened::opened))]
 pub fn states_in_order()
     ensures replies { says 8 (EndBackup ∷ BeginBackup ∷ BeginBackup ∷ EndBackup ∷ []) ≡ (1, Refused (WrongState 0)) ∷ (1, Scn 2) ∷ (1, Refused (WrongState 1)) ∷ (1, Scn 3) ∷ [] }
     ensures strokes { strokes 8 ((BeginBackup ∷ EndBackup ∷ []) ∷ []) (rounds 3) ≡ 2000001 ∷ 2000002 ∷ 2000003 ∷ [] }
 {}
 
 /// A read-only database refuses changes, and its begin.
+#[tactic(auto, unfolding(crate::specs::Opened::opened))]
 pub fn access_flag()
     ensures { says 8 (Access true ∷ Write 6 (codes "x") ∷ BeginBackup ∷ Access false ∷ BeginBackup ∷ Access true ∷ [])
         ≡ (1, Done) ∷ (1, Refused (NoAccess 1)) ∷ (1, Refused (NoAccess 1)) ∷ (1, Done) ∷ (1, Scn 2) ∷ (1, Refused (WrongState 1)) ∷ [] }
 {}
 
 /// In the stalled state the SCN page is diverted before the page.
+#[tactic(auto, unfolding(crate::specs::Opened::opened))]
 pub fn write_while_stalled()
     ensures replies { says 8 (BeginBackup ∷ Write 6 (codes "new") ∷ Read 6 ∷ ShowHeader ∷ []) ≡ (1, Scn 2) ∷ (1, Done) ∷ (1, Value (codes "new")) ∷ (1, HeaderShown 1024 13 1 2 (g 1) true 0 2) ∷ [] }
     ensures strokes { strokes 8 ((BeginBackup ∷ Write 6 (codes "new") ∷ []) ∷ []) (1 ∷ 1 ∷ []) ≡ 2000001 ∷ 2 ∷ 6 ∷ [] }
@@ -63,6 +69,7 @@ pub fn write_while_stalled()
 {}
 
 /// A second session writes between the turns of a merge.
+#[tactic(auto, unfolding(crate::specs::Opened::opened))]
 pub fn merge_with_a_second_session()
     ensures { replies 8 (
         (BeginBackup ∷ Write 5 (codes "x") ∷ Write 6 (codes "x") ∷ Write 7 (codes "x") ∷ Write 8 (codes "x") ∷ EndBackup ∷ []) ∷ (Write 6 (codes "y") ∷ []) ∷ [])
@@ -71,6 +78,7 @@ pub fn merge_with_a_second_session()
 {}
 
 /// While a merge or a backup runs, the end of another session is refused.
+#[tactic(auto, unfolding(crate::specs::Opened::opened))]
 pub fn end_of_another_session()
     ensures merge { replies 8 ((BeginBackup ∷ Write 5 (codes "x") ∷ EndBackup ∷ []) ∷ (EndBackup ∷ []) ∷ []) (1 ∷ 1 ∷ 1 ∷ 2 ∷ [] ++ rounds 3)
         ≡ (1, Scn 2) ∷ (1, Done) ∷ (2, Refused (BackupRunning 1)) ∷ (1, Scn 3) ∷ [] }
@@ -78,6 +86,7 @@ pub fn end_of_another_session()
 {}
 
 /// A level 1 takes the pages since the level 0, and those that the backup itself changed.
+#[tactic(auto, unfolding(crate::specs::Opened::opened))]
 pub fn level_1()
     ensures replies { says 8 (Backup 0 (codes "a.0") ∷ Write 6 (codes "new") ∷ Backup 1 (codes "a.1") ∷ []) ≡ (1, Level 0 1 13 (g 1)) ∷ (1, Done) ∷ (1, Level 1 3 4 (g 2)) ∷ [] }
     ensures pages { pages_held (codes "a.1") chain_files ≡ Some (0 ∷ 2 ∷ 4 ∷ 6 ∷ []) }
@@ -86,12 +95,14 @@ pub fn level_1()
 {}
 
 /// A fourth backup links a new page before it begins.
+#[tactic(auto, unfolding(crate::specs::Opened::opened))]
 pub fn history_grows()
     ensures { says 8 (Backup 0 (codes "h.0") ∷ Backup 0 (codes "h.1") ∷ Backup 0 (codes "h.2") ∷ Backup 0 (codes "h.3") ∷ [])
         ≡ (1, Level 0 1 13 (g 1)) ∷ (1, Level 0 3 13 (g 2)) ∷ (1, Level 0 5 13 (g 3)) ∷ (1, Level 0 7 14 (g 4)) ∷ [] }
 {}
 
 /// A backup since a GUID has one level more than the row.
+#[tactic(auto, unfolding(crate::specs::Opened::opened))]
 pub fn since_a_guid()
     ensures { says 8 (
         Backup 0 (codes "a.0") ∷ Write 6 (codes "new") ∷ Backup 1 (codes "a.1") ∷ BackupSince (g 1) (codes "a.y") ∷ BackupSince (g 2) (codes "a.w") ∷ BackupSince (replicate 16 0) (codes "a.v") ∷ [])
@@ -99,6 +110,7 @@ pub fn since_a_guid()
 {}
 
 /// Which files are no chain, and why.
+#[tactic(auto, unfolding(crate::specs::Opened::opened))]
 pub fn chains_refused()
     ensures chain { refused chain_files (codes "a.0" ∷ codes "a.1" ∷ codes "a.2" ∷ []) ≡ None }
     ensures level_1_first { refused chain_files (codes "a.1" ∷ []) ≡ Some (ChainLevel (codes "a.1") 1 0) }
@@ -109,6 +121,7 @@ pub fn chains_refused()
 {}
 
 /// The first broken place of a level file.
+#[tactic(auto, unfolding(crate::specs::Opened::opened))]
 pub fn broken_level_files()
     ensures whole { broken_place level_1_file ≡ None }
     ensures cut { broken_place (take 4187 level_1_file) ≡ Some 4187 }
@@ -127,6 +140,7 @@ pub fn broken_level_files()
 {}
 
 /// Why two files can't be opened.
+#[tactic(auto, unfolding(crate::specs::Opened::opened))]
 pub fn hostile_files()
     ensures sound { not_open (Some stalled_file) (Some delta_file) ≡ None }
     ensures short { not_open (Some (take 1000 (main_file 8))) None ≡ Some (NotDatabase 0) }
@@ -140,6 +154,7 @@ pub fn hostile_files()
 {}
 
 /// Statements on tables.
+#[tactic(auto, unfolding(crate::specs::Opened::opened))]
 pub fn table_refusals()
     ensures replies { says 8 (Scan (codes "t") ∷ CreateTable (codes "t") ∷ CreateTable (codes "t") ∷ Insert (codes "t") 18446744073709551615 [] ∷ Insert (codes "t") 18446744073709551615 [] ∷ Update (codes "t") 5 (codes "x") ∷ Scan (codes "t") ∷ DropTable (codes "t") ∷ Scan (codes "t") ∷ [])
         ≡ (1, Refused NoTable) ∷ (1, Done) ∷ (1, Refused TableExists) ∷ (1, Done) ∷ (1, Refused (KeyExists 18446744073709551615)) ∷ (1, Refused (NoKey 5)) ∷ (1, Rows ((18446744073709551615, []) ∷ [])) ∷ (1, Done) ∷ (1, Refused NoTable) ∷ [] }
@@ -148,11 +163,13 @@ pub fn table_refusals()
 {}
 
 /// The pages by their kinds.
+#[tactic(auto, unfolding(crate::specs::Opened::opened))]
 pub fn pages_shown()
     ensures { says 8 (ShowPages ∷ Free 7 ∷ ShowPages ∷ ShowCache ∷ []) ≡ (1, PagesShown 1 1 1 2 8 0 0) ∷ (1, Done) ∷ (1, PagesShown 1 1 1 2 7 0 1) ∷ (1, CacheShown 64 7) ∷ [] }
 {}
 
 /// A check of a database from which nothing is leaked, and giving back nothing. So it is behind statements on tables.
+#[tactic(auto, unfolding(crate::specs::Opened::opened))]
 pub fn checks()
     ensures fresh { says 0 (Check ∷ Reclaim ∷ []) ≡ (1, Leaked []) ∷ (1, Freed 0) ∷ [] }
     ensures tables { says 0 (CreateTable (codes "t") ∷ Insert (codes "t") 1 (codes "a") ∷ DropTable (codes "t") ∷ Check ∷ Reclaim ∷ []) ≡ (1, Done) ∷ (1, Done) ∷ (1, Done) ∷ (1, Leaked []) ∷ (1, Freed 0) ∷ [] }
@@ -160,6 +177,7 @@ pub fn checks()
 {}
 
 /// Each kind of line.
+#[tactic(auto, unfolding(crate::specs::Opened::opened))]
 pub fn lines_of_replies()
     ensures done { line_text 1 Done ≡ codes "1: ok" ++ 10 ∷ [] }
     ensures pages { line_text 2 (Pages 13) ≡ codes "2: ok pages 13" ++ 10 ∷ [] }
@@ -187,6 +205,7 @@ pub fn lines_of_replies()
 {}
 
 /// Which job the words name.
+#[tactic(auto, unfolding(crate::specs::Opened::opened))]
 pub fn words_name_jobs()
     ensures backup { job_of (codes "-B" ∷ codes "0" ∷ codes "a.db" ∷ codes "a.0" ∷ []) ≡ Some (JobBackup 0 (codes "a.db") (codes "a.0")) }
     ensures behind { job_of (codes "a.db" ∷ codes "-LS" ∷ []) ≡ Some (LockWithSize (codes "a.db")) }
@@ -207,6 +226,7 @@ pub fn words_name_jobs()
 {}
 
 /// A restore gives the image of the last file.
+#[tactic(auto, unfolding(crate::specs::Opened::opened))]
 pub fn restore_a_chain()
     ensures replies { restore_reply (codes "a.0" ∷ codes "a.1" ∷ []) ≡ Some (Pages 13) }
     ensures first { restored_text (codes "a.0" ∷ []) ≡ [] }
@@ -216,6 +236,7 @@ pub fn restore_a_chain()
 {}
 
 /// A level file is merged into a standby once, and only where it is read-only.
+#[tactic(auto, unfolding(crate::specs::Opened::opened))]
 pub fn in_place()
     ensures done { apply_reply (standby 1) ≡ Some (Pages 13) }
     ensures access { apply_reply (standby 0) ≡ Some (Refused (NoAccess 0)) }
@@ -226,6 +247,7 @@ pub fn in_place()
 {}
 
 /// A copy of a stalled database is fixed up once, and only without a difference file.
+#[tactic(auto, unfolding(crate::specs::Opened::opened))]
 pub fn lock_copy_fixup()
     ensures beside { fixup_reply (Some stalled_file) (Some delta_file) ≡ Some (Refused (DeltaPresent (codes "k.db.delta"))) }
     ensures done { fixup_reply (Some stalled_file) None ≡ Some Done }
@@ -234,17 +256,20 @@ pub fn lock_copy_fixup()
 {}
 
 /// Rows are inserted while a backup runs.
+#[tactic(auto, unfolding(crate::specs::Opened::opened))]
 pub fn rows_under_a_backup()
     ensures { replies 2 ((Backup 0 (codes "s.0") ∷ []) ∷ (CreateTable (codes "t") ∷ Insert (codes "t") 1 (codes "a") ∷ Insert (codes "t") 2 (codes "b") ∷ Scan (codes "t") ∷ []) ∷ (Scan (codes "t") ∷ []) ∷ []) (2 ∷ 2 ∷ 1 ∷ 2 ∷ 3 ∷ 2 ∷ [] ++ rounds 14)
         ≡ (2, Done) ∷ (2, Done) ∷ (2, Done) ∷ (3, Rows ((1, codes "a") ∷ (2, codes "b") ∷ [])) ∷ (2, Rows ((1, codes "a") ∷ (2, codes "b") ∷ [])) ∷ (1, Level 0 1 8 (g 1)) ∷ [] }
 {}
 
 /// The order of turns of seed 7 begins with session 15.
+#[tactic(auto, unfolding(crate::specs::Opened::opened))]
 pub fn seed_seven()
     ensures { seeded 1 7 ≡ 15 ∷ [] }
 {}
 
 /// The first line that the generator makes of a number.
+#[tactic(auto, unfolding(crate::specs::Opened::opened))]
 pub fn generated_script()
     ensures { lines_from 1 1 7 ≡ codes "3: read 97" ++ 10 ∷ [] }
 {}

@@ -8,7 +8,7 @@ use Rattle.std.proofs.lemmas.List.{length-set}
 use Rattle.nb_host.specs.declared.refusals.Refusal.{Refusal}
 use Rattle.nb_host.specs.declared.refusals.Refusal.TheVariants.{ScriptLong}
 use Rattle.nb_model.specs.declared.statement.Statement.{Statement}
-use Rattle.nb_model.specs.declared.statement.Statement.TheVariants.{CreateDb, OpenDb, PageNew, Write, Read, Free, BeginBackup, EndBackup, Backup, BackupSince, CopyTo, CreateTable, DropTable, Insert, Update, Delete, Get, Scan, Forced, Access, Sync, Check, Reclaim, ShowHeader, ShowPages, ShowImage, ShowCache}
+use Rattle.nb_model.specs.declared.statement.Statement.TheVariants.{CreateDb, OpenDb, BackupSince}
 use Rattle.nb_script.specs.Words.{Bytes, after, session_at}
 use Rattle.nb_script.specs.Statements.{statement_at, session_line, command_at}
 use Rattle.nb_script.specs.FirstLine.{first_at, database_at}
@@ -39,61 +39,13 @@ first_fits line = follows (session_line line) _ (session_fits line) (λ session 
 opens_none : (s : Statement) → Fits s → IsTrue (not (opens s))
 opens_none (CreateDb name page_size raw cache) fits = absurd fits
 opens_none (OpenDb name cache) fits = absurd fits
-opens_none PageNew fits = refl
-opens_none (Write page text) fits = refl
-opens_none (Read page) fits = refl
-opens_none (Free page) fits = refl
-opens_none BeginBackup fits = refl
-opens_none EndBackup fits = refl
-opens_none (Backup level name) fits = refl
-opens_none (BackupSince guid name) fits = refl
-opens_none (CopyTo name) fits = refl
-opens_none (CreateTable table) fits = refl
-opens_none (DropTable table) fits = refl
-opens_none (Insert table key text) fits = refl
-opens_none (Update table key text) fits = refl
-opens_none (Delete table key) fits = refl
-opens_none (Get table key) fits = refl
-opens_none (Scan table) fits = refl
-opens_none (Forced on) fits = refl
-opens_none (Access read_only) fits = refl
-opens_none Sync fits = refl
-opens_none Check fits = refl
-opens_none Reclaim fits = refl
-opens_none ShowHeader fits = refl
-opens_none ShowPages fits = refl
-opens_none ShowImage fits = refl
-opens_none ShowCache fits = refl
+opens_none other fits = refl
 
 -- and the first always does
 opens_one : (s : Statement) → FitsFirst s → IsTrue (opens s)
 opens_one (CreateDb name page_size raw cache) fits = refl
 opens_one (OpenDb name cache) fits = refl
-opens_one PageNew fits = absurd fits
-opens_one (Write page text) fits = absurd fits
-opens_one (Read page) fits = absurd fits
-opens_one (Free page) fits = absurd fits
-opens_one BeginBackup fits = absurd fits
-opens_one EndBackup fits = absurd fits
-opens_one (Backup level name) fits = absurd fits
-opens_one (BackupSince guid name) fits = absurd fits
-opens_one (CopyTo name) fits = absurd fits
-opens_one (CreateTable table) fits = absurd fits
-opens_one (DropTable table) fits = absurd fits
-opens_one (Insert table key text) fits = absurd fits
-opens_one (Update table key text) fits = absurd fits
-opens_one (Delete table key) fits = absurd fits
-opens_one (Get table key) fits = absurd fits
-opens_one (Scan table) fits = absurd fits
-opens_one (Forced on) fits = absurd fits
-opens_one (Access read_only) fits = absurd fits
-opens_one Sync fits = absurd fits
-opens_one Check fits = absurd fits
-opens_one Reclaim fits = absurd fits
-opens_one ShowHeader fits = absurd fits
-opens_one ShowPages fits = absurd fits
-opens_one ShowImage fits = absurd fits
-opens_one ShowCache fits = absurd fits
+opens_one other fits = absurd fits
 
 -- what is said of the statement of a line, said otherwise
 line_is : (P Q : Statement → Type 0) (o : Option (ℕ × Statement)) → If (IsLine P) o → ((s : Statement) → P s → Q s) → If (IsLine Q) o

@@ -5,7 +5,7 @@ use Rattle.std.proofs.lemmas.Bool.{cond-true, cond-false, ne_eqb, or_cases, eqb-
 use Rattle.std.proofs.lemmas.List.{append-nil}
 use Rattle.nb_host.specs.Files.{is_page_size}
 use Rattle.nb_model.specs.declared.statement.Statement.{Statement}
-use Rattle.nb_model.specs.declared.statement.Statement.TheVariants.{CreateDb, OpenDb, PageNew, Write, Read, Free, BeginBackup, EndBackup, Backup, BackupSince, CopyTo, CreateTable, DropTable, Insert, Update, Delete, Get, Scan, Forced, Access, Sync, Check, Reclaim, ShowHeader, ShowPages, ShowImage, ShowCache}
+use Rattle.nb_model.specs.declared.statement.Statement.TheVariants.{CreateDb, OpenDb}
 use Rattle.nb_script.specs.Words.{Bytes, ◌>>=◌, after, within, name_at, alone}
 use Rattle.nb_script.specs.Statements.{session_line}
 use Rattle.nb_script.specs.FirstLine.{cache_at, page_size_at, sizes_at, create_at, open_at, database_at, first_at}
@@ -77,31 +77,7 @@ database_again : (s : Statement) → FitsFirst s → database_at (command_text s
 unfolding database_at after
 database_again (CreateDb name size raw cache) h = create_again name size raw cache h
 database_again (OpenDb name cache) h = open_again name cache h
-database_again PageNew h = absurd h
-database_again (Write page text) h = absurd h
-database_again (Read page) h = absurd h
-database_again (Free page) h = absurd h
-database_again BeginBackup h = absurd h
-database_again EndBackup h = absurd h
-database_again (Backup level name) h = absurd h
-database_again (BackupSince guid name) h = absurd h
-database_again (CopyTo name) h = absurd h
-database_again (CreateTable table) h = absurd h
-database_again (DropTable table) h = absurd h
-database_again (Insert table key text) h = absurd h
-database_again (Update table key text) h = absurd h
-database_again (Delete table key) h = absurd h
-database_again (Get table key) h = absurd h
-database_again (Scan table) h = absurd h
-database_again (Forced on) h = absurd h
-database_again (Access read_only) h = absurd h
-database_again Sync h = absurd h
-database_again Check h = absurd h
-database_again Reclaim h = absurd h
-database_again ShowHeader h = absurd h
-database_again ShowPages h = absurd h
-database_again ShowImage h = absurd h
-database_again ShowCache h = absurd h
+database_again other h = absurd h
 
 -- a first line that names no session is none
 pub no_first_session : (line : Bytes) → None ≡ session_line line → None ≡ first_at line

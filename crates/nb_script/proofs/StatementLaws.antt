@@ -3,7 +3,7 @@ use Rattle.std.proofs.Common.{◌≡◌, ℕ, ◌^◌, ◌<◌, ◌≤◌, ◌==
 use Rattle.std.specs.Fmt.{decimal}
 use Rattle.std.proofs.lemmas.List.{append-nil}
 use Rattle.nb_model.specs.declared.statement.Statement.{Statement}
-use Rattle.nb_model.specs.declared.statement.Statement.TheVariants.{CreateDb, OpenDb, PageNew, Write, Read, Free, BeginBackup, EndBackup, Backup, BackupSince, CopyTo, CreateTable, DropTable, Insert, Update, Delete, Get, Scan, Forced, Access, Sync, Check, Reclaim, ShowHeader, ShowPages, ShowImage, ShowCache}
+use Rattle.nb_model.specs.declared.statement.Statement.TheVariants.{CreateDb, OpenDb, Write, Read, Free, Backup, BackupSince, CopyTo, CreateTable, DropTable, Insert, Update, Delete, Get, Scan, Forced, Access}
 use Rattle.nb_script.specs.Words.{Bytes, ◌>>=◌, after, number_at, page_at, text_at, table_at, alone, digit_count}
 use Rattle.nb_script.specs.Statements.{last_page, page_text, last_name, backup_at, last_table, row_at, last_row, row_text, fixed, of_page, of_file, of_table, scan_at, of_row, without_text, command_at, session_line, statement_at}
 use Rattle.nb_script.specs.Spelling.{quoted, row_text_of, command_text, line_text}
@@ -61,12 +61,9 @@ pub command_again : (s : Statement) → Fits s → command_at (command_text s) �
 unfolding command_at without_text of_page of_file of_table scan_at of_row fixed after
 command_again (CreateDb name page_size raw cache) h = absurd h
 command_again (OpenDb name cache) h = absurd h
-command_again PageNew h = refl
 command_again (Write page text) h = rw (page_text_again page text h.0 h.1) refl
 command_again (Read page) h = rw (last_page_again page h) refl
 command_again (Free page) h = rw (last_page_again page h) refl
-command_again BeginBackup h = refl
-command_again EndBackup h = refl
 command_again (Backup level name) h = rw (backup_again level name h.0 h.1) refl
 command_again (BackupSince guid name) h = absurd h
 command_again (CopyTo name) h = rw (last_name_again name h) refl
@@ -81,13 +78,7 @@ command_again (Forced true) h = refl
 command_again (Forced false) h = refl
 command_again (Access true) h = refl
 command_again (Access false) h = refl
-command_again Sync h = refl
-command_again Check h = refl
-command_again Reclaim h = refl
-command_again ShowHeader h = refl
-command_again ShowPages h = refl
-command_again ShowImage h = refl
-command_again ShowCache h = refl
+command_again other h = refl
 
 -- the session of a line, and what stands behind it
 pub session_again : (session : ℕ) (rest : Bytes) → 1 ≤ session → session ≤ 16 → session_line (decimal session ++ (codes ": " ++ rest)) ≡ Some (session, rest)

@@ -7,7 +7,7 @@ use Rattle.std.proofs.lemmas.List.Folds.{list_all-append}
 use Rattle.nb_host.specs.Names.{is_name, is_name_byte}
 use Rattle.nb_host.specs.Files.{is_page_size}
 use Rattle.nb_model.specs.declared.statement.Statement.{Statement}
-use Rattle.nb_model.specs.declared.statement.Statement.TheVariants.{CreateDb, OpenDb, PageNew, Write, Read, Free, BeginBackup, EndBackup, Backup, BackupSince, CopyTo, CreateTable, DropTable, Insert, Update, Delete, Get, Scan, Forced, Access, Sync, Check, Reclaim, ShowHeader, ShowPages, ShowImage, ShowCache}
+use Rattle.nb_model.specs.declared.statement.Statement.TheVariants.{CreateDb, OpenDb, Write, Read, Free, Backup, BackupSince, CopyTo, CreateTable, DropTable, Insert, Update, Delete, Get, Scan, Forced, Access}
 use Rattle.nb_model.specs.TableNames.{is_table_byte}
 use Rattle.nb_script.specs.Words.{Bytes, is_digit, is_text_byte, is_given}
 use Rattle.nb_script.specs.Spelling.{quoted, cache_text, sizes_text, row_text_of, command_text, line_text, spaced_sessions}
@@ -75,14 +75,11 @@ sizes_unbroken page_size raw is small =
 command_unbroken : (s : Statement) → Fits s → Unbroken (command_text s)
 command_unbroken (CreateDb name page_size raw cache) fits = absurd fits
 command_unbroken (OpenDb name cache) fits = absurd fits
-command_unbroken PageNew fits = refl
 command_unbroken (Write page text) fits =
     joined (codes "write ") (decimal page ++ (codes " " ++ quoted text)) refl
     (joined (decimal page) (codes " " ++ quoted text) (number_unbroken page (omega (arith, fits.0))) (joined (codes " ") (quoted text) refl (text_unbroken text fits.1)))
 command_unbroken (Read page) fits = joined (codes "read ") (decimal page) refl (number_unbroken page (omega arith))
 command_unbroken (Free page) fits = joined (codes "free ") (decimal page) refl (number_unbroken page (omega arith))
-command_unbroken BeginBackup fits = refl
-command_unbroken EndBackup fits = refl
 command_unbroken (Backup level name) fits =
     joined (codes "backup ") (decimal level ++ (codes " to " ++ quoted name)) refl
     (joined (decimal level) (codes " to " ++ quoted name) (number_unbroken level (omega (arith, fits.0))) (joined (codes " to ") (quoted name) refl (name_unbroken 100 name fits.1)))
@@ -99,44 +96,14 @@ command_unbroken (Forced true) fits = refl
 command_unbroken (Forced false) fits = refl
 command_unbroken (Access true) fits = refl
 command_unbroken (Access false) fits = refl
-command_unbroken Sync fits = refl
-command_unbroken Check fits = refl
-command_unbroken Reclaim fits = refl
-command_unbroken ShowHeader fits = refl
-command_unbroken ShowPages fits = refl
-command_unbroken ShowImage fits = refl
-command_unbroken ShowCache fits = refl
+command_unbroken other fits = refl
 
 database_unbroken : (s : Statement) → FitsFirst s → Unbroken (command_text s)
 database_unbroken (CreateDb name page_size raw cache) fits =
     joined (codes "create database ") (quoted name ++ (sizes_text page_size raw ++ cache_text cache)) refl
     (joined (quoted name) (sizes_text page_size raw ++ cache_text cache) (name_unbroken 94 name fits.0) (joined (sizes_text page_size raw) (cache_text cache) (sizes_unbroken page_size raw fits.1 fits.2) (cache_unbroken cache fits.4)))
 database_unbroken (OpenDb name cache) fits = joined (codes "open ") (quoted name ++ cache_text cache) refl (joined (quoted name) (cache_text cache) (name_unbroken 94 name fits.0) (cache_unbroken cache fits.2))
-database_unbroken PageNew fits = absurd fits
-database_unbroken (Write page text) fits = absurd fits
-database_unbroken (Read page) fits = absurd fits
-database_unbroken (Free page) fits = absurd fits
-database_unbroken BeginBackup fits = absurd fits
-database_unbroken EndBackup fits = absurd fits
-database_unbroken (Backup level name) fits = absurd fits
-database_unbroken (BackupSince guid name) fits = absurd fits
-database_unbroken (CopyTo name) fits = absurd fits
-database_unbroken (CreateTable table) fits = absurd fits
-database_unbroken (DropTable table) fits = absurd fits
-database_unbroken (Insert table key text) fits = absurd fits
-database_unbroken (Update table key text) fits = absurd fits
-database_unbroken (Delete table key) fits = absurd fits
-database_unbroken (Get table key) fits = absurd fits
-database_unbroken (Scan table) fits = absurd fits
-database_unbroken (Forced on) fits = absurd fits
-database_unbroken (Access read_only) fits = absurd fits
-database_unbroken Sync fits = absurd fits
-database_unbroken Check fits = absurd fits
-database_unbroken Reclaim fits = absurd fits
-database_unbroken ShowHeader fits = absurd fits
-database_unbroken ShowPages fits = absurd fits
-database_unbroken ShowImage fits = absurd fits
-database_unbroken ShowCache fits = absurd fits
+database_unbroken other fits = absurd fits
 
 after_session : (session : ℕ) (command : Bytes) → session ≤ 16 → Unbroken command → Unbroken (decimal session ++ (codes ": " ++ command))
 after_session session command small is = joined (decimal session) (codes ": " ++ command) (number_unbroken session (omega arith)) (joined (codes ": ") command refl is)

@@ -3,7 +3,7 @@ use Rattle.std.specs.Prelude.{◌≡◌, ℕ, ◌^◌, ◌<◌, ◌≤◌, true,
 use Rattle.std.specs.List.{list_all, AllByRecursion}
 use Rattle.nb_host.specs.Files.{is_page_size}
 use Rattle.nb_model.specs.declared.statement.Statement.{Statement}
-use Rattle.nb_model.specs.declared.statement.Statement.TheVariants.{CreateDb, OpenDb, PageNew, Write, Read, Free, BeginBackup, EndBackup, Backup, BackupSince, CopyTo, CreateTable, DropTable, Insert, Update, Delete, Get, Scan, Forced, Access, Sync, Check, Reclaim, ShowHeader, ShowPages, ShowImage, ShowCache}
+use Rattle.nb_model.specs.declared.statement.Statement.TheVariants.{CreateDb, OpenDb, Write, Read, Free, Backup, BackupSince, CopyTo, CreateTable, DropTable, Insert, Update, Delete, Get, Scan}
 use Rattle.nb_model.specs.TableNames.{is_table_name}
 use Rattle.nb_script.specs.Words.{Bytes, is_text_byte, is_given}
 
@@ -30,12 +30,9 @@ IsTable table = is_table_name table ≡ true
 abbrev pub Fits : Statement → Type 0
 Fits (CreateDb name page_size raw cache) = ⊥
 Fits (OpenDb name cache) = ⊥
-Fits PageNew = Unit {0}
 Fits (Write page text) = (page < 2 ^ 32) × IsText text
 Fits (Read page) = page < 2 ^ 32
 Fits (Free page) = page < 2 ^ 32
-Fits BeginBackup = Unit {0}
-Fits EndBackup = Unit {0}
 Fits (Backup level name) = (level ≤ 9) × IsFile name
 Fits (BackupSince guid name) = ⊥
 Fits (CopyTo name) = IsFile name
@@ -46,15 +43,7 @@ Fits (Update table key text) = IsTable table × (key < 2 ^ 64) × IsText text
 Fits (Delete table key) = IsTable table × (key < 2 ^ 64)
 Fits (Get table key) = IsTable table × (key < 2 ^ 64)
 Fits (Scan table) = IsTable table
-Fits (Forced on) = Unit {0}
-Fits (Access read_only) = Unit {0}
-Fits Sync = Unit {0}
-Fits Check = Unit {0}
-Fits Reclaim = Unit {0}
-Fits ShowHeader = Unit {0}
-Fits ShowPages = Unit {0}
-Fits ShowImage = Unit {0}
-Fits ShowCache = Unit {0}
+Fits other = Unit {0}
 
 -- the values of a further statement that can be asked: by a line, or by words of the command line alone
 abbrev pub FitsAsked : Statement → Type 0

@@ -21,7 +21,7 @@ use Rattle.nb_model.specs.Trail.{Trail, StandsIn}
 use Rattle.nb_model.proofs.MakingLaws.{made_append}
 use Rattle.nb_model.proofs.OutputLaws.{output_append, status_events, output_no_event, status_no_event}
 use Rattle.nb_model.proofs.StepsLaws.{steps_none, steps_append, after_steps_append, after_no_step, acked_steps_none}
-use Rattle.nb_model.proofs.TodoLaws.{status_or}
+use Rattle.nb_model.proofs.StatusLaws.{status_or}
 use Rattle.nb_gather.specs.Making.{IsKept}
 use Rattle.nb_state.specs.Open.{Held, name_of}
 use Rattle.nb_session.specs.declared.stop.Stop.{Stop}

@@ -20,7 +20,9 @@ use Rattle.nb_model.specs.Output.{status_after}
 use Rattle.nb_model.specs.Run.{Now, Played, base_now, outcome, take_turn}
 use Rattle.nb_model.specs.Trail.{Trail}
 use Rattle.nb_model.specs.Turns.{first_turn, turn}
-use Rattle.nb_model.proofs.TodoLaws.{IsSingle, never_usage, status_plain}
+use Rattle.nb_model.proofs.StatusLaws.{status_plain}
+use Rattle.nb_model.proofs.TodoLaws.{IsSingle}
+use Rattle.nb_model.proofs.UsageLaws.{never_usage}
 use Rattle.nb_base.specs.Takes.{IsNoRefusal}
 use Rattle.nb_state.specs.Open.{Held}
 use Rattle.nb_change.proofs.ResultLaws.{passed_on}

@@ -5,7 +5,7 @@ use Rattle.nb_host.specs.declared.faults.Fault.{Fault}
 use Rattle.nb_host.specs.declared.faults.Fault.TheVariants.{Refused, Device, Memory}
 use Rattle.nb_page.specs.Quiet.{Quiet}
 use Rattle.nb_model.specs.declared.reply.Reply.{Reply}
-use Rattle.nb_model.specs.declared.reply.Reply.TheVariants.{Refused as RefusedBy, Opened, Value, Rows, HeaderShown, PagesShown, ImageShown, CacheShown, Leaked}
+use Rattle.nb_model.specs.declared.reply.Reply.TheVariants.{Done, Pages, PageMade, Scn, ScnPages, Level, Freed, Planned, Refused as RefusedBy}
 use Rattle.nb_model.specs.Causes.{Cause}
 use Rattle.nb_model.specs.Outcomes.{Outcome}
 use Rattle.nb_model.specs.Strokes.{Stroke}
@@ -42,18 +42,17 @@ WhereRefused (Err (Refused refusal)) P = P
 WhereRefused (Err Device) P = Unit {0}
 WhereRefused (Err Memory) P = Unit {0}
 
--- the reply is a refusal, or tells what was read
+-- the reply is a refusal, or tells what was read: it is none of what is done
 abbrev pub only_tells : Reply → Bool
-only_tells (RefusedBy refusal) = true
-only_tells (Opened pages state) = true
-only_tells (Value text) = true
-only_tells (Rows rows) = true
-only_tells (HeaderShown size pages state scn guid forced access delta) = true
-only_tells (PagesShown header inventory scn rows raw other free) = true
-only_tells (ImageShown pages digest) = true
-only_tells (CacheShown pages held) = true
-only_tells (Leaked pages) = true
-only_tells other = false
+only_tells Done = false
+only_tells (Pages pages) = false
+only_tells (PageMade page) = false
+only_tells (Scn scn) = false
+only_tells (ScnPages scn pages) = false
+only_tells (Level level scn pages guid) = false
+only_tells (Freed pages) = false
+only_tells (Planned kept dropped orphans) = false
+only_tells other = true
 
 -- so it is with what is said, if anything is
 abbrev pub has_only_told : Option Reply → Bool

@@ -21,7 +21,7 @@ use Rattle.nb_model.specs.Output.{status_after}
 use Rattle.nb_model.specs.Run.{Event, Now, base_now, begun, opening}
 use Rattle.nb_model.specs.Steps.{after_steps, steps_in}
 use Rattle.nb_model.specs.Trail.{settled}
-use Rattle.nb_model.proofs.TodoLaws.{status_refused}
+use Rattle.nb_model.proofs.StatusLaws.{status_refused}
 use Rattle.nb_base.specs.Open.{OfFiles}
 use Rattle.nb_state.specs.Open.{Held, NoPageWaits, name_of}
 use Rattle.nb_script.specs.Asked.{IsAskable}

@@ -16,7 +16,7 @@ use Rattle.nb_catalog.specs.Heads.{level_head, read_file, read_files, whole_head
 use Rattle.nb_catalog.specs.Plans.{Retention, plan_of}
 use Rattle.nb_catalog.specs.Turns.{planned}
 use Rattle.nb_level.specs.declared.head.LevelHead.{LevelHead}
-use Rattle.nb_model.proofs.TodoLaws.{IsOther, other_first, other_when}
+use Rattle.nb_model.proofs.UsageCauses.{IsOther, other_first, other_when}
 
 -- it isn't refused, or for another reason
 abbrev IsFine : {T : Type 0} → Result T Refusal → Type 0

@@ -13,7 +13,7 @@ use Rattle.nb_model.specs.Owner.{delta_name, owner, owner_in, owner_with, entry_
 use Rattle.nb_model.specs.Run.{Event, account_after, with_made}
 use Rattle.nb_model.specs.Strokes.{fix, base_in}
 use Rattle.nb_model.proofs.MainLaws.{owner-formed}
-use Rattle.nb_model.proofs.TodoLaws.{IsOther, other_first, other_when, other_database}
+use Rattle.nb_model.proofs.UsageCauses.{IsOther, other_first, other_when, other_database}
 use Rattle.nb_fixup.specs.Fixup.{fixup_cause, IsFixable}
 use Rattle.nb_fixup.proofs.CauseLaws.{IsFit}
 use Rattle.nb_fixup.proofs.FixupLaws.{copy_there, fixable_fit}

@@ -37,7 +37,7 @@ use Rattle.nb_model.proofs.OutputLaws.{output-quiet}
 use Rattle.nb_model.proofs.RunLaws.{entry_same}
 use Rattle.nb_model.proofs.StandsLaws.{entry_other, no_main}
 use Rattle.nb_model.proofs.StepsLaws.{acked_steps_none}
-use Rattle.nb_model.proofs.TodoLaws.{status_refused}
+use Rattle.nb_model.proofs.StatusLaws.{status_refused}
 use Rattle.nb_gather.specs.Making.{IsKept, IsUnfinishedOr}
 use Rattle.nb_script.specs.Scripts.{Plan, script_of}
 use Rattle.nb_session.specs.declared.stop.Stop.{Stop}

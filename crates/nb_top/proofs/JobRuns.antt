@@ -17,7 +17,7 @@ use Rattle.nb_model.specs.Output.{status_after}
 use Rattle.nb_model.specs.Making.{IsNoneOf}
 use Rattle.nb_model.specs.Run.{Event, files_made}
 use Rattle.nb_model.specs.Steps.{steps_of}
-use Rattle.nb_model.proofs.TodoLaws.{status_refused}
+use Rattle.nb_model.proofs.StatusLaws.{status_refused}
 use Rattle.nb_session.specs.declared.stop.Stop.{Stop}
 use Rattle.nb_session.specs.Says.{SaysLine}
 use Rattle.nb_top.specs.declared.status.Status.{Status}

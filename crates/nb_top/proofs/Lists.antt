@@ -23,7 +23,7 @@ use Rattle.nb_top.specs.Goes.{Goes}
 use Rattle.nb_top.specs.Numbers.{number_of}
 use Rattle.nb_top.specs.Requests.{script_in, to_plan}
 use Rattle.nb_top.proofs.GoesLaws.{goes_quietly, goes_turn_quietly}
-use Rattle.nb_model.proofs.TodoLaws.{status_refused}
+use Rattle.nb_model.proofs.StatusLaws.{status_refused}
 
 -- a plan that begins with calls that change nothing
 pub plan_quietly : {H : Type 0} (world : H → World) (tells : Bool) (old mid new : H) (keep : ℕ) (names : Result (List (List ℕ)) Refusal) (result : Result Status Stop) → Quiet (world old) (world mid) → Goes world tells result mid new (to_plan keep names)

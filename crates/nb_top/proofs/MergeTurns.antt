@@ -15,7 +15,7 @@ use Rattle.nb_model.specs.Jobs.{only_turn, only_refusal, apply_turn, account_beh
 use Rattle.nb_model.specs.Levels.{Contents, read_level}
 use Rattle.nb_model.specs.Run.{Event, account_after, with_made}
 use Rattle.nb_model.specs.Strokes.{merge, merged}
-use Rattle.nb_model.proofs.TodoLaws.{IsOther, other_first, other_when, other_database}
+use Rattle.nb_model.proofs.UsageCauses.{IsOther, other_first, other_when, other_database}
 use Rattle.nb_inplace.specs.Verdict.{IsMergeable}
 
 -- the turn that merges what a level file holds into a standby

@@ -12,7 +12,7 @@ use Rattle.nb_model.specs.Owner.{delta_name, diverted_base, owner, owner_with, o
 use Rattle.nb_model.specs.Trail.{ShowsIn}
 use Rattle.nb_model.proofs.MainLaws.{owner-formed, owner-refused}
 use Rattle.nb_model.proofs.StandsLaws.{opened_entry}
-use Rattle.nb_model.proofs.TodoLaws.{other_database}
+use Rattle.nb_model.proofs.UsageCauses.{other_database}
 
 -- no database is shown where there is no file
 pub none_shown : (name : List ℕ) (d : File) (b : Base) → owner name None d ≡ Ok b → ⊥

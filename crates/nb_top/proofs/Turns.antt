@@ -21,7 +21,7 @@ use Rattle.nb_model.specs.Lines.{line_text}
 use Rattle.nb_model.specs.Output.{output, status_after, status_of}
 use Rattle.nb_model.specs.Run.{Event, replies_of}
 use Rattle.nb_model.proofs.OutputLaws.{output_one, status_one}
-use Rattle.nb_model.proofs.TodoLaws.{status_refused}
+use Rattle.nb_model.proofs.StatusLaws.{status_refused}
 use Rattle.nb_session.specs.declared.stop.Stop.{Stop}
 use Rattle.nb_session.specs.Says.{FrontSaid, SaysLine}
 use Rattle.nb_session.specs.Stops.{IsSaid}

@@ -1,7 +1,0 @@
-use Rattle.std.proofs.Common.{refl}
-use Rattle.nb_model.specs.Opened.{opened}
-use Rattle.nb_model.proofs.worked.since_a_guid.Goals as goal
-
-pub returns : goal.returns
-unfolding opened
-returns c = refl
