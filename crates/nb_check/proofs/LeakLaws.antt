@@ -27,8 +27,8 @@ use Rattle.nb_state.specs.Open.{Held, IsOpen}
 use Rattle.nb_state.specs.Does.{Makes}
 use Rattle.nb_state.proofs.MakesLaws.{makes_none, makes_then, makes_front}
 use Rattle.nb_engine.specs.Tries.{Tries}
-use Rattle.nb_engine.proofs.DoesLaws.{tries_made}
-use Rattle.nb_engine.proofs.NewLaws.{image_is}
+use Rattle.nb_alloc.proofs.DoesLaws.{tries_made}
+use Rattle.nb_alloc.proofs.NewLaws.{image_is}
 use Rattle.nb_model.specs.Leaks.{is_leaked, leaked}
 
 -- the leaked pages from page n on

@@ -11,8 +11,8 @@ use Rattle.nb_state.specs.Open.{Held}
 use Rattle.nb_base.specs.Takes.{IsNoRefusal}
 use Rattle.nb_state.proofs.MakesLaws.{makes_front}
 use Rattle.nb_engine.specs.Tries.{Tries}
-use Rattle.nb_engine.proofs.DoesLaws.{tested_as}
-use Rattle.nb_engine.proofs.WhereLaws.{makes_as, makes_valued}
+use Rattle.nb_alloc.proofs.DoesLaws.{tested_as}
+use Rattle.nb_alloc.proofs.WhereLaws.{makes_as, makes_valued}
 
 -- it failed
 pub tries_as : (S T : Type 0) (fault : Fault) (old new : World) (a b : Held) (t : Trail) (cause : Cause) (xs : List Stroke) → Tries {T = S} (Err fault) old new a b t cause xs → Tries {T = T} (Err fault) old new a b t cause xs

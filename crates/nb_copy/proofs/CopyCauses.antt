@@ -6,7 +6,7 @@ use Rattle.nb_host.specs.declared.refusals.Refusal.TheVariants.{BackupRunning, F
 use Rattle.nb_model.specs.Image.{Image}
 use Rattle.nb_model.specs.Causes.{first_cause, when, not_state, not_free, is_free_entry, runs_any}
 use Rattle.nb_model.specs.Outcomes.{Seen}
-use Rattle.nb_engine.proofs.CauseLaws.{first_none, first_next, first_here}
+use Rattle.nb_alloc.proofs.CauseLaws.{first_none, first_next, first_here}
 use Rattle.nb_copy.specs.FileCopies.{copy_cause}
 
 module _ (s : Seen) (name : List ℕ) where

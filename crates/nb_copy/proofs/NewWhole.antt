@@ -12,7 +12,7 @@ use Rattle.nb_model.proofs.ReadLaws.{eq_yes}
 use Rattle.nb_model.proofs.PutSound.{IsPlace}
 use Rattle.nb_model.proofs.RoundLaws as rounds
 use Rattle.nb_model.proofs.RoundLaws.{new_more, new_last, needed_found}
-use Rattle.nb_engine.proofs.FullLaws.{lowest_finds, lowest_most}
+use Rattle.nb_alloc.proofs.FullLaws.{lowest_finds, lowest_most}
 
 -- A new page of a database whose inventories agree with its pages.
 module _ (kind : ℕ) (payload : ℕ → List ℕ) (some : (kind == 0) ≡ false) (short : (p : ℕ) → length (payload p) ≤ 1008) where

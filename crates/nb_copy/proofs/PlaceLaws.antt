@@ -9,9 +9,9 @@ use Rattle.nb_fields.specs.Page.{stamp_of}
 use Rattle.nb_model.specs.Image.{Page, Image, image_size, page_at}
 use Rattle.nb_model.specs.Sound.{HasEntries}
 use Rattle.nb_scn.specs.Entries.{entries}
-use Rattle.nb_engine.proofs.PutLaws.{other-with}
+use Rattle.nb_alloc.proofs.PutLaws.{other-with}
 use Rattle.nb_model.specs.Forms.{scn_page_of, scn_entry}
-use Rattle.nb_engine.proofs.RaiseLaws.{scn_page-is, entry-is}
+use Rattle.nb_alloc.proofs.RaiseLaws.{scn_page-is, entry-is}
 use Rattle.nb_gather.proofs.FitLaws.{lt_tells}
 
 -- an SCN page that isn't the first stands at the first page that it has an entry for

@@ -8,8 +8,8 @@ use Rattle.nb_fields.proofs.SizeLemmas.{size_facts}
 use Rattle.nb_model.specs.Image.{Page, Image, image_size, page_at}
 use Rattle.nb_model.specs.Forms.{has_entry, scn_entry, scn_page_of}
 use Rattle.nb_scn.specs.Entries.{entries}
-use Rattle.nb_engine.proofs.PutLaws.{other-with}
-use Rattle.nb_engine.proofs.RaiseLaws.{entry-is}
+use Rattle.nb_alloc.proofs.PutLaws.{other-with}
+use Rattle.nb_alloc.proofs.RaiseLaws.{entry-is}
 use Rattle.nb_copy.specs.Reading.{is_above, loads_entries, one_if, reads_at, sum_below}
 
 -- the turn of a page that reads an SCN page

@@ -15,7 +15,7 @@ use Rattle.nb_model.specs.Outcomes.{Seen}
 use Rattle.nb_model.proofs.PutSound.{no_first, not_when}
 use Rattle.nb_engine.specs.declared.rows.HistoryRow.{HistoryRow}
 use Rattle.nb_engine.specs.History.{row_at}
-use Rattle.nb_engine.proofs.CauseLaws.{first_none, first_next, first_here}
+use Rattle.nb_alloc.proofs.CauseLaws.{first_none, first_next, first_here}
 use Rattle.nb_engine.proofs.FreeLaws.{closed_cause, open_cause}
 use Rattle.nb_copy.specs.Starting.{ask_in, earlier_row, row_cause, earlier_cause, file_cause}
 use Rattle.nb_copy.specs.declared.since.Since.TheVariants.{Level}

@@ -24,7 +24,7 @@ use Rattle.nb_state.specs.Does.{Tested, has_only_told, unless_by}
 use Rattle.nb_state.specs.Turns.{GaveAtMost}
 use Rattle.nb_state.proofs.TurnLaws.{struck_front}
 use Rattle.nb_engine.specs.Room.{room_cause}
-use Rattle.nb_engine.proofs.CauseLaws.{told_some, unless_refused, unless_allowed, first_here}
+use Rattle.nb_alloc.proofs.CauseLaws.{told_some, unless_refused, unless_allowed, first_here}
 use Rattle.nb_copy.specs.Starting.{HasNotBegun, StartsBackup, earlier_row, row_cause, earlier_cause, file_cause, ask_in, turn_since}
 use Rattle.nb_copy.specs.declared.since.Since.{Since}
 use Rattle.nb_copy.specs.declared.since.Since.TheVariants.{Level, Guid}

@@ -13,10 +13,10 @@ use Rattle.nb_model.specs.Causes.{when, not_kind}
 use Rattle.nb_model.specs.Chains.{owner_in}
 use Rattle.nb_model.proofs.HeaderLaws.{header-kind}
 use Rattle.nb_model.proofs.ReadLaws.{eq_yes}
-use Rattle.nb_engine.specs.Data.{not_data, data_cause}
-use Rattle.nb_engine.specs.Put.{entry_cause}
-use Rattle.nb_engine.proofs.CauseLaws.{first_next, first_here, one_cause}
-use Rattle.nb_engine.proofs.PutLaws.{is_kind-parts, none_of}
+use Rattle.nb_alloc.specs.Data.{not_data, data_cause}
+use Rattle.nb_alloc.specs.Put.{entry_cause}
+use Rattle.nb_alloc.proofs.CauseLaws.{first_next, first_here, one_cause}
+use Rattle.nb_alloc.proofs.PutLaws.{is_kind-parts, none_of}
 
 -- tests of the owner behind tests of the kind
 by_kind : (kind owner : Bool) (r s : Refusal) → when (not kind) r ≡ Some s → when (not (kind && owner)) r ≡ Some s

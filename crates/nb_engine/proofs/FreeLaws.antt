@@ -9,11 +9,11 @@ use Rattle.nb_model.specs.Forms.{Draft, drafted, give_page, inventory_of}
 use Rattle.nb_model.specs.Causes.{Cause, first_cause, read_only, not_kind, not_raw, not_of_form, no_room}
 use Rattle.nb_model.specs.Outcomes.{Seen, says, unless}
 use Rattle.nb_model.specs.Pages.{free_turn}
-use Rattle.nb_engine.specs.Mark.{mark_cause, mark_strokes}
-use Rattle.nb_engine.proofs.CauseLaws.{first_none, first_next, first_here, refused_by, judged_by}
-use Rattle.nb_engine.proofs.TestLaws.{applies, rests}
+use Rattle.nb_alloc.specs.Mark.{mark_cause, mark_strokes}
+use Rattle.nb_alloc.proofs.CauseLaws.{first_none, first_next, first_here, refused_by, judged_by}
+use Rattle.nb_alloc.proofs.TestLaws.{applies, rests}
 use Rattle.nb_engine.proofs.WriteLaws.{is_raw}
-use Rattle.nb_engine.proofs.MarkLaws.{mark_form, mark_room}
+use Rattle.nb_alloc.proofs.MarkLaws.{mark_form, mark_room}
 
 -- the turn, by its causes
 module _ (s : Seen) (p : ℕ) where

@@ -14,9 +14,9 @@ use Rattle.nb_model.specs.Trail.{Trail}
 use Rattle.nb_fields.specs.Places.{is_page_size}
 use Rattle.nb_model.proofs.SearchLaws.{draft_cause}
 use Rattle.nb_model.proofs.StepLaws.{kind_parts}
-use Rattle.nb_engine.specs.Put.{entry_cause}
-use Rattle.nb_engine.proofs.ReadyLaws.{page_strokes_are}
-use Rattle.nb_engine.proofs.RoomsLaws.{IsFreeBehind}
+use Rattle.nb_alloc.specs.Put.{entry_cause}
+use Rattle.nb_alloc.proofs.ReadyLaws.{page_strokes_are}
+use Rattle.nb_alloc.proofs.RoomsLaws.{IsFreeBehind}
 use Rattle.nb_model.specs.Forms.{Draft, is_kind, drafted, old_page, put, wrote, written}
 use Rattle.nb_model.specs.Causes.{Cause, first_cause, not_of_form, no_room, no_scn}
 use Rattle.nb_model.specs.Chains.{Chain, History, owner_of, last_of, grown}
@@ -26,15 +26,15 @@ use Rattle.nb_base.specs.Takes.{after_strokes, IsNoRefusal}
 use Rattle.nb_state.specs.Open.{Held}
 use Rattle.nb_state.specs.Does.{Makes, unless_by}
 use Rattle.nb_state.proofs.MakesLaws.{makes_then, makes_front}
-use Rattle.nb_engine.specs.Data.{new_behind}
-use Rattle.nb_engine.specs.Make.{MakesSome, page_strokes, new_of}
+use Rattle.nb_alloc.specs.Data.{new_behind}
+use Rattle.nb_alloc.specs.Make.{MakesSome, page_strokes, new_of}
 use Rattle.nb_engine.specs.Room.{no_rows, linked_payload, link_cause, grow_cause}
-use Rattle.nb_engine.specs.Tries.{Tries}
-use Rattle.nb_engine.proofs.DoesLaws.{unless_none, tries_made}
-use Rattle.nb_engine.proofs.CauseLaws.{first_none, first_next, first_here}
-use Rattle.nb_engine.proofs.NewLaws.{told, image_is}
+use Rattle.nb_alloc.specs.Tries.{Tries}
+use Rattle.nb_alloc.proofs.DoesLaws.{unless_none, tries_made}
+use Rattle.nb_alloc.proofs.CauseLaws.{first_none, first_next, first_here}
+use Rattle.nb_alloc.proofs.NewLaws.{told, image_is}
 use Rattle.nb_engine.proofs.LinkLaws.{link_low}
-use Rattle.nb_engine.proofs.WhereLaws.{makes_as, makes_valued, sure_of}
+use Rattle.nb_alloc.proofs.WhereLaws.{makes_as, makes_valued, sure_of}
 
 -- the bytes of a page of the history without a row
 pub rows_are : 0 ∷ 0 ∷ 0 ∷ 0 ∷ 1 ∷ 0 ∷ 0 ∷ 0 ∷ 0 ∷ 0 ∷ 0 ∷ 0 ∷ 0 ∷ 0 ∷ 0 ∷ 0 ∷ [] ≡ no_rows

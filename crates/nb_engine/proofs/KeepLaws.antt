@@ -5,7 +5,7 @@ use Rattle.std.proofs.lemmas.List.{append-nil}
 use Rattle.nb_host.specs.World.{World}
 use Rattle.nb_host.specs.declared.faults.Fault.{Fault}
 use Rattle.nb_host.specs.declared.refusals.Refusal.TheVariants.{Full}
-use Rattle.nb_engine.proofs.TestLaws.{rests}
+use Rattle.nb_alloc.proofs.TestLaws.{rests}
 use Rattle.nb_model.proofs.ReadLaws.{lt_no}
 use Rattle.nb_model.specs.Image.{Image}
 use Rattle.nb_model.specs.Strokes.{Stroke}
@@ -20,10 +20,10 @@ use Rattle.nb_state.specs.Does.{unless_by}
 use Rattle.nb_engine.specs.declared.walk.Room.{Room}
 use Rattle.nb_engine.specs.History.{room_at}
 use Rattle.nb_engine.specs.Room.{room_cause, IsRoomIn, taken_draft, grow_cause}
-use Rattle.nb_engine.proofs.CauseLaws.{first_next}
-use Rattle.nb_engine.specs.Tries.{Tries}
-use Rattle.nb_engine.proofs.DoesLaws.{tries_front}
-use Rattle.nb_engine.proofs.WhereLaws.{makes_valued}
+use Rattle.nb_alloc.proofs.CauseLaws.{first_next}
+use Rattle.nb_alloc.specs.Tries.{Tries}
+use Rattle.nb_alloc.proofs.DoesLaws.{tries_front}
+use Rattle.nb_alloc.proofs.WhereLaws.{makes_valued}
 use Rattle.nb_engine.proofs.WalkLaws.{IsData, history_least}
 
 -- what a test of inventories leaves

@@ -17,13 +17,13 @@ use Rattle.nb_model.specs.Chains.{Slot, put_slot}
 use Rattle.nb_model.specs.Causes.{when}
 use Rattle.nb_model.proofs.ReadLaws.{le_no}
 use Rattle.nb_model.proofs.SoundLaws.{scn_page_there, scn_place_some}
-use Rattle.nb_engine.specs.Put.{entry_cause, raise_strokes}
-use Rattle.nb_engine.specs.Make.{page_strokes}
+use Rattle.nb_alloc.specs.Put.{entry_cause, raise_strokes}
+use Rattle.nb_alloc.specs.Make.{page_strokes}
 use Rattle.nb_engine.specs.Room.{link_cause}
-use Rattle.nb_engine.proofs.CauseLaws.{first_next, first_here, one_cause}
-use Rattle.nb_engine.proofs.TestLaws.{applies, rests, le_yes}
-use Rattle.nb_engine.proofs.PutLaws.{Keeps, put_stroke-after, draft_raised, not_raised, raised_not, scn_page-without}
-use Rattle.nb_engine.proofs.MakeLaws.{RaisesAlone, raise_alone, old_below}
+use Rattle.nb_alloc.proofs.CauseLaws.{first_next, first_here, one_cause}
+use Rattle.nb_alloc.proofs.TestLaws.{applies, rests, le_yes}
+use Rattle.nb_alloc.proofs.PutLaws.{Keeps, put_stroke-after, draft_raised, not_raised, raised_not, scn_page-without}
+use Rattle.nb_alloc.proofs.MakeLaws.{RaisesAlone, raise_alone, old_below}
 
 -- bytes behind the head of a page were written
 module _ (at : ℕ) (bytes old : List ℕ) (low : 16 ≤ at) (before : at ≤ length old) (long : length (with_part at bytes old) ≡ length old) where

@@ -24,12 +24,12 @@ use Rattle.nb_model.proofs.StepLaws.{IsShaped}
 use Rattle.nb_base.specs.Takes.{IsNoRefusal}
 use Rattle.nb_state.specs.Open.{Held, IsOpen}
 use Rattle.nb_state.specs.Does.{Makes, Does}
-use Rattle.nb_engine.specs.Make.{IsWell, new_raw}
+use Rattle.nb_alloc.specs.Make.{IsWell, new_raw}
 use Rattle.nb_engine.specs.Replies.{page_made}
-use Rattle.nb_engine.specs.Search.{IsSearchable}
-use Rattle.nb_engine.proofs.TestLaws.{applies, rests}
-use Rattle.nb_engine.proofs.CauseLaws.{unless_refused, unless_allowed, first_none, first_next, first_here, refused_by, judged_by}
-use Rattle.nb_engine.proofs.DoesLaws.{seeing, tries_made, tries_does}
+use Rattle.nb_alloc.specs.Search.{IsSearchable}
+use Rattle.nb_alloc.proofs.TestLaws.{applies, rests}
+use Rattle.nb_alloc.proofs.CauseLaws.{unless_refused, unless_allowed, first_none, first_next, first_here, refused_by, judged_by}
+use Rattle.nb_alloc.proofs.DoesLaws.{seeing, tries_made, tries_does}
 
 -- the bytes of the empty text
 pub empty_is : 0 ∷ 0 ∷ [] ≡ text_payload []

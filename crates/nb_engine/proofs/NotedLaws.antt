@@ -18,13 +18,13 @@ use Rattle.nb_model.proofs.BitLaws.{with_bit_length}
 use Rattle.nb_model.proofs.PutSound.{needs_image}
 use Rattle.nb_model.proofs.SoundLaws.{all_at, inventory_place_some, scn_place_some, scn_place_before}
 use Rattle.nb_model.proofs.StepLaws.{IsShaped, IsWritten, Puts, form_written, kind_parts, kind_from, written_size, written_shaped, inventory_has, needs_found, put_on}
-use Rattle.nb_engine.specs.Behind.{entry_broken, give_broken}
-use Rattle.nb_engine.specs.Put.{entry_cause}
-use Rattle.nb_engine.specs.Mark.{mark_cause}
-use Rattle.nb_engine.proofs.BehindLaws.{entry_by, other_by}
-use Rattle.nb_engine.proofs.CauseLaws.{first_none, first_next}
+use Rattle.nb_alloc.specs.Behind.{entry_broken, give_broken}
+use Rattle.nb_alloc.specs.Put.{entry_cause}
+use Rattle.nb_alloc.specs.Mark.{mark_cause}
+use Rattle.nb_alloc.proofs.BehindLaws.{entry_by, other_by}
+use Rattle.nb_alloc.proofs.CauseLaws.{first_none, first_next}
 use Rattle.nb_engine.proofs.RoomLaws.{inventory_most}
-use Rattle.nb_engine.proofs.RoomsLaws.{needs_broken, both_empty, none_broken, no_entry_broken}
+use Rattle.nb_alloc.proofs.RoomsLaws.{needs_broken, both_empty, none_broken, no_entry_broken}
 
 -- the page is one of these
 abbrev pub In : ℕ → List ℕ → Type 0

@@ -14,8 +14,8 @@ use Rattle.nb_model.specs.Backups.{needs_taken}
 use Rattle.nb_model.proofs.SoundLaws.{inventory_place_some, scn_place_some}
 use Rattle.nb_model.proofs.PutSound.{needs_image}
 use Rattle.nb_engine.specs.Room.{taken_draft}
-use Rattle.nb_engine.proofs.CauseLaws.{first_none, first_next, first_here}
-use Rattle.nb_engine.proofs.PutLaws.{none_of, is_kind-parts}
+use Rattle.nb_alloc.proofs.CauseLaws.{first_none, first_next, first_here}
+use Rattle.nb_alloc.proofs.PutLaws.{none_of, is_kind-parts}
 
 -- the inventory page of a page stands before its SCN page
 before_scn : (size p : ℕ) → IsTrue (is_page_size size) → inventory_place size (p / bits_in size) < scn_place size (p / entries_in size)

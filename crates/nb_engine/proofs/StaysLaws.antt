@@ -32,11 +32,11 @@ use Rattle.nb_state.specs.declared.turns.Progress.{Progress}
 use Rattle.nb_state.specs.declared.turns.Progress.TheVariants.{More, Finished}
 use Rattle.nb_state.proofs.MakesLaws.{ended_more, open_running, open_still, still_open, where_ended}
 use Rattle.nb_state.proofs.ShownLaws.{open_beside}
-use Rattle.nb_engine.specs.Make.{MakesSome}
+use Rattle.nb_alloc.specs.Make.{MakesSome}
 use Rattle.nb_engine.specs.Stays.{CanBeOpened, OfFilesOr, StaysOpen}
-use Rattle.nb_engine.specs.Tries.{Tries}
+use Rattle.nb_alloc.specs.Tries.{Tries}
 use Rattle.nb_engine.specs.Turns.{DoesEnd, Starts, starting_cause}
-use Rattle.nb_engine.proofs.DoesLaws.{tries_passed}
+use Rattle.nb_alloc.proofs.DoesLaws.{tries_passed}
 
 -- the database is open
 abbrev GoesOpen : (w : World) (held : Held) → Type 0

@@ -17,7 +17,7 @@ use Rattle.nb_model.proofs.ReadLaws.{eq_no, eq_yes, and_no_right}
 use Rattle.nb_engine.specs.declared.rows.Wanted.{Wanted}
 use Rattle.nb_engine.specs.declared.walk.Walked.{Walked}
 use Rattle.nb_engine.specs.History.{gathered, not_linked}
-use Rattle.nb_engine.proofs.PutLaws.{none_of, is_kind-parts}
+use Rattle.nb_alloc.proofs.PutLaws.{none_of, is_kind-parts}
 
 -- The slots of a page from one on.
 module _ (page : Page) (count slot : ℕ) (low : slot < count) where

@@ -17,9 +17,9 @@ use Rattle.nb_model.specs.Causes.{Cause, first_cause, when, past_end, read_only,
 use Rattle.nb_model.specs.Outcomes.{Seen, says, unless}
 use Rattle.nb_model.specs.Pages.{write_turn}
 use Rattle.nb_model.proofs.HeaderLaws.{header-kind}
-use Rattle.nb_engine.specs.Put.{entry_cause, raise_strokes, raw_stroke}
-use Rattle.nb_engine.proofs.CauseLaws.{first_none, first_next, first_here, refused_by, judged_by, unless_these}
-use Rattle.nb_engine.proofs.PutLaws.{put_strokes, put_form, put_room, put_refused}
+use Rattle.nb_alloc.specs.Put.{entry_cause, raise_strokes, raw_stroke}
+use Rattle.nb_alloc.proofs.CauseLaws.{first_none, first_next, first_here, refused_by, judged_by, unless_these}
+use Rattle.nb_alloc.proofs.PutLaws.{put_strokes, put_form, put_room, put_refused}
 
 -- no cause of a list applies
 no_causes : (c : Cause) (cs : List Cause) → first_cause (c ∷ cs) ≡ None → (c ≡ None) × (first_cause cs ≡ None)

@@ -9,7 +9,7 @@ use Rattle.nb_model.specs.Causes.{Cause, first_cause, when, broken_at, not_of_fo
 use Rattle.nb_model.specs.Chains.{History, pages_of, spots, free_spot, grown}
 use Rattle.nb_model.specs.Backups.{room_in, needs_taken}
 use Rattle.nb_engine.specs.declared.walk.Room.{Room}
-use Rattle.nb_engine.specs.Put.{entry_cause}
+use Rattle.nb_alloc.specs.Put.{entry_cause}
 
 -- why no slot is kept
 abbrev pub room_cause : Image → Cause

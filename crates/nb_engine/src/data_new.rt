@@ -11,16 +11,14 @@ ghost use Rattle.nb_model.specs.Sound.{IsOfSize};
 ghost use Rattle.nb_model.specs.Trail.{Trail};
 ghost use Rattle.nb_state.specs.Open.{IsOpen, but_pages};
 ghost use Rattle.nb_state.specs.Does.{Tested, Goes};
-ghost use Rattle.nb_engine.specs.Data.{new_data, second_data, unmade, unmade_behind};
-ghost use Rattle.nb_engine.specs.Make.{MakesSome, new_of};
-ghost use Rattle.nb_engine.specs.Search.{IsShort};
-ghost use Rattle.nb_engine.specs.Tries.{Tries};
+ghost use Rattle.nb_alloc.specs.Data.{new_data, second_data, unmade, unmade_behind};
+ghost use Rattle.nb_alloc.specs.Make.{MakesSome, new_of};
+ghost use Rattle.nb_alloc.specs.Search.{IsShort};
+ghost use Rattle.nb_alloc.specs.Tries.{Tries};
 
 use crate::Engine;
-use crate::find::FIRST_TO_GIVE;
 use crate::grow::grow_from;
-use crate::make::make_new;
-use crate::rooms::{check_new, check_rooms};
+use nb_alloc::{FIRST_TO_GIVE, check_new, check_rooms, make_new};
 use nb_fields::{Field, PageKind};
 use nb_host::{Fault, Host, Refusal};
 

@@ -14,7 +14,7 @@ ghost use Rattle.nb_state.specs.Open.{IsOpen, NoPageWaits, but_pages, name_of};
 ghost use Rattle.nb_cache.specs.Held.{slot_of};
 ghost use Rattle.nb_state.specs.Beginnings.{Attaches, Creates, HoldsNone};
 
-use crate::pages::{InventoryPage, ScnPage};
+use nb_alloc::{InventoryPage, ScnPage};
 use nb_host::{Fault, Host, HostFault, Name};
 use nb_state::Store;
 use std::alloc::Global;

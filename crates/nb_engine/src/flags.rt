@@ -12,8 +12,8 @@ ghost use Rattle.nb_model.specs.Pages.{byte_strokes, forced_turn, access_turn};
 ghost use Rattle.nb_base.specs.Takes.{Strikes};
 ghost use Rattle.nb_state.specs.Open.{IsOpen, HasBlock, but_pages, name_of};
 ghost use Rattle.nb_state.specs.Does.{Goes, Does};
-ghost use Rattle.nb_engine.specs.Tries.{Tries};
-ghost use Rattle.nb_engine.specs.Put.{Reads};
+ghost use Rattle.nb_alloc.specs.Tries.{Tries};
+ghost use Rattle.nb_alloc.specs.Put.{Reads};
 ghost use Rattle.nb_engine.specs.Replies.{done};
 
 use crate::Engine;

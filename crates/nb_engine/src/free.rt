@@ -8,13 +8,12 @@ ghost use Rattle.nb_model.specs.Outcomes.{Seen};
 ghost use Rattle.nb_model.specs.Pages.{free_turn};
 ghost use Rattle.nb_state.specs.Open.{IsOpen};
 ghost use Rattle.nb_state.specs.Does.{Goes, Does};
-ghost use Rattle.nb_engine.specs.Tries.{StopsBehind};
-ghost use Rattle.nb_engine.specs.Put.{raise_strokes};
+ghost use Rattle.nb_alloc.specs.Tries.{StopsBehind};
+ghost use Rattle.nb_alloc.specs.Put.{raise_strokes};
 ghost use Rattle.nb_engine.specs.Replies.{done};
 
 use crate::Engine;
-use crate::mark::mark;
-use crate::reads::take_raw;
+use nb_alloc::{mark, take_raw};
 use nb_host::{Fault, Host, Refusal};
 
 impl Engine {

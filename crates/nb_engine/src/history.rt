@@ -15,10 +15,10 @@ ghost use Rattle.nb_state.specs.Open.{IsOpen, but_pages};
 ghost use Rattle.nb_base.specs.Takes.{IsNoRefusal};
 ghost use Rattle.nb_state.specs.Does.{Tested, Goes};
 ghost use Rattle.nb_engine.specs.History.{row_at, IsPlaced};
-ghost use Rattle.nb_engine.specs.Make.{MakesSome};
-ghost use Rattle.nb_engine.specs.Put.{entry_cause};
+ghost use Rattle.nb_alloc.specs.Make.{MakesSome};
+ghost use Rattle.nb_alloc.specs.Put.{entry_cause};
 ghost use Rattle.nb_engine.specs.Room.{room_cause, IsRoomIn};
-ghost use Rattle.nb_engine.specs.Tries.{Tries};
+ghost use Rattle.nb_alloc.specs.Tries.{Tries};
 
 use crate::Engine;
 use crate::room::{add_row, check_room, grow};

@@ -12,26 +12,17 @@
 #![tactic(auto)]
 
 mod backup;
-mod behind;
 mod data;
 mod data_new;
 mod engine;
-mod find;
 mod flags;
 mod free;
 mod grow;
 mod history;
-mod make;
-mod mark;
 mod new_page;
-mod pages;
-mod put;
-mod reads;
 mod room;
-mod rooms;
 mod rows;
 mod walk;
-mod way;
 mod write;
 
 pub use engine::Engine;

@@ -13,12 +13,10 @@ ghost use Rattle.nb_model.specs.Sound.{IsOfSize};
 ghost use Rattle.nb_state.specs.Open.{IsOpen};
 ghost use Rattle.nb_state.specs.Does.{Goes, Does};
 ghost use Rattle.nb_engine.specs.Replies.{page_made};
-ghost use Rattle.nb_engine.specs.Make.{MakesSome, new_reads};
+ghost use Rattle.nb_alloc.specs.Make.{MakesSome, new_reads};
 
 use crate::Engine;
-use crate::find::FIRST_TO_GIVE;
-use crate::make::make_new;
-use crate::rooms::check_new;
+use nb_alloc::{FIRST_TO_GIVE, check_new, make_new};
 use nb_fields::PageKind;
 use nb_host::{Fault, Host, Refusal};
 

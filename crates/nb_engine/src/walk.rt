@@ -13,8 +13,8 @@ ghost use Rattle.nb_state.specs.Open.{IsOpen, but_pages};
 ghost use Rattle.nb_state.specs.Does.{Tested};
 ghost use Rattle.nb_engine.specs.History.{gathered, not_linked, IsPlaced};
 
-use crate::reads::take_system;
 use crate::rows::{HistoryRow, Wanted, read_row, use_of};
+use nb_alloc::take_system;
 use nb_fields::PageKind;
 use nb_fields::layouts::{data, header};
 use nb_host::{Fault, Host, Refusal};

@@ -10,14 +10,13 @@ ghost use Rattle.nb_model.specs.Outcomes.{Seen};
 ghost use Rattle.nb_model.specs.Pages.{write_turn, read_turn};
 ghost use Rattle.nb_state.specs.Open.{IsOpen, but_pages};
 ghost use Rattle.nb_state.specs.Does.{Tested, Goes, Does};
-ghost use Rattle.nb_engine.specs.Tries.{StopsBehind};
-ghost use Rattle.nb_engine.specs.Put.{raise_strokes};
+ghost use Rattle.nb_alloc.specs.Tries.{StopsBehind};
+ghost use Rattle.nb_alloc.specs.Put.{raise_strokes};
 ghost use Rattle.nb_engine.specs.Replies.{done, valued};
 
 use crate::Engine;
-use crate::put::{raise_entry, write_raw};
-use crate::reads::take_raw;
 use arrayvec::ArrayVec;
+use nb_alloc::{raise_entry, take_raw, write_raw};
 use nb_fields::layouts::raw::MOST_TEXT;
 use nb_host::{Fault, Host, Refusal};
 use nb_page::raw_text;

@@ -12,7 +12,7 @@ use Rattle.nb_model.specs.Image.{Image}
 use Rattle.nb_model.specs.Outcomes.{Seen, says}
 use Rattle.nb_model.specs.Pages.{image_turn}
 use Rattle.nb_state.specs.Does.{Tested}
-use Rattle.nb_engine.proofs.CauseLaws.{unless_refused, unless_allowed}
+use Rattle.nb_alloc.proofs.CauseLaws.{unless_refused, unless_allowed}
 use Rattle.nb_shown.specs.declared.counts.PageCounts.{PageCounts}
 use Rattle.nb_shown.specs.Counts.{counts_below}
 use Rattle.nb_shown.specs.Replies.{bytes_of_image, image_shown, pages_shown}

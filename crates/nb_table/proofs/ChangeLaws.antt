@@ -18,10 +18,10 @@ use Rattle.nb_state.specs.Does.{Does}
 use Rattle.nb_engine.specs.Put.{entry_cause}
 use Rattle.nb_engine.specs.Replies.{done}
 use Rattle.nb_engine.specs.Tries.{Tries}
-use Rattle.nb_engine.proofs.CauseLaws.{first_none, first_next, first_here, refused_by, judged_by}
-use Rattle.nb_engine.proofs.DoesLaws.{seeing, tries_does}
-use Rattle.nb_engine.proofs.RoomsLaws.{slot_alone}
-use Rattle.nb_engine.proofs.TestLaws.{applies, rests}
+use Rattle.nb_alloc.proofs.CauseLaws.{first_none, first_next, first_here, refused_by, judged_by}
+use Rattle.nb_alloc.proofs.DoesLaws.{seeing, tries_does}
+use Rattle.nb_alloc.proofs.RoomsLaws.{slot_alone}
+use Rattle.nb_alloc.proofs.TestLaws.{applies, rests}
 use Rattle.nb_table.specs.declared.look.Found.{Found}
 use Rattle.nb_table.specs.declared.look.Sought.TheVariants.{Row}
 use Rattle.nb_table.specs.declared.look.Walked.{Walked}

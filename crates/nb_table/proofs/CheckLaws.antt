@@ -13,8 +13,8 @@ use Rattle.nb_engine.specs.Behind.{give_broken}
 use Rattle.nb_engine.specs.Data.{not_data}
 use Rattle.nb_engine.specs.Find.{need_cause}
 use Rattle.nb_engine.proofs.DataLaws.{owner_is}
-use Rattle.nb_engine.proofs.RoomsLaws.{lowest_append}
-use Rattle.nb_engine.proofs.TestLaws.{kind_is}
+use Rattle.nb_alloc.proofs.RoomsLaws.{lowest_append}
+use Rattle.nb_alloc.proofs.TestLaws.{kind_is}
 use Rattle.nb_table.specs.Drops.{drop_broken}
 use Rattle.nb_table.proofs.GiveLaws.{IsFirst, walk_first}
 

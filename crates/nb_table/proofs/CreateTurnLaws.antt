@@ -15,8 +15,8 @@ use Rattle.nb_engine.specs.Data.{unmade}
 use Rattle.nb_model.proofs.PutSound.{no_first}
 use Rattle.nb_model.proofs.ReadLaws.{le_no}
 use Rattle.nb_engine.proofs.DataLaws.{data_there}
-use Rattle.nb_engine.proofs.TestLaws.{le_yes}
-use Rattle.nb_engine.proofs.CauseLaws.{first_next, first_here, first_front, first_rest, one_cause, refused_by}
+use Rattle.nb_alloc.proofs.TestLaws.{le_yes}
+use Rattle.nb_alloc.proofs.CauseLaws.{first_next, first_here, first_front, first_rest, one_cause, refused_by}
 use Rattle.nb_table.specs.declared.look.Place.{Place}
 use Rattle.nb_table.specs.Creates.{first_made, created_in, created_behind, new_cause}
 use Rattle.nb_table.specs.declared.look.Sought.TheVariants.{Table}

@@ -15,7 +15,7 @@ use Rattle.nb_model.specs.Tables.{all_given}
 use Rattle.nb_model.proofs.SoundLaws.{all_at, scn_place_before}
 use Rattle.nb_model.proofs.StepLaws.{IsShaped, kind_parts}
 use Rattle.nb_engine.specs.Behind.{entry_broken, give_broken}
-use Rattle.nb_engine.proofs.FullLaws.{needs_full, put_full}
+use Rattle.nb_alloc.proofs.FullLaws.{needs_full, put_full}
 use Rattle.nb_engine.proofs.NotedLaws.{Notes, notes_none, notes_raised, notes_put, notes_given, kept_raised, lowest_same}
 use Rattle.nb_table.specs.Drops.{dropped, drop_broken}
 

@@ -10,7 +10,7 @@ use Rattle.nb_model.specs.Image.{Image}
 use Rattle.nb_model.specs.Outcomes.{Seen, Outcome, says, unless, changes}
 use Rattle.nb_model.specs.Tables.{all_given, drop_turn}
 use Rattle.nb_model.proofs.PutSound.{no_first}
-use Rattle.nb_engine.proofs.CauseLaws.{first_none, judged_by}
+use Rattle.nb_alloc.proofs.CauseLaws.{first_none, judged_by}
 use Rattle.nb_table.specs.Drops.{IsWholeTable, dropped}
 use Rattle.nb_table.specs.Rows.{chain_cause, rows_cause}
 use Rattle.nb_table.proofs.DropCauseLaws.{dropped_full}

@@ -6,7 +6,7 @@ use Rattle.nb_host.specs.declared.refusals.Refusal.TheVariants.{NoKey}
 use Rattle.nb_model.specs.Image.{Image}
 use Rattle.nb_model.specs.Causes.{Cause, first_cause, when, broken_at}
 use Rattle.nb_model.specs.Chains.{Spot, RowsFrom, pages_of, spots, row_spot}
-use Rattle.nb_engine.proofs.CauseLaws.{first_none, first_next, first_here}
+use Rattle.nb_alloc.proofs.CauseLaws.{first_none, first_next, first_here}
 use Rattle.nb_table.specs.declared.look.Found.{Found}
 use Rattle.nb_table.specs.Walks.{found_of, spot_of, found_at}
 

@@ -19,8 +19,8 @@ use Rattle.nb_model.specs.Trail.{Trail}
 use Rattle.nb_state.specs.Open.{Held, IsOpen, but_pages}
 use Rattle.nb_state.specs.Does.{Does}
 use Rattle.nb_state.proofs.MakesLaws.{makes_after}
-use Rattle.nb_engine.proofs.CauseLaws.{unless_refused, unless_allowed, first_none, first_next, first_here, one_cause}
-use Rattle.nb_engine.proofs.DoesLaws.{seeing, tries_passed}
+use Rattle.nb_alloc.proofs.CauseLaws.{unless_refused, unless_allowed, first_none, first_next, first_here, one_cause}
+use Rattle.nb_alloc.proofs.DoesLaws.{seeing, tries_passed}
 use Rattle.nb_table.specs.Rows.{chain_cause, rows_cause}
 
 -- The chain of the rows that a slot of the catalogue leads to.

@@ -15,11 +15,11 @@ use Rattle.nb_state.specs.Open.{Held}
 use Rattle.nb_engine.specs.Data.{data_cause, put_data, unmade}
 use Rattle.nb_engine.specs.Put.{entry_cause}
 use Rattle.nb_engine.specs.Tries.{Tries}
-use Rattle.nb_engine.proofs.CauseLaws.{first_next}
+use Rattle.nb_alloc.proofs.CauseLaws.{first_next}
 use Rattle.nb_engine.proofs.DataLaws.{by_entry}
-use Rattle.nb_engine.proofs.MakeLaws.{tries_named}
-use Rattle.nb_engine.proofs.PutLaws.{none_of}
-use Rattle.nb_engine.proofs.RoomsLaws.{slot_alone}
+use Rattle.nb_alloc.proofs.MakeLaws.{tries_named}
+use Rattle.nb_alloc.proofs.PutLaws.{none_of}
+use Rattle.nb_alloc.proofs.RoomsLaws.{slot_alone}
 use Rattle.nb_table.specs.declared.look.Place.{Place}
 use Rattle.nb_table.specs.declared.look.Found.{Found}
 use Rattle.nb_table.specs.Rows.{place_cause}

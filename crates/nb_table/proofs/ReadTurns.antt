@@ -10,7 +10,7 @@ use Rattle.nb_model.specs.Chains.{Chain, Catalogue, RowsFrom, Spot, pages_of, sp
 use Rattle.nb_model.specs.Outcomes.{Seen, Outcome, says, unless}
 use Rattle.nb_model.specs.Rows.{rows_in}
 use Rattle.nb_model.specs.Tables.{with_spot, in_table, get_turn, scan_turn}
-use Rattle.nb_engine.proofs.CauseLaws.{unless_refused, unless_allowed, first_next, one_cause}
+use Rattle.nb_alloc.proofs.CauseLaws.{unless_refused, unless_allowed, first_next, one_cause}
 use Rattle.nb_table.proofs.FindLaws.{search_cause, search_whole}
 
 -- a slot that was looked for, by what was found

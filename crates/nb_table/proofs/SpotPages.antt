@@ -6,7 +6,7 @@ use Rattle.nb_model.specs.Causes.{not_kind, broken_at}
 use Rattle.nb_model.specs.Chains.{Chain, Spot, is_in_chain, pages_of, found_pages, spots, spots_of, first_such, free_spot, row_spot, last_of}
 use Rattle.nb_model.proofs.RoomLaws.{in_chain, pages_found, first_passes, last_of_all}
 use Rattle.nb_model.proofs.SpotLaws.{IsSpotOn, all_on}
-use Rattle.nb_engine.proofs.TestLaws.{kind_is}
+use Rattle.nb_alloc.proofs.TestLaws.{kind_is}
 
 module _ (chain : Chain) (image : Image) (formed : broken_at (pages_of chain image) ≡ None) where
   -- a slot that is found

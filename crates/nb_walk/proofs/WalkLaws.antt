@@ -9,7 +9,7 @@ use Rattle.nb_model.specs.Causes.{when, broken_at}
 use Rattle.nb_model.specs.Chains.{Chain, first_of, is_in_chain, next_in, linked, walk, pages_of, found_pages, last_of}
 use Rattle.nb_model.proofs.ChainWalks.{onward, walk_on_is, walk_zero, found_is}
 use Rattle.nb_model.proofs.ReadLaws.{eq_no, eq_yes}
-use Rattle.nb_engine.proofs.PutLaws.{none_of}
+use Rattle.nb_alloc.proofs.PutLaws.{none_of}
 use Rattle.nb_walk.specs.Walks.{not_linked}
 
 none_some : (r : Refusal) → None ≡ Some r → ⊥

@@ -8,7 +8,7 @@ use Rattle.nb_model.specs.Outcomes.{says}
 use Rattle.nb_model.specs.Rows.{chains}
 use Rattle.nb_model.proofs.SoundLaws.{all_from}
 use Rattle.nb_state.proofs.MakesLaws.{goes_nowhere}
-use Rattle.nb_engine.proofs.DoesLaws.{seeing, valued_does, tested_does, tested_on}
+use Rattle.nb_alloc.proofs.DoesLaws.{seeing, valued_does, tested_does, tested_on}
 use Rattle.nb_model.specs.Facts.{unsound}
 use Rattle.nb_model.specs.Leaks.{leaked}
 use Rattle.nb_model.specs.Checks.{unsound_by, chains_cause, check_cause, check_turn}

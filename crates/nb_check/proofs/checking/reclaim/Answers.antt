@@ -9,8 +9,8 @@ use Rattle.nb_model.specs.declared.reply.Reply.TheVariants.{Freed}
 use Rattle.nb_model.specs.Causes.{when}
 use Rattle.nb_model.specs.Outcomes.{says}
 use Rattle.nb_state.proofs.MakesLaws.{goes_on, goes_nowhere}
-use Rattle.nb_engine.proofs.CauseLaws.{unless_allowed}
-use Rattle.nb_engine.proofs.DoesLaws.{seeing, refused_does, tested_does, tries_passed, tries_after, tries_does}
+use Rattle.nb_alloc.proofs.CauseLaws.{unless_allowed}
+use Rattle.nb_alloc.proofs.DoesLaws.{seeing, refused_does, tested_does, tries_passed, tries_after, tries_does}
 use Rattle.nb_state.specs.Does.{Does}
 use Rattle.nb_state.specs.Open.{Held}
 use Rattle.nb_model.specs.Leaks.{leaked}

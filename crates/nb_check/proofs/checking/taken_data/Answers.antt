@@ -6,7 +6,7 @@ use Rattle.nb_model.specs.Checks.{unsound_by}
 use Rattle.nb_model.specs.Facts.{covered, unsound}
 use Rattle.nb_model.specs.Image.{Image, image_size}
 use Rattle.nb_state.specs.Does.{Tested}
-use Rattle.nb_engine.proofs.DoesLaws.{tested_on}
+use Rattle.nb_alloc.proofs.DoesLaws.{tested_on}
 use Rattle.nb_check.specs.Passes.{IsFirstBelow, AreSized}
 use Rattle.nb_check.proofs.BreakLaws.{unsound_first, unsound_not}
 use Rattle.nb_check.proofs.TakenLaws.{taken_none}

@@ -3,7 +3,7 @@ use Rattle.nb_page.proofs.QuietLemmas.{quiet_begun, quiet_joined}
 use Rattle.nb_model.specs.Causes.{broken_at}
 use Rattle.nb_model.specs.Chains.{next_in, pages_of}
 use Rattle.nb_state.specs.Open.{Held}
-use Rattle.nb_engine.proofs.DoesLaws.{tested_on}
+use Rattle.nb_alloc.proofs.DoesLaws.{tested_on}
 use Rattle.nb_check.specs.Sets.{IsWithout}
 use Rattle.nb_walk.specs.Walks.{chain_by, not_linked}
 use Rattle.nb_check.proofs.SetLaws.{without_none, without_both}

@@ -6,7 +6,7 @@ use Rattle.nb_model.specs.Causes.{broken_at}
 use Rattle.nb_model.specs.Chains.{RowsFrom, Slot, is_used, first_in, pages_of, found_pages}
 use Rattle.nb_model.specs.Checks.{chains_cause}
 use Rattle.nb_model.proofs.ReadLaws.{eq_no, eq_yes}
-use Rattle.nb_engine.proofs.DoesLaws.{tested_on}
+use Rattle.nb_alloc.proofs.DoesLaws.{tested_on}
 use Rattle.nb_state.specs.Open.{Held}
 use Rattle.nb_check.specs.Sets.{IsWithout}
 use Rattle.nb_check.specs.Walks.{chains_on}

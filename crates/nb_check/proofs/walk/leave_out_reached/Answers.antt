@@ -4,7 +4,7 @@ use Rattle.nb_model.specs.Chains.{Catalogue, History, pages_of}
 use Rattle.nb_model.specs.Checks.{chains_cause}
 use Rattle.nb_model.specs.Rows.{chains}
 use Rattle.nb_state.specs.Open.{Held}
-use Rattle.nb_engine.proofs.DoesLaws.{tested_on}
+use Rattle.nb_alloc.proofs.DoesLaws.{tested_on}
 use Rattle.nb_check.proofs.ListLaws.{tables, first_broken, second_broken, rest_cause, reached_out, reached_long}
 use Rattle.nb_check.proofs.walk.leave_out_reached.Goals as goal
 

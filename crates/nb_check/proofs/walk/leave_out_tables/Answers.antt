@@ -6,7 +6,7 @@ use Rattle.nb_model.specs.Image.{Image}
 use Rattle.nb_model.specs.Chains.{Catalogue, Chain, next_in, found_pages}
 use Rattle.nb_model.specs.Checks.{chains_cause}
 use Rattle.nb_state.specs.Open.{Held}
-use Rattle.nb_engine.proofs.DoesLaws.{tested_on}
+use Rattle.nb_alloc.proofs.DoesLaws.{tested_on}
 use Rattle.nb_walk.specs.Walks.{not_linked}
 use Rattle.nb_check.specs.Walks.{chains_on}
 use Rattle.nb_check.proofs.ListLaws.{AreOut, chains_of_pages, tables, tables_begun, tables_more, tables_are, tables_broken}

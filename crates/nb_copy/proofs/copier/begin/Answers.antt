@@ -8,7 +8,7 @@ use Rattle.nb_base.specs.Takes.{after_strokes}
 use Rattle.nb_state.specs.Open.{Held, IsOpen}
 use Rattle.nb_state.proofs.MakesLaws.{open_running}
 use Rattle.nb_state.proofs.TurnLaws.{given_guid}
-use Rattle.nb_engine.proofs.DoesLaws.{tries_passed}
+use Rattle.nb_alloc.proofs.DoesLaws.{tries_passed}
 use Rattle.nb_copy.specs.Starting.{BeginsFor}
 use Rattle.nb_copy.proofs.BegunLaws.{begin_failed, begun_guid}
 use Rattle.nb_engine.proofs.StaysLaws.{stays_starts, stays_passed, stays_running}

@@ -15,7 +15,7 @@ use Rattle.nb_base.specs.Takes.{after_strokes}
 use Rattle.nb_gather.proofs.QuietLaws.{quiet_gave}
 use Rattle.nb_engine.specs.Room.{room_cause}
 use Rattle.nb_engine.specs.declared.walk.Room.{Room}
-use Rattle.nb_engine.proofs.DoesLaws.{tries_after}
+use Rattle.nb_alloc.proofs.DoesLaws.{tries_after}
 use Rattle.nb_model.specs.Backups.{room_in}
 use Rattle.nb_copy.specs.Starting.{ask_in, ask_by}
 use Rattle.nb_state.proofs.TurnLaws.{given_guid}

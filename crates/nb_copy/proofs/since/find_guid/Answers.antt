@@ -6,7 +6,7 @@ use Rattle.nb_model.specs.Backups.{ask_of, level_behind}
 use Rattle.nb_model.specs.Causes.{broken_at}
 use Rattle.nb_model.specs.Chains.{History, Spot, pages_of}
 use Rattle.nb_engine.specs.declared.rows.HistoryRow.{HistoryRow}
-use Rattle.nb_engine.proofs.DoesLaws.{tested_on}
+use Rattle.nb_alloc.proofs.DoesLaws.{tested_on}
 use Rattle.nb_copy.specs.Starting.{earlier_cause}
 use Rattle.nb_copy.specs.declared.since.Since.TheVariants.{Guid}
 use Rattle.nb_copy.proofs.StartCauses.{row_of_guid, chain_broken, none_found, one_found, row_asked, row_level, level_more}

@@ -6,12 +6,12 @@ use Rattle.nb_fields.proofs.SizeLemmas.{size_facts}
 use Rattle.nb_model.specs.Image.{Page, page_at, image_size}
 use Rattle.nb_model.specs.Forms.{old_page}
 use Rattle.nb_model.specs.Causes.{not_kind}
-use Rattle.nb_engine.specs.Data.{data_cause, put_data}
-use Rattle.nb_engine.specs.Tries.{Tries}
+use Rattle.nb_alloc.specs.Data.{data_cause, put_data}
+use Rattle.nb_alloc.specs.Tries.{Tries}
 use Rattle.nb_engine.proofs.DataLaws.{data_there, none_there, by_entry, behind_payload}
-use Rattle.nb_engine.proofs.DoesLaws.{tries_early, tries_passed, tries_after, tries_these}
+use Rattle.nb_alloc.proofs.DoesLaws.{tries_early, tries_passed, tries_after, tries_these}
 use Rattle.nb_engine.proofs.LinkLaws.{any_strokes}
-use Rattle.nb_engine.proofs.MakeLaws.{tries_named, old_below}
+use Rattle.nb_alloc.proofs.MakeLaws.{tries_named, old_below}
 use Rattle.nb_engine.proofs.data.write_data.Goals as goal
 
 pub put_behind-requires-clause-head : goal.put_behind-requires-clause-head

@@ -8,10 +8,10 @@ use Rattle.nb_page.specs.Quiet.{Quiet}
 use Rattle.nb_change.proofs.ResultLaws.{passed_on}
 use Rattle.nb_state.specs.Open.{Held, but_pages}
 use Rattle.nb_state.specs.Does.{Makes}
-use Rattle.nb_engine.specs.Tries.{Tries}
-use Rattle.nb_engine.proofs.DoesLaws.{tries_early, tries_passed, tries_after, tries_made}
+use Rattle.nb_alloc.specs.Tries.{Tries}
+use Rattle.nb_alloc.proofs.DoesLaws.{tries_early, tries_passed, tries_after, tries_made}
 use Rattle.nb_engine.proofs.FlagLaws.{byte_is, front_stays, flagged-some, flag_strokes}
-use Rattle.nb_engine.proofs.WantLaws.{strikes_after}
+use Rattle.nb_alloc.proofs.WantLaws.{strikes_after}
 use Rattle.nb_engine.proofs.flags.put_flag.Goals as goal
 
 pub write-requires-clause-some : goal.write-requires-clause-some

@@ -7,14 +7,14 @@ use Rattle.nb_model.specs.Chains.{grown}
 use Rattle.nb_model.proofs.SearchLaws.{draft_cause}
 use Rattle.nb_base.specs.Takes.{after_strokes}
 use Rattle.nb_state.specs.Does.{Makes}
-use Rattle.nb_engine.specs.Data.{new_behind}
-use Rattle.nb_engine.specs.Make.{MakesSome, page_strokes, new_of}
+use Rattle.nb_alloc.specs.Data.{new_behind}
+use Rattle.nb_alloc.specs.Make.{MakesSome, page_strokes, new_of}
 use Rattle.nb_engine.specs.Room.{linked_payload, link_cause}
-use Rattle.nb_engine.specs.Tries.{Tries}
-use Rattle.nb_engine.proofs.DoesLaws.{tries_passed}
-use Rattle.nb_engine.proofs.FullLaws.{lowest_most}
+use Rattle.nb_alloc.specs.Tries.{Tries}
+use Rattle.nb_alloc.proofs.DoesLaws.{tries_passed}
+use Rattle.nb_alloc.proofs.FullLaws.{lowest_most}
 use Rattle.nb_engine.proofs.GrowLaws.{grown_number, new_below, grown_below, grown_front, grown_failed, grown_done, some_failed, some_done}
-use Rattle.nb_engine.proofs.RoomsLaws.{free_behind}
+use Rattle.nb_alloc.proofs.RoomsLaws.{free_behind}
 use Rattle.nb_engine.proofs.grow.grow_from.Goals as goal
 
 pub returns-in_err-number-clause-tries : goal.returns-in_err-number-clause-tries

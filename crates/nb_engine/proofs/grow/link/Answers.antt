@@ -6,11 +6,11 @@ use Rattle.nb_fields.proofs.SizeLemmas.{size_facts}
 use Rattle.nb_page.proofs.QuietLemmas.{quiet_begun}
 use Rattle.nb_model.specs.Image.{Page, page_at}
 use Rattle.nb_model.specs.Forms.{old_page}
-use Rattle.nb_engine.specs.Tries.{Tries}
-use Rattle.nb_engine.specs.Make.{page_strokes}
+use Rattle.nb_alloc.specs.Tries.{Tries}
+use Rattle.nb_alloc.specs.Make.{page_strokes}
 use Rattle.nb_engine.specs.Room.{linked_payload, link_cause}
-use Rattle.nb_engine.proofs.DoesLaws.{tries_passed, tries_failed, tries_after}
-use Rattle.nb_engine.proofs.MakeLaws.{tries_fault, tries_named, old_below}
+use Rattle.nb_alloc.proofs.DoesLaws.{tries_passed, tries_failed, tries_after}
+use Rattle.nb_alloc.proofs.MakeLaws.{tries_fault, tries_named, old_below}
 use Rattle.nb_engine.proofs.LinkLaws.{written_payload, payload_inside, link_low, link_past}
 use Rattle.nb_engine.proofs.grow.link.Goals as goal
 

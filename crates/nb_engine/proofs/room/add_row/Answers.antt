@@ -6,10 +6,10 @@ use Rattle.nb_fields.specs.Places.{is_page_size}
 use Rattle.nb_model.specs.Image.{Page, page_at, image_size}
 use Rattle.nb_model.specs.Forms.{drafted, old_page}
 use Rattle.nb_model.specs.Chains.{Slot, backup_slot, put_slot}
-use Rattle.nb_engine.specs.Tries.{Tries}
-use Rattle.nb_engine.specs.Put.{entry_cause}
-use Rattle.nb_engine.proofs.DoesLaws.{tries_passed, tries_after, tries_these}
-use Rattle.nb_engine.proofs.MakeLaws.{tries_fault, old_below}
+use Rattle.nb_alloc.specs.Tries.{Tries}
+use Rattle.nb_alloc.specs.Put.{entry_cause}
+use Rattle.nb_alloc.proofs.DoesLaws.{tries_passed, tries_after, tries_these}
+use Rattle.nb_alloc.proofs.MakeLaws.{tries_fault, old_below}
 use Rattle.nb_engine.proofs.LinkLaws.{written_payload, payload_inside, slot_strokes}
 use Rattle.nb_engine.proofs.room.add_row.Goals as goal
 

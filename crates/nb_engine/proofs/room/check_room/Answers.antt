@@ -5,7 +5,7 @@ use Rattle.nb_model.specs.Image.{image_size}
 use Rattle.nb_model.specs.Forms.{inventory_of, scn_page_of}
 use Rattle.nb_model.specs.Causes.{first_cause, not_kind, not_of_form, no_scn}
 use Rattle.nb_engine.specs.Room.{taken_draft}
-use Rattle.nb_engine.proofs.DoesLaws.{tested_on}
+use Rattle.nb_alloc.proofs.DoesLaws.{tested_on}
 use Rattle.nb_engine.proofs.RoomLaws.{inventory_refused, scn_refused, free_refused, scn_spent, room_free}
 use Rattle.nb_engine.proofs.room.check_room.Goals as goal
 

@@ -1,7 +1,7 @@
 use Rattle.std.proofs.Common.{ℕ, sym, ap, ◌∙◌}
 use Rattle.nb_model.specs.Causes.{not_kind}
-use Rattle.nb_engine.proofs.DoesLaws.{tested_on}
-use Rattle.nb_engine.proofs.RaiseLaws.{scn_page-is}
+use Rattle.nb_alloc.proofs.DoesLaws.{tested_on}
+use Rattle.nb_alloc.proofs.RaiseLaws.{scn_page-is}
 use Rattle.nb_engine.proofs.room.check_scn_page.Goals as goal
 
 pub returns-in_err-read-clause-test : goal.returns-in_err-read-clause-test

@@ -4,16 +4,16 @@ use Rattle.nb_model.specs.Forms.{drafted}
 use Rattle.nb_model.specs.Causes.{no_scn}
 use Rattle.nb_model.specs.Chains.{History, grown}
 use Rattle.nb_state.proofs.MakesLaws.{makes_none, makes_after}
-use Rattle.nb_engine.specs.Behind.{behind_cause}
-use Rattle.nb_engine.specs.Data.{new_behind}
-use Rattle.nb_engine.specs.Make.{MakesSome}
+use Rattle.nb_alloc.specs.Behind.{behind_cause}
+use Rattle.nb_alloc.specs.Data.{new_behind}
+use Rattle.nb_alloc.specs.Make.{MakesSome}
 use Rattle.nb_engine.specs.Room.{no_rows, grow_cause}
-use Rattle.nb_engine.specs.Tries.{Tries}
-use Rattle.nb_engine.proofs.DoesLaws.{tries_early, tries_passed, tries_after}
+use Rattle.nb_alloc.specs.Tries.{Tries}
+use Rattle.nb_alloc.proofs.DoesLaws.{tries_early, tries_passed, tries_after}
 use Rattle.nb_engine.proofs.GrowLaws.{rows_are, no_rows_short, grow_refused, grow_spent, grow_free}
-use Rattle.nb_engine.proofs.MakeLaws.{tries_named}
-use Rattle.nb_engine.proofs.NewLaws.{told}
-use Rattle.nb_engine.proofs.RoomsLaws.{grown_judged}
+use Rattle.nb_alloc.proofs.MakeLaws.{tries_named}
+use Rattle.nb_alloc.proofs.NewLaws.{told}
+use Rattle.nb_alloc.proofs.RoomsLaws.{grown_judged}
 use Rattle.nb_engine.proofs.room.grow.Goals as goal
 
 pub returns-in_err-first-clause-makes : goal.returns-in_err-first-clause-makes

@@ -2,8 +2,8 @@ use Rattle.std.proofs.Common.{◌≡◌, ℕ, length, refl, sym, ap, ◌∙◌, 
 use Rattle.std.specs.Prelude.{Bool}
 use Rattle.nb_model.specs.Forms.{inventory_of}
 use Rattle.nb_model.specs.Causes.{not_kind}
-use Rattle.nb_engine.proofs.DoesLaws.{tested_on}
-use Rattle.nb_engine.proofs.TestLaws.{not_false, inventory_place_is, reads_bit, free_read, used_read}
+use Rattle.nb_alloc.proofs.DoesLaws.{tested_on}
+use Rattle.nb_alloc.proofs.TestLaws.{not_false, inventory_place_is, reads_bit, free_read, used_read}
 use Rattle.nb_engine.proofs.room.is_free.Goals as goal
 
 pub returns-in_err-read-clause-test : goal.returns-in_err-read-clause-test

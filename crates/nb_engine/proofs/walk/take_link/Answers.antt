@@ -4,7 +4,7 @@ use Rattle.nb_model.specs.Image.{Page}
 use Rattle.nb_model.specs.Causes.{not_kind}
 use Rattle.nb_model.specs.Chains.{History, is_slot, slots_in, spots_on, owner_in, next_in}
 use Rattle.nb_engine.specs.History.{gathered, not_linked}
-use Rattle.nb_engine.proofs.DoesLaws.{tested_on}
+use Rattle.nb_alloc.proofs.DoesLaws.{tested_on}
 use Rattle.nb_engine.proofs.WalkLaws.{kind_not, owner_not, slots_not, linked_yes}
 use Rattle.nb_engine.proofs.walk.take_link.Goals as goal
 

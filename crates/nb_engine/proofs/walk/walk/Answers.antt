@@ -4,7 +4,7 @@ use Rattle.nb_model.specs.Causes.{broken_at}
 use Rattle.nb_model.specs.Chains.{History, pages_of}
 use Rattle.nb_engine.specs.declared.walk.Walked.{Walked}
 use Rattle.nb_engine.specs.History.{not_linked}
-use Rattle.nb_engine.proofs.DoesLaws.{tested_on}
+use Rattle.nb_alloc.proofs.DoesLaws.{tested_on}
 use Rattle.nb_engine.proofs.WalkLaws.{walks_first, walks_broken, walks_next, walks_none, walks_gathered, walks_last, walks_length, walks_over, gathered_none}
 use Rattle.nb_engine.proofs.walk.walk.Goals as goal
 

@@ -3,7 +3,7 @@ use Rattle.std.specs.Prelude.{None}
 use Rattle.nb_host.specs.declared.faults.Fault.TheVariants.{Device}
 use Rattle.nb_model.specs.Pages.{image_turn}
 use Rattle.nb_state.proofs.MakesLaws.{goes_nowhere}
-use Rattle.nb_engine.proofs.DoesLaws.{seeing, tested_does, valued_does}
+use Rattle.nb_alloc.proofs.DoesLaws.{seeing, tested_does, valued_does}
 use Rattle.nb_shown.specs.Replies.{bytes_of_image, image_shown}
 use Rattle.nb_shown.proofs.TurnLaws.{image_says, never_refused}
 use Rattle.nb_shown.proofs.digest.image_digest.Goals as goal

@@ -7,7 +7,7 @@ use Rattle.nb_page.proofs.QuietLemmas.{quiet_begun, quiet_joined}
 use Rattle.nb_model.specs.Causes.{not_kind}
 use Rattle.nb_model.proofs.MainLaws.{some_page}
 use Rattle.nb_state.specs.Open.{Held}
-use Rattle.nb_engine.proofs.DoesLaws.{tested_on}
+use Rattle.nb_alloc.proofs.DoesLaws.{tested_on}
 use Rattle.nb_shown.specs.declared.counts.PageCounts.{PageCounts}
 use Rattle.nb_shown.proofs.NeedLaws.{needs_begun, needs_next, needs_refused, needs_done}
 use Rattle.nb_shown.proofs.ReadCounts.{pages_read}

@@ -1,7 +1,7 @@
 use Rattle.nb_model.specs.Backups.{all_needed, pages_turn}
 use Rattle.nb_model.specs.Causes.{not_of_form}
 use Rattle.nb_state.proofs.MakesLaws.{goes_nowhere}
-use Rattle.nb_engine.proofs.DoesLaws.{seeing, tested_does, valued_does}
+use Rattle.nb_alloc.proofs.DoesLaws.{seeing, tested_does, valued_does}
 use Rattle.nb_shown.specs.declared.counts.PageCounts.{PageCounts}
 use Rattle.nb_shown.specs.Replies.{pages_shown}
 use Rattle.nb_shown.proofs.TurnLaws.{pages_refused, pages_says}

@@ -1,5 +1,5 @@
 use Rattle.std.proofs.Common.{◌<◌, ◌≤◌, length, sym, ◌∙◌, arith}
-use Rattle.nb_engine.proofs.TestLaws.{kind_read, kind_past, kind_other, kind_is}
+use Rattle.nb_alloc.proofs.TestLaws.{kind_read, kind_past, kind_other, kind_is}
 use Rattle.nb_shown.proofs.pages.read_map.Goals as goal
 
 pub returns-then-place-count-clause-reads : goal.returns-then-place-count-clause-reads

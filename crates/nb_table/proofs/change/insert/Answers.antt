@@ -12,7 +12,7 @@ use Rattle.nb_model.specs.Sound.{IsOfSize}
 use Rattle.nb_model.specs.Tables.{insert_turn}
 use Rattle.nb_engine.specs.Replies.{done}
 use Rattle.nb_engine.specs.Tries.{Tries}
-use Rattle.nb_engine.proofs.DoesLaws.{seeing, refused_does, tested_does, tries_does, tries_passed, tries_after}
+use Rattle.nb_alloc.proofs.DoesLaws.{seeing, refused_does, tested_does, tries_does, tries_passed, tries_after}
 use Rattle.nb_engine.proofs.StaysLaws.{stays_still, stays_after, stays_passed}
 use Rattle.nb_table.specs.declared.rows.Rows.{Rows}
 use Rattle.nb_table.specs.Rows.{rows_cause, place_cause}

@@ -6,7 +6,7 @@ use Rattle.nb_model.specs.Outcomes.{Seen}
 use Rattle.nb_model.specs.Chains.{row_spot, spots}
 use Rattle.nb_model.specs.Tables.{in_row}
 use Rattle.nb_engine.specs.Replies.{done}
-use Rattle.nb_engine.proofs.DoesLaws.{seeing, refused_does}
+use Rattle.nb_alloc.proofs.DoesLaws.{seeing, refused_does}
 use Rattle.nb_engine.proofs.StaysLaws.{stays_still, stays_passed}
 use Rattle.nb_table.proofs.InTableLaws.{does_passed}
 use Rattle.nb_table.proofs.PlaceLaws.{found_none}

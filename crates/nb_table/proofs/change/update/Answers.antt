@@ -5,7 +5,7 @@ use Rattle.nb_model.specs.Chains.{RowsFrom, Slot, spots}
 use Rattle.nb_model.specs.Outcomes.{Seen}
 use Rattle.nb_model.specs.Tables.{in_row, update_turn}
 use Rattle.nb_engine.specs.Replies.{done}
-use Rattle.nb_engine.proofs.DoesLaws.{seeing, tested_does}
+use Rattle.nb_alloc.proofs.DoesLaws.{seeing, tested_does}
 use Rattle.nb_engine.proofs.StaysLaws.{stays_still, stays_after, stays_passed}
 use Rattle.nb_table.specs.declared.rows.Rows.{Rows}
 use Rattle.nb_table.specs.Rows.{rows_cause}

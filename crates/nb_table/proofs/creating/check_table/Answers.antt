@@ -2,7 +2,7 @@ use Rattle.std.proofs.Common.{ℕ, List, sym, ap, ◌∙◌, arith}
 use Rattle.std.specs.Prelude.{Option}
 use Rattle.nb_model.specs.Causes.{broken_at}
 use Rattle.nb_model.specs.Chains.{Catalogue, pages_of, spots}
-use Rattle.nb_engine.proofs.DoesLaws.{tested_on}
+use Rattle.nb_alloc.proofs.DoesLaws.{tested_on}
 use Rattle.nb_table.specs.declared.look.Place.{Place}
 use Rattle.nb_table.specs.declared.look.Sought.TheVariants.{Table}
 use Rattle.nb_table.specs.declared.look.Walked.{Walked}

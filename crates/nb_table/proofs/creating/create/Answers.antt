@@ -7,7 +7,7 @@ use Rattle.nb_model.specs.Causes.{read_only}
 use Rattle.nb_model.specs.Forms.{is_kind}
 use Rattle.nb_host.specs.declared.refusals.Refusal.TheVariants.{NotDatabase}
 use Rattle.nb_engine.specs.Data.{unmade}
-use Rattle.nb_engine.proofs.PutLaws.{none_of}
+use Rattle.nb_alloc.proofs.PutLaws.{none_of}
 use Rattle.nb_model.specs.Chains.{Catalogue, found_pages, last_of}
 use Rattle.nb_model.specs.Image.{image_size, is_read_only}
 use Rattle.nb_model.specs.Outcomes.{Seen}
@@ -15,7 +15,7 @@ use Rattle.nb_model.specs.Sound.{IsOfSize}
 use Rattle.nb_model.specs.Tables.{create_turn}
 use Rattle.nb_model.proofs.TableTurns.{name_short}
 use Rattle.nb_engine.specs.Replies.{done}
-use Rattle.nb_engine.proofs.DoesLaws.{seeing, tested_does, tries_passed, tries_after, tries_does}
+use Rattle.nb_alloc.proofs.DoesLaws.{seeing, tested_does, tries_passed, tries_after, tries_does}
 use Rattle.nb_state.specs.Open.{Held}
 use Rattle.nb_state.specs.Does.{Does}
 use Rattle.nb_engine.proofs.StaysLaws.{stays_still, stays_after, stays_passed}

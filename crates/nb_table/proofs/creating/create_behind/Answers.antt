@@ -7,8 +7,8 @@ use Rattle.nb_base.specs.Takes.{after_strokes}
 use Rattle.nb_engine.specs.Data.{second_data, unmade, unmade_behind}
 use Rattle.nb_engine.specs.Search.{IsShort}
 use Rattle.nb_engine.specs.Tries.{Tries}
-use Rattle.nb_engine.proofs.ContentLaws.{data_short}
-use Rattle.nb_engine.proofs.DoesLaws.{tries_early, tries_passed, tries_after, tries_opened}
+use Rattle.nb_alloc.proofs.ContentLaws.{data_short}
+use Rattle.nb_alloc.proofs.DoesLaws.{tries_early, tries_passed, tries_after, tries_opened}
 use Rattle.nb_engine.proofs.StaysLaws.{stays_still, stays_after, stays_passed, stays_some, stays_then, stays_valued}
 use Rattle.nb_table.specs.Creates.{first_made, created_behind}
 use Rattle.nb_table.proofs.CreateLaws.{first, first_short, second, behind_named, sizes_then, data_then, behind_front, behind_failed, behind_done}

@@ -6,7 +6,7 @@ use Rattle.nb_base.specs.Takes.{after_strokes}
 use Rattle.nb_engine.specs.Data.{unmade, unmade_behind}
 use Rattle.nb_engine.specs.Put.{entry_cause}
 use Rattle.nb_engine.specs.Tries.{Tries}
-use Rattle.nb_engine.proofs.DoesLaws.{tries_early, tries_passed, tries_after, tries_opened}
+use Rattle.nb_alloc.proofs.DoesLaws.{tries_early, tries_passed, tries_after, tries_opened}
 use Rattle.nb_engine.proofs.StaysLaws.{stays_still, stays_after, stays_passed, stays_some, stays_then}
 use Rattle.nb_table.specs.Creates.{first_made, created_in}
 use Rattle.nb_table.proofs.CreateLaws.{first, first_short, in_named, kind_then, in_front, in_then}

@@ -4,7 +4,7 @@ use Rattle.nb_page.proofs.QuietLemmas.{quiet_begun, quiet_joined}
 use Rattle.nb_model.specs.Causes.{lowest_broken}
 use Rattle.nb_model.specs.Chains.{RowsFrom}
 use Rattle.nb_engine.specs.Data.{not_data}
-use Rattle.nb_engine.proofs.DoesLaws.{tested_on}
+use Rattle.nb_alloc.proofs.DoesLaws.{tested_on}
 use Rattle.nb_table.specs.Drops.{drop_broken}
 use Rattle.nb_table.proofs.CheckLaws.{checks_begun, checks_refused, checks_last, checks_onward, checks_over}
 use Rattle.nb_table.proofs.dropping.check_chain.Goals as goal

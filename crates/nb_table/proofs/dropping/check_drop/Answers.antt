@@ -3,7 +3,7 @@ use Rattle.std.specs.Prelude.{Option, Some, None}
 use Rattle.nb_host.specs.declared.refusals.Refusal.{Refusal}
 use Rattle.nb_model.specs.Causes.{lowest_broken}
 use Rattle.nb_engine.specs.Behind.{entry_broken}
-use Rattle.nb_engine.proofs.DoesLaws.{tested_on}
+use Rattle.nb_alloc.proofs.DoesLaws.{tested_on}
 use Rattle.nb_table.specs.Drops.{drop_broken}
 use Rattle.nb_table.proofs.dropping.check_drop.Goals as goal
 

@@ -6,7 +6,7 @@ use Rattle.nb_model.specs.Chains.{RowsFrom, first_in, found_pages}
 use Rattle.nb_model.specs.Image.{image_scn}
 use Rattle.nb_engine.specs.Behind.{entry_broken}
 use Rattle.nb_engine.specs.Tries.{Tries}
-use Rattle.nb_engine.proofs.DoesLaws.{tries_early, tries_passed, tries_after}
+use Rattle.nb_alloc.proofs.DoesLaws.{tries_early, tries_passed, tries_after}
 use Rattle.nb_engine.proofs.NewTurn.{header_of, shaped_of}
 use Rattle.nb_engine.proofs.StaysLaws.{stays_still, stays_after, stays_passed, stays_then}
 use Rattle.nb_table.specs.Drops.{dropped, drop_broken}

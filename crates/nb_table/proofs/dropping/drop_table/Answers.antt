@@ -8,7 +8,7 @@ use Rattle.nb_model.specs.Outcomes.{Seen}
 use Rattle.nb_model.specs.Sound.{IsOfSize}
 use Rattle.nb_model.specs.Tables.{drop_turn}
 use Rattle.nb_engine.specs.Replies.{done}
-use Rattle.nb_engine.proofs.DoesLaws.{seeing, tested_does, tries_passed, tries_after, tries_does}
+use Rattle.nb_alloc.proofs.DoesLaws.{seeing, tested_does, tries_passed, tries_after, tries_does}
 use Rattle.nb_state.specs.Does.{Does}
 use Rattle.nb_engine.proofs.StaysLaws.{stays_still, stays_after, stays_passed}
 use Rattle.nb_table.specs.declared.rows.Rows.{Rows}

@@ -6,7 +6,7 @@ use Rattle.nb_model.specs.Forms.{drafted}
 use Rattle.nb_model.specs.Tables.{all_given}
 use Rattle.nb_state.proofs.MakesLaws.{goes_on, goes_nowhere}
 use Rattle.nb_engine.specs.Tries.{Tries}
-use Rattle.nb_engine.proofs.DoesLaws.{tries_passed}
+use Rattle.nb_alloc.proofs.DoesLaws.{tries_passed}
 use Rattle.nb_engine.proofs.StaysLaws.{stays_still, stays_passed, stays_then, stays_valued}
 use Rattle.nb_table.proofs.GiveLaws.{giving_begun, giving_data, giving_failed, giving_last, giving_onward, giving_over, giving_opened}
 use Rattle.nb_table.proofs.dropping.give_all_back.Goals as goal

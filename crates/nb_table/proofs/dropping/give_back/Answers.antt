@@ -6,7 +6,7 @@ use Rattle.nb_host.specs.declared.refusals.Refusal.{Refusal}
 use Rattle.nb_engine.specs.Data.{not_data}
 use Rattle.nb_engine.specs.Mark.{mark_cause}
 use Rattle.nb_engine.specs.Tries.{Tries}
-use Rattle.nb_engine.proofs.DoesLaws.{tries_early, tries_passed, tries_after}
+use Rattle.nb_alloc.proofs.DoesLaws.{tries_early, tries_passed, tries_after}
 use Rattle.nb_engine.proofs.StaysLaws.{stays_still, stays_after, stays_passed, stays_tries, stays_valued}
 use Rattle.nb_engine.proofs.KeepLaws.{tries_other, tries_valued}
 use Rattle.nb_table.proofs.dropping.give_back.Goals as goal

@@ -4,7 +4,7 @@ use Rattle.nb_host.specs.declared.refusals.Refusal.{Refusal}
 use Rattle.nb_model.specs.Chains.{next_in}
 use Rattle.nb_engine.specs.Behind.{give_broken}
 use Rattle.nb_engine.specs.Data.{not_data}
-use Rattle.nb_engine.proofs.DoesLaws.{tested_on}
+use Rattle.nb_alloc.proofs.DoesLaws.{tested_on}
 use Rattle.nb_table.proofs.dropping.look_further.Goals as goal
 
 none_some : (r : Refusal) → None ≡ Some r → ⊥

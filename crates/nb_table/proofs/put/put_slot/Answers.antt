@@ -7,8 +7,8 @@ use Rattle.nb_model.specs.Chains.{put_slot}
 use Rattle.nb_engine.specs.Put.{entry_cause}
 use Rattle.nb_engine.specs.Tries.{Tries}
 use Rattle.nb_engine.proofs.DataLaws.{data_there}
-use Rattle.nb_engine.proofs.DoesLaws.{tries_passed, tries_after}
-use Rattle.nb_engine.proofs.MakeLaws.{tries_fault}
+use Rattle.nb_alloc.proofs.DoesLaws.{tries_passed, tries_after}
+use Rattle.nb_alloc.proofs.MakeLaws.{tries_fault}
 use Rattle.nb_engine.proofs.StaysLaws.{stays_still, stays_after, stays_passed, stays_tries}
 use Rattle.nb_table.proofs.PlaceLaws.{slot_tries}
 use Rattle.nb_table.proofs.put.put_slot.Goals as goal

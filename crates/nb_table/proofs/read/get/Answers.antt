@@ -5,7 +5,7 @@ use Rattle.nb_model.specs.Chains.{Spot, text_in}
 use Rattle.nb_model.specs.Outcomes.{Seen, says}
 use Rattle.nb_model.specs.Tables.{get_turn}
 use Rattle.nb_engine.specs.Replies.{valued}
-use Rattle.nb_engine.proofs.DoesLaws.{seeing, valued_does, tested_does}
+use Rattle.nb_alloc.proofs.DoesLaws.{seeing, valued_does, tested_does}
 use Rattle.nb_table.specs.declared.look.Found.{Found}
 use Rattle.nb_table.specs.Walks.{spot_of}
 use Rattle.nb_table.proofs.FindLaws.{row_cause, row_found}

@@ -11,7 +11,7 @@ use Rattle.nb_model.specs.Outcomes.{Seen, says}
 use Rattle.nb_model.specs.Rows.{RowMap, rows_in}
 use Rattle.nb_model.specs.Tables.{scan_turn}
 use Rattle.nb_state.specs.Does.{Tested}
-use Rattle.nb_engine.proofs.DoesLaws.{seeing, valued_does, tested_does}
+use Rattle.nb_alloc.proofs.DoesLaws.{seeing, valued_does, tested_does}
 use Rattle.nb_table.specs.declared.look.Found.{Found}
 use Rattle.nb_table.specs.Walks.{spot_of}
 use Rattle.nb_table.proofs.ReadTurns.{scan_missing, scan_broken, scan_says}

@@ -6,7 +6,7 @@ use Rattle.nb_page.proofs.QuietLemmas.{quiet_begun, quiet_joined}
 use Rattle.nb_model.specs.Causes.{broken_at}
 use Rattle.nb_model.specs.Chains.{RowsFrom, pages_of, slots_in, spots_of, next_in}
 use Rattle.nb_model.specs.Rows.{rows_in}
-use Rattle.nb_engine.proofs.DoesLaws.{tested_on}
+use Rattle.nb_alloc.proofs.DoesLaws.{tested_on}
 use Rattle.nb_walk.specs.Walks.{not_linked}
 use Rattle.nb_walk.proofs.WalkLaws.{walks_first, walks_broken, walks_next, walks_none, walks_all, walks_over}
 use Rattle.nb_table.proofs.SortedLaws.{HoldsRows, any_rows, rows_none, rows_more}

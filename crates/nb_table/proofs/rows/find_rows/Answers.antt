@@ -2,7 +2,7 @@ use Rattle.std.proofs.Common.{ℕ, sym, ap, ◌∙◌}
 use Rattle.nb_model.specs.Causes.{read_only, too_long, broken_at}
 use Rattle.nb_model.specs.Chains.{RowsFrom, pages_of}
 use Rattle.nb_state.specs.Open.{Held}
-use Rattle.nb_engine.proofs.DoesLaws.{tested_on}
+use Rattle.nb_alloc.proofs.DoesLaws.{tested_on}
 use Rattle.nb_table.specs.declared.look.Found.{Found}
 use Rattle.nb_table.specs.declared.look.Walked.{Walked}
 use Rattle.nb_table.specs.declared.rows.Rows.{Rows}

@@ -3,7 +3,7 @@ use Rattle.std.specs.Prelude.{None}
 use Rattle.nb_page.proofs.QuietLemmas.{quiet_begun, quiet_joined}
 use Rattle.nb_model.specs.Causes.{broken_at}
 use Rattle.nb_model.specs.Chains.{first_of, pages_of}
-use Rattle.nb_engine.proofs.DoesLaws.{tested_on}
+use Rattle.nb_alloc.proofs.DoesLaws.{tested_on}
 use Rattle.nb_table.specs.declared.look.Walked.{Walked}
 use Rattle.nb_walk.specs.Walks.{not_linked}
 use Rattle.nb_walk.proofs.WalkLaws.{walks_first, walks_broken, walks_next, walks_none, walks_all, walks_last, walks_length, walks_over}

@@ -3,7 +3,7 @@ use Rattle.std.specs.List.{list_all}
 use Rattle.nb_model.specs.Image.{Page}
 use Rattle.nb_model.specs.Chains.{is_slot, slots_in}
 use Rattle.nb_engine.specs.Data.{not_data}
-use Rattle.nb_engine.proofs.DoesLaws.{tested_on}
+use Rattle.nb_alloc.proofs.DoesLaws.{tested_on}
 use Rattle.nb_walk.specs.Walks.{chain_by, not_linked}
 use Rattle.nb_walk.proofs.LinkLaws.{data_not, slots_not, linked_yes}
 use Rattle.nb_walk.proofs.page.take_page.Goals as goal

@@ -4,12 +4,12 @@ use Rattle.nb_model.specs.Image.{image_scn}
 use Rattle.nb_model.specs.Forms.{drafted, give_page}
 use Rattle.nb_base.specs.Takes.{IsNoRefusal}
 use Rattle.nb_state.specs.Open.{Held, IsOpen}
-use Rattle.nb_engine.specs.Mark.{mark_cause}
-use Rattle.nb_engine.specs.Tries.{Tries}
-use Rattle.nb_engine.proofs.DoesLaws.{tries_passed}
-use Rattle.nb_engine.proofs.MakeLaws.{mark_none}
+use Rattle.nb_alloc.specs.Mark.{mark_cause}
+use Rattle.nb_alloc.specs.Tries.{Tries}
+use Rattle.nb_alloc.proofs.DoesLaws.{tries_passed}
+use Rattle.nb_alloc.proofs.MakeLaws.{mark_none}
 use Rattle.nb_engine.proofs.NewTurn.{well_of}
-use Rattle.nb_engine.proofs.WhereLaws.{sure_of}
+use Rattle.nb_alloc.proofs.WhereLaws.{sure_of}
 use Rattle.nb_engine.proofs.engine.Engine.data_free.Goals as goal
 
 pub returns-in_err-mark-clause-tries : goal.returns-in_err-mark-clause-tries

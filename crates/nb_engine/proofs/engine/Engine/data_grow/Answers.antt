@@ -8,16 +8,16 @@ use Rattle.nb_model.specs.Forms.{drafted}
 use Rattle.nb_model.specs.Chains.{owner_of, grown}
 use Rattle.nb_state.specs.Open.{Held, IsOpen, but_pages}
 use Rattle.nb_state.proofs.MakesLaws.{makes_none, makes_after}
-use Rattle.nb_engine.specs.Behind.{behind_cause}
-use Rattle.nb_engine.specs.Data.{new_behind, unmade}
-use Rattle.nb_engine.specs.Make.{MakesSome}
-use Rattle.nb_engine.specs.Search.{IsShort}
-use Rattle.nb_engine.specs.Tries.{Tries}
-use Rattle.nb_engine.proofs.ContentLaws.{data_short}
-use Rattle.nb_engine.proofs.DoesLaws.{tries_early, tries_failed, tries_passed, tries_after}
-use Rattle.nb_engine.proofs.MakeLaws.{tries_named}
+use Rattle.nb_alloc.specs.Behind.{behind_cause}
+use Rattle.nb_alloc.specs.Data.{new_behind, unmade}
+use Rattle.nb_alloc.specs.Make.{MakesSome}
+use Rattle.nb_alloc.specs.Search.{IsShort}
+use Rattle.nb_alloc.specs.Tries.{Tries}
+use Rattle.nb_alloc.proofs.ContentLaws.{data_short}
+use Rattle.nb_alloc.proofs.DoesLaws.{tries_early, tries_failed, tries_passed, tries_after}
+use Rattle.nb_alloc.proofs.MakeLaws.{tries_named}
 use Rattle.nb_engine.proofs.NewTurn.{searchable_of}
-use Rattle.nb_engine.proofs.RoomsLaws.{unmade_short, grown_unmade}
+use Rattle.nb_alloc.proofs.RoomsLaws.{unmade_short, grown_unmade}
 use Rattle.nb_engine.proofs.engine.Engine.data_grow.Goals as goal
 
 pub returns-then-count-lt-FIRST_TO_GIVE-clause-makes : goal.returns-then-count-lt-FIRST_TO_GIVE-clause-makes

@@ -9,15 +9,15 @@ use Rattle.nb_model.proofs.SearchLaws.{draft_cause}
 use Rattle.nb_state.specs.Open.{Held, IsOpen, but_pages}
 use Rattle.nb_state.specs.Does.{Makes}
 use Rattle.nb_state.proofs.MakesLaws.{makes_none, makes_after}
-use Rattle.nb_engine.specs.Data.{owner_by, new_data, unmade}
-use Rattle.nb_engine.specs.Make.{MakesSome}
-use Rattle.nb_engine.specs.Search.{IsShort}
-use Rattle.nb_engine.specs.Tries.{Tries}
-use Rattle.nb_engine.proofs.ContentLaws.{new_named, data_short}
-use Rattle.nb_engine.proofs.DoesLaws.{tries_early, tries_failed, tries_passed, tries_made, tries_after}
-use Rattle.nb_engine.proofs.FullLaws.{lowest_most}
+use Rattle.nb_alloc.specs.Data.{owner_by, new_data, unmade}
+use Rattle.nb_alloc.specs.Make.{MakesSome}
+use Rattle.nb_alloc.specs.Search.{IsShort}
+use Rattle.nb_alloc.specs.Tries.{Tries}
+use Rattle.nb_alloc.proofs.ContentLaws.{new_named, data_short}
+use Rattle.nb_alloc.proofs.DoesLaws.{tries_early, tries_failed, tries_passed, tries_made, tries_after}
+use Rattle.nb_alloc.proofs.FullLaws.{lowest_most}
 use Rattle.nb_engine.proofs.NewTurn.{searchable_of}
-use Rattle.nb_engine.proofs.RoomsLaws.{unmade_short, unmade_long}
+use Rattle.nb_alloc.proofs.RoomsLaws.{unmade_short, unmade_long}
 use Rattle.nb_engine.proofs.engine.Engine.data_new.Goals as goal
 
 pub returns-then-count-lt-FIRST_TO_GIVE-clause-makes : goal.returns-then-count-lt-FIRST_TO_GIVE-clause-makes

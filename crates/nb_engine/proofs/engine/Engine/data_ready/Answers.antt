@@ -1,7 +1,7 @@
 use Rattle.std.proofs.Common.{sym, subst}
 use Rattle.nb_state.specs.Open.{Held, IsOpen}
-use Rattle.nb_engine.specs.Behind.{entry_broken}
-use Rattle.nb_engine.proofs.BehindLaws.{lacking_causes}
+use Rattle.nb_alloc.specs.Behind.{entry_broken}
+use Rattle.nb_alloc.proofs.BehindLaws.{lacking_causes}
 use Rattle.nb_engine.proofs.engine.Engine.data_ready.Goals as goal
 
 pub returns-clause-value : goal.returns-clause-value

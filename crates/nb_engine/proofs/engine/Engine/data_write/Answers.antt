@@ -4,13 +4,13 @@ use Rattle.nb_model.specs.Image.{image_scn}
 use Rattle.nb_model.proofs.PutSound.{IsPlace}
 use Rattle.nb_base.specs.Takes.{IsNoRefusal}
 use Rattle.nb_state.specs.Open.{Held, IsOpen}
-use Rattle.nb_engine.specs.Data.{data_cause, put_data}
-use Rattle.nb_engine.specs.Tries.{Tries}
+use Rattle.nb_alloc.specs.Data.{data_cause, put_data}
+use Rattle.nb_alloc.specs.Tries.{Tries}
 use Rattle.nb_engine.proofs.DataLaws.{data_there, by_entry}
-use Rattle.nb_engine.proofs.DoesLaws.{tries_passed}
-use Rattle.nb_engine.proofs.MakeLaws.{entry_none}
+use Rattle.nb_alloc.proofs.DoesLaws.{tries_passed}
+use Rattle.nb_alloc.proofs.MakeLaws.{entry_none}
 use Rattle.nb_engine.proofs.NewTurn.{well_of}
-use Rattle.nb_engine.proofs.WhereLaws.{sure_of}
+use Rattle.nb_alloc.proofs.WhereLaws.{sure_of}
 use Rattle.nb_engine.proofs.engine.Engine.data_write.Goals as goal
 
 pub returns-in_err-write_data-clause-tries : goal.returns-in_err-write_data-clause-tries

@@ -7,11 +7,11 @@ use Rattle.nb_model.specs.Forms.{is_kind, inventory_of, system_kind}
 use Rattle.nb_model.specs.Image.{image_size}
 use Rattle.nb_model.proofs.SoundLaws.{inventory_place_some, inventory_there}
 use Rattle.nb_state.specs.Open.{Held, IsOpen}
-use Rattle.nb_engine.specs.Behind.{entry_broken, give_broken, page_in}
-use Rattle.nb_engine.proofs.BehindLaws.{lacking_cause, other_none, other_page}
-use Rattle.nb_engine.proofs.DoesLaws.{tested_on}
-use Rattle.nb_engine.proofs.PassLaws.{kind_map}
-use Rattle.nb_engine.proofs.TestLaws.{inventory_place_is}
+use Rattle.nb_alloc.specs.Behind.{entry_broken, give_broken, page_in}
+use Rattle.nb_alloc.proofs.BehindLaws.{lacking_cause, other_none, other_page}
+use Rattle.nb_alloc.proofs.DoesLaws.{tested_on}
+use Rattle.nb_alloc.proofs.PassLaws.{kind_map}
+use Rattle.nb_alloc.proofs.TestLaws.{inventory_place_is}
 use Rattle.nb_engine.proofs.engine.Engine.free_ready.Goals as goal
 
 pub find_lacking-requires-clause-low : goal.find_lacking-requires-clause-low

@@ -11,13 +11,13 @@ use Rattle.nb_base.specs.Takes.{IsNoRefusal}
 use Rattle.nb_state.specs.Open.{Held, IsOpen}
 use Rattle.nb_state.specs.Does.{unless_by}
 use Rattle.nb_state.proofs.MakesLaws.{makes_none}
-use Rattle.nb_engine.specs.Make.{MakesSome}
-use Rattle.nb_engine.specs.Tries.{Tries}
-use Rattle.nb_engine.specs.Put.{entry_cause}
-use Rattle.nb_engine.proofs.DoesLaws.{tries_passed}
-use Rattle.nb_engine.proofs.MakeLaws.{entry_none}
+use Rattle.nb_alloc.specs.Make.{MakesSome}
+use Rattle.nb_alloc.specs.Tries.{Tries}
+use Rattle.nb_alloc.specs.Put.{entry_cause}
+use Rattle.nb_alloc.proofs.DoesLaws.{tries_passed}
+use Rattle.nb_alloc.proofs.MakeLaws.{entry_none}
 use Rattle.nb_engine.proofs.NewTurn.{well_of}
-use Rattle.nb_engine.proofs.WhereLaws.{sure_of}
+use Rattle.nb_alloc.proofs.WhereLaws.{sure_of}
 use Rattle.nb_engine.proofs.engine.Engine.history_add.Goals as goal
 
 pub returns-then-room-count-clause-tries : goal.returns-then-room-count-clause-tries

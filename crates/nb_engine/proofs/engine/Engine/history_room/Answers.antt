@@ -13,17 +13,17 @@ use Rattle.nb_state.specs.Does.{Makes}
 use Rattle.nb_state.proofs.MakesLaws.{makes_none, makes_after}
 use Rattle.nb_engine.specs.declared.walk.Room.{Room}
 use Rattle.nb_engine.specs.declared.walk.Walked.{Walked}
-use Rattle.nb_engine.specs.Make.{MakesSome}
+use Rattle.nb_alloc.specs.Make.{MakesSome}
 use Rattle.nb_engine.specs.Room.{room_cause, taken_draft, grow_cause}
-use Rattle.nb_engine.specs.Tries.{Tries}
-use Rattle.nb_engine.proofs.CauseLaws.{first_here}
-use Rattle.nb_engine.proofs.DoesLaws.{tries_early, tries_passed, tries_made, tries_after}
+use Rattle.nb_alloc.specs.Tries.{Tries}
+use Rattle.nb_alloc.proofs.CauseLaws.{first_here}
+use Rattle.nb_alloc.proofs.DoesLaws.{tries_early, tries_passed, tries_made, tries_after}
 use Rattle.nb_engine.proofs.KeepLaws.{kept_room, kept_below, kept_none, kept_cause, grown_room, grown_low, grown_draft, grown_cause, room_some, room_none, tries_other, tries_valued}
-use Rattle.nb_engine.proofs.MakeLaws.{tries_named}
+use Rattle.nb_alloc.proofs.MakeLaws.{tries_named}
 use Rattle.nb_engine.proofs.NewTurn.{searchable_of}
 use Rattle.nb_model.proofs.StepLaws.{kind_from}
 use Rattle.nb_engine.proofs.WalkLaws.{last_data, spot_data, history_least}
-use Rattle.nb_engine.proofs.WhereLaws.{makes_as, makes_valued}
+use Rattle.nb_alloc.proofs.WhereLaws.{makes_as, makes_valued}
 use Rattle.nb_engine.proofs.engine.Engine.history_room.Goals as goal
 
 pub returns-in_err-walked-clause-makes : goal.returns-in_err-walked-clause-makes

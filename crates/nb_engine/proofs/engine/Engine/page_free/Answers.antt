@@ -6,14 +6,14 @@ use Rattle.nb_model.specs.Causes.{read_only}
 use Rattle.nb_model.specs.Outcomes.{Seen}
 use Rattle.nb_model.specs.Pages.{free_turn}
 use Rattle.nb_state.specs.Open.{Held, IsOpen, but_pages}
-use Rattle.nb_engine.specs.Tries.{Tries}
-use Rattle.nb_engine.specs.Mark.{mark_cause, mark_strokes}
+use Rattle.nb_alloc.specs.Tries.{Tries}
+use Rattle.nb_alloc.specs.Mark.{mark_cause, mark_strokes}
 use Rattle.nb_engine.specs.Replies.{done}
-use Rattle.nb_engine.proofs.DoesLaws.{seeing, tested_does, refused_does, tries_does, if_err, tries_passed, tries_after}
+use Rattle.nb_alloc.proofs.DoesLaws.{seeing, tested_does, refused_does, tries_does, if_err, tries_passed, tries_after}
 use Rattle.nb_engine.proofs.WriteLaws.{no_header}
 use Rattle.nb_engine.proofs.FreeLaws.{free_untaken, free_closed, free_is, closed_cause, open_cause}
 use Rattle.nb_change.proofs.ResultLaws.{passed_on}
-use Rattle.nb_engine.proofs.WantLaws.{stops_after}
+use Rattle.nb_alloc.proofs.WantLaws.{stops_after}
 use Rattle.nb_engine.proofs.engine.Engine.page_free.Goals as goal
 
 pub returns-in_err-take_raw-clause-turn : goal.returns-in_err-take_raw-clause-turn

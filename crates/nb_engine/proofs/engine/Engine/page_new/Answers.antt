@@ -16,12 +16,12 @@ use Rattle.nb_model.proofs.SearchLaws.{draft_cause}
 use Rattle.nb_state.specs.Open.{Held, IsOpen, but_pages}
 use Rattle.nb_state.specs.Does.{Makes, Does}
 use Rattle.nb_state.proofs.MakesLaws.{makes_none, makes_after}
-use Rattle.nb_engine.specs.Make.{MakesSome, new_raw, new_of}
+use Rattle.nb_alloc.specs.Make.{MakesSome, new_raw, new_of}
 use Rattle.nb_engine.specs.Replies.{page_made}
-use Rattle.nb_engine.proofs.DoesLaws.{seeing, tested_does, refused_does, tries_passed}
-use Rattle.nb_engine.proofs.FullLaws.{lowest_most}
+use Rattle.nb_alloc.proofs.DoesLaws.{seeing, tested_does, refused_does, tries_passed}
+use Rattle.nb_alloc.proofs.FullLaws.{lowest_most}
 use Rattle.nb_engine.proofs.NewTurn.{empty_is, searchable_of, new_closed, new_short, new_refused, new_says, made_does}
-use Rattle.nb_engine.proofs.NewReads.{new_read}
+use Rattle.nb_alloc.proofs.NewReads.{new_read}
 use Rattle.nb_engine.proofs.engine.Engine.page_new.Goals as goal
 
 pub returns-then-is_read_only-clause-turn : goal.returns-then-is_read_only-clause-turn

@@ -6,8 +6,8 @@ use Rattle.nb_model.specs.Outcomes.{Seen, says}
 use Rattle.nb_model.specs.Pages.{read_turn}
 use Rattle.nb_state.specs.Open.{Held, IsOpen, but_pages}
 use Rattle.nb_engine.specs.Replies.{valued}
-use Rattle.nb_engine.proofs.DoesLaws.{seeing, valued_does, refused_does, tested_does}
-use Rattle.nb_engine.proofs.TestLaws.{at_ok, vec_whole, lt_from, le_from, text_short, read_refused, read_broken, read_says}
+use Rattle.nb_alloc.proofs.DoesLaws.{seeing, valued_does, refused_does, tested_does}
+use Rattle.nb_alloc.proofs.TestLaws.{at_ok, vec_whole, lt_from, le_from, text_short, read_refused, read_broken, read_says}
 use Rattle.nb_engine.proofs.engine.Engine.page_read.Goals as goal
 
 pub returns-in_err-take_raw-clause-turn : goal.returns-in_err-take_raw-clause-turn

@@ -7,18 +7,18 @@ use Rattle.nb_model.specs.Strokes.{Stroke}
 use Rattle.nb_model.specs.Outcomes.{Seen}
 use Rattle.nb_model.specs.Pages.{write_turn}
 use Rattle.nb_state.specs.Open.{Held, IsOpen, but_pages}
-use Rattle.nb_engine.specs.Tries.{Tries}
-use Rattle.nb_engine.specs.Put.{entry_cause, raise_strokes, raw_stroke}
+use Rattle.nb_alloc.specs.Tries.{Tries}
+use Rattle.nb_alloc.specs.Put.{entry_cause, raise_strokes, raw_stroke}
 use Rattle.nb_engine.specs.Replies.{done}
-use Rattle.nb_engine.proofs.TestLaws.{vec_whole}
-use Rattle.nb_engine.proofs.MarkLaws.{entries_some}
-use Rattle.nb_engine.proofs.DoesLaws.{seeing, tested_does, tries_does, if_err, tries_passed, tries_after, tries_front, tries_opened}
-use Rattle.nb_engine.proofs.PutLaws.{put_stroke-after}
+use Rattle.nb_alloc.proofs.TestLaws.{vec_whole}
+use Rattle.nb_alloc.proofs.MarkLaws.{entries_some}
+use Rattle.nb_alloc.proofs.DoesLaws.{seeing, tested_does, tries_does, if_err, tries_passed, tries_after, tries_front, tries_opened}
+use Rattle.nb_alloc.proofs.PutLaws.{put_stroke-after}
 use Rattle.nb_engine.proofs.WriteLaws.{no_header, write_untaken, write_checked, write_is, is_raw}
-use Rattle.nb_engine.proofs.PageLaws.{then_page}
+use Rattle.nb_alloc.proofs.PageLaws.{then_page}
 use Rattle.nb_change.proofs.ResultLaws.{passed_on}
 use Rattle.nb_base.specs.Takes.{after_strokes}
-use Rattle.nb_engine.proofs.WantLaws.{stops_first, stops_then, stops_after}
+use Rattle.nb_alloc.proofs.WantLaws.{stops_first, stops_then, stops_after}
 use Rattle.nb_engine.proofs.engine.Engine.page_write.Goals as goal
 
 pub returns-in_err-take_raw-clause-turn : goal.returns-in_err-take_raw-clause-turn

@@ -14,9 +14,9 @@ use Rattle.nb_cases.specs.contracts.events.Case.{the_type}
 use Rattle.nb_cases.specs.declared.events.Case.TheVariants as case
 use Rattle.nb_cases.proofs.StateLaws.{goes, only_normal}
 use Rattle.nb_state.specs.Open.{Held, IsOpen}
-use Rattle.nb_engine.specs.Tries.{Tries}
+use Rattle.nb_alloc.specs.Tries.{Tries}
 use Rattle.nb_engine.specs.Replies.{done}
-use Rattle.nb_engine.proofs.DoesLaws.{seeing, if_err, tries_passed, tries_failed, tries_does}
+use Rattle.nb_alloc.proofs.DoesLaws.{seeing, if_err, tries_passed, tries_failed, tries_does}
 use Rattle.nb_engine.proofs.FlagLaws.{access_is}
 use Rattle.nb_engine.proofs.engine.Engine.set_access.Goals as goal
 

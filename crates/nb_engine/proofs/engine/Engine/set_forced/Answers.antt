@@ -11,9 +11,9 @@ use Rattle.nb_model.specs.Pages.{byte_strokes, forced_turn}
 use Rattle.nb_change.proofs.ResultLaws.{passed_on}
 use Rattle.nb_base.specs.Takes.{Strikes}
 use Rattle.nb_state.specs.Open.{Held, IsOpen, but_pages, name_of}
-use Rattle.nb_engine.specs.Tries.{Tries}
+use Rattle.nb_alloc.specs.Tries.{Tries}
 use Rattle.nb_engine.specs.Replies.{done}
-use Rattle.nb_engine.proofs.DoesLaws.{seeing, if_err, tries_passed, tries_failed, tries_does}
+use Rattle.nb_alloc.proofs.DoesLaws.{seeing, if_err, tries_passed, tries_failed, tries_does}
 use Rattle.nb_engine.proofs.FreeLaws.{closed_cause, open_cause}
 use Rattle.nb_engine.proofs.FlagLaws.{forced_is}
 use Rattle.nb_engine.proofs.engine.Engine.set_forced.Goals as goal

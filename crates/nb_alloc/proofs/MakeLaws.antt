@@ -1,0 +1,297 @@
+-- Making a page: its strokes and what they leave, whatever is in the database, and what they are where its inventories agree with its pages.
+use Rattle.std.proofs.Common.{◌≡◌, ◌≢◌, ℕ, ◌+◌, ◌-◌, ◌/◌, ◌<◌, ◌≤◌, List, [], ◌∷◌, ◌++◌, length, take, drop, replicate, refl, sym, ap, subst, ◌∙◌, arith}
+use Rattle.std.specs.Prelude.{Bool, true, false, not, ◌&&◌, ◌==◌, IsTrue, None, Result, Ok, IsErr, IsErrAnd, IfErr, max}
+use Rattle.nb_fields.specs.Kinds.{code_of}
+use Rattle.nb_fields.specs.declared.kinds.PageKind.{PageKind}
+use Rattle.nb_fields.specs.declared.kinds.PageKind.TheVariants.{Header, Inventory, Data, Raw, ScnInventory}
+use Rattle.nb_fields.specs.Header.{size_of}
+use Rattle.nb_fields.specs.Places.{is_page_size, bits_in, entries_in, inventory_place, is_inventory_place, is_scn_place}
+use Rattle.nb_fields.specs.Payloads.{inventory_payload, scn_payload}
+use Rattle.nb_fields.proofs.SizeLemmas.{SizeFacts, size_facts}
+use Rattle.nb_fields.proofs.PageLemmas.{padded_whole}
+use Rattle.nb_fields.specs.Page.{kind_of, stamped, with_payload}
+use Rattle.nb_host.specs.World.{World}
+use Rattle.nb_host.specs.declared.faults.Fault.{Fault}
+use Rattle.nb_host.specs.declared.faults.Fault.TheVariants.{Device}
+use Rattle.nb_host.specs.declared.refusals.Refusal.TheVariants.{NotDatabase}
+use Rattle.nb_page.specs.Quiet.{Quiet}
+use Rattle.nb_page.proofs.StampLemmas.{stamped-with_payload}
+use Rattle.nb_model.specs.Image.{Page, Image, page_at, image_size, image_scn}
+use Rattle.nb_model.specs.Account.{Base}
+use Rattle.nb_model.specs.Strokes.{Stroke, page, on_base, base_after, merged_page}
+use Rattle.nb_model.specs.Trail.{Trail}
+use Rattle.nb_model.specs.Forms.{Draft, drafted, old_page, put, inventory_of, has_entry, scn_page_of, is_kind, system_kind, system_payload, system_page}
+use Rattle.nb_model.specs.Causes.{Cause, when, not_kind}
+use Rattle.nb_model.proofs.StrokeLaws.{base_after-append, stroke_page, stroke_other}
+use Rattle.nb_model.proofs.SoundLaws.{with_page_length, inventory_there, inventory_place_some, scn_page_there, scn_place_some}
+use Rattle.nb_model.proofs.PutSound.{IsPlace}
+use Rattle.nb_model.proofs.NewSound.{inventory_before, places_apart}
+use Rattle.nb_model.proofs.ReadLaws.{lt_no, lt_yes}
+use Rattle.nb_model.proofs.FreshSound.{inventory_length, scn_length}
+use Rattle.nb_model.proofs.FitLaws.{IsWhole}
+use Rattle.nb_model.proofs.RoundLaws as rounds
+use Rattle.nb_base.specs.Takes.{after_strokes, IsNoRefusal}
+use Rattle.nb_state.specs.Open.{Held, IsOpen, but_pages}
+use Rattle.nb_state.specs.Does.{Makes, unless_by}
+use Rattle.nb_state.proofs.MakesLaws.{makes_not}
+use Rattle.nb_alloc.specs.Tries.{Tries}
+use Rattle.nb_alloc.specs.Put.{entry_cause, must_raise, raise_strokes}
+use Rattle.nb_alloc.specs.Mark.{mark_cause, mark_stroke, mark_strokes}
+use Rattle.nb_alloc.specs.Find.{IsMap}
+use Rattle.nb_alloc.specs.Make.{IsWell, page_strokes, system_strokes, system_cause}
+use Rattle.nb_alloc.proofs.CauseLaws.{first_none, first_next}
+use Rattle.nb_alloc.proofs.DoesLaws.{tries_opened, tries_passed, tries_then}
+use Rattle.nb_alloc.proofs.PutLaws.{stroke_long, is_kind-parts, none_of, may_raise, raised_once, raised_not, no_entry_cause, entry_cause-is, draft_raised}
+use Rattle.nb_alloc.proofs.MarkLaws.{there, marked-is, mark_cause-is, entries_some}
+use Rattle.nb_alloc.proofs.PageLaws.{makes_one, seen_after}
+use Rattle.nb_alloc.proofs.TestLaws.{kind_is}
+
+-- its image as the model's laws see it
+pub well : (image : Image) → IsWell image → IsWhole image
+well image is = record { fields = record { size = is.size; scn = is.scn }; sound = is.sound }
+
+pub from_well : (image : Image) → IsWhole image → IsWell image
+from_well image h = record { sound = h.sound; size = h.fields.size; scn = h.fields.scn }
+
+-- the page of its entry is of the form
+pub entry_none : (image : Image) (p : ℕ) → IsWell image → IsPlace image p → entry_cause image p ≡ None
+entry_none image p is at = by (has_entry image p) refl
+  where
+    by : (t : Bool) → has_entry image p ≡ t → entry_cause image p ≡ None
+    by false e = no_entry_cause image p e
+    by true e = entry_cause-is image p e ∙ ap (λ (t : Bool). when (not t) (NotDatabase (scn_page_of image p))) (rounds.scn_page_found image (well image is) p at e)
+
+-- and so are the inventory page of a page below the length and the page of that one's entry
+pub mark_none : (image : Image) (p : ℕ) → IsWell image → 2 ≤ p → p < length image → mark_cause image p ≡ None
+mark_none image p is two low =
+    let i : ℕ = inventory_of image p in
+    let before : i < p = inventory_before (image_size image) p is.size two in
+    let there : i < length image = omega (arith, before, low) in
+    let kind : kind_of (page_at image i) ≡ 2 = is.sound.sound.system.inventories i there (inventory_there (image_size image) (p / bits_in (image_size image)) is.size) in
+    let at : IsPlace image i = record { behind = inventory_place_some (image_size image) (p / bits_in (image_size image)) is.size; there = omega (arith, there); most = let most = is.sound.most in omega (arith, there, most) } in
+    first_next (not_kind image 2 i) (entry_cause image i ∷ []) (kind_is image 2 i there kind) ∙ first_next (entry_cause image i) [] (entry_none image i is at) ∙ first_none
+
+-- no inventory page is the SCN page of a page
+map_apart : (x : Image) (p q : ℕ) → IsTrue (is_page_size (image_size x)) → is_inventory_place (image_size x) q ≡ true → q ≢ scn_page_of x p
+map_apart x p q size at e = places_apart (image_size x) q size at (ap (is_scn_place (image_size x)) e ∙ scn_page_there (image_size x) (p / entries_in (image_size x)) size)
+
+-- a read failed before any stroke, and `?` passed it on
+pub tries_fault : {T : Type 0} (result : Result T Fault) (old new : World) (a b : Held) (t : Trail) (cause : Cause) (xs : List Stroke) → IsErr result × IsErrAnd result (λ f. f ≡ Device) → but_pages b ≡ but_pages a → Quiet old new → IsOpen old a t
+    → Tries result old new a b t cause xs
+tries_fault {T} result old new a b t cause xs passed same quiet is = tries_passed result Device (λ r. Tries r old new a b t cause xs) passed (record { test = tt; makes = makes_not T Device old new a b t (unless_by cause xs) tt same quiet is; idle = λ r some. quiet })
+
+-- cause and strokes by other names
+pub tries_named : {T : Type 0} (result : Result T Fault) (old new : World) (a b : Held) (t : Trail) (cause other : Cause) (xs ys : List Stroke) → cause ≡ other → xs ≡ ys → Tries result old new a b t cause xs
+    → Tries result old new a b t other ys
+tries_named result old new a b t cause other xs ys same are tries =
+    subst (λ (c : Cause). Tries result old new a b t c ys) same (subst (λ (ss : List Stroke). Tries result old new a b t cause ss) are tries)
+
+-- What the raise of an entry changes: the SCN page of page p alone.
+pub record RaisesAlone (image after : Image) (p : ℕ) : Type 0 where
+  pub long : length after ≡ length image
+  pub others : (q : ℕ) → q ≢ scn_page_of image p → page_at after q ≡ page_at image q
+
+pub raise_alone : (b : Base) (p : ℕ) → entry_cause b.image p ≡ None → RaisesAlone b.image (base_after b (raise_strokes b.image p)).image p
+unfolding base_after
+raise_alone b p none = by (must_raise b.image p) refl
+  where
+    after : List Stroke → Type 0
+    after ss = RaisesAlone b.image (base_after b ss).image p
+
+    by : (t : Bool) → must_raise b.image p ≡ t → after (raise_strokes b.image p)
+    by false must = subst after (sym (raised_not b.image p must)) (record { long = refl; others = λ q other. refl })
+    by true must =
+        let may = may_raise b.image p none must in
+        subst after (sym (raised_once b.image p must)) (record { long = stroke_long b (scn_page_of b.image p) _ may.low; others = λ q other. stroke_other b (scn_page_of b.image p) q _ (omega (arith, may.low)) other })
+
+-- then the page is written, whose bytes were made before
+pub put_then : {T : Type 0} (result : Result T Fault) (old mid new : World) (a b c : Held) (t : Trail) (p : ℕ) (written bytes : Page)
+    → Tries {T = Unit {0}} (Ok tt) old mid a b t (entry_cause t.base.image p) (raise_strokes t.base.image p) → written ≡ bytes → p ≤ length t.base.image → IfErr result IsNoRefusal
+    → ((u : Trail) → IsOpen mid b u → p ≤ length u.base.image → Makes result mid new b c u (page p written ∷ []))
+    → Tries result old new a c t (entry_cause t.base.image p) (raise_strokes t.base.image p ++ page p bytes ∷ [])
+put_then result old mid new a b c t p written bytes first same low never writes =
+    let image : Image = t.base.image in
+    let u : Trail = after_strokes t (raise_strokes image p) in
+    let alone : RaisesAlone image u.base.image p = seen_after t (raise_strokes image p) (λ (x : Base). RaisesAlone image x.image p) (raise_alone t.base p first.test) in
+    tries_then tt result old mid new a b c t (entry_cause image p) (raise_strokes image p) (page p bytes ∷ []) first never
+    (makes_one result mid new b c u (page p written) (page p bytes) (ap (λ (x : Page). page p x) same)
+    (writes u (tries_opened tt old mid a b t (entry_cause image p) (raise_strokes image p) first) (omega (arith, low, alone.long))))
+
+-- A page was written or added.
+module _ (b : Base) (p kind : ℕ) (payload : List ℕ) (none : entry_cause b.image p ≡ None) (low : p ≤ length b.image) where
+  abbrev raised_base : Base
+  raised_base = base_after b (raise_strokes b.image p)
+
+  abbrev bytes : Page
+  bytes = stamped (old_page p b.image) kind payload (image_scn b.image) p
+
+  abbrev paged : Base
+  paged = base_after b (page_strokes b.image p kind payload)
+
+  alone : RaisesAlone b.image raised_base.image p
+  alone = raise_alone b p none
+
+  paged_is : paged ≡ on_base (page p bytes) raised_base
+  unfolding base_after
+  paged_is = base_after-append b (raise_strokes b.image p) (page p bytes ∷ [])
+
+  there_still : p ≤ length raised_base.image
+  there_still = omega (arith, low, alone.long)
+
+  pub page_long : length paged.image ≡ max (length b.image) (p + 1)
+  page_long =
+      ap (λ (x : Base). length x.image) paged_is ∙ ap length (stroke_page raised_base p bytes) ∙ with_page_length p (merged_page p bytes raised_base.image) raised_base.image there_still ∙ ap (λ (n : ℕ). max n (p + 1)) alone.long
+
+  page_other : (q : ℕ) → q ≢ p → q ≢ scn_page_of b.image p → page_at paged.image q ≡ page_at b.image q
+  page_other q ne entry = ap (λ (x : Base). page_at x.image q) paged_is ∙ stroke_other raised_base p q bytes there_still ne ∙ alone.others q entry
+
+  -- its inventory page is as it was
+  pub map_kept : (map : Page) → IsTrue (is_page_size (image_size b.image)) → 5 ≤ p → IsMap b.image p map → IsMap paged.image p map
+  map_kept map is five held =
+      let size : ℕ = image_size b.image in
+      let q : ℕ = inventory_of b.image p in
+      let before : q < p = inventory_before size p is (omega (arith, five)) in
+      let place : is_inventory_place size q ≡ true = inventory_there size (p / bits_in size) is in
+      let two = scn_place_some size (p / entries_in size) is in
+      let read : page_at paged.image q ≡ page_at b.image q = page_other q (λ e. absurd (omega (arith, e, before))) (map_apart b.image p q is place) in
+      let first : page_at paged.image 0 ≡ page_at b.image 0 = page_other 0 (λ e. absurd (omega (arith, e, five))) (λ e. absurd (omega (arith, e, two))) in
+      let same : inventory_of paged.image p ≡ q = ap (λ (s : ℕ). inventory_place s (p / bits_in s)) (ap size_of first) in
+      let parts = is_kind-parts b.image 2 q (none_of (is_kind b.image 2 q) (NotDatabase q) held.kind) in
+      let inside : q < length paged.image = omega (arith, before, page_long) in
+      record {
+        kind = ap (λ (r : ℕ). not_kind paged.image 2 r) same ∙ kind_is paged.image 2 q inside (ap kind_of read ∙ parts.1);
+        page = held.page ∙ sym read ∙ ap (page_at paged.image) (sym same);
+      }
+
+-- a bit that is written leaves the length
+pub mark_long : (b : Base) (p bit : ℕ) → IsTrue (is_page_size (image_size b.image)) → mark_cause b.image p ≡ None → not_kind b.image 2 (inventory_of b.image p) ≡ None
+    → length (base_after b (mark_strokes b.image p bit)).image ≡ length b.image
+unfolding base_after
+mark_long b p bit is none form =
+    let q : ℕ = inventory_of b.image p in
+    let entry : entry_cause b.image q ≡ None = sym (mark_cause-is b p form) ∙ none in
+    let alone : RaisesAlone b.image (base_after b (raise_strokes b.image q)).image q = raise_alone b q entry in
+    let inside : q < length b.image = there b p form in
+    ap (λ (ss : List Stroke). length (base_after b ss).image) (marked-is b p form bit none (entries_some (image_size b.image) b.image is refl))
+    ∙ ap (λ (x : Base). length x.image) (base_after-append b (raise_strokes b.image q) (mark_stroke b.image p bit ∷ []))
+    ∙ stroke_long (base_after b (raise_strokes b.image q)) q _ (omega (arith, inside, alone.long)) ∙ alone.long
+
+-- where the inventories agree, the strokes are those of the draft
+pub put_strokes_are : (b : Base) (p kind : ℕ) (payload : List ℕ) → IsWell b.image → IsPlace b.image p → page_strokes b.image p kind payload ≡ (put p kind payload (drafted b.image)).strokes
+put_strokes_are b p kind payload is at =
+    let bytes : Page = stamped (old_page p b.image) kind payload (image_scn b.image) p in
+    sym (rounds.put_strokes b.image (well b.image is) p at kind payload ∙ ap (λ (ss : List Stroke). ss ++ page p bytes ∷ []) (draft_raised b p (entry_none b.image p is at)).strokes)
+
+-- no page is of kind 0
+pub kind_some : (kind : PageKind) → (code_of kind == 0) ≡ false
+kind_some Header = refl
+kind_some Inventory = refl
+kind_some Data = refl
+kind_some Raw = refl
+kind_some ScnInventory = refl
+
+-- the page that was stamped is that of the stroke
+pub stamped_page : (image : Image) (p code kind scn : ℕ) (payload : List ℕ) (before now : Page) → before ≡ with_payload (old_page p image) payload → now ≡ stamped before code (drop 16 before) scn p → code ≡ kind → scn ≡ image_scn image
+    → 16 + length payload ≤ length (old_page p image) → now ≡ stamped (old_page p image) kind payload (image_scn image) p
+stamped_page image p code kind scn payload before now filled stamp same current room =
+    stamp ∙ ap (λ (k : ℕ). stamped before k (drop 16 before) scn p) same ∙ ap (λ (x : Page). stamped x kind (drop 16 x) scn p) filled
+    ∙ stamped-with_payload (old_page p image) kind payload scn p room ∙ ap (λ (n : ℕ). stamped (old_page p image) kind payload n p) current
+
+-- what page p is about to be written over
+pub old_below : (p : ℕ) (image : Image) → p < length image → old_page p image ≡ page_at image p
+unfolding old_page
+old_below p image low = ap (λ (t : Bool). elim t as (λ z. Page) [ true ↦ page_at image p | false ↦ replicate (image_size image) 0 ]) (lt_yes p (length image) low)
+
+pub old_past : (p : ℕ) (image : Image) → length image ≤ p → old_page p image ≡ replicate (image_size image) 0
+unfolding old_page
+old_past p image far = ap (λ (t : Bool). elim t as (λ z. Page) [ true ↦ page_at image p | false ↦ replicate (image_size image) 0 ]) (lt_no p (length image) far)
+
+-- whether there is a page of that kind
+module _ (image : Image) (kind p : ℕ) where
+  pub kind_below : p < length image → is_kind image kind p ≡ (kind_of (page_at image p) == kind)
+  unfolding is_kind
+  kind_below low = ap (λ (t : Bool). t && kind_of (page_at image p) == kind) (lt_yes p (length image) low)
+
+  pub kind_past_end : length image ≤ p → is_kind image kind p ≡ false
+  unfolding is_kind
+  kind_past_end far = ap (λ (t : Bool). t && kind_of (page_at image p) == kind) (lt_no p (length image) far)
+
+-- bytes that fill a page behind its head
+pub filled_page : (old payload new : Page) → length payload ≡ length old - 16 → new ≡ take 16 old ++ payload → new ≡ with_payload old payload
+unfolding with_payload
+filled_page old payload new long is = is ∙ ap (λ (xs : List ℕ). take 16 old ++ xs) (sym (padded_whole (length old - 16) payload long))
+
+-- what a system place holds, by its kind
+module _ (image : Image) (p : ℕ) where
+  abbrev by_place : Bool → List ℕ
+  by_place t = elim t as (λ z. List ℕ) [
+    | true ↦ inventory_payload (image_size image) ((p + 1) / bits_in (image_size image)) 0
+    | false ↦ scn_payload (image_size image) (p / entries_in (image_size image)) (image_scn image)
+  ]
+
+  pub payload_of_place : (t : Bool) → is_inventory_place (image_size image) p ≡ t → system_payload image p ≡ by_place t
+  unfolding system_payload
+  payload_of_place t e = ap by_place e
+
+  -- it fills the page
+  pub payload_whole : IsTrue (is_page_size (image_size image)) → length (system_payload image p) ≡ image_size image - 16
+  payload_whole size = by (is_inventory_place (image_size image) p) refl
+    where
+      facts : SizeFacts (image_size image)
+      facts = size_facts (image_size image) size
+
+      by : (t : Bool) → is_inventory_place (image_size image) p ≡ t → length (system_payload image p) ≡ image_size image - 16
+      by true e = ap length (payload_of_place true e) ∙ omega (arith, facts.at_least, inventory_length (image_size image) ((p + 1) / bits_in (image_size image)) 0)
+      by false e = ap length (payload_of_place false e) ∙ omega (arith, facts.at_least, facts.in_fours, scn_length (image_size image) (p / entries_in (image_size image)) (image_scn image))
+
+  -- its system page is there, or is put there
+  pub system_there : is_kind image (system_kind image p) p ≡ true → (system_page p (drafted image)).strokes ≡ []
+  unfolding system_page
+  system_there e = ap (λ (t : Bool). (elim t as (λ z. Draft) [ true ↦ drafted image | false ↦ put p (system_kind image p) (system_payload image p) (drafted image) ]).strokes) e
+
+  pub system_put : is_kind image (system_kind image p) p ≡ false → (system_page p (drafted image)).strokes ≡ (put p (system_kind image p) (system_payload image p) (drafted image)).strokes
+  unfolding system_page
+  system_put e = ap (λ (t : Bool). (elim t as (λ z. Draft) [ true ↦ drafted image | false ↦ put p (system_kind image p) (system_payload image p) (drafted image) ]).strokes) e
+
+  -- by the strokes that it takes
+  pub system_made : is_kind image (system_kind image p) p ≡ true → system_strokes image p ≡ []
+  system_made e = ap (λ (t : Bool). elim t as (λ z. List Stroke) [ true ↦ [] | false ↦ page_strokes image p (system_kind image p) (system_payload image p) ]) e
+
+  pub system_unmade : is_kind image (system_kind image p) p ≡ false → system_strokes image p ≡ page_strokes image p (system_kind image p) (system_payload image p)
+  system_unmade e = ap (λ (t : Bool). elim t as (λ z. List Stroke) [ true ↦ [] | false ↦ page_strokes image p (system_kind image p) (system_payload image p) ]) e
+
+  pub system_free : is_kind image (system_kind image p) p ≡ true → system_cause image p ≡ None
+  system_free e = ap (λ (t : Bool). elim t as (λ z. Cause) [ true ↦ None | false ↦ entry_cause image p ]) e
+
+  pub system_asks : is_kind image (system_kind image p) p ≡ false → system_cause image p ≡ entry_cause image p
+  system_asks e = ap (λ (t : Bool). elim t as (λ z. Cause) [ true ↦ None | false ↦ entry_cause image p ]) e
+
+-- the page is there then
+pub system_long : (b : Base) (p : ℕ) → p ≤ length b.image → system_cause b.image p ≡ None → p < length (base_after b (system_strokes b.image p)).image
+unfolding base_after
+system_long b p low none = by (is_kind b.image (system_kind b.image p) p) refl
+  where
+    after : List Stroke → Type 0
+    after ss = p < length (base_after b ss).image
+
+    by : (t : Bool) → is_kind b.image (system_kind b.image p) p ≡ t → after (system_strokes b.image p)
+    by true e = subst after (sym (system_made b.image p e)) (is_kind-parts b.image (system_kind b.image p) p e).0
+    by false e =
+        subst after (sym (system_unmade b.image p e))
+        (let long = page_long b p (system_kind b.image p) (system_payload b.image p) (sym (system_asks b.image p e) ∙ none) low in omega (arith, long))
+
+-- and where the inventories agree it is that of the draft, and nothing is refused
+module _ (b : Base) (p : ℕ) (is : IsWell b.image) (at : IsPlace b.image p) where
+  pub system_strokes_are : system_strokes b.image p ≡ (system_page p (drafted b.image)).strokes
+  system_strokes_are = by (is_kind b.image (system_kind b.image p) p) refl
+    where
+      by : (t : Bool) → is_kind b.image (system_kind b.image p) p ≡ t → system_strokes b.image p ≡ (system_page p (drafted b.image)).strokes
+      by true e = system_made b.image p e ∙ sym (system_there b.image p e)
+      by false e = system_unmade b.image p e ∙ put_strokes_are b p (system_kind b.image p) (system_payload b.image p) is at ∙ sym (system_put b.image p e)
+
+  pub system_none : system_cause b.image p ≡ None
+  system_none = by (is_kind b.image (system_kind b.image p) p) refl
+    where
+      by : (t : Bool) → is_kind b.image (system_kind b.image p) p ≡ t → system_cause b.image p ≡ None
+      by true e = system_free b.image p e
+      by false e = system_asks b.image p e ∙ entry_none b.image p is at

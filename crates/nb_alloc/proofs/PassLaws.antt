@@ -1,0 +1,194 @@
+-- The tests of a search for new pages at one page, each as a need that is met or not.
+use Rattle.std.proofs.Common.{◌≡◌, ◌≢◌, ℕ, ◌-◌, List, [], ◌∷◌, ◌++◌, length, refl, sym, ap, ◌∙◌}
+use Rattle.std.specs.Prelude.{Bool, true, false, not, ◌==◌, ◌&&◌, nat_lt, IsTrue, Option, Some, None, Result, Ok, Err, OnOk}
+use Rattle.std.proofs.lemmas.Bool.{true≢false}
+use Rattle.nb_fields.specs.Places.{is_page_size, is_inventory_place, is_scn_place, is_system_place}
+use Rattle.nb_host.specs.declared.faults.Fault.{Fault}
+use Rattle.nb_host.specs.declared.refusals.Refusal.{Refusal}
+use Rattle.nb_host.specs.declared.refusals.Refusal.TheVariants.{NotDatabase, Full}
+use Rattle.nb_model.specs.Image.{Page, Image, page_at, image_size}
+use Rattle.nb_model.specs.Forms.{is_kind, inventory_of, scn_page_of, has_entry, free_from, system_kind, Need, first_not, entry_page, is_kept}
+use Rattle.nb_model.specs.Causes.{Cause, first_cause, when, not_kind}
+use Rattle.nb_model.proofs.ReadLaws.{eq_no, eq_yes}
+use Rattle.nb_model.proofs.NeedLaws.{first_behind, first_append, behind_none, behind_some, first_none}
+use Rattle.nb_model.proofs.NewSound.{plain_place, places_apart}
+use Rattle.nb_alloc.specs.Put.{Reads}
+use Rattle.nb_alloc.specs.Find.{IsMap, need_cause}
+use Rattle.nb_model.specs.Way.{next_place, maps_up_to, maps_on, entry_on, map_entry_on, own_entry_on, needed_on, IsMadeBehind, same_made, made_here, IsFreshBehind, same_fresh, fresh_here}
+use Rattle.nb_alloc.specs.Way.{way_cause}
+use Rattle.nb_alloc.proofs.CauseLaws.{first_next, first_here, none_behind}
+use Rattle.nb_alloc.proofs.PlaceTests.{system_second}
+
+-- the SCN page of an entry: it is made on the way, or there is no entry, or it is tested
+pub entry_made : (x : Image) (made q : ℕ) → scn_page_of x q ≡ made → need_cause (first_not x (entry_on x made q)) ≡ None
+entry_made x made q same = ap (λ (t : Bool). need_cause (first_not x (elim t as (λ z. List Need) [ true ↦ [] | false ↦ entry_page x q ]))) (eq_yes (scn_page_of x q) made same) ∙ ap need_cause (first_none x)
+
+entry_is : (x : Image) (q : ℕ) (t : Bool) → has_entry x q ≡ t → entry_page x q ≡ elim t as (λ z. List Need) [ true ↦ record { kind = 10; page = scn_page_of x q } ∷ [] | false ↦ [] ]
+unfolding entry_page
+entry_is x q t e = ap (λ (u : Bool). elim u as (λ z. List Need) [ true ↦ record { kind = 10; page = scn_page_of x q } ∷ [] | false ↦ [] ]) e
+
+entry_asked : (x : Image) (made q : ℕ) → scn_page_of x q ≢ made → entry_on x made q ≡ entry_page x q
+entry_asked x made q other = ap (λ (t : Bool). elim t as (λ z. List Need) [ true ↦ [] | false ↦ entry_page x q ]) (eq_no (scn_page_of x q) made other)
+
+pub entry_none : (x : Image) (made q : ℕ) → scn_page_of x q ≢ made → has_entry x q ≡ false → need_cause (first_not x (entry_on x made q)) ≡ None
+entry_none x made q other none = ap (λ (ns : List Need). need_cause (first_not x ns)) (entry_asked x made q other ∙ entry_is x q false none) ∙ ap need_cause (first_none x)
+
+one_need : (x : Image) (p : ℕ) (t : Bool) → is_kind x 10 p ≡ t → need_cause (first_not x (record { kind = 10; page = p } ∷ [])) ≡ when (not t) (NotDatabase p)
+unfolding first_not
+one_need x p true e = ap (λ (u : Bool). need_cause (elim u as (λ z. Option ℕ) [ true ↦ None | false ↦ Some p ])) e
+one_need x p false e = ap (λ (u : Bool). need_cause (elim u as (λ z. Option ℕ) [ true ↦ None | false ↦ Some p ])) e
+
+pub entry_tested : (x : Image) (made q : ℕ) → scn_page_of x q ≢ made → has_entry x q ≡ true → need_cause (first_not x (entry_on x made q)) ≡ not_kind x 10 (scn_page_of x q)
+entry_tested x made q other has =
+    ap (λ (ns : List Need). need_cause (first_not x ns)) (entry_asked x made q other ∙ entry_is x q true has)
+    ∙ one_need x (scn_page_of x q) (is_kind x 10 (scn_page_of x q)) refl
+
+-- that of an inventory page: asked for before, or now
+pub map_by : (x : Image) (from made p : ℕ) (t : Bool) → (nat_lt 5 from && inventory_of x p == inventory_of x (from - 1)) ≡ t
+    → first_not x (map_entry_on x from made p) ≡ first_not x (elim t as (λ z. List Need) [ true ↦ [] | false ↦ entry_on x made (inventory_of x p) ])
+map_by x from made p t is = ap (λ (u : Bool). first_not x (elim u as (λ z. List Need) [ true ↦ [] | false ↦ entry_on x made (inventory_of x p) ])) is
+
+-- that of page p itself
+pub own_kept : (x : Image) (made p : ℕ) → is_kept x p ≡ true → need_cause (first_not x (own_entry_on x made p)) ≡ None
+own_kept x made p is = ap (λ (t : Bool). need_cause (first_not x (elim t as (λ z. List Need) [ true ↦ [] | false ↦ entry_on x made p ]))) is ∙ ap need_cause (first_none x)
+
+pub own_asked : (x : Image) (made p : ℕ) → is_kept x p ≡ false → first_not x (own_entry_on x made p) ≡ first_not x (entry_on x made p)
+own_asked x made p is = ap (λ (t : Bool). first_not x (elim t as (λ z. List Need) [ true ↦ [] | false ↦ entry_on x made p ])) is
+
+pub kept_there : (x : Image) (p : ℕ) (t : Bool) → is_system_place (image_size x) p ≡ true → is_kind x (system_kind x p) p ≡ t → is_kept x p ≡ t
+unfolding is_kept
+kept_there x p t system is = ap (λ (u : Bool). u && is_kind x (system_kind x p) p) system ∙ is
+
+pub kept_plain : (x : Image) (p : ℕ) → is_system_place (image_size x) p ≡ false → is_kept x p ≡ false
+unfolding is_kept
+kept_plain x p plain = ap (λ (u : Bool). u && is_kind x (system_kind x p) p) plain
+
+-- The tests in order: the inventory pages, whether a page is left, and the SCN pages.
+module _ (x : Image) (from made fresh p : ℕ) (at : p ≡ next_place x from fresh) where
+  abbrev maps : Option ℕ
+  maps = first_not x (maps_on x from fresh p)
+
+  abbrev asks : Bool → List Need
+  asks t = elim t [ true ↦ [] | false ↦ map_entry_on x from made p ++ own_entry_on x made p ]
+
+  cause_is : way_cause x from made fresh ≡ first_cause (need_cause (first_behind maps (first_not x (asks (p == 1048576)))) ∷ when (p == 1048576) (Full 1048576) ∷ [])
+  cause_is =
+      ap (λ (n : ℕ). first_cause (need_cause (first_not x (needed_on x from made fresh n)) ∷ when (n == 1048576) (Full 1048576) ∷ [])) (sym at)
+      ∙ ap (λ (o : Option ℕ). first_cause (need_cause o ∷ when (p == 1048576) (Full 1048576) ∷ [])) (first_append x (maps_on x from fresh p) (asks (p == 1048576)))
+
+  some_first : (o rest : Option ℕ) (r : Refusal) (c : Cause) → need_cause o ≡ Some r → first_cause (need_cause (first_behind o rest) ∷ c ∷ []) ≡ Some r
+  some_first (Some q) rest r c e = ap (λ (y : Option ℕ). first_cause (need_cause y ∷ c ∷ [])) (behind_some q rest) ∙ first_here (Some (NotDatabase q)) (c ∷ []) r e
+  some_first None rest r c e = absurd (none_some r e)
+    where
+      none_some : (r : Refusal) → None ≡ Some r → ⊥
+      none_some r h = cc
+
+  need_none : (o : Option ℕ) → need_cause o ≡ None → o ≡ None
+  need_none None e = refl
+  need_none (Some q) e = absurd (some_none q e)
+    where
+      some_none : (q : ℕ) → Some (NotDatabase q) ≡ None → ⊥
+      some_none q h = cc
+
+  pub way_maps : (r : Refusal) → need_cause maps ≡ Some r → way_cause x from made fresh ≡ Some r
+  way_maps r e = cause_is ∙ some_first maps (first_not x (asks (p == 1048576))) r (when (p == 1048576) (Full 1048576)) e
+
+  module _ (none : need_cause maps ≡ None) where
+    rest_is : way_cause x from made fresh ≡ first_cause (need_cause (first_not x (asks (p == 1048576))) ∷ when (p == 1048576) (Full 1048576) ∷ [])
+    rest_is =
+        cause_is ∙ ap (λ (o : Option ℕ). first_cause (need_cause (first_behind o (first_not x (asks (p == 1048576)))) ∷ when (p == 1048576) (Full 1048576) ∷ [])) (need_none maps none)
+        ∙ ap (λ (o : Option ℕ). first_cause (need_cause o ∷ when (p == 1048576) (Full 1048576) ∷ [])) (behind_none (first_not x (asks (p == 1048576))))
+
+    pub way_full : p ≡ 1048576 → way_cause x from made fresh ≡ Some (Full 1048576)
+    way_full end =
+        rest_is ∙ ap (λ (t : Bool). first_cause (need_cause (first_not x (asks t)) ∷ when t (Full 1048576) ∷ [])) (eq_yes p 1048576 end)
+        ∙ first_next (need_cause (first_not x [])) (Some (Full 1048576) ∷ []) (ap need_cause (first_none x)) ∙ first_here (Some (Full 1048576)) [] (Full 1048576) refl
+
+    module _ (other : p ≢ 1048576) where
+      asked_is : way_cause x from made fresh ≡ first_cause (need_cause (first_behind (first_not x (map_entry_on x from made p)) (first_not x (own_entry_on x made p))) ∷ None ∷ [])
+      asked_is =
+          rest_is ∙ ap (λ (t : Bool). first_cause (need_cause (first_not x (asks t)) ∷ when t (Full 1048576) ∷ [])) (eq_no p 1048576 other)
+          ∙ ap (λ (o : Option ℕ). first_cause (need_cause o ∷ None ∷ [])) (first_append x (map_entry_on x from made p) (own_entry_on x made p))
+
+      pub way_map_entry : (r : Refusal) → need_cause (first_not x (map_entry_on x from made p)) ≡ Some r → way_cause x from made fresh ≡ Some r
+      way_map_entry r e = asked_is ∙ some_first (first_not x (map_entry_on x from made p)) (first_not x (own_entry_on x made p)) r None e
+
+      pub way_own : need_cause (first_not x (map_entry_on x from made p)) ≡ None → way_cause x from made fresh ≡ need_cause (first_not x (own_entry_on x made p))
+      way_own e =
+          asked_is ∙ ap (λ (o : Option ℕ). first_cause (need_cause (first_behind o (first_not x (own_entry_on x made p))) ∷ None ∷ [])) (need_none (first_not x (map_entry_on x from made p)) e)
+          ∙ ap (λ (o : Option ℕ). first_cause (need_cause o ∷ None ∷ [])) (behind_none (first_not x (own_entry_on x made p))) ∙ none_behind (need_cause (first_not x (own_entry_on x made p)))
+
+-- where the search goes on, and what it reads for that
+pub place_fresh : (x : Image) (from fresh : ℕ) → inventory_of x from ≡ fresh → next_place x from fresh ≡ from
+place_fresh x from fresh own = ap (λ (t : Bool). elim t as (λ z. ℕ) [ true ↦ from | false ↦ free_from (length x - from) from x ]) (eq_yes (inventory_of x from) fresh own)
+
+pub place_free : (x : Image) (from fresh : ℕ) → inventory_of x from ≢ fresh → next_place x from fresh ≡ free_from (length x - from) from x
+place_free x from fresh other = ap (λ (t : Bool). elim t as (λ z. ℕ) [ true ↦ from | false ↦ free_from (length x - from) from x ]) (eq_no (inventory_of x from) fresh other)
+
+pub maps_fresh : (x : Image) (from fresh p : ℕ) → inventory_of x from ≡ fresh → need_cause (first_not x (maps_on x from fresh p)) ≡ None
+maps_fresh x from fresh p own = ap (λ (t : Bool). need_cause (first_not x (elim t as (λ z. List Need) [ true ↦ [] | false ↦ maps_up_to x from p ]))) (eq_yes (inventory_of x from) fresh own) ∙ ap need_cause (first_none x)
+
+pub maps_free : (x : Image) (from fresh p : ℕ) → inventory_of x from ≢ fresh → maps_on x from fresh p ≡ maps_up_to x from p
+maps_free x from fresh p other = ap (λ (t : Bool). elim t as (λ z. List Need) [ true ↦ [] | false ↦ maps_up_to x from p ]) (eq_no (inventory_of x from) fresh other)
+
+-- where no fresh inventory page is at hand, it is refused as its search of the inventories is
+pub maps_cause : (x : Image) (from fresh p : ℕ) → inventory_of x from ≢ fresh → p ≡ free_from (length x - from) from x
+    → need_cause (first_not x (maps_on x from fresh (next_place x from fresh))) ≡ need_cause (first_not x (maps_up_to x from p))
+maps_cause x from fresh p other at =
+    ap (λ (ns : List Need). need_cause (first_not x ns)) (maps_free x from fresh (next_place x from fresh) other)
+    ∙ ap (λ (n : ℕ). need_cause (first_not x (maps_up_to x from n))) (place_free x from fresh other ∙ sym at)
+
+-- nothing is refused for no cause
+pub none_is : (r : Refusal) (c : Cause) → None ≡ Some r → c ≡ Some r
+none_is r c e = cc
+
+-- the inventory page of page p was read
+pub map_read : (result : Result (Unit {0}) Fault) (x : Image) (p place : ℕ) (map : Page) → place ≡ inventory_of x p → Reads result x (not_kind x 2 place) place map → OnOk result (IsMap x p map)
+map_read (Ok value) x p place map there read = record { kind = ap (not_kind x 2) (sym there) ∙ read.test; page = read.page ∙ ap (page_at x) there }
+map_read (Err fault) x p place map there read = tt
+
+-- The places of system pages that were passed without their pages, behind page p.
+module _ (x : Image) (p : ℕ) (size : IsTrue (is_page_size (image_size x))) where
+  pub kind_map : is_inventory_place (image_size x) p ≡ true → system_kind x p ≡ 2
+  kind_map e = ap (λ (t : Bool). elim t as (λ z. ℕ) [ true ↦ 2 | false ↦ 10 ]) e
+
+  pub kind_entries : is_inventory_place (image_size x) p ≡ false → system_kind x p ≡ 10
+  kind_entries e = ap (λ (t : Bool). elim t as (λ z. ℕ) [ true ↦ 2 | false ↦ 10 ]) e
+
+  pub no_map : is_scn_place (image_size x) p ≡ true → is_inventory_place (image_size x) p ≡ false
+  no_map at = by (is_inventory_place (image_size x) p) refl
+    where
+      by : (t : Bool) → is_inventory_place (image_size x) p ≡ t → is_inventory_place (image_size x) p ≡ false
+      by false e = e
+      by true e = absurd (places_apart (image_size x) p size e at)
+
+  -- its system page stands there
+  module _ (there : is_kind x (system_kind x p) p ≡ true) where
+    pub made_kept : (made : ℕ) → IsMadeBehind x p made made
+    made_kept made = same_made refl (λ at. ap (λ (k : ℕ). is_kind x k p) (sym (kind_entries (no_map at))) ∙ there)
+
+    pub fresh_kept : (fresh : ℕ) → IsFreshBehind x p fresh fresh
+    fresh_kept fresh = same_fresh refl (λ at. ap (λ (k : ℕ). is_kind x k p) (sym (kind_map at)) ∙ there)
+
+  -- an inventory page is about to be made there,
+  module _ (at : is_inventory_place (image_size x) p ≡ true) where
+    pub made_map : (made : ℕ) → IsMadeBehind x p made made
+    made_map made = same_made refl (λ scn. absurd (places_apart (image_size x) p size at scn))
+
+    pub fresh_map : is_kind x (system_kind x p) p ≡ false → (fresh : ℕ) → IsFreshBehind x p fresh p
+    fresh_map none fresh = fresh_here refl at (ap (λ (k : ℕ). is_kind x k p) (sym (kind_map at)) ∙ none)
+
+  -- or an SCN page
+  module _ (other : is_inventory_place (image_size x) p ≡ false) where
+    pub made_entries : is_system_place (image_size x) p ≡ true → is_kind x (system_kind x p) p ≡ false → (made : ℕ) → IsMadeBehind x p made p
+    made_entries system none made = made_here refl (system_second (image_size x) p other ∙ system) (ap (λ (k : ℕ). is_kind x k p) (sym (kind_entries other)) ∙ none)
+
+    pub fresh_entries : (fresh : ℕ) → IsFreshBehind x p fresh fresh
+    fresh_entries fresh = same_fresh refl (λ at. absurd (true≢false (sym at ∙ other)))
+
+-- no system page stands at page p
+pub made_plain : (x : Image) (p made : ℕ) → is_system_place (image_size x) p ≡ false → IsMadeBehind x p made made
+made_plain x p made plain = same_made refl (λ at. absurd (true≢false (sym at ∙ (plain_place (image_size x) p plain).1)))
+
+pub fresh_plain : (x : Image) (p fresh : ℕ) → is_system_place (image_size x) p ≡ false → IsFreshBehind x p fresh fresh
+fresh_plain x p fresh plain = same_fresh refl (λ at. absurd (true≢false (sym at ∙ (plain_place (image_size x) p plain).0)))

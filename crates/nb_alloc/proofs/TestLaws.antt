@@ -1,0 +1,187 @@
+-- The causes of a page that is tested.
+use Rattle.std.proofs.Common.{◌≡◌, ◌≢◌, inl, inr, ℕ, ◌/◌, ◌%◌, ◌<◌, ◌≤◌, List, [], ◌∷◌, ◌++◌, length, get_or, take, drop, sym, ap, ◌∙◌, subst, arith}
+use Rattle.std.specs.Prelude.{Bool, true, false, not, IsTrue, ◌&&◌, ◌==◌, nat_le, Some, None, Result, Ok, Err, IsOk, OnOk}
+use Rattle.std.proofs.lemmas.Bool.Decides.{leb_tells}
+use Rattle.std.proofs.lemmas.Nat.Bits.{bit_at-lt}
+use Rattle.std.proofs.lemmas.List.{length-take, take_at}
+use Rattle.nb_fields.specs.Places.{bits_in, inventory_place}
+use Rattle.nb_fields.specs.Page.{kind_of}
+use Rattle.nb_fields.specs.Payloads.{bit_of, text_length, text_of}
+use Rattle.nb_host.specs.declared.refusals.Refusal.{Refusal}
+use Rattle.nb_host.specs.declared.refusals.Refusal.TheVariants.{NotDatabase, PageRange, NotAllocated, SystemPage, Access, TextLong}
+use Rattle.nb_page.specs.declared.page.PageHead.{PageHead}
+use Rattle.nb_page.specs.Head.{head_in}
+use Rattle.nb_pip.specs.Bits.{bits}
+use Rattle.nb_pip.proofs.BitLemmas.{get_or-bits}
+use Rattle.nb_model.specs.Image.{Page, Image, page_at, image_size, is_read_only}
+use Rattle.nb_model.specs.Forms.{is_kind, is_free_page, inventory_of, bit_number}
+use Rattle.nb_model.specs.Causes.{Cause, first_cause, when, read_only, too_long, past_end, not_kind, not_raw, no_text}
+use Rattle.nb_model.specs.declared.reply.Reply.TheVariants.{Refused as RefusedBy, Value}
+use Rattle.nb_model.specs.Outcomes.{Seen, says}
+use Rattle.nb_model.specs.Pages.{read_turn}
+use Rattle.nb_model.proofs.ReadLaws.{le_no, lt_no, lt_yes, eq_no, eq_yes}
+use Rattle.nb_alloc.specs.Put.{not_taken}
+use Rattle.nb_alloc.proofs.CauseLaws.{first_none, first_next, first_here, first_front, first_rest, unless_refused, unless_allowed}
+
+-- tests from facts, and facts from tests
+pub le_yes : (a b : ℕ) → a ≤ b → nat_le a b ≡ true
+le_yes a b h = elim (leb_tells a b) [ inl w ↦ w.0 | inr w ↦ absurd (omega (arith, w.1, h)) ]
+
+pub not_false : IsTrue false → ⊥
+not_false e = cc
+
+pub le_from : (a b : ℕ) → true ≡ nat_le a b → a ≤ b
+le_from a b e = elim (leb_tells a b) [ inl w ↦ w.1 | inr w ↦ absurd (not_false (sym w.0 ∙ sym e)) ]
+
+pub lt_from : (a b : ℕ) → false ≡ nat_le a b → b < a
+lt_from a b e = elim (leb_tells a b) [ inl w ↦ absurd (not_false (e ∙ w.0)) | inr w ↦ omega (arith, w.1) ]
+
+-- a test that applies, and one that doesn't
+pub applies : (test : Bool) (r : Refusal) → test ≡ true → when test r ≡ Some r
+applies test r e = ap (λ (t : Bool). when t r) e
+
+pub rests : (test : Bool) (r : Refusal) → test ≡ false → when test r ≡ None
+rests test r e = ap (λ (t : Bool). when t r) e
+
+-- what holds under Ok, at Ok
+pub at_ok : {T E P : Type 0} (result : Result T E) → IsOk result → OnOk result P → P
+at_ok (Ok value) is p = p
+at_ok (Err e) is p = absurd (not_false is)
+
+-- a slice of all the elements of a vector, behind which it has room
+pub vec_whole : (deref items rest : List ℕ) (n : ℕ) → deref ≡ take n (items ++ rest) → length items ≡ n → deref ≡ items
+vec_whole deref items rest n is long = is ∙ take_at items rest n long
+
+-- the kind in the head that was read of page p
+pub kind_read : (head : PageHead) (page : Page) (image : Image) (p : ℕ) → head ≡ head_in page → page ≡ page_at image p → head.kind ≡ kind_of (page_at image p)
+unfolding head_in
+kind_read head page image p read is = ap (λ (h : PageHead). h.kind) read ∙ ap kind_of is
+
+module _ (image : Image) (kind p : ℕ) where
+  is_kind-past : length image ≤ p → is_kind image kind p ≡ false
+  unfolding is_kind
+  is_kind-past far = ap (λ (t : Bool). t && kind_of (page_at image p) == kind) (lt_no p (length image) far)
+
+  is_kind-is : p < length image → is_kind image kind p ≡ (kind_of (page_at image p) == kind)
+  unfolding is_kind
+  is_kind-is low = ap (λ (t : Bool). t && kind_of (page_at image p) == kind) (lt_yes p (length image) low)
+
+  -- there is no page
+  pub kind_past : length image ≤ p → not_kind image kind p ≡ Some (NotDatabase p)
+  kind_past far = applies _ _ (ap not (is_kind-past far))
+
+  -- the page is of another kind
+  pub kind_other : p < length image → kind_of (page_at image p) ≢ kind → not_kind image kind p ≡ Some (NotDatabase p)
+  kind_other low other = applies _ _ (ap not (is_kind-is low ∙ eq_no _ kind other))
+
+  -- the page is of that kind
+  pub kind_is : p < length image → kind_of (page_at image p) ≡ kind → not_kind image kind p ≡ None
+  kind_is low same = rests _ _ (ap not (is_kind-is low ∙ eq_yes _ kind same))
+
+-- the place of the inventory page of page p
+pub inventory_place_is : (image : Image) (size p place k : ℕ) → place ≡ inventory_place size k → k ≡ p / bits_in size → size ≡ image_size image → place ≡ inventory_of image p
+inventory_place_is image size p place k at number same =
+    at ∙ ap (inventory_place size) number ∙ ap (λ (n : ℕ). inventory_place n (p / bits_in n)) same
+
+-- The inventory page of page p was read and is of the form, and the bit of page p there is that one.
+pub record ReadsBit (image : Image) (p : ℕ) (map : Page) (bit : ℕ) : Type 0 where
+  pub form : not_kind image 2 (inventory_of image p) ≡ None
+  pub page : map ≡ page_at image (inventory_of image p)
+  pub number : bit ≡ bit_number image p
+  pub inside : bit < bits_in (length map)
+
+pub reads_bit : (image : Image) (size p place : ℕ) (map : Page) (bit : ℕ) → place ≡ inventory_of image p → size ≡ image_size image → length map ≡ size
+    → not_kind image 2 place ≡ None → map ≡ page_at image place → bit ≡ p % bits_in size → bit < bits_in size → ReadsBit image p map bit
+reads_bit image size p place map bit there same long form page number inside = record {
+  form = ap (λ (q : ℕ). not_kind image 2 q) (sym there) ∙ form;
+  page = page ∙ ap (page_at image) there;
+  number = number ∙ ap (λ (n : ℕ). p % bits_in n) same;
+  inside = subst (λ (n : ℕ). bit < bits_in n) (sym long) inside;
+}
+
+module _ (image : Image) (p : ℕ) where
+  abbrev inventory : Page
+  inventory = page_at image (inventory_of image p)
+
+  -- the bit that was read is that of page p
+  bit_read : (map : Page) (bit : ℕ) → ReadsBit image p map bit → get_or (bits map) bit 0 ≡ bit_of inventory (bit_number image p)
+  bit_read map bit reads = get_or-bits map bit 0 reads.inside ∙ ap (λ (m : Page). bit_of m bit) reads.page ∙ ap (bit_of inventory) reads.number
+
+  pub free_read : (map : Page) (bit : ℕ) → ReadsBit image p map bit → get_or (bits map) bit 0 ≢ 0 → is_free_page image p ≡ true
+  unfolding is_free_page
+  free_read map bit reads some =
+      let small : bit_of inventory (bit_number image p) < 2 = bit_at-lt _ _ in
+      let other : bit_of inventory (bit_number image p) ≢ 0 = λ e. some (bit_read map bit reads ∙ e) in
+      eq_yes _ 1 (omega (arith, small, other))
+
+  pub used_read : (map : Page) (bit : ℕ) → ReadsBit image p map bit → get_or (bits map) bit 0 ≡ 0 → is_free_page image p ≡ false
+  unfolding is_free_page
+  used_read map bit reads none =
+      let read : bit_of inventory (bit_number image p) ≡ 0 = sym (bit_read map bit reads) ∙ none in
+      eq_no _ 1 (λ e. absurd (omega (arith, e, read)))
+
+  abbrev untaken : List Cause
+  untaken = not_kind image 2 (inventory_of image p) ∷ when (is_free_page image p) (NotAllocated p) ∷ []
+
+  abbrev system : Cause
+  system = when (not (kind_of (page_at image p) == 8)) (SystemPage p)
+
+  -- why page p isn't taken, and where it is
+  pub taken_other : (r : Refusal) → not_kind image 2 (inventory_of image p) ≡ Some r → not_taken image p ≡ Some r
+  taken_other r e = first_here _ _ r e
+
+  pub taken_free : (map : Page) (bit : ℕ) → ReadsBit image p map bit → get_or (bits map) bit 0 ≢ 0 → not_taken image p ≡ Some (NotAllocated p)
+  taken_free map bit reads some = first_next _ _ reads.form ∙ first_here _ [] _ (applies _ _ (free_read map bit reads some))
+
+  pub taken_is : (map : Page) (bit : ℕ) → ReadsBit image p map bit → get_or (bits map) bit 0 ≡ 0 → not_taken image p ≡ None
+  taken_is map bit reads none = first_next _ _ reads.form ∙ first_next _ [] (rests _ _ (used_read map bit reads none)) ∙ first_none
+
+  not_raw-below : p < length image → not_raw image p ≡ first_cause (untaken ++ system ∷ [])
+  unfolding not_raw
+  not_raw-below low = first_next (past_end image p) _ (rests _ _ (le_no (length image) p low))
+
+  -- why page p is no taken raw page, and where it is one
+  pub raw_past : length image ≤ p → not_raw image p ≡ Some (PageRange p (length image))
+  unfolding not_raw
+  raw_past far = first_here (past_end image p) _ _ (applies _ _ (le_yes (length image) p far))
+
+  pub raw_untaken : p < length image → (r : Refusal) → not_taken image p ≡ Some r → not_raw image p ≡ Some r
+  raw_untaken low r e = not_raw-below low ∙ first_front untaken (system ∷ []) r e
+
+  pub raw_system : p < length image → not_taken image p ≡ None → kind_of (page_at image p) ≢ 8 → not_raw image p ≡ Some (SystemPage p)
+  raw_system low taken other = not_raw-below low ∙ first_rest untaken (system ∷ []) taken ∙ first_here system [] _ (applies _ _ (ap not (eq_no _ 8 other)))
+
+  pub raw_is : p < length image → not_taken image p ≡ None → kind_of (page_at image p) ≡ 8 → not_raw image p ≡ None
+  raw_is low taken same = not_raw-below low ∙ first_rest untaken (system ∷ []) taken ∙ first_next system [] (rests _ _ (ap not (eq_yes _ 8 same))) ∙ first_none
+
+-- a text is no longer than the length before it
+pub text_short : (page : Page) → text_length page ≤ 200 → length (text_of page) ≤ 200
+text_short page short = let long = length-take (text_length page) (drop 18 page) in omega (arith, long, short)
+
+-- whether the database may be changed, and then whether the text fits
+module _ (image : Image) (text : List ℕ) where
+  pub write_closed : is_read_only image ≡ true → first_cause (read_only image ∷ too_long text ∷ []) ≡ Some (Access 1)
+  write_closed closed = first_here _ _ _ (applies _ _ closed)
+
+  pub write_long : is_read_only image ≡ false → 200 < length text → first_cause (read_only image ∷ too_long text ∷ []) ≡ Some (TextLong (length text))
+  write_long free long = first_next _ _ (rests _ _ free) ∙ first_here _ [] _ (applies _ _ (lt_yes 200 (length text) long))
+
+  pub write_fits : is_read_only image ≡ false → length text ≤ 200 → first_cause (read_only image ∷ too_long text ∷ []) ≡ None
+  write_fits free short = first_next _ _ (rests _ _ free) ∙ first_next _ [] (rests _ _ (lt_no 200 (length text) short)) ∙ first_none
+
+-- what reading page p says
+module _ (s : Seen) (p : ℕ) where
+  abbrev page : Page
+  page = page_at s.base.image p
+
+  pub read_refused : (r : Refusal) → not_raw s.base.image p ≡ Some r → read_turn s p ≡ says s (RefusedBy r) []
+  unfolding read_turn
+  read_refused r e = unless_refused s _ _ r (first_here _ (no_text s.base.image p ∷ []) r e)
+
+  pub read_broken : not_raw s.base.image p ≡ None → 200 < text_length page → read_turn s p ≡ says s (RefusedBy (NotDatabase p)) []
+  unfolding read_turn
+  read_broken raw long = unless_refused s _ _ _ (first_next _ (no_text s.base.image p ∷ []) raw ∙ first_here _ [] _ (applies _ _ (lt_yes 200 (text_length page) long)))
+
+  pub read_says : not_raw s.base.image p ≡ None → text_length page ≤ 200 → read_turn s p ≡ says s (Value (text_of page)) []
+  unfolding read_turn
+  read_says raw short = unless_allowed s _ _ (first_next _ (no_text s.base.image p ∷ []) raw ∙ first_next _ [] (rests _ _ (lt_no 200 (text_length page) short)) ∙ first_none)

@@ -1,0 +1,92 @@
+use Rattle.std.proofs.Common.{ℕ, ◌%◌, [], ◌∷◌, ap, subst, ◌∙◌, arith, sym}
+use Rattle.std.specs.Prelude.{Ok, Err}
+use Rattle.nb_fields.specs.Places.{bits_in}
+use Rattle.nb_model.specs.Image.{Image}
+use Rattle.nb_model.specs.Forms.{inventory_of, bit_number}
+use Rattle.nb_model.proofs.SoundLaws.{inventory_place_some}
+use Rattle.nb_alloc.specs.Tries.{Tries}
+use Rattle.nb_alloc.specs.Put.{entry_cause, raise_strokes}
+use Rattle.nb_alloc.specs.Mark.{bit_for, bit_stroke, mark_cause, mark_stroke, mark_strokes}
+use Rattle.nb_alloc.proofs.TestLaws.{inventory_place_is}
+use Rattle.nb_alloc.proofs.MarkLaws.{there, plain, entries_some, mark_stroke-after}
+use Rattle.nb_alloc.proofs.DoesLaws.{tries_passed, tries_front, tries_opened}
+use Rattle.nb_alloc.proofs.PageLaws.{then_page, bit_at, mark_tries}
+use Rattle.nb_change.proofs.ResultLaws.{passed_on}
+use Rattle.nb_alloc.proofs.WantLaws.{stops_first, stops_then}
+use Rattle.nb_base.specs.Takes.{after_strokes}
+use Rattle.nb_alloc.proofs.bit.put_map.Goals as goal
+
+pub write_bit-requires-clause-low : goal.write_bit-requires-clause-low
+write_bit-requires-clause-low g c = omega (arith, c.place_of-place.ensures, inventory_place_some c.page_size-page_size.result c.covers-k.result.0 c.page_size-page_size.ensures.one_of)
+
+pub returns-in_err-raise_entry-clause-tries : goal.returns-in_err-raise_entry-clause-tries
+returns-in_err-raise_entry-clause-tries g c t tells is form read =
+    let image = t.base.image in
+    let bit = bit_for c.args.free in
+    let old = g.H.Host.world c.args.host.now in
+    let new = g.H.Host.world c.raise_entry.new.host in
+    let fault = c.in_err-raise_entry.field-0.0 in
+    let size = c.page_size-page_size.ensures.value ∙ is.files.agrees.page_size in
+    let at = inventory_place_is image _ c.args.number _ _ c.place_of-place.ensures c.covers-k.ensures.number size in
+    let first = subst (λ (q : ℕ). Tries {T = Unit {0}} (Err fault) old new c.args.store.now c.raise_entry.new.store t (entry_cause image q) (raise_strokes image q)) at (c.in_err-raise_entry.ensures.tries t tells is) in
+    tries_passed c.from_residual.result fault (λ r. Tries r old new c.args.store.now c.raise_entry.new.store t (mark_cause image c.args.number) (mark_strokes image c.args.number bit)) c.from_residual.ensures
+    (mark_tries {T = Unit {0}} (Err fault) _ _ _ _ t c.args.number bit form (entries_some _ image c.page_size-page_size.ensures.one_of size)
+    (tries_front (Unit {0}) (Unit {0}) fault _ _ _ _ t _ (raise_strokes image (inventory_of image c.args.number)) (mark_stroke image c.args.number bit ∷ []) first))
+
+pub returns-in_err-write_bit-clause-tries : goal.returns-in_err-write_bit-clause-tries
+returns-in_err-write_bit-clause-tries g c t tells is form read =
+    let image = t.base.image in
+    let p = c.args.number in
+    let bit = bit_for c.args.free in
+    let old = g.H.Host.world c.args.host.now in
+    let mid = g.H.Host.world c.raise_entry.new.host in
+    let new = g.H.Host.world c.write_bit.new.host in
+    let size = c.page_size-page_size.ensures.value ∙ is.files.agrees.page_size in
+    let some = entries_some _ image c.page_size-page_size.ensures.one_of size in
+    let at = inventory_place_is image _ p _ _ c.place_of-place.ensures c.covers-k.ensures.number size in
+    let number = c.covers-k.ensures.index ∙ ap (λ (n : ℕ). p % bits_in n) size in
+    let first = subst (λ (q : ℕ). Tries {T = Unit {0}} (Ok tt) old mid c.args.store.now c.raise_entry.new.store t (entry_cause image q) (raise_strokes image q)) at (c.in_ok-raise_entry.ensures.tries t tells is) in
+    let bits = λ (x : Image). bit_stroke x (inventory_of image p) (bit_number image p) bit in
+    let fault = c.in_err-write_bit.field-0.0 in
+    tries_passed c.from_residual-in_err-write_bit.result fault (λ r. Tries r old new c.args.store.now c.write_bit.new.store t (mark_cause image p) (mark_strokes image p bit)) c.from_residual-in_err-write_bit.ensures
+    (mark_tries {T = Unit {0}} (Err fault) _ _ _ _ t p bit form some
+    (then_page old mid _ _ t (inventory_of image p) (plain t.base p form) some first {T = Unit {0}} (Err fault) new _ c.args.map.now bits (there t.base p form) read (mark_stroke-after image _ p bit) c.in_err-write_bit.ensures.not_refused
+    (bit_at {T = Unit {0}} (Err fault) mid new _ _ c.args.map.now c.place_of-place.result (inventory_of image p) c.covers-k.result.1 (bit_number image p) bit at number (λ u opened low is. c.in_err-write_bit.ensures.makes u tells opened low is))))
+
+pub returns-clause-tries : goal.returns-clause-tries
+returns-clause-tries g c t tells is form read =
+    let image = t.base.image in
+    let p = c.args.number in
+    let bit = bit_for c.args.free in
+    let old = g.H.Host.world c.args.host.now in
+    let mid = g.H.Host.world c.raise_entry.new.host in
+    let new = g.H.Host.world c.write_bit.new.host in
+    let size = c.page_size-page_size.ensures.value ∙ is.files.agrees.page_size in
+    let some = entries_some _ image c.page_size-page_size.ensures.one_of size in
+    let at = inventory_place_is image _ p _ _ c.place_of-place.ensures c.covers-k.ensures.number size in
+    let number = c.covers-k.ensures.index ∙ ap (λ (n : ℕ). p % bits_in n) size in
+    let first = subst (λ (q : ℕ). Tries {T = Unit {0}} (Ok tt) old mid c.args.store.now c.raise_entry.new.store t (entry_cause image q) (raise_strokes image q)) at (c.in_ok-raise_entry.ensures.tries t tells is) in
+    let bits = λ (x : Image). bit_stroke x (inventory_of image p) (bit_number image p) bit in
+    mark_tries {T = Unit {0}} (Ok tt) _ _ _ _ t p bit form some
+    (then_page old mid _ _ t (inventory_of image p) (plain t.base p form) some first {T = Unit {0}} (Ok tt) new _ c.args.map.now bits (there t.base p form) read (mark_stroke-after image _ p bit) tt
+    (bit_at {T = Unit {0}} (Ok tt) mid new _ _ c.args.map.now c.place_of-place.result (inventory_of image p) c.covers-k.result.1 (bit_number image p) bit at number (λ u opened low is. c.in_ok-write_bit.ensures.makes u tells opened low is)))
+
+pub returns-in_err-raise_entry-clause-on_memory : goal.returns-in_err-raise_entry-clause-on_memory
+returns-in_err-raise_entry-clause-on_memory g c t tells is memory =
+    let wants = sym (passed_on c.from_residual.result c.in_err-raise_entry.field-0.0 c.from_residual.ensures) ∙ memory in
+    let left = c.in_err-raise_entry.ensures.on_memory t tells is wants in
+    stops_first _ _ c.args.store.now c.raise_entry.new.store t _ left.0 left.1
+
+pub returns-in_err-write_bit-clause-on_memory : goal.returns-in_err-write_bit-clause-on_memory
+returns-in_err-write_bit-clause-on_memory g c t tells is memory =
+    let image = t.base.image in
+    let old = g.H.Host.world c.args.host.now in
+    let mid = g.H.Host.world c.raise_entry.new.host in
+    let new = g.H.Host.world c.write_bit.new.host in
+    let size = c.page_size-page_size.ensures.value ∙ is.files.agrees.page_size in
+    let at = inventory_place_is image _ c.args.number _ _ c.place_of-place.ensures c.covers-k.ensures.number size in
+    let first = subst (λ (q : ℕ). Tries {T = Unit {0}} (Ok tt) old mid c.args.store.now c.raise_entry.new.store t (entry_cause image q) (raise_strokes image q)) at (c.in_ok-raise_entry.ensures.tries t tells is) in
+    let wants = sym (passed_on c.from_residual-in_err-write_bit.result c.in_err-write_bit.field-0.0 c.from_residual-in_err-write_bit.ensures) ∙ memory in
+    let xs = raise_strokes image (inventory_of image c.args.number) in
+    let left = c.in_err-write_bit.ensures.on_memory (after_strokes t xs) tells (tries_opened tt old mid c.args.store.now c.raise_entry.new.store t _ xs first) wants in
+    stops_then old mid new c.args.store.now c.raise_entry.new.store c.write_bit.new.store t _ xs first left.0 left.1

@@ -1,0 +1,23 @@
+use Rattle.std.proofs.Common.{◌<◌, ◌≤◌, ℕ, length, sym, ap, ◌∙◌, arith}
+use Rattle.std.specs.Prelude.{◌==◌}
+use Rattle.nb_fields.specs.Page.{kind_of}
+use Rattle.nb_model.specs.Image.{page_at}
+use Rattle.nb_model.proofs.ReadLaws.{lt_no}
+use Rattle.nb_state.specs.Open.{Held}
+use Rattle.nb_alloc.proofs.TestLaws.{kind_read}
+use Rattle.nb_alloc.proofs.MakeLaws.{old_below, kind_below, kind_past_end}
+use Rattle.nb_alloc.proofs.make.has_page.Goals as goal
+
+pub returns-then-number-count-clause-value : goal.returns-then-number-count-clause-value
+returns-then-number-count-clause-value g c t tells is =
+    let count = c.count.ensures.value ∙ ap (λ (h : Held). h.files.count) c.in_ok-take_old.ensures.same ∙ is.files.agrees.count in
+    let low : c.args.number < length t.base.image = omega (arith, count, c.if-number-count.true) in
+    let page = c.in_ok-take_old.ensures.page t tells is ∙ old_below c.args.number t.base.image low in
+    let kind = kind_read c.read_head.result c.take_old.new.into t.base.image c.args.number c.read_head.ensures page in
+    ap (λ (k : ℕ). k == c.code.result) kind ∙ ap (λ (k : ℕ). kind_of (page_at t.base.image c.args.number) == k) c.code.ensures ∙ sym (kind_below t.base.image _ c.args.number low)
+
+pub returns-else-number-count-clause-value : goal.returns-else-number-count-clause-value
+returns-else-number-count-clause-value g c t tells is =
+    let count = c.count.ensures.value ∙ ap (λ (h : Held). h.files.count) c.in_ok-take_old.ensures.same ∙ is.files.agrees.count in
+    let far : length t.base.image ≤ c.args.number = omega (arith, count, c.if-number-count.false) in
+    lt_no c.args.number c.count.result c.if-number-count.false ∙ sym (kind_past_end t.base.image _ c.args.number far)

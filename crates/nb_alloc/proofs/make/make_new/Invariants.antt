@@ -1,0 +1,29 @@
+use Rattle.std.proofs.Common.{◌≡◌, ◌<◌, ◌≤◌, ◌+◌, ◌-◌, ◌*◌, length, IsTrue, None}
+use Rattle.nb_fields.specs.Kinds.{code_of}
+use Rattle.nb_model.specs.Trail.{Trail}
+use Rattle.nb_model.specs.Forms.{lowest_free}
+use Rattle.nb_model.proofs.SearchLaws.{draft_cause}
+use Rattle.nb_state.specs.Open.{IsOpen}
+use Rattle.nb_state.specs.Does.{Goes}
+use Rattle.nb_alloc.specs.Find.{HoldsMap}
+use Rattle.nb_alloc.specs.Make.{content, new_of}
+use Rattle.nb_alloc.specs.Search.{IsSearchable}
+use Rattle.nb_alloc.proofs.NewLaws.{SoFar}
+use Rattle.nb_alloc.proofs.make.make_new.Given as goal
+
+abbrev pub invariant-loop-store : goal.invariant-loop-store
+invariant-loop-store g l = record {
+  so_far : (t : Trail) → IsTrue g.H.Host.tells → IsOpen (g.H.Host.world l.fn.host) l.fn.store t → l.fn.first ≡ lowest_free t.base.image → l.fn.first ≤ length t.base.image → HoldsMap t.base.image l.fn.first l.fn.map
+      → SoFar (code_of l.fn.kind) (content l.fn.own l.fn.payload) (IsSearchable t.base.image × (draft_cause (new_of (code_of l.fn.kind) (content l.fn.own l.fn.payload) t.base.image).0 ≡ None)) (g.H.Host.world l.fn.host) (g.H.Host.world l.host) l.fn.store l.store t l.place (new_of (code_of l.fn.kind) (content l.fn.own l.fn.payload) t.base.image).0.strokes (new_of (code_of l.fn.kind) (content l.fn.own l.fn.payload) t.base.image).1 l.map;
+  goes : Goes l.fn.store l.store;
+  low : 5 ≤ l.place;
+  behind : l.fn.first ≤ l.place;
+  most : l.place < 1048576;
+  map_room : length l.map ≡ length l.fn.map;
+  scn_room : length l.scn_page ≡ length l.fn.scn_page;
+  once : IsTrue g.H.Host.tells → (g.H.Host.world l.host).reads ≤ (g.H.Host.world l.fn.host).reads + 6 * (l.place - l.fn.first);
+  cause : g.H.Host.faults l.host ≡ g.H.Host.faults l.fn.host;
+}
+
+abbrev pub decreases-loop-store : goal.decreases-loop-store
+decreases-loop-store g l = 1048576 - l.place

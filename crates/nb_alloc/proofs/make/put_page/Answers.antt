@@ -1,0 +1,51 @@
+use Rattle.std.proofs.Common.{◌≡◌, ℕ, [], ◌∷◌, sym, ap, subst, ◌∙◌}
+use Rattle.std.specs.Prelude.{false, ◌==◌, Ok, Err}
+use Rattle.nb_fields.specs.Bytes.{is_zeros}
+use Rattle.nb_fields.specs.Kinds.{code_of}
+use Rattle.nb_fields.specs.Page.{stamped}
+use Rattle.nb_model.specs.Image.{Page, image_scn}
+use Rattle.nb_model.specs.Strokes.{page}
+use Rattle.nb_model.specs.Forms.{old_page}
+use Rattle.nb_alloc.specs.Tries.{Tries}
+use Rattle.nb_alloc.specs.Put.{entry_cause, raise_strokes}
+use Rattle.nb_alloc.specs.Make.{page_strokes}
+use Rattle.nb_alloc.proofs.DoesLaws.{tries_passed, tries_front}
+use Rattle.nb_alloc.proofs.RaiseLaws.{stamped-some}
+use Rattle.nb_alloc.proofs.MakeLaws.{kind_some, stamped_page, put_then}
+use Rattle.nb_alloc.proofs.make.put_page.Goals as goal
+
+pub write-requires-clause-some : goal.write-requires-clause-some
+write-requires-clause-some g c =
+    subst (λ (x : Page). is_zeros x ≡ false) (sym c.stamp.ensures.written)
+    (stamped-some c.args.page.now c.code.result _ c.scn.result c.args.number (ap (λ (k : ℕ). k == 0) c.code.ensures ∙ kind_some c.args.kind))
+
+pub returns-in_err-raise_entry-clause-tries : goal.returns-in_err-raise_entry-clause-tries
+returns-in_err-raise_entry-clause-tries g c t payload tells is low room filled =
+    let image = t.base.image in
+    let p : ℕ = c.args.number in
+    let kind : ℕ = code_of c.args.kind in
+    let fault = c.in_err-raise_entry.field-0.0 in
+    tries_passed c.from_residual.result fault
+    (λ r. Tries r (g.H.Host.world c.args.host.now) (g.H.Host.world c.raise_entry.new.host) c.args.store.now c.raise_entry.new.store t (entry_cause image p) (page_strokes image p kind payload)) c.from_residual.ensures
+    (tries_front (Unit {0}) (Unit {0}) fault _ _ _ _ t (entry_cause image p) (raise_strokes image p) (page p (stamped (old_page p image) kind payload (image_scn image) p) ∷ []) (c.in_err-raise_entry.ensures.tries t tells is))
+
+pub returns-in_err-write-clause-tries : goal.returns-in_err-write-clause-tries
+returns-in_err-write-clause-tries g c t payload tells is low room filled =
+    let image = t.base.image in
+    let p : ℕ = c.args.number in
+    let kind : ℕ = code_of c.args.kind in
+    let fault = c.in_err-write.field-0.0 in
+    let bytes = stamped_page image p c.code.result kind c.scn.result payload c.args.page.now c.stamp.new.page filled c.stamp.ensures.written c.code.ensures (c.scn.ensures ∙ is.agrees.scn) room in
+    tries_passed c.from_residual-in_err-write.result fault
+    (λ r. Tries r (g.H.Host.world c.args.host.now) (g.H.Host.world c.write.new.host) c.args.store.now c.write.new.self t (entry_cause image p) (page_strokes image p kind payload)) c.from_residual-in_err-write.ensures
+    (put_then {T = Unit {0}} (Err fault) _ (g.H.Host.world c.raise_entry.new.host) _ _ c.raise_entry.new.store _ t p c.stamp.new.page _ (c.in_ok-raise_entry.ensures.tries t tells is) bytes low c.in_err-write.ensures.not_refused
+    (λ u opened behind. c.in_err-write.ensures.makes u tells opened behind))
+
+pub returns-clause-tries : goal.returns-clause-tries
+returns-clause-tries g c t payload tells is low room filled =
+    let image = t.base.image in
+    let p : ℕ = c.args.number in
+    let kind : ℕ = code_of c.args.kind in
+    let bytes = stamped_page image p c.code.result kind c.scn.result payload c.args.page.now c.stamp.new.page filled c.stamp.ensures.written c.code.ensures (c.scn.ensures ∙ is.agrees.scn) room in
+    put_then {T = Unit {0}} (Ok tt) _ (g.H.Host.world c.raise_entry.new.host) _ _ c.raise_entry.new.store _ t p c.stamp.new.page _ (c.in_ok-raise_entry.ensures.tries t tells is) bytes low tt
+    (λ u opened behind. c.in_ok-write.ensures.makes u tells opened behind)

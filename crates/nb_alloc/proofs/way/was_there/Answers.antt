@@ -1,0 +1,16 @@
+use Rattle.std.proofs.Common.{sym, subst}
+use Rattle.std.specs.Prelude.{Result, Err}
+use Rattle.nb_host.specs.declared.faults.Fault.{Fault}
+use Rattle.nb_model.specs.Causes.{not_kind}
+use Rattle.nb_state.specs.Does.{Tested}
+use Rattle.nb_alloc.proofs.NeedReads.{kind_refused, kind_found}
+use Rattle.nb_alloc.proofs.way.was_there.Goals as goal
+
+pub returns-in-Ok-clause-value : goal.returns-in-Ok-clause-value
+returns-in-Ok-clause-value c image kind place tested =
+    sym (kind_found image kind place (subst (λ (r : Result (Unit {0}) Fault). Tested r (not_kind image kind place)) c.in-Ok.is tested))
+
+pub returns-in-Refused-clause-value : goal.returns-in-Refused-clause-value
+returns-in-Refused-clause-value c image kind place tested =
+    sym (kind_refused image kind place c.in-Refused.field-0
+    (subst (λ (f : Fault). Tested {T = Unit {0}} (Err f) (not_kind image kind place)) c.in-Refused.is (subst (λ (r : Result (Unit {0}) Fault). Tested r (not_kind image kind place)) c.in-Err.is tested))).0

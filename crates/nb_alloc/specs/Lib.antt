@@ -1,0 +1,9 @@
+pub mod Tries
+pub mod Put
+pub mod Mark
+pub mod Find
+pub mod Make
+pub mod Way
+pub mod Behind
+pub mod Search
+pub mod Data

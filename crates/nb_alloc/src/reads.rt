@@ -1,0 +1,113 @@
+// Pages of an open database are read, and tested as far as a statement needs it. Nothing changes.
+ghost use Rattle.std.specs.Prelude.{◌≡◌, ◌≢◌, ◌+◌, ◌<◌, ◌≤◌, IsTrue, IfErr, OnOk, length};
+ghost use Rattle.nb_fields.specs.Kinds.{code_of};
+ghost use Rattle.nb_fields.specs.Places.{is_page_size};
+ghost use Rattle.nb_host.specs.declared.faults.Fault.TheVariants.{Memory};
+ghost use Rattle.nb_change.specs.Counts.{CountsDevice};
+ghost use Rattle.nb_page.specs.Quiet.{Quiet};
+ghost use Rattle.nb_model.specs.Causes.{not_kind, not_raw};
+ghost use Rattle.nb_model.specs.Trail.{Trail};
+ghost use Rattle.nb_state.specs.Open.{IsOpen, but_pages};
+ghost use Rattle.nb_state.specs.Does.{Tested};
+ghost use Rattle.nb_alloc.specs.Put.{Reads, not_taken};
+
+use crate::pages::InventoryPage;
+use nb_fields::PageKind;
+use nb_host::{Fault, Host, Refusal};
+use nb_page::read_head;
+use nb_pip::{covers, place_of};
+use nb_state::Store;
+
+/// Reads a page of that kind. The refusal is `NotDatabase`, where there is none at that place.
+pub fn take_system<H: Host>(
+    store: &mut Store,
+    host: &mut H,
+    place: u32,
+    kind: PageKind,
+    into: &mut [u8],
+) -> Result<(), Fault>
+    requires size { IsTrue (is_page_size (length into.old)) }
+    requires room { length into.old ≡ store.old.files.page_size }
+    ensures reads { (t : Trail) → IsTrue H.tells → IsOpen (H.world host.old) store.old t → Reads result t.base.image (not_kind t.base.image (code_of kind) place) place into.new }
+    ensures below { OnOk result (place < store.old.files.count) }
+    ensures open { (t : Trail) → IsTrue H.tells → IsOpen (H.world host.old) store.old t → IsOpen (H.world host.new) store.new t }
+    ensures same { but_pages store.new ≡ but_pages store.old }
+    ensures quiet { Quiet (H.world host.old) (H.world host.new) }
+    ensures once { IsTrue H.tells → 0 < place → (H.world host.new).reads ≤ (H.world host.old).reads + 1 }
+    ensures cause { CountsDevice result (H.faults host.old) (H.faults host.new) }
+    ensures takes_none { IfErr result (λ fault. fault ≢ Memory) }
+{
+    if place >= store.count() {
+        return Err(Fault::Refused(Refusal::NotDatabase { page: place }));
+    }
+    store.read(host, place, into)?;
+    if read_head(into).kind != kind.code() {
+        return Err(Fault::Refused(Refusal::NotDatabase { page: place }));
+    }
+    Ok(())
+}
+
+/// Tests that page `number` is taken. The refusals are `NotDatabase` of its inventory page, and `NotAllocated`.
+fn check_taken<H: Host>(
+    store: &mut Store,
+    host: &mut H,
+    number: u32,
+    map: &mut InventoryPage,
+) -> Result<(), Fault>
+    requires room { length map.old ≡ store.old.files.page_size }
+    requires number { number < 1048576 }
+    ensures test { (t : Trail) → IsTrue H.tells → IsOpen (H.world host.old) store.old t → Tested result (not_taken t.base.image number) }
+    ensures room { length map.new ≡ length map.old }
+    ensures open { (t : Trail) → IsTrue H.tells → IsOpen (H.world host.old) store.old t → IsOpen (H.world host.new) store.new t }
+    ensures same { but_pages store.new ≡ but_pages store.old }
+    ensures quiet { Quiet (H.world host.old) (H.world host.new) }
+    ensures once { IsTrue H.tells → (H.world host.new).reads ≤ (H.world host.old).reads + 1 }
+    ensures cause { CountsDevice result (H.faults host.old) (H.faults host.new) }
+    ensures takes_none { IfErr result (λ fault. fault ≢ Memory) }
+{
+    let page_size = store.page_size();
+    let (k, bit) = covers(page_size, number);
+    map.read(store, host, place_of(page_size, k))?;
+    if !map.is_used(bit) {
+        return Err(Fault::Refused(Refusal::NotAllocated { page: number }));
+    }
+    Ok(())
+}
+
+/// Reads page `number`, which has to be a taken raw page. The refusals are `PageRange`, `NotDatabase` of its inventory page,
+/// `NotAllocated` and `SystemPage`, in this order.
+pub fn take_raw<H: Host>(
+    store: &mut Store,
+    host: &mut H,
+    number: u32,
+    page: &mut [u8],
+    map: &mut InventoryPage,
+) -> Result<(), Fault>
+    requires size { IsTrue (is_page_size (length page.old)) }
+    requires page_room { length page.old ≡ store.old.files.page_size }
+    requires map_room { length map.old ≡ store.old.files.page_size }
+    ensures reads { (t : Trail) → IsTrue H.tells → IsOpen (H.world host.old) store.old t → Reads result t.base.image (not_raw t.base.image number) number page.new }
+    ensures below { OnOk result (number < 1048576) }
+    ensures room { length map.new ≡ length map.old }
+    ensures open { (t : Trail) → IsTrue H.tells → IsOpen (H.world host.old) store.old t → IsOpen (H.world host.new) store.new t }
+    ensures same { but_pages store.new ≡ but_pages store.old }
+    ensures quiet { Quiet (H.world host.old) (H.world host.new) }
+    ensures twice { IsTrue H.tells → 0 < number → (H.world host.new).reads ≤ (H.world host.old).reads + 2 }
+    ensures thrice { IsTrue H.tells → (H.world host.new).reads ≤ (H.world host.old).reads + 3 }
+    ensures cause { CountsDevice result (H.faults host.old) (H.faults host.new) }
+    ensures takes_none { IfErr result (λ fault. fault ≢ Memory) }
+{
+    let count = store.count();
+    if number >= count {
+        return Err(Fault::Refused(Refusal::PageRange {
+            page: number,
+            count,
+        }));
+    }
+    check_taken(store, host, number, map)?;
+    store.read(host, number, page)?;
+    if read_head(page).kind != PageKind::Raw.code() {
+        return Err(Fault::Refused(Refusal::SystemPage { page: number }));
+    }
+    Ok(())
+}
