@@ -102,7 +102,8 @@ impl Behind {
     }
 }
 
-/// The SCN page with the entry of page `number`, if it has one and that isn't of its kind. It refuses nothing.
+/// The SCN page with the entry of page `number`, if it has one and that isn't of its kind: the page for which writing page `number` would be
+/// refused. `map` and `scn_page` are room to look at it. It refuses nothing, and wants no memory.
 pub fn find_lacking<H: Host>(
     store: &mut Store,
     host: &mut H,

@@ -81,8 +81,11 @@ pub(crate) fn put_map<H: Host>(
     Ok(())
 }
 
-/// Writes into its inventory page that page `number` is free, or taken. The refusals are `NotDatabase` of the inventory page,
-/// and `NotDatabase` of the SCN page of that inventory page, in this order.
+/// Writes into its inventory page that page `number` is free, or taken; the SCN entry of the inventory page is raised before. It takes two reads
+/// at most, and wants memory in the stalled state alone, where it has raised the entry at most then.
+///
+/// The refusals are `NotDatabase` of the inventory page, and `NotDatabase` of the SCN page of that inventory page, in this order; nothing has
+/// changed then.
 pub fn mark<H: Host>(
     store: &mut Store,
     host: &mut H,

@@ -106,8 +106,11 @@ fn has_page<H: Host>(
     Ok(number < store.count() && read_head(into).kind == kind.code())
 }
 
-/// Writes page `number`, below the length or at it, with what stands behind the head in `page`, its SCN entry first. The refusal is
-/// `NotDatabase` of its SCN page.
+/// Writes page `number`, below the length or at it, as a page of that kind, its SCN entry first. `page` has the head of the page as it stands, or
+/// zeros where it is added, and behind the head what shall stand there; the head is written with the generation raised and the current SCN. It
+/// takes one read at most, and wants memory in the stalled state alone.
+///
+/// The refusal is `NotDatabase` of its SCN page; nothing has changed then.
 pub fn put_page<H: Host>(
     store: &mut Store,
     host: &mut H,
@@ -327,8 +330,12 @@ fn pass_place<H: Host>(
 }
 
 /// Makes a new page of that kind with that payload and answers its number, which is also its owner in the payload where it owns itself. The
-/// search for its place comes to `first` at first, and the system places on its way get their pages and are taken. Where no system page stands at `first`, its inventory page is in `map`,
-/// and isn't read again.
+/// search for its place comes to `first` at first, and the system places on its way get their pages and are taken. Where no system page stands
+/// at `first`, its inventory page is in `map`, and isn't read again. It takes three reads at most for the page, and six for each page between
+/// that the search went past; it wants memory in the stalled state alone.
+///
+/// It isn't refused where `check_new`, or `check_rooms` for one page, has answered `first` and nothing was written since. Else the refusals are
+/// `NotDatabase` of a page that isn't of its kind, and `Full`, and what was written before them stands.
 pub fn make_new<H: Host>(
     store: &mut Store,
     host: &mut H,

@@ -41,7 +41,7 @@ impl Model for ScnPage {
 }
 
 impl ScnPage {
-    /// Room for a page of that many bytes.
+    /// Room for a page of that many bytes. The error is want of memory.
     pub fn new(alloc: Global, page_size: u32) -> Result<ScnPage, AllocError>
         requires { IsTrue (is_page_size page_size) }
         ensures { IfOk result (λ room. length room ≡ page_size) }
@@ -56,7 +56,8 @@ impl ScnPage {
         self.bytes.as_slice()
     }
 
-    /// Reads the SCN inventory page at `place`. The refusal is `NotDatabase`, where there is none.
+    /// Reads page `place`, which has to be an SCN inventory page. The refusal is `NotDatabase` of it, where there is none; what is held after an
+    /// error isn't said. It takes one read at most where that isn't page 0.
     pub fn read<H: Host>(
         &mut self,
         store: &mut Store,
@@ -119,7 +120,7 @@ impl Model for InventoryPage {
 }
 
 impl InventoryPage {
-    /// Room for a page of that many bytes.
+    /// Room for a page of that many bytes. The error is want of memory.
     pub fn new(alloc: Global, page_size: u32) -> Result<InventoryPage, AllocError>
         requires { IsTrue (is_page_size page_size) }
         ensures { IfOk result (λ room. length room ≡ page_size) }
@@ -134,7 +135,8 @@ impl InventoryPage {
         self.bytes.as_slice()
     }
 
-    /// Reads the page inventory page at `place`. The refusal is `NotDatabase`, where there is none.
+    /// Reads page `place`, which has to be a page inventory page. The refusal is `NotDatabase` of it, where there is none; what is held after an
+    /// error isn't said. It takes one read at most where that isn't page 0.
     pub fn read<H: Host>(
         &mut self,
         store: &mut Store,

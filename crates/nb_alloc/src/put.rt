@@ -76,7 +76,10 @@ fn raise<H: Host>(
     store.write(host, place, scn_page.as_slice())
 }
 
-/// Raises the SCN entry of page `number` where it is below the current SCN. The refusal is `NotDatabase` of its SCN page.
+/// Raises the SCN entry of page `number` to the current SCN, where it is below: its SCN page is written. It takes one read at most, and wants
+/// memory in the stalled state alone, where it has written nothing then.
+///
+/// The refusal is `NotDatabase` of its SCN page, where the page has an entry; nothing has changed then.
 pub fn raise_entry<H: Host>(
     store: &mut Store,
     host: &mut H,
@@ -101,7 +104,9 @@ pub fn raise_entry<H: Host>(
     Ok(())
 }
 
-/// Gives page `number`, which is in `page`, a text of at most 200 bytes.
+/// Gives raw page `number`, which is in `page` as it stands, a text of at most 200 bytes, and writes it: its generation is raised, and it is
+/// stamped with the current SCN. Its SCN entry has to be raised before (`raise_entry`). It refuses nothing, and wants memory in the stalled
+/// state alone, where it has written nothing then.
 pub fn write_raw<H: Host>(
     store: &mut Store,
     host: &mut H,

@@ -18,7 +18,10 @@ use nb_page::read_head;
 use nb_pip::{covers, place_of};
 use nb_state::Store;
 
-/// Reads a page of that kind. The refusal is `NotDatabase`, where there is none at that place.
+/// Reads page `place`, which has to be of that kind, into `into`, which has the size of a page. It takes one read at most, and of page 0 two; it
+/// changes nothing but which pages are in memory, and wants no memory.
+///
+/// The refusal is `NotDatabase` of the page, where it is past the end or of another kind. What `into` holds after an error isn't said.
 pub fn take_system<H: Host>(
     store: &mut Store,
     host: &mut H,
@@ -74,8 +77,11 @@ fn check_taken<H: Host>(
     Ok(())
 }
 
-/// Reads page `number`, which has to be a taken raw page. The refusals are `PageRange`, `NotDatabase` of its inventory page,
-/// `NotAllocated` and `SystemPage`, in this order.
+/// Reads page `number`, which has to be a taken raw page, into `page`, which has the size of a page; `map` is room for its inventory page. It
+/// takes two reads at most, and of page 0 three; it changes nothing but which pages are in memory, and wants no memory.
+///
+/// The refusals are `PageRange`, `NotDatabase` of its inventory page, `NotAllocated` and `SystemPage`, in this order. What `page` holds after
+/// an error isn't said.
 pub fn take_raw<H: Host>(
     store: &mut Store,
     host: &mut H,

@@ -24,7 +24,8 @@ use nb_host::{Fault, Host};
 use nb_state::Store;
 
 /// Tests all that a new page changes, and answers the page at which it is made at first: the lowest free page, or the page at the length where
-/// none is free. Where no system page stands there, the inventory page of that page is then in `map`.
+/// none is free. Where no system page stands there, the inventory page of that page is then in `map`. It changes nothing but which pages are in
+/// memory, and wants no memory.
 ///
 /// The refusals are `NotDatabase` of the lowest page that it needs and that isn't of its kind, and `Full`, where no page is left.
 pub fn check_new<H: Host>(
@@ -104,7 +105,7 @@ fn find_rooms<H: Host>(
 
 /// Tests all that so many new pages change, one or two, one right behind the other, and that page `number`, a data page, may be written
 /// behind them. It answers the page at which the first is made at first. Where no system page stands there, and one page is made, the
-/// inventory page of that page is then in `map`.
+/// inventory page of that page is then in `map`. It changes nothing but which pages are in memory, and wants no memory.
 ///
 /// The refusals are `NotDatabase` of the lowest page that isn't of its kind: one that the new pages need, the SCN page with the entry of page
 /// `number`, or page `number`, where a system page is made on the way; and `Full`, where fewer pages are left.

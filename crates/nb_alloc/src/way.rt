@@ -215,7 +215,8 @@ fn was_there(read: Result<(), Fault>) -> Result<bool, Fault>
     }
 }
 
-/// Whether the system page of that place stands there. It refuses nothing.
+/// Whether the system page of that place, of a page inventory or of an SCN inventory, stands there; `map` and `scn_page` are room for it. It
+/// takes one read at most where that isn't page 0, refuses nothing, and wants no memory.
 pub fn is_there<H: Host>(
     store: &mut Store,
     host: &mut H,
