@@ -19,8 +19,8 @@ ghost use Rattle.nb_alloc.specs.Find.{HoldsMap};
 ghost use Rattle.nb_alloc.specs.Make.{IsSupplied, GoesOn, IsOnward, MakesWhere, page_strokes, system_strokes, system_cause, content, new_of, round};
 ghost use Rattle.nb_alloc.specs.Search.{IsSearchable};
 
-use crate::find::{MOST_PAGES, hold_map, is_system_place, next_free};
 use crate::bit::{mark, put_map};
+use crate::find::{MOST_PAGES, hold_map, is_system_place, next_free};
 use crate::pages::{InventoryPage, ScnPage};
 use crate::put::raise_entry;
 use nb_fields::PageKind;
