@@ -3,7 +3,6 @@ pub use Rattle.nb_alloc.specs.Put
 pub use Rattle.nb_alloc.specs.Mark
 pub use Rattle.nb_alloc.specs.Find
 pub use Rattle.nb_alloc.specs.Make
-pub use Rattle.nb_alloc.specs.Way
 pub use Rattle.nb_alloc.specs.Behind
 pub use Rattle.nb_alloc.specs.Search
 pub use Rattle.nb_alloc.specs.Data
