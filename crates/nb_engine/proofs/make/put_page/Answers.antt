@@ -1,4 +1,4 @@
-use Rattle.std.proofs.Common.{◌≡◌, ℕ, [], ◌∷◌, sym, ap, subst, ◌∙◌}
+use Rattle.std.proofs.Common.{◌≡◌, ℕ, [], ◌∷◌, sym, ap, subst, ◌∙◌, arith}
 use Rattle.std.specs.Prelude.{false, ◌==◌, Ok, Err}
 use Rattle.nb_fields.specs.Bytes.{is_zeros}
 use Rattle.nb_fields.specs.Kinds.{code_of}
@@ -49,3 +49,6 @@ returns-clause-tries g c t payload tells is low room filled =
     let bytes = stamped_page image p c.code.result kind c.scn.result payload c.args.page.now c.stamp.new.page filled c.stamp.ensures.written c.code.ensures (c.scn.ensures ∙ is.agrees.scn) room in
     put_then {T = Unit {0}} (Ok tt) _ (g.H.Host.world c.raise_entry.new.host) _ _ c.raise_entry.new.store _ t p c.stamp.new.page _ (c.in_ok-raise_entry.ensures.tries t tells is) bytes low tt
     (λ u opened behind. c.in_ok-write.ensures.makes u tells opened behind)
+
+pub write-requires-clause-low : goal.write-requires-clause-low
+write-requires-clause-low g c = omega (arith, c.requires.inside, c.in_ok-raise_entry.ensures.goes.longer)

@@ -1,4 +1,5 @@
-use Rattle.std.proofs.Common.{◌≡◌, ℕ, length, ap, ◌∙◌, arith}
+use Rattle.std.proofs.Common.{◌≡◌, ◌/◌, ℕ, length, ap, ◌∙◌, arith}
+use Rattle.nb_fields.specs.Places.{entries_in, scn_place}
 use Rattle.nb_fields.proofs.PlaceLemmas.{entries-least}
 use Rattle.nb_model.specs.Image.{Page}
 use Rattle.nb_model.specs.Strokes.{page}
@@ -12,6 +13,11 @@ pub write-requires-clause-control_block : goal.write-requires-clause-control_blo
 write-requires-clause-control_block g c first tells =
     let entries = entries-least c.page_size-page_size.result c.page_size-page_size.ensures.one_of in
     absurd (omega (arith, first, c.place_of-place.ensures, scn_place-some c.page_size-page_size.result c.covers-k.result.0 (omega (arith, entries))))
+
+pub write-requires-clause-low : goal.write-requires-clause-low
+write-requires-clause-low g c =
+    let at = c.place_of-place.ensures ∙ ap (λ (k : ℕ). scn_place c.page_size-page_size.result k) c.covers-k.ensures.number ∙ ap (λ (s : ℕ). scn_place s (c.args.number / entries_in s)) c.page_size-page_size.ensures.value in
+    omega (arith, at, c.requires.inside)
 
 pub returns-clause-makes : goal.returns-clause-makes
 returns-clause-makes g c t tells is none must before =

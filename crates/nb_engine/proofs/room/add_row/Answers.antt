@@ -8,6 +8,7 @@ use Rattle.nb_model.specs.Forms.{drafted, old_page}
 use Rattle.nb_model.specs.Chains.{Slot, backup_slot, put_slot}
 use Rattle.nb_engine.specs.Tries.{Tries}
 use Rattle.nb_engine.specs.Put.{entry_cause}
+use Rattle.nb_state.specs.Open.{Held}
 use Rattle.nb_engine.proofs.DoesLaws.{tries_passed, tries_after, tries_these}
 use Rattle.nb_engine.proofs.MakeLaws.{tries_fault, old_below}
 use Rattle.nb_engine.proofs.LinkLaws.{written_payload, payload_inside, slot_strokes}
@@ -60,3 +61,6 @@ returns-clause-tries g c t tells is low =
     tries_these {T = Unit {0}} (Ok tt) _ _ _ _ t _ _ _ (λ none. slot_strokes t.base p c.args.room.now.slot bytes size low none)
     (tries_after {T = Unit {0}} (Ok tt) _ (g.H.Host.world c.read.new.host) _ _ c.read.new.self _ t _ _ old.same old.quiet is
     (c.in_ok-put_page.ensures.tries t payload tells (old.open t tells is) (omega (arith, low)) room filled))
+
+pub put_page-requires-clause-inside : goal.put_page-requires-clause-inside
+put_page-requires-clause-inside g c = omega (arith, c.requires.inside, ap (λ (h : Held). h.files.count) c.in_ok-read.ensures.same)
