@@ -3,9 +3,8 @@ use Rattle.nb_fields.specs.Places.{entries_in, scn_place}
 use Rattle.nb_fields.proofs.PlaceLemmas.{entries-least}
 use Rattle.nb_model.specs.Image.{Page}
 use Rattle.nb_model.specs.Strokes.{page}
-use Rattle.nb_model.specs.Forms.{scn_page_of}
 use Rattle.nb_engine.proofs.PutLaws.{may_raise, scn_place-some}
-use Rattle.nb_engine.proofs.RaiseLaws.{scn_page-is, raise_stroke-is}
+use Rattle.nb_engine.proofs.RaiseLaws.{raise_stroke-is}
 use Rattle.nb_engine.proofs.PageLaws.{makes_one}
 use Rattle.nb_engine.proofs.put.raise.Goals as goal
 
@@ -26,8 +25,7 @@ returns-clause-makes g c t tells is none must before =
     let place : ℕ = c.place_of-place.result in
     let size = c.page_size-page_size.ensures.value ∙ is.files.agrees.page_size in
     let may = may_raise image p none must in
-    let there : place ≡ scn_page_of image p = scn_page-is image _ c.covers-k.result.0 p place size c.covers-k.ensures.number c.place_of-place.ensures in
     let long : c.page_size-page_size.result ≡ length c.args.scn_page.now = omega (arith, c.requires.room, c.page_size-page_size.ensures.value) in
     let stroke = raise_stroke-is image _ p c.covers-k.result.0 c.covers-k.result.1 place c.scn.result c.args.scn_page.now c.raise.new.self size c.covers-k.ensures.number c.covers-k.ensures.index c.place_of-place.ensures
     long c.covers-k.ensures.inside before (c.scn.ensures ∙ is.agrees.scn) may.below c.raise.ensures.page in
-    makes_one c.write.result _ _ _ _ t _ _ (ap (λ (x : Page). page place x) c.as_slice.ensures ∙ stroke) (c.write.ensures.makes t tells is (omega (arith, there, may.low)))
+    makes_one c.write.result _ _ _ _ t _ _ (ap (λ (x : Page). page place x) c.as_slice.ensures ∙ stroke) (c.write.ensures.makes t tells is)
