@@ -1,4 +1,4 @@
-use Rattle.std.proofs.Common.{ap, ◌∙◌, arith}
+use Rattle.std.proofs.Common.{ap, ◌∙◌}
 use Rattle.nb_model.specs.Image.{Page}
 use Rattle.nb_model.specs.Strokes.{page}
 use Rattle.nb_engine.specs.Mark.{bit_for}

@@ -1,4 +1,4 @@
-use Rattle.std.proofs.Common.{◌≡◌, length, sym, ap, subst, arith, ◌∙◌}
+use Rattle.std.proofs.Common.{◌≡◌, length, sym, ap, subst, ◌∙◌}
 use Rattle.std.specs.Prelude.{false, ◌==◌}
 use Rattle.nb_fields.specs.Bytes.{is_zeros}
 use Rattle.nb_fields.proofs.SizeLemmas.{size_facts}
