@@ -1,6 +1,6 @@
 // The bit of a page is written into its inventory page, whose SCN entry is raised first where that is below the current SCN.
-ghost use Rattle.std.specs.Prelude.{◌≡◌, ◌≢◌, ◌+◌, ◌<◌, ◌≤◌, [], ◌∷◌, IsTrue, IfErr, Err, None, length};
-ghost use Rattle.nb_fields.specs.Places.{bits_in};
+ghost use Rattle.std.specs.Prelude.{◌≡◌, ◌≢◌, ◌+◌, ◌/◌, ◌<◌, ◌≤◌, [], ◌∷◌, IsTrue, IfErr, Err, None, length};
+ghost use Rattle.nb_fields.specs.Places.{bits_in, inventory_place};
 ghost use Rattle.nb_host.specs.declared.faults.Fault.TheVariants.{Memory};
 ghost use Rattle.nb_change.specs.Counts.{CountsDevice};
 ghost use Rattle.nb_model.specs.Image.{page_at};
@@ -32,6 +32,7 @@ fn write_bit<H: Host>(
     requires room { length map.old ≡ store.old.files.page_size }
     requires low { 0 < place }
     requires high { place < 1048576 }
+    requires inside { place < store.old.files.count }
     requires index { index < bits_in store.old.files.page_size }
     ensures makes { (t : Trail) → IsTrue H.tells → IsOpen (H.world host.old) store.old t → place < length t.base.image → map.old ≡ page_at t.base.image place
         → Makes result (H.world host.old) (H.world host.new) store.old store.new t (bit_stroke t.base.image place index (bit_for free) ∷ []) }
@@ -61,6 +62,7 @@ pub(crate) fn put_map<H: Host>(
     requires map_room { length map.old ≡ store.old.files.page_size }
     requires scn_room { length scn_page.old ≡ store.old.files.page_size }
     requires number { number < 1048576 }
+    requires inside { inventory_place store.old.files.page_size (number / bits_in store.old.files.page_size) < store.old.files.count }
     ensures tries { (t : Trail) → IsTrue H.tells → IsOpen (H.world host.old) store.old t
         → not_kind t.base.image 2 (inventory_of t.base.image number) ≡ None → map.old ≡ page_at t.base.image (inventory_of t.base.image number)
         → Tries result (H.world host.old) (H.world host.new) store.old store.new t (mark_cause t.base.image number) (mark_strokes t.base.image number (bit_for free)) }

@@ -112,6 +112,7 @@ pub(crate) fn next_free<H: Host>(
     ensures maps { (t : Trail) → IsTrue H.tells → IsOpen (H.world host.old) store.old t → IfOk result (λ page. AreMaps t.base.image from page) }
     ensures not_before { IfOk result (λ page. from ≤ page) }
     ensures most { IfOk result (λ page. page ≤ 1048576) }
+    ensures within { from ≤ store.old.files.count → IfOk result (λ page. page ≤ store.old.files.count) }
     ensures room { length map.new ≡ length map.old }
     ensures open { (t : Trail) → IsTrue H.tells → IsOpen (H.world host.old) store.old t → IsOpen (H.world host.new) store.new t }
     ensures same { but_pages store.new ≡ but_pages store.old }

@@ -95,6 +95,7 @@ fn has_page<H: Host>(
     requires size { IsTrue (is_page_size (length into.old)) }
     requires room { length into.old ≡ store.old.files.page_size }
     ensures value { (t : Trail) → IsTrue H.tells → IsOpen (H.world host.old) store.old t → IfOk result (λ has. has ≡ is_kind t.base.image (code_of kind) number) }
+    ensures below { IfOk result (λ has. has ≡ true → number < store.old.files.count) }
     ensures page { (t : Trail) → IsTrue H.tells → IsOpen (H.world host.old) store.old t → OnOk result (into.new ≡ old_page number t.base.image) }
     ensures open { (t : Trail) → IsTrue H.tells → IsOpen (H.world host.old) store.old t → IsOpen (H.world host.new) store.new t }
     ensures same { but_pages store.new ≡ but_pages store.old }
@@ -124,9 +125,11 @@ pub fn put_page<H: Host>(
     requires scn_room { length scn_page.old ≡ store.old.files.page_size }
     requires low { 0 < number }
     requires high { number < 1048576 }
+    requires inside { number ≤ store.old.files.count }
     ensures tries { (t : Trail) (payload : List ℕ) → IsTrue H.tells → IsOpen (H.world host.old) store.old t → number ≤ length t.base.image
         → 16 + length payload ≤ length (old_page number t.base.image) → page.old ≡ with_payload (old_page number t.base.image) payload
         → Tries result (H.world host.old) (H.world host.new) store.old store.new t (entry_cause t.base.image number) (page_strokes t.base.image number (code_of kind) payload) }
+    ensures added { OnOk result (number < store.new.files.count) }
     ensures goes { Goes store.old store.new }
     ensures scn_room { length scn_page.new ≡ length scn_page.old }
     ensures once { IsTrue H.tells → (H.world host.new).reads ≤ (H.world host.old).reads + 1 }
@@ -152,8 +155,10 @@ fn make_system<H: Host>(
     requires scn_room { length scn_page.old ≡ store.old.files.page_size }
     requires low { 0 < place }
     requires high { place < 1048576 }
+    requires inside { place ≤ store.old.files.count }
     ensures tries { (t : Trail) → IsTrue H.tells → IsOpen (H.world host.old) store.old t → place ≤ length t.base.image
         → Tries result (H.world host.old) (H.world host.new) store.old store.new t (system_cause t.base.image place) (system_strokes t.base.image place) }
+    ensures added { OnOk result (place < store.new.files.count) }
     ensures goes { Goes store.old store.new }
     ensures scn_room { length scn_page.new ≡ length scn_page.old }
     ensures once { IsTrue H.tells → (H.world host.new).reads ≤ (H.world host.old).reads + 2 }
@@ -210,10 +215,12 @@ fn make_page<H: Host>(
     requires scn_room { length scn_page.old ≡ store.old.files.page_size }
     requires low { 0 < number }
     requires high { number < 1048576 }
+    requires inside { number ≤ store.old.files.count }
     requires short { length payload.now ≤ 1008 }
     requires owner { own ≡ true → 8 ≤ length payload.now }
     ensures tries { (t : Trail) → IsTrue H.tells → IsOpen (H.world host.old) store.old t → number ≤ length t.base.image
         → Tries result (H.world host.old) (H.world host.new) store.old store.new t (entry_cause t.base.image number) (page_strokes t.base.image number (code_of kind) (content own payload.now number)) }
+    ensures added { OnOk result (number < store.new.files.count) }
     ensures goes { Goes store.old store.new }
     ensures scn_room { length scn_page.new ≡ length scn_page.old }
     ensures once { IsTrue H.tells → (H.world host.new).reads ≤ (H.world host.old).reads + 2 }
@@ -242,8 +249,10 @@ fn take_place<H: Host>(
     requires scn_room { length scn_page.old ≡ store.old.files.page_size }
     requires low { 5 ≤ place }
     requires high { place < 1048576 }
+    requires inside { place ≤ store.old.files.count }
     ensures makes { (t : Trail) → IsTrue H.tells → IsOpen (H.world host.old) store.old t → place ≤ length t.base.image → is_system_place (image_size t.base.image) place ≡ true
         → MakesWhere (IsSupplied t.base.image place) (λ value image. place < length image) result (H.world host.old) (H.world host.new) store.old store.new t (round t.base.image place).strokes }
+    ensures added { OnOk result (place < store.new.files.count) }
     ensures goes { Goes store.old store.new }
     ensures map_room { length map.new ≡ length map.old }
     ensures scn_room { length scn_page.new ≡ length scn_page.old }
@@ -275,6 +284,7 @@ fn take_new<H: Host>(
     requires scn_room { length scn_page.old ≡ store.old.files.page_size }
     requires low { 5 ≤ number }
     requires high { number < 1048576 }
+    requires inside { number ≤ store.old.files.count }
     requires short { length payload.now ≤ 1008 }
     requires owner { own ≡ true → 8 ≤ length payload.now }
     ensures makes { (t : Trail) → IsTrue H.tells → IsOpen (H.world host.old) store.old t → number ≤ length t.base.image → is_system_place (image_size t.base.image) number ≡ false → HoldsMap t.base.image number map.old
@@ -309,10 +319,12 @@ fn pass_place<H: Host>(
     requires scn_room { length scn_page.old ≡ store.old.files.page_size }
     requires low { 5 ≤ place }
     requires high { place < 1048576 }
+    requires inside { place ≤ store.old.files.count }
     ensures makes { (t : Trail) → IsTrue H.tells → IsOpen (H.world host.old) store.old t → place ≤ length t.base.image → is_system_place (image_size t.base.image) place ≡ true
         → MakesWhere (IsSupplied t.base.image place × GoesOn t.base.image place) (λ next image. IsOnward image place next map.new) result (H.world host.old) (H.world host.new) store.old store.new t (round t.base.image place).strokes }
     ensures later { IfOk result (λ next. place < next) }
     ensures most { IfOk result (λ next. next < 1048576) }
+    ensures within { IfOk result (λ next. next ≤ store.new.files.count) }
     ensures goes { Goes store.old store.new }
     ensures map_room { length map.new ≡ length map.old }
     ensures scn_room { length scn_page.new ≡ length scn_page.old }
@@ -353,6 +365,7 @@ pub fn make_new<H: Host>(
     requires scn_room { length scn_page.old ≡ store.old.files.page_size }
     requires low { 5 ≤ first }
     requires high { first < 1048576 }
+    requires inside { first ≤ store.old.files.count }
     requires short { length payload.now ≤ 1008 }
     requires owner { own ≡ true → 8 ≤ length payload.now }
     ensures makes { (t : Trail) → IsTrue H.tells → IsOpen (H.world host.old) store.old t → first ≡ lowest_free t.base.image → first ≤ length t.base.image → HoldsMap t.base.image first map.old

@@ -1,5 +1,5 @@
 // Room for the two kinds of inventory pages that statements read and change.
-ghost use Rattle.std.specs.Prelude.{◌≡◌, ◌≢◌, ◌↔◌, ◌+◌, ◌*◌, ◌<◌, ◌≤◌, IsTrue, IfOk, IfErr, MatchOption, false, length, drop, slice_index};
+ghost use Rattle.std.specs.Prelude.{◌≡◌, ◌≢◌, ◌↔◌, ◌+◌, ◌*◌, ◌<◌, ◌≤◌, IsTrue, IfOk, IfErr, OnOk, MatchOption, false, length, drop, slice_index};
 ghost use Rattle.nb_fields.specs.Bytes.{bytes_of, with_part, is_zeros};
 ghost use Rattle.nb_fields.specs.Page.{stamped};
 ghost use Rattle.nb_fields.specs.Places.{is_page_size, entries_in, bits_in};
@@ -66,6 +66,7 @@ impl ScnPage {
     ) -> Result<(), Fault>
         requires room { length self.old ≡ store.old.files.page_size }
         ensures reads { (t : Trail) → IsTrue H.tells → IsOpen (H.world host.old) store.old t → Reads result t.base.image (not_kind t.base.image 10 place) place self.new }
+        ensures below { OnOk result (place < store.old.files.count) }
         ensures room { length self.new ≡ length self.old }
         ensures open { (t : Trail) → IsTrue H.tells → IsOpen (H.world host.old) store.old t → IsOpen (H.world host.new) store.new t }
         ensures same { but_pages store.new ≡ but_pages store.old }
@@ -145,6 +146,7 @@ impl InventoryPage {
     ) -> Result<(), Fault>
         requires room { length self.old ≡ store.old.files.page_size }
         ensures reads { (t : Trail) → IsTrue H.tells → IsOpen (H.world host.old) store.old t → Reads result t.base.image (not_kind t.base.image 2 place) place self.new }
+        ensures below { OnOk result (place < store.old.files.count) }
         ensures room { length self.new ≡ length self.old }
         ensures open { (t : Trail) → IsTrue H.tells → IsOpen (H.world host.old) store.old t → IsOpen (H.world host.new) store.new t }
         ensures same { but_pages store.new ≡ but_pages store.old }

@@ -1,6 +1,6 @@
 // A raw page is written, its SCN entry first where that is below the current SCN.
-ghost use Rattle.std.specs.Prelude.{◌≡◌, ◌≢◌, ◌+◌, ◌<◌, ◌≤◌, [], ◌∷◌, true, IsTrue, IfErr, Err, None, length};
-ghost use Rattle.nb_fields.specs.Places.{is_page_size};
+ghost use Rattle.std.specs.Prelude.{◌≡◌, ◌≢◌, ◌+◌, ◌/◌, ◌<◌, ◌≤◌, [], ◌∷◌, true, IsTrue, IfOk, IfErr, Err, None, length};
+ghost use Rattle.nb_fields.specs.Places.{is_page_size, entries_in, scn_place};
 ghost use Rattle.nb_host.specs.declared.faults.Fault.TheVariants.{Memory};
 ghost use Rattle.nb_change.specs.Counts.{CountsDevice};
 ghost use Rattle.nb_page.specs.Quiet.{Quiet};
@@ -31,6 +31,7 @@ pub(crate) fn must_raise<H: Host>(
     requires room { length scn_page.old ≡ store.old.files.page_size }
     requires number { number < 1048576 }
     ensures tells { (t : Trail) → IsTrue H.tells → IsOpen (H.world host.old) store.old t → TellsRaise result t.base.image number scn_page.new }
+    ensures below { IfOk result (λ must. must ≡ true → scn_place store.old.files.page_size (number / entries_in store.old.files.page_size) < store.old.files.count) }
     ensures room { length scn_page.new ≡ length scn_page.old }
     ensures open { (t : Trail) → IsTrue H.tells → IsOpen (H.world host.old) store.old t → IsOpen (H.world host.new) store.new t }
     ensures same { but_pages store.new ≡ but_pages store.old }
@@ -57,6 +58,7 @@ fn raise<H: Host>(
 ) -> Result<(), Fault>
     requires room { length scn_page.old ≡ store.old.files.page_size }
     requires number { number < 1048576 }
+    requires inside { scn_place store.old.files.page_size (number / entries_in store.old.files.page_size) < store.old.files.count }
     ensures makes { (t : Trail) → IsTrue H.tells → IsOpen (H.world host.old) store.old t → entry_cause t.base.image number ≡ None → must_raise t.base.image number ≡ true
         → scn_page.old ≡ page_at t.base.image (scn_page_of t.base.image number)
         → Makes result (H.world host.old) (H.world host.new) store.old store.new t (raise_stroke t.base.image number ∷ []) }
@@ -118,6 +120,7 @@ pub fn write_raw<H: Host>(
     requires room { length page.old ≡ store.old.files.page_size }
     requires low { 0 < number }
     requires high { number < 1048576 }
+    requires inside { number < store.old.files.count }
     requires short { length text.now ≤ 200 }
     ensures makes { (t : Trail) → IsTrue H.tells → IsOpen (H.world host.old) store.old t → number < length t.base.image → page.old ≡ page_at t.base.image number
         → Makes result (H.world host.old) (H.world host.new) store.old store.new t (raw_stroke t.base.image number text.now ∷ []) }

@@ -94,6 +94,7 @@ pub fn take_raw<H: Host>(
     requires map_room { length map.old ≡ store.old.files.page_size }
     ensures reads { (t : Trail) → IsTrue H.tells → IsOpen (H.world host.old) store.old t → Reads result t.base.image (not_raw t.base.image number) number page.new }
     ensures below { OnOk result (number < 1048576) }
+    ensures inside { OnOk result (number < store.old.files.count) }
     ensures room { length map.new ≡ length map.old }
     ensures open { (t : Trail) → IsTrue H.tells → IsOpen (H.world host.old) store.old t → IsOpen (H.world host.new) store.new t }
     ensures same { but_pages store.new ≡ but_pages store.old }

@@ -42,6 +42,7 @@ pub fn check_new<H: Host>(
     ensures map { (t : Trail) → IsTrue H.tells → IsOpen (H.world host.old) store.old t → IfOk result (λ page. HoldsMap t.base.image page map.new) }
     ensures least { IfOk result (λ page. 5 ≤ page) }
     ensures below { IfOk result (λ page. page < 1048576) }
+    ensures within { 5 ≤ store.old.files.count → IfOk result (λ page. page ≤ store.old.files.count) }
     ensures map_room { length map.new ≡ length map.old }
     ensures scn_room { length scn_page.new ≡ length scn_page.old }
     ensures open { (t : Trail) → IsTrue H.tells → IsOpen (H.world host.old) store.old t → IsOpen (H.world host.new) store.new t }
@@ -82,6 +83,7 @@ fn find_rooms<H: Host>(
     ensures map { (t : Trail) → IsTrue H.tells → IsOpen (H.world host.old) store.old t → pages ≡ 1 → IfOk result (λ page. HoldsMap t.base.image page map.new) }
     ensures least { IfOk result (λ page. 5 ≤ page) }
     ensures below { IfOk result (λ page. page < 1048576) }
+    ensures within { 5 ≤ store.old.files.count → IfOk result (λ page. page ≤ store.old.files.count) }
     ensures page { behind.new.page ≡ behind.old.page }
     ensures map_room { length map.new ≡ length map.old }
     ensures scn_room { length scn_page.new ≡ length scn_page.old }
@@ -133,6 +135,7 @@ pub fn check_rooms<H: Host>(
     ensures map { (t : Trail) → IsTrue H.tells → IsOpen (H.world host.old) store.old t → pages ≡ 1 → IfOk result (λ page. HoldsMap t.base.image page map.new) }
     ensures least { IfOk result (λ page. 5 ≤ page) }
     ensures below { IfOk result (λ page. page < 1048576) }
+    ensures within { 5 ≤ store.old.files.count → IfOk result (λ page. page ≤ store.old.files.count) }
     ensures map_room { length map.new ≡ length map.old }
     ensures scn_room { length scn_page.new ≡ length scn_page.old }
     ensures open { (t : Trail) → IsTrue H.tells → IsOpen (H.world host.old) store.old t → IsOpen (H.world host.new) store.new t }

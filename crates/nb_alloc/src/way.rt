@@ -97,6 +97,7 @@ fn find_place<H: Host>(
     ensures map { (t : Trail) → IsTrue H.tells → IsOpen (H.world host.old) store.old t → inventory_of t.base.image way.now.from ≢ way.now.fresh → IfOk result (λ page. page < 1048576 → IsMap t.base.image page map.new) }
     ensures later { IfOk result (λ page. way.now.from ≤ page) }
     ensures most { IfOk result (λ page. page ≤ 1048576) }
+    ensures within { way.now.from ≤ store.old.files.count → IfOk result (λ page. page ≤ store.old.files.count) }
     ensures room { length map.new ≡ length map.old }
     ensures open { (t : Trail) → IsTrue H.tells → IsOpen (H.world host.old) store.old t → IsOpen (H.world host.new) store.new t }
     ensures same { but_pages store.new ≡ but_pages store.old }
@@ -313,6 +314,7 @@ fn visit<H: Host>(
     ensures from { IfOk result (λ page. way.new.from ≡ page + 1) }
     ensures later { IfOk result (λ page. way.old.from ≤ page) }
     ensures below { IfOk result (λ page. page < 1048576) }
+    ensures within { way.old.from ≤ store.old.files.count → IfOk result (λ page. page ≤ store.old.files.count) }
     ensures map_room { length map.new ≡ length map.old }
     ensures scn_room { length scn_page.new ≡ length scn_page.old }
     ensures open { (t : Trail) → IsTrue H.tells → IsOpen (H.world host.old) store.old t → IsOpen (H.world host.new) store.new t }
@@ -413,6 +415,7 @@ pub(crate) fn find_room<H: Host>(
     ensures map { (t : Trail) → IsTrue H.tells → IsOpen (H.world host.old) store.old t → inventory_of t.base.image way.old.from ≢ way.old.fresh → IfOk result (λ first. HoldsMap t.base.image first map.new) }
     ensures least { IfOk result (λ first. 5 ≤ first) }
     ensures below { IfOk result (λ first. first < 1048576) }
+    ensures within { way.old.from ≤ store.old.files.count → IfOk result (λ first. first ≤ store.old.files.count) }
     ensures further { OnOk result (5 ≤ way.new.from) }
     ensures most { OnOk result (way.new.from ≤ 1048576) }
     ensures page { behind.new.page ≡ behind.old.page }

@@ -146,6 +146,8 @@ impl TwoFiles {
         ensures touches { (t : Trail) → IsTrue H.tells → IsOpen (H.world host.old) self.old t → WritesIn (H.world host.old) (H.world host.new) self.old.state self.old.name }
         ensures merged { (t : Trail) (k : ℕ) → IsTrue H.tells → IsOpen (H.world host.old) self.old t → Fits number page.now t.base.image → self.old.state ≡ 2
             → AreMerged (H.world host.old) self.old k → OnOk result (AreMerged (H.world host.new) self.new k) }
+        ensures longer { self.old.count ≤ self.new.count }
+        ensures added { OnOk result (number < self.new.count) }
         ensures gave { GaveNothing (H.world host.old) (H.world host.new) }
         ensures reads { (H.world host.new).reads ≡ (H.world host.old).reads }
         ensures state { self.new.state ≡ self.old.state }
@@ -184,6 +186,7 @@ impl TwoFiles {
         ensures entries { self.old.state ≡ 2 → self.new.entries ≡ self.old.entries }
         ensures name { self.new.name ≡ self.old.name }
         ensures page_size { self.new.page_size ≡ self.old.page_size }
+        ensures count { self.new.count ≡ self.old.count }
         ensures log { IsSilent (H.world host.old) (H.world host.new) }
         ensures cause { CountsDevice result (H.faults host.old) (H.faults host.new) }
         ensures not_refused { IfErr result IsNoRefusal }

@@ -71,6 +71,7 @@ pub(crate) fn grow_from<H: Host>(
     requires scn_room { length scn_page.old ≡ store.old.files.page_size }
     requires first_low { 5 ≤ first }
     requires first_high { first < 1048576 }
+    requires inside { first ≤ store.old.files.count }
     requires low { 0 < last }
     requires high { last < 1048576 }
     requires short { length payload.now ≤ 1008 }

@@ -150,6 +150,7 @@ pub(crate) fn grow<H: Host>(
     requires scn_room { length scn_page.old ≡ store.old.files.page_size }
     requires low { 0 < last }
     requires high { last < 1048576 }
+    requires least { 5 ≤ store.old.files.count }
     ensures makes { (t : Trail) (pages : List ℕ) → IsTrue H.tells → IsOpen (H.world host.old) store.old t → IsSearchable t.base.image → last ≡ last_of pages → is_kind t.base.image 5 last ≡ true
         → Tries result (H.world host.old) (H.world host.new) store.old store.new t (grow_cause t.base.image pages) (grown History pages [] (drafted t.base.image)).0.strokes }
     ensures value { (t : Trail) (pages : List ℕ) → IsTrue H.tells → IsOpen (H.world host.old) store.old t → IsSearchable t.base.image → is_kind t.base.image 5 last ≡ true → IfOk result (λ number. number ≡ (grown History pages [] (drafted t.base.image)).1) }
@@ -183,6 +184,7 @@ pub(crate) fn add_row<H: Host>(
     requires page_room { length page.old ≡ store.old.files.page_size }
     requires scn_room { length scn_page.old ≡ store.old.files.page_size }
     requires placed { IsPlaced store.old.files.page_size room.now }
+    requires inside { room.now.page < store.old.files.count }
     ensures tries { (t : Trail) → IsTrue H.tells → IsOpen (H.world host.old) store.old t → room.now.page < length t.base.image
         → Tries result (H.world host.old) (H.world host.new) store.old store.new t (entry_cause t.base.image room.now.page)
         (put_slot room.now.page room.now.slot (backup_slot row.now.level row.now.scn row.now.time row.now.guid row.now.name) (drafted t.base.image)).strokes }

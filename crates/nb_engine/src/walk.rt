@@ -111,6 +111,7 @@ fn take_link<H: Host>(
         → OnOk result (walked.new ≡ gathered wanted.now (ss ++ spots_on number 0 (slots_in (page_at t.base.image number)))) }
     ensures placed { IfSome walked.old.room (IsPlaced store.old.files.page_size) → OnOk result (IfSome walked.new.room (IsPlaced store.old.files.page_size)) }
     ensures below { OnOk result (number < 1048576) }
+    ensures inside { OnOk result (number < store.old.files.count) }
     ensures open { (t : Trail) → IsTrue H.tells → IsOpen (H.world host.old) store.old t → IsOpen (H.world host.new) store.new t }
     ensures same { but_pages store.new ≡ but_pages store.old }
     ensures quiet { Quiet (H.world host.old) (H.world host.new) }
@@ -146,6 +147,7 @@ pub(crate) fn walk<H: Host>(
     ensures placed { IfOk result (λ (walked, last). IfSome walked.room (IsPlaced store.old.files.page_size)) }
     ensures low { IfOk result (λ (walked, last). 0 < last) }
     ensures high { IfOk result (λ (walked, last). last < 1048576) }
+    ensures least { OnOk result (5 ≤ store.old.files.count) }
     ensures open { (t : Trail) → IsTrue H.tells → IsOpen (H.world host.old) store.old t → IsOpen (H.world host.new) store.new t }
     ensures same { but_pages store.new ≡ but_pages store.old }
     ensures quiet { Quiet (H.world host.old) (H.world host.new) }

@@ -39,7 +39,7 @@ fn byte_of(host: &mut MemHost, pair: &mut Pair, number: u32) -> Result<u8, Fault
 /// Writes that byte.
 fn put_byte(host: &mut MemHost, pair: &mut Pair, number: u32, byte: u8) -> Result<(), Fault> {
     let mut page = [0; 1024];
-    if pair.page_size() != 1024 || number >= 1_048_576 {
+    if pair.page_size() != 1024 || number >= 1_048_576 || number > pair.count() {
         return Err(Fault::Device);
     }
     pair.read(host, number, &mut page)?;

@@ -20,7 +20,7 @@ fn write(
     if files.page_size() != 1024 || number >= 1_048_576 || are_zeros(&page) {
         return Err(Fault::Device);
     }
-    if files.drafted() != 0 {
+    if files.drafted() != 0 || number > files.count() {
         return Err(Fault::Device);
     }
     files.write(host, number, &page, forced)

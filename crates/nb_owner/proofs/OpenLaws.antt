@@ -303,8 +303,8 @@ pub first_block : (image : Image) (p : ℕ) (bytes : Page) → p ≡ 0 → bytes
 first_block image p bytes first is = ap (take 64) (is ∙ ap (page_at image) first)
 
 -- a page that may be written
-pub may_write : (w : World) (held : Held) (t : Trail) (p : ℕ) (bytes : Page) → IsOpen w held t → p ≤ length t.base.image → (p ≡ 0 → HasBlock w held bytes) → Fits p bytes t.base.image
-may_write w held t p bytes is low block = record { low = low; front = λ first. block first t is }
+pub may_write : (w : World) (held : Held) (t : Trail) (p : ℕ) (bytes : Page) → IsOpen w held t → p ≤ held.files.count → (p ≡ 0 → HasBlock w held bytes) → Fits p bytes t.base.image
+may_write w held t p bytes is low block = record { low = omega (arith, low, is.agrees.count); front = λ first. block first t is }
 
 -- a new one
 pub valid_blank : (cache : Rattle.nb_cache.specs.Held.Held) (pages made size : ℕ) → cache ≡ record { pages = []; cap = pages; page_size = made } → size ≡ made → 0 < pages → IsValid cache size

@@ -192,17 +192,20 @@ impl Pair {
         requires size { length page.now ≡ self.old.files.page_size }
         requires most { number < 1048576 }
         requires some { is_zeros page.now ≡ false }
+        requires low { number ≤ self.old.files.count }
         requires control_block { number ≡ 0 → IsTrue H.tells → HasBlock (H.world host.old) self.old page.now }
-        ensures takes { (t : Trail) → IsTrue H.tells → IsOpen (H.world host.old) self.old t → number ≤ length t.base.image → forced ≡ is_forced t.base.image
+        ensures takes { (t : Trail) → IsTrue H.tells → IsOpen (H.world host.old) self.old t → forced ≡ is_forced t.base.image
             → Takes result (H.world host.old) (H.world host.new) self.old.files.name (IsOpen (H.world host.new) self.new) t (page_stroke number page.now ∷ []) }
         ensures touches { (t : Trail) → IsTrue H.tells → IsOpen (H.world host.old) self.old t → WritesIn (H.world host.old) (H.world host.new) self.old.files.state self.old.files.name }
-        ensures merged { (t : Trail) (k : ℕ) → IsTrue H.tells → IsOpen (H.world host.old) self.old t → number ≤ length t.base.image → self.old.files.state ≡ 2
+        ensures merged { (t : Trail) (k : ℕ) → IsTrue H.tells → IsOpen (H.world host.old) self.old t → self.old.files.state ≡ 2
             → AreMerged (H.world host.old) self.old.files k → OnOk result (AreMerged (H.world host.new) self.new.files k) }
         ensures waits { may_wait self.old number forced ≡ true → (self.old.files.state ≡ 0 → IsOk result) × IfErr result (λ fault. fault ≡ Fault.Memory) × (host.new ≡ host.old) × OnOk result (waits self.new.pages number ≡ true) }
         ensures others { may_wait self.old number forced ≡ true → (p : ℕ) → p ≢ number → rank_of self.new.pages p ≡ rank_of self.old.pages p }
         ensures goes_out { may_wait self.old number forced ≡ false → OnOk result (NoneWaits self.new.pages) }
         ensures used { OnOk result (bare self.new.pages ≡ used (bare self.old.pages) self.old.cap number page.now) }
         ensures failed { OnErr result (bare self.new.pages ≡ bare self.old.pages) }
+        ensures longer { self.old.files.count ≤ self.new.files.count }
+        ensures added { OnOk result (number < self.new.files.count) }
         ensures cap { self.new.cap ≡ self.old.cap }
         ensures gave { GaveNothing (H.world host.old) (H.world host.new) }
         ensures reads { (H.world host.new).reads ≡ (H.world host.old).reads }
@@ -248,6 +251,8 @@ impl Pair {
         ensures used { OnOk result (bare self.new.pages ≡ used (bare self.old.pages) self.old.cap number page.now) }
         ensures none { OnOk result (NoneWaits self.new.pages) }
         ensures failed { OnErr result (self.new.pages ≡ self.old.pages) }
+        ensures longer { self.old.files.count ≤ self.new.files.count }
+        ensures added { OnOk result (number < self.new.files.count) }
         ensures cap { self.new.cap ≡ self.old.cap }
         ensures gave { GaveNothing (H.world host.old) (H.world host.new) }
         ensures reads { (H.world host.new).reads ≡ (H.world host.old).reads }

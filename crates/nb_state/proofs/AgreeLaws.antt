@@ -118,12 +118,12 @@ module _ (t : Trail) (p : ℕ) (bytes : Page) (fits : Fits p bytes t.base.image)
 
 -- The two files and the pages in memory alone are others.
 pub goes_files : (held : Held) (pair : Rattle.nb_owner.specs.Open.Held) → pair.files.name ≡ held.files.name → pair.files.page_size ≡ held.files.page_size → pair.files.state ≡ held.files.state
-    → (held.files.state ≡ 2 → pair.files.entries ≡ held.files.entries) → pair.cap ≡ held.cap → Goes held (record held { files = pair.files; pages = pair.pages; cap = pair.cap })
-goes_files held pair name size state entries cap = record { name = name; page_size = size; state = state; entries = entries; running = refl; merged = refl; cap = cap }
+    → held.files.count ≤ pair.files.count → (held.files.state ≡ 2 → pair.files.entries ≡ held.files.entries) → pair.cap ≡ held.cap → Goes held (record held { files = pair.files; pages = pair.pages; cap = pair.cap })
+goes_files held pair name size state longer entries cap = record { name = name; page_size = size; state = state; longer = longer; entries = entries; running = refl; merged = refl; cap = cap }
 
 -- and the flags
 pub goes_written : (p : ℕ) (bytes : Page) (held after : Held) (pair : Rattle.nb_owner.specs.Open.Held)
     → (p ≡ 0 → after ≡ record held { files = pair.files; pages = pair.pages; cap = pair.cap; forced = not (number_in 64 1 bytes == 0); read_only = not (number_in 65 1 bytes == 0) }) → (0 < p → after ≡ record held { files = pair.files; pages = pair.pages; cap = pair.cap }) → Goes held (record held { files = pair.files; pages = pair.pages; cap = pair.cap })
     → Goes held after
-goes_written zero bytes held after pair first other goes = subst (λ (h : Held). Goes held h) (sym (first refl)) (record { name = goes.name; page_size = goes.page_size; state = goes.state; entries = goes.entries; running = refl; merged = refl; cap = goes.cap })
+goes_written zero bytes held after pair first other goes = subst (λ (h : Held). Goes held h) (sym (first refl)) (record { name = goes.name; page_size = goes.page_size; state = goes.state; longer = goes.longer; entries = goes.entries; running = refl; merged = refl; cap = goes.cap })
 goes_written (suc p) bytes held after pair first other goes = subst (λ (h : Held). Goes held h) (sym (other (omega arith))) goes

@@ -1,5 +1,5 @@
 -- How runs of calls that make strokes go on.
-use Rattle.std.proofs.Common.{◌≡◌, ℕ, List, [], ◌∷◌, ◌++◌, refl, sym, ◌∙◌, subst, ap}
+use Rattle.std.proofs.Common.{◌≡◌, ℕ, List, [], ◌∷◌, ◌++◌, refl, sym, ◌∙◌, subst, ap, arith}
 use Rattle.std.proofs.lemmas.List.{append-nil}
 use Rattle.std.specs.Prelude.{Bool, true, false, Option, Result, Ok, Err, IfErr}
 use Rattle.nb_host.specs.Files.{Files}
@@ -84,6 +84,7 @@ goes_on a b c first second = record {
   name = second.name ∙ first.name;
   page_size = second.page_size ∙ first.page_size;
   state = second.state ∙ first.state;
+  longer = omega (arith, first.longer, second.longer);
   entries = λ merging. second.entries (first.state ∙ merging) ∙ first.entries merging;
   running = second.running ∙ first.running;
   merged = second.merged ∙ first.merged;
@@ -95,6 +96,7 @@ goes_nowhere a b same = record {
   name = ap (λ (h : Held). name_of h) same;
   page_size = ap (λ (h : Held). h.files.page_size) same;
   state = ap (λ (h : Held). h.files.state) same;
+  longer = omega (arith, ap (λ (h : Held). h.files.count) same);
   entries = λ merging. ap (λ (h : Held). h.files.entries) same;
   running = ap (λ (h : Held). h.running) same;
   merged = ap (λ (h : Held). h.merged) same;

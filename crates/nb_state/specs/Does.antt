@@ -1,5 +1,5 @@
 -- What a call does that is one turn of the table of turns.
-use Rattle.std.specs.Prelude.{◌≡◌, List, [], Bool, true, false, Option, Some, None, Result, Ok, Err}
+use Rattle.std.specs.Prelude.{◌≡◌, ◌≤◌, List, [], Bool, true, false, Option, Some, None, Result, Ok, Err}
 use Rattle.nb_host.specs.World.{World}
 use Rattle.nb_host.specs.declared.faults.Fault.{Fault}
 use Rattle.nb_host.specs.declared.faults.Fault.TheVariants.{Refused, Device, Memory}
@@ -63,12 +63,13 @@ has_only_told (Some reply) = only_tells reply
 abbrev pub unless_by : Cause → List Stroke → List Stroke
 unless_by cause strokes = elim cause [ Some refusal ↦ [] | None ↦ strokes ]
 
--- the name, the state, how many pages may be in memory, whose copy or merge runs, and how far the merge has come, are as they were; in the merge
--- state no entry is added
+-- the name, the state, how many pages may be in memory, whose copy or merge runs, and how far the merge has come, are as they were; no page is
+-- lost, and in the merge state no entry is added
 pub record Goes (before after : Held) : Type 0 where
   pub name : name_of after ≡ name_of before
   pub page_size : after.files.page_size ≡ before.files.page_size
   pub state : after.files.state ≡ before.files.state
+  pub longer : before.files.count ≤ after.files.count
   pub entries : before.files.state ≡ 2 → after.files.entries ≡ before.files.entries
   pub running : after.running ≡ before.running
   pub merged : after.merged ≡ before.merged

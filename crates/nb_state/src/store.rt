@@ -190,10 +190,12 @@ impl Store {
         requires size { length page.now ≡ self.old.files.page_size }
         requires most { number < 1048576 }
         requires some { is_zeros page.now ≡ false }
+        requires low { number ≤ self.old.files.count }
         requires control_block { number ≡ 0 → IsTrue H.tells → HasBlock (H.world host.old) self.old page.now }
-        ensures makes { (t : Trail) → IsTrue H.tells → IsOpen (H.world host.old) self.old t → number ≤ length t.base.image
+        ensures makes { (t : Trail) → IsTrue H.tells → IsOpen (H.world host.old) self.old t
             → Makes result (H.world host.old) (H.world host.new) self.old self.new t (page_stroke number page.now ∷ []) }
         ensures touches { (t : Trail) → IsTrue H.tells → IsOpen (H.world host.old) self.old t → WritesIn (H.world host.old) (H.world host.new) self.old.files.state (name_of self.old) }
+        ensures added { OnOk result (number < self.new.files.count) }
         ensures goes { Goes self.old self.new }
         ensures reads { (H.world host.new).reads ≡ (H.world host.old).reads }
         ensures cause { CountsDevice result (H.faults host.old) (H.faults host.new) }

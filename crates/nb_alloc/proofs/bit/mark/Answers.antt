@@ -1,5 +1,6 @@
-use Rattle.std.proofs.Common.{ℕ, sym, ap, ◌∙◌, arith}
+use Rattle.std.proofs.Common.{◌/◌, ◌<◌, ℕ, sym, ap, subst, ◌∙◌, arith}
 use Rattle.std.specs.Prelude.{Ok, Err}
+use Rattle.nb_fields.specs.Places.{bits_in, inventory_place}
 use Rattle.nb_model.specs.Image.{page_at}
 use Rattle.nb_model.specs.Causes.{not_kind}
 use Rattle.nb_alloc.specs.Tries.{Tries}
@@ -8,6 +9,7 @@ use Rattle.nb_alloc.proofs.TestLaws.{inventory_place_is}
 use Rattle.nb_alloc.proofs.MarkLaws.{mark_other}
 use Rattle.nb_alloc.proofs.DoesLaws.{tries_early, tries_passed, tries_after}
 use Rattle.nb_alloc.proofs.SearchReads.{inventory_place_some}
+use Rattle.nb_state.specs.Open.{Held}
 use Rattle.nb_change.proofs.ResultLaws.{passed_on}
 use Rattle.nb_alloc.proofs.WantLaws.{stops_after}
 use Rattle.nb_alloc.proofs.bit.mark.Goals as goal
@@ -65,3 +67,8 @@ returns-in_err-put_map-clause-on_memory g c t tells is memory =
     let read = c.in_ok-read.ensures in
     let wants = sym (passed_on c.from_residual-in_err-put_map.result c.in_err-put_map.field-0.0 c.from_residual-in_err-put_map.ensures) ∙ memory in
     stops_after _ _ _ c.args.store.now _ c.put_map.new.store t _ read.same read.quiet is (c.in_err-put_map.ensures.on_memory t tells (read.open t tells is) wants)
+
+pub put_map-requires-clause-inside : goal.put_map-requires-clause-inside
+put_map-requires-clause-inside g c =
+    let at = c.place_of.ensures ∙ ap (λ (k : ℕ). inventory_place c.page_size-page_size.result k) c.covers-k.ensures.number ∙ ap (λ (s : ℕ). inventory_place s (c.args.number / bits_in s)) c.page_size-page_size.ensures.value in
+    subst (λ (h : Held). inventory_place h.files.page_size (c.args.number / bits_in h.files.page_size) < h.files.count) (sym c.in_ok-read.ensures.same) (omega (arith, at, c.in_ok-read.ensures.below))

@@ -1,6 +1,6 @@
-use Rattle.std.proofs.Common.{ℕ, ◌%◌, [], ◌∷◌, ap, subst, ◌∙◌, arith, sym}
+use Rattle.std.proofs.Common.{◌/◌, ℕ, ◌%◌, [], ◌∷◌, ap, subst, ◌∙◌, arith, sym}
 use Rattle.std.specs.Prelude.{Ok, Err}
-use Rattle.nb_fields.specs.Places.{bits_in}
+use Rattle.nb_fields.specs.Places.{bits_in, inventory_place}
 use Rattle.nb_model.specs.Image.{Image}
 use Rattle.nb_model.specs.Forms.{inventory_of, bit_number}
 use Rattle.nb_model.proofs.SoundLaws.{inventory_place_some}
@@ -90,3 +90,8 @@ returns-in_err-write_bit-clause-on_memory g c t tells is memory =
     let xs = raise_strokes image (inventory_of image c.args.number) in
     let left = c.in_err-write_bit.ensures.on_memory (after_strokes t xs) tells (tries_opened tt old mid c.args.store.now c.raise_entry.new.store t _ xs first) wants in
     stops_then old mid new c.args.store.now c.raise_entry.new.store c.write_bit.new.store t _ xs first left.0 left.1
+
+pub write_bit-requires-clause-inside : goal.write_bit-requires-clause-inside
+write_bit-requires-clause-inside g c =
+    let at = c.place_of-place.ensures ∙ ap (λ (k : ℕ). inventory_place c.page_size-page_size.result k) c.covers-k.ensures.number ∙ ap (λ (s : ℕ). inventory_place s (c.args.number / bits_in s)) c.page_size-page_size.ensures.value in
+    omega (arith, at, c.requires.inside, c.in_ok-raise_entry.ensures.goes.longer)

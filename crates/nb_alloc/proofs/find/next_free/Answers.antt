@@ -105,3 +105,11 @@ returns-clause-maps g c t tells is =
     let size : IsTrue (is_page_size (image_size t.base.image)) = subst (λ (s : ℕ). IsTrue (is_page_size s)) (c.page_size-page_size.ensures.value ∙ is.files.agrees.page_size) c.page_size-page_size.ensures.one_of in
     read_end t.base.image c.args.from c.loop-page.page size c.loop-page.invariant.behind (c.loop-page.invariant.maps t tells is) c.max.result
     (λ more. subst (λ (s : ℕ). c.loop-page.page / bits_in s * bits_in s ≡ c.loop-page.page) is.files.agrees.page_size (c.loop-page.invariant.whole more)) end
+
+pub returns-in-Some-clause-within : goal.returns-in-Some-clause-within
+returns-in-Some-clause-within g c le =
+    let below = rw c.in-Some.is at c.in_ok-free.ensures.below in
+    omega (arith, below, ap (λ (h : Held). h.files.count) c.loop-page.invariant.same)
+
+pub returns-clause-within : goal.returns-clause-within
+returns-clause-within g c le = omega (arith, c.max.ensures, c.count-count.ensures.value, le)

@@ -6,6 +6,7 @@ use Rattle.nb_model.proofs.ReadLaws.{lt_no}
 use Rattle.nb_state.specs.Open.{Held}
 use Rattle.nb_alloc.proofs.TestLaws.{kind_read}
 use Rattle.nb_alloc.proofs.MakeLaws.{old_below, kind_below, kind_past_end}
+use Rattle.std.proofs.lemmas.Bool.{true≢false}
 use Rattle.nb_alloc.proofs.make.has_page.Goals as goal
 
 pub returns-then-number-count-clause-value : goal.returns-then-number-count-clause-value
@@ -21,3 +22,9 @@ returns-else-number-count-clause-value g c t tells is =
     let count = c.count.ensures.value ∙ ap (λ (h : Held). h.files.count) c.in_ok-take_old.ensures.same ∙ is.files.agrees.count in
     let far : length t.base.image ≤ c.args.number = omega (arith, count, c.if-number-count.false) in
     lt_no c.args.number c.count.result c.if-number-count.false ∙ sym (kind_past_end t.base.image _ c.args.number far)
+
+pub returns-then-number-count-clause-below : goal.returns-then-number-count-clause-below
+returns-then-number-count-clause-below g c has = omega (arith, c.if-number-count.true, c.count.ensures.value, ap (λ (h : Held). h.files.count) c.in_ok-take_old.ensures.same)
+
+pub returns-else-number-count-clause-below : goal.returns-else-number-count-clause-below
+returns-else-number-count-clause-below g c has = absurd (true≢false (sym has ∙ lt_no c.args.number c.count.result c.if-number-count.false))

@@ -19,6 +19,7 @@ invariant-loop-store g l = record {
   low : 5 ≤ l.place;
   behind : l.fn.first ≤ l.place;
   most : l.place < 1048576;
+  within : l.place ≤ l.store.files.count;
   map_room : length l.map ≡ length l.fn.map;
   scn_room : length l.scn_page ≡ length l.fn.scn_page;
   once : IsTrue g.H.Host.tells → (g.H.Host.world l.host).reads ≤ (g.H.Host.world l.fn.host).reads + 6 * (l.place - l.fn.first);

@@ -11,6 +11,7 @@ use Rattle.nb_alloc.specs.Make.{page_strokes, content}
 use Rattle.nb_alloc.proofs.DoesLaws.{tries_passed, tries_after}
 use Rattle.nb_alloc.proofs.MakeLaws.{tries_fault}
 use Rattle.nb_alloc.proofs.ContentLaws.{content_short}
+use Rattle.nb_state.specs.Open.{Held}
 use Rattle.nb_alloc.proofs.make.make_page.Goals as goal
 
 pub returns-in_err-take_old-clause-tries : goal.returns-in_err-take_old-clause-tries
@@ -45,3 +46,6 @@ returns-clause-tries g c t tells is low =
     let room : 16 + length payload ≤ length (old_page p image) = omega (arith, content_short c.args.own c.args.payload.now p c.requires.owner, c.requires.short, ap length page, c.take_old.auto.into, facts.at_least) in
     tries_after {T = Unit {0}} (Ok tt) _ (g.H.Host.world c.take_old.new.host) _ _ c.take_old.new.store _ t _ _ old.same old.quiet is
     (c.in_ok-put_page.ensures.tries t payload tells (old.open t tells is) low room filled)
+
+pub put_page-requires-clause-inside : goal.put_page-requires-clause-inside
+put_page-requires-clause-inside g c = omega (arith, c.requires.inside, ap (λ (h : Held). h.files.count) c.in_ok-take_old.ensures.same)

@@ -70,3 +70,9 @@ returns-clause-tries g c t tells is low =
     let strokes : page_strokes image p (code_of c.system_kind-kind.result) payload ≡ system_strokes image p = ap (λ (k : ℕ). page_strokes image p k payload) same ∙ sym (system_unmade image p none) in
     tries_after {T = Unit {0}} (Ok tt) _ (g.H.Host.world c.has_page.new.host) _ _ c.has_page.new.store _ t _ _ has.same has.quiet is
     (tries_named {T = Unit {0}} (Ok tt) _ _ _ _ t _ _ _ _ (sym (system_asks image p none)) strokes (c.in_ok-put_page.ensures.tries t payload tells (has.open t tells is) low room filled))
+
+pub put_page-requires-clause-inside : goal.put_page-requires-clause-inside
+put_page-requires-clause-inside g c = omega (arith, c.requires.inside, ap (λ (h : Held). h.files.count) c.in_ok-has_page.ensures.same)
+
+pub returns-then-branch-clause-added : goal.returns-then-branch-clause-added
+returns-then-branch-clause-added g c = omega (arith, c.in_ok-has_page.ensures.below c.if-branch.true, ap (λ (h : Held). h.files.count) c.in_ok-has_page.ensures.same)

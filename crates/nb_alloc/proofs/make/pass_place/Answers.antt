@@ -7,6 +7,7 @@ use Rattle.nb_page.proofs.QuietLemmas.{quiet_joined}
 use Rattle.nb_model.specs.Image.{Image, image_size}
 use Rattle.nb_model.specs.Forms.{free_from, inventory_of, first_not}
 use Rattle.nb_base.specs.Takes.{after_strokes}
+use Rattle.nb_state.specs.Open.{Held}
 use Rattle.nb_model.specs.Way.{maps_up_to}
 use Rattle.nb_alloc.specs.Find.{not_there, need_cause}
 use Rattle.nb_alloc.proofs.ReadyLaws.{sure_refused, next_maps, next_map}
@@ -101,3 +102,8 @@ pub returns-clause-once : goal.returns-clause-once
 returns-clause-once g c tells =
     let few = maps_few (bits_in c.take_place.new.store.files.page_size) (c.args.place + 1) c.in_ok-next.next c.in_ok-next.ensures.not_before in
     omega (arith, c.in_ok-take_place.ensures.once tells, c.in_ok-next.ensures.up_to tells, c.in_ok-hold_map.ensures.once tells, few, c.in_ok-next.ensures.not_before)
+
+pub returns-clause-within : goal.returns-clause-within
+returns-clause-within g c =
+    let search = c.in_ok-next.ensures in
+    omega (arith, search.within (omega (arith, c.in_ok-take_place.ensures.added)), ap (λ (h : Held). h.files.count) (c.in_ok-hold_map.ensures.same ∙ search.same))

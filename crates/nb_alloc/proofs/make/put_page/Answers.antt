@@ -1,4 +1,4 @@
-use Rattle.std.proofs.Common.{◌≡◌, ℕ, [], ◌∷◌, sym, ap, subst, ◌∙◌}
+use Rattle.std.proofs.Common.{◌≡◌, ℕ, [], ◌∷◌, sym, ap, subst, ◌∙◌, arith}
 use Rattle.std.specs.Prelude.{false, ◌==◌, Ok, Err}
 use Rattle.nb_fields.specs.Bytes.{is_zeros}
 use Rattle.nb_fields.specs.Kinds.{code_of}
@@ -39,7 +39,7 @@ returns-in_err-write-clause-tries g c t payload tells is low room filled =
     tries_passed c.from_residual-in_err-write.result fault
     (λ r. Tries r (g.H.Host.world c.args.host.now) (g.H.Host.world c.write.new.host) c.args.store.now c.write.new.self t (entry_cause image p) (page_strokes image p kind payload)) c.from_residual-in_err-write.ensures
     (put_then {T = Unit {0}} (Err fault) _ (g.H.Host.world c.raise_entry.new.host) _ _ c.raise_entry.new.store _ t p c.stamp.new.page _ (c.in_ok-raise_entry.ensures.tries t tells is) bytes low c.in_err-write.ensures.not_refused
-    (λ u opened behind. c.in_err-write.ensures.makes u tells opened behind))
+    (λ u opened behind. c.in_err-write.ensures.makes u tells opened))
 
 pub returns-clause-tries : goal.returns-clause-tries
 returns-clause-tries g c t payload tells is low room filled =
@@ -48,4 +48,7 @@ returns-clause-tries g c t payload tells is low room filled =
     let kind : ℕ = code_of c.args.kind in
     let bytes = stamped_page image p c.code.result kind c.scn.result payload c.args.page.now c.stamp.new.page filled c.stamp.ensures.written c.code.ensures (c.scn.ensures ∙ is.agrees.scn) room in
     put_then {T = Unit {0}} (Ok tt) _ (g.H.Host.world c.raise_entry.new.host) _ _ c.raise_entry.new.store _ t p c.stamp.new.page _ (c.in_ok-raise_entry.ensures.tries t tells is) bytes low tt
-    (λ u opened behind. c.in_ok-write.ensures.makes u tells opened behind)
+    (λ u opened behind. c.in_ok-write.ensures.makes u tells opened)
+
+pub write-requires-clause-low : goal.write-requires-clause-low
+write-requires-clause-low g c = omega (arith, c.requires.inside, c.in_ok-raise_entry.ensures.goes.longer)

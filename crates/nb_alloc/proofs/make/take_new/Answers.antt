@@ -17,6 +17,7 @@ use Rattle.nb_fields.proofs.SizeLemmas.{SizeFacts, size_facts}
 use Rattle.nb_alloc.proofs.ContentLaws.{content_short}
 use Rattle.nb_alloc.proofs.WhereLaws.{where_tries}
 use Rattle.nb_alloc.proofs.NewLaws.{take_not, take_after, put_of, new_there}
+use Rattle.nb_engine.proofs.RoomLaws.{inventory_most}
 use Rattle.nb_alloc.proofs.make.take_new.Goals as goal
 
 pub returns-in_err-make_page-clause-makes : goal.returns-in_err-make_page-clause-makes
@@ -86,3 +87,7 @@ returns-clause-makes g c t tells is low plain holds =
     subst (λ (n : ℕ). IsTrue (is_page_size n)) (c.requires.room ∙ sym c.in_ok-make_page.ensures.goes.page_size ∙ opened.files.agrees.page_size) c.requires.size in
     take_after t p e (put_of t.base p kind payload) (IsSupplied image p) (λ value x. (p < length x) × IsMap x p map) (Ok tt) old mid new c.args.store.now c.make_page.new.store c.put_map.new.store
     (λ w. mark_put image p kind payload w.shaped w.ready (w.ready.entry (kept_plain image p plain)) c.requires.low low (room w.shaped.size)) first size first.ends.0 (c.in_ok-put_map.ensures.tries u tells opened first.ends.1.kind first.ends.1.page)
+
+pub put_map-requires-clause-inside : goal.put_map-requires-clause-inside
+put_map-requires-clause-inside g c =
+    omega (arith, inventory_most c.make_page.new.store.files.page_size c.args.number (omega (arith, c.requires.low)), c.in_ok-make_page.ensures.added)

@@ -1,4 +1,4 @@
-use Rattle.std.proofs.Common.{◌<◌, ℕ, length, sym, subst, ◌∙◌}
+use Rattle.std.proofs.Common.{◌<◌, ℕ, length, sym, subst, ◌∙◌, arith}
 use Rattle.std.specs.Prelude.{IsTrue, Ok, Err}
 use Rattle.nb_fields.specs.Places.{is_page_size}
 use Rattle.nb_model.specs.Image.{image_size}
@@ -61,3 +61,6 @@ returns-clause-makes g c t tells is low system =
     subst (λ (n : ℕ). IsTrue (is_page_size n)) (c.requires.room ∙ sym c.in_ok-make_system.ensures.goes.page_size ∙ opened.files.agrees.page_size) c.requires.size in
     take_after t p e (system_of t.base p) (IsSupplied image p) (λ value x. p < length x) (Ok tt) old mid new c.args.store.now c.make_system.new.store c.mark.new.store
     (λ w. system_marks t.base p w.shaped w.ready c.requires.low low system) first size first.ends (c.in_ok-mark.ensures.tries u tells opened)
+
+pub returns-clause-added : goal.returns-clause-added
+returns-clause-added g c = omega (arith, c.in_ok-make_system.ensures.added, c.in_ok-mark.ensures.goes.longer)

@@ -1,5 +1,6 @@
-use Rattle.std.proofs.Common.{◌≡◌, ℕ, length, sym, ap, ◌∙◌, arith}
+use Rattle.std.proofs.Common.{◌≡◌, ◌/◌, ℕ, length, sym, ap, ◌∙◌, arith}
 use Rattle.std.specs.Prelude.{Bool, false, nat_lt}
+use Rattle.nb_fields.specs.Places.{entries_in, scn_place}
 use Rattle.nb_model.specs.Image.{page_at}
 use Rattle.nb_model.specs.Forms.{scn_entry, has_entry}
 use Rattle.nb_model.specs.Causes.{not_kind}
@@ -9,6 +10,7 @@ use Rattle.nb_alloc.proofs.PutLaws.{first-without, scn_page-without, other-with,
 use Rattle.nb_alloc.proofs.RaiseLaws.{scn_page-is, entry-is}
 use Rattle.nb_alloc.proofs.DoesLaws.{tested_on, if_err}
 use Rattle.nb_alloc.proofs.SearchReads.{scn_place_some}
+use Rattle.std.proofs.lemmas.Bool.{true≢false}
 use Rattle.nb_alloc.proofs.put.must_raise.Goals as goal
 
 pub returns-then-number-eq0-clause-tells : goal.returns-then-number-eq0-clause-tells
@@ -63,3 +65,11 @@ pub returns-clause-once : goal.returns-clause-once
 returns-clause-once g c tells =
     let some = scn_place_some c.page_size-page_size.result c.covers-k.result.0 c.page_size-page_size.ensures.one_of in
     c.in_ok-read.ensures.once tells (omega (arith, some, c.place_of.ensures))
+
+pub returns-clause-below : goal.returns-clause-below
+returns-clause-below g c must =
+    let at = c.place_of.ensures ∙ ap (λ (k : ℕ). scn_place c.page_size-page_size.result k) c.covers-k.ensures.number ∙ ap (λ (s : ℕ). scn_place s (c.args.number / entries_in s)) c.page_size-page_size.ensures.value in
+    omega (arith, at, c.in_ok-read.ensures.below)
+
+pub returns-then-number-eq0-clause-below : goal.returns-then-number-eq0-clause-below
+returns-then-number-eq0-clause-below g c must = absurd (true≢false (sym must))

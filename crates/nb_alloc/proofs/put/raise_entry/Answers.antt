@@ -1,6 +1,8 @@
-use Rattle.std.proofs.Common.{◌≡◌, List, sym, subst, ◌∙◌, []}
+use Rattle.std.proofs.Common.{◌≡◌, ◌/◌, ◌<◌, List, sym, subst, ◌∙◌, []}
 use Rattle.std.specs.Prelude.{Bool, true, Ok, Err}
+use Rattle.nb_fields.specs.Places.{entries_in, scn_place}
 use Rattle.nb_model.specs.Strokes.{Stroke}
+use Rattle.nb_state.specs.Open.{Held}
 use Rattle.nb_state.specs.Does.{Makes}
 use Rattle.nb_state.proofs.MakesLaws.{makes_none}
 use Rattle.nb_alloc.specs.Tries.{Tries}
@@ -11,6 +13,11 @@ use Rattle.nb_change.proofs.ResultLaws.{passed_on}
 use Rattle.nb_alloc.proofs.WantLaws.{strikes_after}
 use Rattle.nb_alloc.proofs.put.raise_entry.Goals.{then-branch+in_ok-raise, else-branch}
 use Rattle.nb_alloc.proofs.put.raise_entry.Goals as goal
+
+pub raise-requires-clause-inside : goal.raise-requires-clause-inside
+raise-requires-clause-inside g c =
+    let asked = c.in_ok-must_raise.ensures in
+    subst (λ (h : Held). scn_place h.files.page_size (c.args.number / entries_in h.files.page_size) < h.files.count) (sym asked.same) (asked.below c.if-branch.true)
 
 pub returns-in_err-must_raise-clause-tries : goal.returns-in_err-must_raise-clause-tries
 returns-in_err-must_raise-clause-tries g c t tells is =

@@ -38,3 +38,6 @@ pub returns-clause-once : goal.returns-clause-once
 returns-clause-once g c t kind payload tells is shaped short =
     let way = begins_at t.base.image _ _ _ c.begin-way.ensures.from c.begin-way.ensures.made c.begin-way.ensures.fresh shaped in
     few_tested c.find_room.result t.base.image _ _ _ _ _ kind payload _ _ _ _ short (c.find_room.ensures.ends t t.base.image tells is way) is.files.agrees.page_size (c.find_room.ensures.once tells)
+
+pub returns-clause-within : goal.returns-clause-within
+returns-clause-within g c le = c.find_room.ensures.within (omega (arith, c.begin-way.ensures.from, le))

@@ -1,5 +1,5 @@
-use Rattle.std.proofs.Common.{◌≡◌, ◌<◌, ◌≤◌, ℕ, subst, ◌∙◌}
-use Rattle.std.specs.Prelude.{true, false, None, OnOk}
+use Rattle.std.proofs.Common.{◌≡◌, ◌<◌, ◌≤◌, ℕ, subst, ◌∙◌, arith, ap}
+use Rattle.std.specs.Prelude.{true, false, None, OnOk, IfOk}
 use Rattle.nb_model.specs.Forms.{Draft, is_kind, lowest_free}
 use Rattle.nb_state.specs.Does.{Tested}
 use Rattle.nb_alloc.specs.declared.behind.Behind.{Behind}
@@ -10,6 +10,7 @@ use Rattle.nb_alloc.specs.Make.{new_of}
 use Rattle.nb_alloc.proofs.DoesLaws.{tested_on}
 use Rattle.nb_alloc.proofs.PassLaws.{none_is}
 use Rattle.nb_alloc.proofs.RoomsLaws.{tested_where, ended_alike, found_ok, value_found, behind_judged}
+use Rattle.nb_state.specs.Open.{Held}
 use Rattle.nb_alloc.proofs.rooms.check_rooms.Goals as goal
 
 pub returns-in_err-behind-clause-one : goal.returns-in_err-behind-clause-one
@@ -63,3 +64,9 @@ returns-clause-below g c = value_found c.find_rooms-found.result c.judge.result 
 
 pub returns-clause-open : goal.returns-clause-open
 returns-clause-open g c t tells is = c.find_rooms-found.ensures.open t tells (c.in_ok-behind.ensures.open t tells is)
+
+pub returns-clause-within : goal.returns-clause-within
+returns-clause-within g c le =
+    let same = ap (λ (h : Held). h.files.count) c.in_ok-behind.ensures.same in
+    subst (λ (n : ℕ). IfOk c.judge.result (λ page. page ≤ n)) same
+    (value_found c.find_rooms-found.result c.judge.result (λ page. page ≤ c.at.new.store.files.count) c.judge.ensures.value (c.find_rooms-found.ensures.within (omega (arith, same, le))))

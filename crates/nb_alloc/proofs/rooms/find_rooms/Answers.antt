@@ -91,3 +91,9 @@ returns-clause-map g c t tells is count_is = absurd (omega (arith, count_is, c.i
 
 pub returns-clause-open : goal.returns-clause-open
 returns-clause-open g c t tells is = c.in_ok-find_room.ensures.open t tells (c.in_ok-first.ensures.open t tells is)
+
+pub returns-then-not-second-clause-within : goal.returns-then-not-second-clause-within
+returns-then-not-second-clause-within g c le = c.in_ok-first.ensures.within (omega (arith, c.begin-way.ensures.from, le))
+
+pub returns-clause-within : goal.returns-clause-within
+returns-clause-within g c le = c.in_ok-first.ensures.within (omega (arith, c.begin-way.ensures.from, le))

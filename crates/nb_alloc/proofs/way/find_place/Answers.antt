@@ -95,3 +95,12 @@ returns-in_err-hold_last-clause-open g c t tells is = c.in_err-hold_last.ensures
 
 pub returns-clause-open : goal.returns-clause-open
 returns-clause-open g c t tells is = c.in_ok-hold_last.ensures.open t tells (c.in_ok-place.ensures.open t tells is)
+
+pub returns-then-own-fresh-clause-within : goal.returns-then-own-fresh-clause-within
+returns-then-own-fresh-clause-within g c le = le
+
+pub returns-then-place-ge-MOST_PAGES-clause-within : goal.returns-then-place-ge-MOST_PAGES-clause-within
+returns-then-place-ge-MOST_PAGES-clause-within g c le = c.in_ok-place.ensures.within le
+
+pub returns-clause-within : goal.returns-clause-within
+returns-clause-within g c le = c.in_ok-place.ensures.within le

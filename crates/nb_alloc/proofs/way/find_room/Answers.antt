@@ -71,3 +71,6 @@ returns-clause-once g c tells =
         let same = ap (λ (h : Held). h.files.page_size) c.in_ok-first.ensures.same in
         let rests = c.in_ok-go_on.ensures.none tells (ap (λ (s : ℕ). is_system_place s c.in_ok-first.first) same ∙ e) in
         omega (arith, c.in_ok-first.ensures.fewer tells e, rests.0, rests.1, c.in_ok-first.ensures.from)
+
+pub returns-clause-within : goal.returns-clause-within
+returns-clause-within g c le = c.in_ok-first.ensures.within le

@@ -149,3 +149,9 @@ returns-in_err-check_unless-clause-open g c t tells is = c.in_err-check_unless.e
 
 pub returns-clause-open : goal.returns-clause-open
 returns-clause-open g c t tells is = c.in_ok-check_unless.ensures.open t tells (c.in_ok-check_map_entry.ensures.open t tells (c.in_ok-place.ensures.open t tells is))
+
+pub returns-then-is_system_place-clause-within : goal.returns-then-is_system_place-clause-within
+returns-then-is_system_place-clause-within g c le = c.in_ok-place.ensures.within le
+
+pub returns-clause-within : goal.returns-clause-within
+returns-clause-within g c le = c.in_ok-place.ensures.within le

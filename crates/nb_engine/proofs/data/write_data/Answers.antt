@@ -8,6 +8,7 @@ use Rattle.nb_model.specs.Forms.{old_page}
 use Rattle.nb_model.specs.Causes.{not_kind}
 use Rattle.nb_alloc.specs.Data.{data_cause, put_data}
 use Rattle.nb_alloc.specs.Tries.{Tries}
+use Rattle.nb_state.specs.Open.{Held}
 use Rattle.nb_engine.proofs.DataLaws.{data_there, none_there, by_entry, behind_payload}
 use Rattle.nb_alloc.proofs.DoesLaws.{tries_early, tries_passed, tries_after, tries_these}
 use Rattle.nb_engine.proofs.LinkLaws.{any_strokes}
@@ -68,3 +69,6 @@ returns-clause-tries g c t tells is =
     (tries_these {T = Unit {0}} (Ok tt) _ _ _ _ t _ _ _ (λ none. any_strokes t.base p size none 5 payload low)
     (tries_after {T = Unit {0}} (Ok tt) _ (g.H.Host.world c.take_system.new.host) _ _ c.take_system.new.store _ t _ _ page.same page.quiet is
     (c.in_ok-put_page.ensures.tries t payload tells (page.open t tells is) (omega (arith, low)) room filled)))
+
+pub put_page-requires-clause-inside : goal.put_page-requires-clause-inside
+put_page-requires-clause-inside g c = omega (arith, c.in_ok-take_system.ensures.below, ap (λ (h : Held). h.files.count) c.in_ok-take_system.ensures.same)

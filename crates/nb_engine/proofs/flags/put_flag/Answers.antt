@@ -40,7 +40,7 @@ returns-in_err-write-clause-tries g c t tells is =
     let new = g.H.Host.world c.write.new.host in
     let fault = c.in_err-write.field-0.0 in
     let strokes = flag_strokes c.args.at c.from.result c.args.on c.read_first.new.page c.put_number.new.page image (c.from.ensures ∙ byte_is c.args.on) first c.put_number.ensures.written in
-    let makes = c.in_err-write.ensures.makes t tells still (omega arith) in
+    let makes = c.in_err-write.ensures.makes t tells still in
     tries_passed c.from_residual-in_err-write.result fault (λ r. Tries r (g.H.Host.world c.args.host.now) new c.args.store.now c.write.new.self t None (byte_strokes c.args.at (flag c.args.on) image)) c.from_residual-in_err-write.ensures
     (tries_after {T = Unit {0}} (Err fault) _ _ _ _ _ _ t _ _ read.same read.quiet is
     (tries_made {T = Unit {0}} (Err fault) _ _ _ _ t None _ refl c.in_err-write.ensures.not_refused
@@ -53,7 +53,7 @@ returns-clause-tries g c t tells is =
     let first = (read.reads t tells is).page in
     let still = read.open t tells is in
     let strokes = flag_strokes c.args.at c.from.result c.args.on c.read_first.new.page c.put_number.new.page image (c.from.ensures ∙ byte_is c.args.on) first c.put_number.ensures.written in
-    let makes = c.in_ok-write.ensures.makes t tells still (omega arith) in
+    let makes = c.in_ok-write.ensures.makes t tells still in
     tries_after {T = Unit {0}} (Ok tt) _ _ _ _ _ _ t _ _ read.same read.quiet is
     (tries_made {T = Unit {0}} (Ok tt) _ _ _ _ t None _ refl tt
     (subst (λ (ss : List Stroke). Makes {T = Unit {0}} (Ok tt) (g.H.Host.world c.read_first.new.host) (g.H.Host.world c.write.new.host) c.read_first.new.store c.write.new.self t ss) strokes makes))

@@ -11,6 +11,7 @@ use Rattle.nb_alloc.specs.Make.{page_strokes}
 use Rattle.nb_engine.specs.Room.{linked_payload, link_cause}
 use Rattle.nb_alloc.proofs.DoesLaws.{tries_passed, tries_failed, tries_after}
 use Rattle.nb_alloc.proofs.MakeLaws.{tries_fault, tries_named, old_below}
+use Rattle.nb_state.specs.Open.{Held}
 use Rattle.nb_engine.proofs.LinkLaws.{written_payload, payload_inside, link_low, link_past}
 use Rattle.nb_engine.proofs.grow.link.Goals as goal
 
@@ -65,3 +66,6 @@ returns-clause-tries g c t tells is =
     tries_named {T = Unit {0}} (Ok tt) _ _ _ _ t _ _ _ _ (link_low image p low) refl
     (tries_after {T = Unit {0}} (Ok tt) _ (g.H.Host.world c.read.new.host) _ _ c.read.new.self _ t _ _ old.same old.quiet is
     (c.in_ok-put_page.ensures.tries t payload tells (old.open t tells is) (omega (arith, low)) room filled))
+
+pub put_page-requires-clause-inside : goal.put_page-requires-clause-inside
+put_page-requires-clause-inside g c = omega (arith, c.count.ensures.value, c.if-last-count.false, ap (λ (h : Held). h.files.count) c.in_ok-read.ensures.same)

@@ -10,6 +10,7 @@ use Rattle.nb_alloc.specs.Tries.{Tries}
 use Rattle.nb_alloc.specs.Put.{entry_cause}
 use Rattle.nb_alloc.proofs.DoesLaws.{tries_passed, tries_after, tries_these}
 use Rattle.nb_alloc.proofs.MakeLaws.{tries_fault, old_below}
+use Rattle.nb_state.specs.Open.{Held}
 use Rattle.nb_engine.proofs.LinkLaws.{written_payload, payload_inside, slot_strokes}
 use Rattle.nb_engine.proofs.room.add_row.Goals as goal
 
@@ -60,3 +61,6 @@ returns-clause-tries g c t tells is low =
     tries_these {T = Unit {0}} (Ok tt) _ _ _ _ t _ _ _ (λ none. slot_strokes t.base p c.args.room.now.slot bytes size low none)
     (tries_after {T = Unit {0}} (Ok tt) _ (g.H.Host.world c.read.new.host) _ _ c.read.new.self _ t _ _ old.same old.quiet is
     (c.in_ok-put_page.ensures.tries t payload tells (old.open t tells is) (omega (arith, low)) room filled))
+
+pub put_page-requires-clause-inside : goal.put_page-requires-clause-inside
+put_page-requires-clause-inside g c = omega (arith, c.requires.inside, ap (λ (h : Held). h.files.count) c.in_ok-read.ensures.same)

@@ -1,4 +1,4 @@
-use Rattle.std.proofs.Common.{ℕ, [], refl, sym, ap, ◌∙◌}
+use Rattle.std.proofs.Common.{ℕ, [], refl, sym, ap, ◌∙◌, arith}
 use Rattle.std.specs.Prelude.{None, Ok, Err}
 use Rattle.nb_model.specs.Forms.{drafted}
 use Rattle.nb_model.specs.Causes.{no_scn}
@@ -10,6 +10,7 @@ use Rattle.nb_alloc.specs.Make.{MakesSome}
 use Rattle.nb_engine.specs.Room.{no_rows, grow_cause}
 use Rattle.nb_alloc.specs.Tries.{Tries}
 use Rattle.nb_alloc.proofs.DoesLaws.{tries_early, tries_passed, tries_after}
+use Rattle.nb_state.specs.Open.{Held}
 use Rattle.nb_engine.proofs.GrowLaws.{rows_are, no_rows_short, grow_refused, grow_spent, grow_free}
 use Rattle.nb_alloc.proofs.MakeLaws.{tries_named}
 use Rattle.nb_alloc.proofs.NewLaws.{told}
@@ -106,3 +107,6 @@ returns-clause-below g c t pages tells is shaped is_data =
     let tests = c.in_ok-first.ensures in
     let none = tests.one t (told no_rows) tells is shaped (λ p. no_rows_short) is_data refl in
     c.in_ok-number.ensures.below t History pages [] tells (tests.open t tells is) (tests.value t tells is) (tests.map t tells is refl) shaped none rows_are
+
+pub grow_from-requires-clause-inside : goal.grow_from-requires-clause-inside
+grow_from-requires-clause-inside g c = omega (arith, c.in_ok-first.ensures.within c.requires.least, ap (λ (h : Held). h.files.count) c.in_ok-first.ensures.same)

@@ -1,18 +1,25 @@
-use Rattle.std.proofs.Common.{rules, ℕ, refl, ◌∙◌, arith}
+use Rattle.std.proofs.Common.{rules, ◌≡◌, ◌⊎◌, ◌<◌, inl, inr, ℕ, refl, ap, ◌∙◌, arith}
 use Rattle.nb_page.proofs.QuietLemmas.{quiet_begun, quiet_joined}
 use Rattle.nb_model.specs.Causes.{broken_at}
 use Rattle.nb_model.specs.Chains.{History, pages_of}
+use Rattle.nb_state.specs.Open.{Held}
 use Rattle.nb_engine.specs.declared.walk.Walked.{Walked}
 use Rattle.nb_engine.specs.History.{not_linked}
 use Rattle.nb_alloc.proofs.DoesLaws.{tested_on}
 use Rattle.nb_engine.proofs.WalkLaws.{walks_first, walks_broken, walks_next, walks_none, walks_gathered, walks_last, walks_length, walks_over, gathered_none}
 use Rattle.nb_engine.proofs.walk.walk.Goals as goal
 
+-- Whatever the walk was at before, the first page of the history is below the length.
+seen_on : (number count : ℕ) → (number ≡ 4) ⊎ (4 < count) → number < count → 4 < count
+seen_on number count (inl first) below = omega (arith, first, below)
+seen_on number count (inr seen) below = seen
+
 pub loop-left-init : goal.loop-left-init
 loop-left-init g c = record {
   walks = λ t tells is. walks_first t.base.image c.args.wanted.now c.count-left.result 4 _ (c.count-left.ensures.value ∙ is.files.agrees.count) refl (gathered_none c.args.wanted.now);
   placed = tt;
   low = omega arith;
+  seen = inl refl;
   few = omega (arith, c.count-left.ensures.value);
   room = refl;
   opened = λ t tells is. is;
@@ -59,6 +66,12 @@ returns-then-next-eq0-clause-once g c t tells is =
     (λ ss was. c.in_ok-next.ensures.walked t ss tells still was) c.in_ok-next.next (c.in_ok-next.ensures.next t tells still) c.if-next-eq0.true in
     omega (arith, long, is.files.agrees.count, l.invariant.once tells, c.in_ok-next.ensures.once tells, c.loop-left-test.true, l.invariant.few)
 
+pub returns-then-next-eq0-clause-least : goal.returns-then-next-eq0-clause-least
+returns-then-next-eq0-clause-least g c =
+    let l = c.loop-left in
+    let below : l.number < c.args.store.now.files.count = omega (arith, c.in_ok-next.ensures.inside, ap (λ (h : Held). h.files.count) l.invariant.same) in
+    omega (arith, seen_on l.number c.args.store.now.files.count l.invariant.seen below)
+
 pub loop-left-preserved : goal.loop-left-preserved
 loop-left-preserved g c =
     let l = c.loop-left in
@@ -69,6 +82,7 @@ loop-left-preserved g c =
           (λ ss was. c.in_ok-next.ensures.walked t ss tells still was) c.in_ok-next.next (c.in_ok-next.ensures.next t tells still) c.if-next-eq0.false;
       placed = search rules;
       low = search rules;
+      seen = inr (seen_on l.number c.args.store.now.files.count l.invariant.seen (omega (arith, c.in_ok-next.ensures.inside, ap (λ (h : Held). h.files.count) l.invariant.same)));
       few = omega (arith, l.invariant.few);
       room = search rules;
       opened = λ t tells is. c.in_ok-next.ensures.open t tells (l.invariant.opened t tells is);

@@ -1,4 +1,4 @@
-use Rattle.std.proofs.Common.{◌≡◌, ◌+◌, ◌-◌, ◌<◌, ◌≤◌, length}
+use Rattle.std.proofs.Common.{◌≡◌, ◌⊎◌, ◌+◌, ◌-◌, ◌<◌, ◌≤◌, length}
 use Rattle.std.specs.Prelude.{IsTrue, IfSome}
 use Rattle.nb_page.specs.Quiet.{Quiet}
 use Rattle.nb_model.specs.Trail.{Trail}
@@ -12,6 +12,7 @@ invariant-loop-left g l = record {
   walks : (t : Trail) → IsTrue g.H.Host.tells → IsOpen (g.H.Host.world l.fn.host) l.fn.store t → Walks t.base.image l.fn.wanted l.left l.number l.walked;
   placed : IfSome l.walked.room (IsPlaced l.fn.store.files.page_size);
   low : 0 < l.number;
+  seen : (l.number ≡ 4) ⊎ (4 < l.fn.store.files.count);
   few : l.left ≤ l.fn.store.files.count;
   room : length l.page ≡ length l.fn.page;
   opened : (t : Trail) → IsTrue g.H.Host.tells → IsOpen (g.H.Host.world l.fn.host) l.fn.store t → IsOpen (g.H.Host.world l.host) l.store t;

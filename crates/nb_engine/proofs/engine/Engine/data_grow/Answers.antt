@@ -135,3 +135,6 @@ returns-clause-some g c t tells is =
     let still = tests.open t tells here in
     let some = c.in_ok-number.ensures.some t tells still (tests.value t tells here) (tests.map t tells here refl) least in
     record { made = some.made; makes = makes_after (Ok c.in_ok-number.number) w _ _ _ _ _ t some.made (tests.same ∙ ap but_pages c.self.view_is) tests.quiet is some.makes }
+
+pub grow_from-requires-clause-inside : goal.grow_from-requires-clause-inside
+grow_from-requires-clause-inside g c = omega (arith, c.in_ok-first.ensures.within (omega (arith, c.count-count.ensures.value, c.if-count-lt-FIRST_TO_GIVE.false)), ap (λ (h : Held). h.files.count) c.in_ok-first.ensures.same)

@@ -154,3 +154,6 @@ returns-clause-some g c t tells is =
     let still = tests.open t tells here in
     let some = (c.in_ok-number.ensures.makes t tells still at low (tests.map t tells here)).some in
     record { made = some.made; makes = makes_after (Ok c.in_ok-number.number) w _ _ _ _ _ t some.made (tests.same ∙ ap but_pages c.self.view_is) tests.quiet is some.makes }
+
+pub make_new-requires-clause-inside : goal.make_new-requires-clause-inside
+make_new-requires-clause-inside g c = omega (arith, c.in_ok-first.ensures.within (omega (arith, c.count-count.ensures.value, c.if-count-lt-FIRST_TO_GIVE.false)), ap (λ (h : Held). h.files.count) c.in_ok-first.ensures.same)

@@ -92,3 +92,6 @@ returns-in_err-add_row-clause-sure g c t tells is low sound =
     let at : IsPlace image p = record { behind = omega (arith, c.requires.placed.low); there = omega (arith, low); most = c.requires.placed.high } in
     tries_passed c.from_residual.result c.in_err-add_row.field-0.0 (λ r. IfErr r IsNoRefusal) c.from_residual.ensures
     (sure_of {T = Unit {0}} (Err c.in_err-add_row.field-0.0) (entry_cause image p) (entry_none image p is_well at) (c.in_err-add_row.ensures.tries t tells here low).test)
+
+pub add_row-requires-clause-inside : goal.add_row-requires-clause-inside
+add_row-requires-clause-inside g c = omega (arith, c.count-count.ensures.value, c.if-room-count.false)

@@ -151,3 +151,6 @@ returns-clause-once g c t tells is sizes =
     let few = tests.once t 8 (λ p. 0 ∷ 0 ∷ []) tells here shaped (λ p. omega arith) in
     new_read image c.in_ok-first.first c.in_ok-number.number _ _ _ at
     (subst (λ (n : ℕ). (g.H.Host.world c.check_new.new.host).reads ≤ (g.H.Host.world c.args.host.now).reads + c.in_ok-first.first / bits_in (image_size image) + 4 + 5 * (n - c.in_ok-first.first)) (sym number) few) (c.in_ok-number.ensures.once tells)
+
+pub make_new-requires-clause-inside : goal.make_new-requires-clause-inside
+make_new-requires-clause-inside g c = omega (arith, c.in_ok-first.ensures.within (omega (arith, c.count-count.ensures.value, c.if-count-lt-FIRST_TO_GIVE.false)), ap (λ (h : Held). h.files.count) c.in_ok-first.ensures.same)

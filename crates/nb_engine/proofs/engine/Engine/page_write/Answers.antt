@@ -127,3 +127,6 @@ returns-in_err-write_raw-clause-on_memory g c t tells is memory =
     let wants = sym (passed_on c.from_residual-in_err-write_raw.result c.in_err-write_raw.field-0.0 c.from_residual-in_err-write_raw.ensures) ∙ memory in
     let left = c.in_err-write_raw.ensures.on_memory (after_strokes t xs) tells (tries_opened tt old mid c.args.self.now c.raise_entry.new.store t _ xs first) wants in
     stops_then old mid new c.args.self.now c.raise_entry.new.store c.write_raw.new.store t _ xs first left.0 left.1
+
+pub write_raw-requires-clause-inside : goal.write_raw-requires-clause-inside
+write_raw-requires-clause-inside g c = omega (arith, c.in_ok-take_raw.ensures.inside, ap (λ (h : Held). h.files.count) c.in_ok-take_raw.ensures.same, c.in_ok-raise_entry.ensures.goes.longer)

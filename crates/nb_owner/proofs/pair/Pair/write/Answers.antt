@@ -27,7 +27,7 @@ pub hold-requires-clause-drops_none : goal.hold-requires-clause-drops_none
 hold-requires-clause-drops_none g c = (may_wait_parts c.args.self.now c.args.number c.args.forced (sym c.may_wait.ensures.value ∙ c.if-may_wait.true)).4
 
 pub returns-in_err-hold-clause-takes : goal.returns-in_err-hold-clause-takes
-returns-in_err-hold-clause-takes g c t tells is low forced =
+returns-in_err-hold-clause-takes g c t tells is forced =
     let old = g.H.Host.world c.args.host.now in
     let name = c.args.self.now.files.name in
     record {
@@ -37,7 +37,7 @@ returns-in_err-hold-clause-takes g c t tells is low forced =
     }
 
 pub returns-then-may_wait-clause-takes : goal.returns-then-may_wait-clause-takes
-returns-then-may_wait-clause-takes g c t tells is low forced =
+returns-then-may_wait-clause-takes g c t tells is forced =
     let w = g.H.Host.world c.args.host.now in
     let name = c.args.self.now.files.name in
     let parts = may_wait_parts c.args.self.now c.args.number c.args.forced (sym c.may_wait.ensures.value ∙ c.if-may_wait.true) in
@@ -50,7 +50,7 @@ returns-then-may_wait-clause-takes g c t tells is low forced =
     }
 
 pub returns-then-may_wait-clause-merged : goal.returns-then-may_wait-clause-merged
-returns-then-may_wait-clause-merged g c t k tells is low merges merged =
+returns-then-may_wait-clause-merged g c t k tells is merges merged =
     let parts = may_wait_parts c.args.self.now c.args.number c.args.forced (sym c.may_wait.ensures.value ∙ c.if-may_wait.true) in
     absurd (omega (arith, merges, parts.1))
 
@@ -71,7 +71,7 @@ returns-then-may_wait-clause-used g c =
     ∙ bare_put c.args.number c.args.self.now.cap (record { bytes = c.args.page.now; rank = rank_of c.args.self.now.pages c.args.number }) c.args.self.now.pages
 
 pub returns-in_err-write_out-clause-takes : goal.returns-in_err-write_out-clause-takes
-returns-in_err-write_out-clause-takes g c t tells is low forced = record {
+returns-in_err-write_out-clause-takes g c t tells is forced = record {
   left = weaker_has (g.H.Host.world c.args.host.now) (g.H.Host.world c.write_out.new.host) (OfFiles c.args.self.now.files.name) _ _ (c.write_out.ensures.takes t tells is).left (λ files so. inl so);
   done = not_done c.from_residual-in_err-write_out.result _ c.from_residual-in_err-write_out.ensures.0;
 }
@@ -80,8 +80,8 @@ pub returns-in_err-write_out-clause-waits : goal.returns-in_err-write_out-clause
 returns-in_err-write_out-clause-waits g c may = absurd (true≢false (sym may ∙ sym c.may_wait.ensures.value ∙ c.if-may_wait.false))
 
 pub returns-in_err-write_through-clause-takes : goal.returns-in_err-write_through-clause-takes
-returns-in_err-write_through-clause-takes g c t tells is low forced =
-    let fits = may_write (g.H.Host.world c.args.host.now) c.args.self.now t c.args.number c.args.page.now is low (λ first. c.requires.control_block first tells) in
+returns-in_err-write_through-clause-takes g c t tells is forced =
+    let fits = may_write (g.H.Host.world c.args.host.now) c.args.self.now t c.args.number c.args.page.now is c.requires.low (λ first. c.requires.control_block first tells) in
     let old = g.H.Host.world c.args.host.now in
     let mid = g.H.Host.world c.write_out.new.host in
     let new = g.H.Host.world c.write_through.new.host in
@@ -97,8 +97,8 @@ pub returns-in_err-write_through-clause-waits : goal.returns-in_err-write_throug
 returns-in_err-write_through-clause-waits g c may = absurd (true≢false (sym may ∙ sym c.may_wait.ensures.value ∙ c.if-may_wait.false))
 
 pub returns-clause-takes : goal.returns-clause-takes
-returns-clause-takes g c t tells is low forced =
-    let fits = may_write (g.H.Host.world c.args.host.now) c.args.self.now t c.args.number c.args.page.now is low (λ first. c.requires.control_block first tells) in
+returns-clause-takes g c t tells is forced =
+    let fits = may_write (g.H.Host.world c.args.host.now) c.args.self.now t c.args.number c.args.page.now is c.requires.low (λ first. c.requires.control_block first tells) in
     let old = g.H.Host.world c.args.host.now in
     let mid = g.H.Host.world c.write_out.new.host in
     let new = g.H.Host.world c.write_through.new.host in
@@ -112,8 +112,8 @@ returns-clause-takes g c t tells is low forced =
     }
 
 pub returns-clause-merged : goal.returns-clause-merged
-returns-clause-merged g c t k tells is low merges merged =
-    let fits = may_write (g.H.Host.world c.args.host.now) c.args.self.now t c.args.number c.args.page.now is low (λ first. c.requires.control_block first tells) in
+returns-clause-merged g c t k tells is merges merged =
+    let fits = may_write (g.H.Host.world c.args.host.now) c.args.self.now t c.args.number c.args.page.now is c.requires.low (λ first. c.requires.control_block first tells) in
     let idle = c.write_out.ensures.outside merges in
     let first = c.in_ok-write_out.ensures.takes t tells is in
     c.in_ok-write_through.ensures.merged t k tells first.done fits (ap (λ (h : Held). h.files.state) idle.1 ∙ merges)
@@ -192,3 +192,11 @@ pub returns-in_err-hold-clause-takes_none : goal.returns-in_err-hold-clause-take
 returns-in_err-hold-clause-takes_none g c plain =
     let parts = may_wait_parts c.args.self.now c.args.number c.args.forced (sym c.may_wait.ensures.value ∙ c.if-may_wait.true) in
     absurd (true≢false (sym (c.in_err-hold.ensures.normal (omega (arith, plain, parts.1))).0))
+
+pub returns-in_err-hold-clause-on_memory : goal.returns-in_err-hold-clause-on_memory
+returns-in_err-hold-clause-on_memory g c t tells is memory =
+    let old = g.H.Host.world c.args.host.now in
+    let name = c.args.self.now.files.name in (
+      subst (λ host. Strikes old (g.H.Host.world host) name t []) (sym c.hold.ensures.no_call) (begun old (OfFiles name) (Reached after_stroke (StandsIn name) t []) (g.met.H.Host.timely c.args.host.now) (λ files all. is.left files all)),
+      subst (λ host. IsOpen (g.H.Host.world host) c.hold.new.self t) (sym c.hold.ensures.no_call) (subst (λ (h : Held). IsOpen old h t) (sym c.in_err-hold.ensures.only_memory.1) is),
+    )
