@@ -36,7 +36,7 @@ use Rattle.nb_engine.specs.Turns.{starting_cause}
 use Rattle.nb_engine.proofs.CauseLaws.{first_none, first_next}
 use Rattle.nb_engine.proofs.DoesLaws.{unless_none, unless_some, tries_opened}
 use Rattle.nb_engine.proofs.StaysLaws.{open_aside}
-use Rattle.nb_copy.specs.Starting.{Backed, StartMakes, HasNotBegun, StartsBackup, IsStarted, BeginsFor, GoesByEntries, IsItsLevel, earlier_cause, file_cause, ask_in, ask_by, turn_since}
+use Rattle.nb_copy.specs.Starting.{Backed, StartMakes, HasNotBegun, StartsBackup, IsStarted, BeginsFor, earlier_cause, file_cause, ask_in, ask_by, turn_since}
 use Rattle.nb_copy.specs.declared.since.Since.{Since}
 use Rattle.nb_copy.specs.declared.since.Since.TheVariants.{Level, Guid}
 use Rattle.nb_copy.specs.declared.file_copy.FileCopy.{FileCopy}
@@ -47,7 +47,7 @@ use Rattle.nb_copy.proofs.StartCauses.{scn_room}
 use Rattle.nb_copy.proofs.BegunLaws.{begun_image, begun_frozen, begun_long, begun_size, begun_state}
 use Rattle.nb_copy.proofs.FileCopyLaws.{IsFrozenOf, frozen_parts}
 use Rattle.nb_copy.proofs.FileStartLaws.{file_first, file_starts}
-use Rattle.nb_copy.proofs.RoomedLaws.{roomed_is, roomed_first, roomed_sound}
+use Rattle.nb_copy.proofs.RoomedLaws.{roomed_is, roomed_first}
 use Rattle.nb_copy.proofs.BesideLaws.{starts_struck, starts_made, starts_then, starts_more, made_kept}
 use Rattle.nb_copy.proofs.StartLaws.{early, strokes, started, struck_some, struck_most, turn_late, turn_told, turn_strokes, turn_started}
 
@@ -55,11 +55,6 @@ use Rattle.nb_copy.proofs.StartLaws.{early, strokes, started, struck_some, struc
 abbrev starting_of : Page → Cause
 starting_of p =
     first_cause (when (not (number_in 65 1 p == 0)) (Access 1) ∷ when (not (state_of p == 0)) (WrongState (state_of p)) ∷ when (nat_lt 4294967293 (scn_of p)) (ScnExhausted (scn_of p)) ∷ [])
-
--- a backup whose level isn't 0 goes by SCN entries
-goes_by : (since : Since) (level : ℕ) → IsItsLevel since level → 1 ≤ level → GoesByEntries since
-goes_by (Level asked) level its some = omega (arith, its, some)
-goes_by (Guid guid) level its some = tt
 
 -- Behind the tests.
 module _ (old mid : World) (a b : Held) (t : Trail) (s : Seen) (session : ℕ) (since : Since) (name : List ℕ) (runs : a.running ≡ s.running) (at : t.base ≡ s.base) (is : IsOpen old a t) (apart : OfFiles (name_of a) name → ⊥)
@@ -164,9 +159,6 @@ module _ (old mid : World) (a b : Held) (t : Trail) (s : Seen) (session : ℕ) (
     pub same_first : first_page u.base.image ≡ first_page image
     same_first = ap first_page seen ∙ roomed_first image header decided.0
 
-    pub still_sound : IsSoundImage t.base.image → IsSoundImage u.base.image
-    still_sound sound = subst IsSoundImage (sym seen) (roomed_sound image header decided.0 (subst (λ (x : Base). IsSoundImage x.image) at sound))
-
     starts_here : starting_cause image ≡ None
     starts_here =
         let tests = no_first (file_cause s name) (earlier_cause since image ∷ []) none in
@@ -267,7 +259,7 @@ module _ (old mid : World) (a b : Held) (t : Trail) (s : Seen) (session : ℕ) (
               })
 
           -- its copier
-          module _ (kept : Kept) (f g : FileCopy) (count : ℕ) (sixteen : length guid ≡ 16) (its_level : IsItsLevel since bare.level) (sound : GoesByEntries since → IsSoundImage t.base.image) (asked : ask_by bare ≡ ask) (roomed : IsRoomIn image kept) (low : kept.page < length (room_in image).draft.image) (is_new : IsNewFile name bare f) (file : IsStartedFile f g begun count)
+          module _ (kept : Kept) (f g : FileCopy) (count : ℕ) (sixteen : length guid ≡ 16) (asked : ask_by bare ≡ ask) (roomed : IsRoomIn image kept) (low : kept.page < length (room_in image).draft.image) (is_new : IsNewFile name bare f) (file : IsStartedFile f g begun count)
               (counted : count ≡ d.files.count) (nine : bare.level ≤ 9) (previous : length bare.previous ≡ 16) (wide : IsTrue (is_page_size bare.page_size)) (size : bare.page_size ≡ a.files.page_size) where
             abbrev its : Backing
             its = record { name = name; ask = ask_by begun; scn = begun.scn; guid = begun.guid; page = kept.page; slot = kept.slot }
@@ -301,11 +293,6 @@ module _ (old mid : World) (a b : Held) (t : Trail) (s : Seen) (session : ℕ) (
             frozen_is =
                 subst (λ (n : ℕ). IsFrozenOf n v.base.frozen) (begins.opened.files.agrees.page_size ∙ ap image_size (sym (begun_frozen u guid (Some ask)))) (frozen_parts new d v begins.opened now_stalled)
 
-            frozen_sound : 1 ≤ bare.level → IsSoundImage v.base.frozen
-            frozen_sound some =
-                subst IsSoundImage (sym (begun_frozen u guid (Some ask) ∙ begun_image u guid (Some ask)))
-                (control_sound 1 (image_scn u.base.image + 1) guid u.base.image u_header (still_sound (sound (goes_by since bare.level its_level some))) (may_begin u.base.image u_header guid sixteen (scn_room u.base.image starts_there)))
-
             pub started_is : IsStarted new d v (record { backing = its; page_size = begun.page_size; file = g }) (started s session since name)
             started_is =
                 let firsts = file_first name bare begun count f g is_new file in
@@ -316,5 +303,5 @@ module _ (old mid : World) (a b : Held) (t : Trail) (s : Seen) (session : ℕ) (
                   stalled = now_stalled;
                   below = omega (arith, low, long);
                   goes =
-                      file_starts new name bare begun guid (image_scn u.base.image) count v.base.frozen kept.page kept.slot begins.head nine sixteen previous u_header.scn wide sized (count_is ∙ ap length (sym (begun_frozen u guid (Some ask)))) frozen_is frozen_sound (still_made (Ok begun) begins) f g is_new file;
+                      file_starts new name bare begun guid (image_scn u.base.image) count v.base.frozen kept.page kept.slot begins.head nine sixteen previous u_header.scn wide sized (count_is ∙ ap length (sym (begun_frozen u guid (Some ask)))) frozen_is (still_made (Ok begun) begins) f g is_new file;
                 }
