@@ -2,11 +2,12 @@
 use Rattle.std.proofs.Common.{◌≡◌, ◌⊎◌, inl, inr, ℕ, zero, suc, ◌*◌, ◌/◌, ◌%◌, ◌<◌, ◌≤◌, length, sym, ap, ◌∙◌, arith}
 use Rattle.std.specs.Prelude.{Bool, true, false, slice_index, IsTrue, ◌==◌, ◌&&◌, ◌||◌, not, nat_lt}
 use Rattle.std.proofs.Math.Nat.{div-eq_of_lt, mod-eq-sub-div-mul, div-mul-le_self}
-use Rattle.std.proofs.lemmas.Bool.{and_parts, or_cases, or_right, eqb-true, ltb-false}
+use Rattle.std.proofs.lemmas.Bool.{and_parts, or_cases, or_right, eqb-true}
 use Rattle.nb_fields.specs.Places.{is_page_size, entries_in, scn_place, is_scn_place}
 use Rattle.nb_fields.proofs.SizeLemmas.{size_facts}
 use Rattle.nb_model.specs.Image.{Page, Image, image_size, page_at}
 use Rattle.nb_model.specs.Levels.{may_have_changed}
+use Rattle.nb_model.proofs.ReadLaws.{lt_no}
 use Rattle.nb_scn.specs.Entries.{entries}
 use Rattle.nb_engine.proofs.PutLaws.{other-with}
 use Rattle.nb_model.specs.Forms.{scn_page_of, scn_entry, has_entry}
@@ -64,16 +65,11 @@ may_first image scn = may_none image scn 0 refl
 pub may_place : (image : Image) (size scn p : ℕ) → size ≡ image_size image → is_scn_place size p ≡ true → may_have_changed image scn p ≡ true
 may_place image size scn p same place = may_none image scn p (or_right (p == 0) (is_scn_place (image_size image) p) (ap (λ n. is_scn_place n p) (sym same) ∙ place))
 
--- so may a page whose entry is above the SCN
-pub may_above : (image : Image) (scn p : ℕ) → (has_entry image p && nat_lt scn (scn_entry image p)) ≡ true → may_have_changed image scn p ≡ true
-unfolding may_have_changed
-may_above image scn p above = or_right (not (has_entry image p)) (nat_lt scn (scn_entry image p)) (and_parts (has_entry image p) (nat_lt scn (scn_entry image p)) above).1
-
--- and no other
+-- a page whose entry isn't above an SCN hasn't changed since
 pub entry_low : (image : Image) (size p index scn value : ℕ) (old : Page) → size ≡ image_size image → index ≡ p % entries_in size → size ≡ length old → index < entries_in size → old ≡ page_at image (scn_page_of image p)
     → value ≡ slice_index (entries old) index → value ≤ scn → 1 ≤ p → is_scn_place size p ≡ false → may_have_changed image scn p ≡ false
 unfolding may_have_changed
 entry_low image size p index scn value old same number long inside is found low some other =
     let known : slice_index (entries old) index ≡ scn_entry image p = entry-is image size p index old same number long inside is in
     let has : has_entry image p ≡ true = other-with image p size same (λ e. absurd (omega (arith, e, some))) other in
-    ap (λ (t : Bool). not t || nat_lt scn (scn_entry image p)) has ∙ le_ltb scn (scn_entry image p) (omega (arith, known, found, low))
+    ap (λ (t : Bool). not t || nat_lt scn (scn_entry image p)) has ∙ lt_no scn (scn_entry image p) (omega (arith, known, found, low))

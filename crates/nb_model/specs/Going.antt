@@ -1,5 +1,5 @@
 -- What holds between two turns: a copy or a merge of one session at most is under way, and then the database is in the state for it.
-use Rattle.std.specs.Prelude.{◌≡◌, ℕ, ◌+◌, ◌-◌, ◌*◌, ◌<◌, ◌≤◌, List, [], ◌∷◌, ◌++◌, length, replicate, Some, Bool, true, false, not, ◌==◌}
+use Rattle.std.specs.Prelude.{◌≡◌, ℕ, ◌+◌, ◌-◌, ◌*◌, ◌<◌, ◌≤◌, List, [], ◌∷◌, ◌++◌, length, replicate, Some, Bool, true, false}
 use Rattle.std.specs.List.{AllByRecursion, slice_index_or}
 use Rattle.nb_fields.specs.Places.{is_inventory_place, is_scn_place}
 use Rattle.nb_fields.specs.Header.{is_header}

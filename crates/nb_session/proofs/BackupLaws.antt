@@ -23,7 +23,7 @@ use Rattle.nb_model.specs.Backups.{Room, room_in, close_backup}
 use Rattle.nb_model.specs.Causes.{is_free_entry}
 use Rattle.nb_model.specs.Gifts.{Foretells, WasGiven}
 use Rattle.nb_model.specs.Forms.{HasItsEntry}
-use Rattle.nb_model.specs.Going.{IsAt, IsGoing, goes_by_entries}
+use Rattle.nb_model.specs.Going.{IsAt, IsGoing}
 use Rattle.nb_model.specs.Image.{Image, image_scn}
 use Rattle.nb_model.specs.Levels.{file_of, count_in}
 use Rattle.nb_model.specs.Making.{MadeFile, kept_of, making}
@@ -480,11 +480,6 @@ module _ (old new : World) (a b : Held) (t : Trail) (now : Now) (session : ℕ) 
               ∙ ap (λ (r : Reply). Ends r ∷ []) (sym is_level);
           goes = goes.running ∙ runs;
         }
-
--- Where a level of 1 to 9 begins the inventories are sound.
-pub level_sound : {sound : Bool} (session : ℕ) (now : Now) → IsGoing sound now → (u : Turn) (rest : List Turn) → slice_index_or now.todo (session - 1) [] ≡ u ∷ rest → goes_by_entries u ≡ true → IsSoundImage (base_now now).image
-level_sound {sound = sound} session now going u rest here goes =
-    going.sure ((subst (AllByRecursion (λ (turn : Turn). goes_by_entries turn ≡ true → sound ≡ true)) here (going.levels (session - 1))).0 goes)
 
 -- What a further turn may rely on.
 pub record MayGoOn (held : Held) (t : Trail) (copier : Backed) : Type 0 where

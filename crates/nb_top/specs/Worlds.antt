@@ -53,7 +53,3 @@ pub record IsCopied (files : Files) (bytes : List ℕ) : Type 0 where
 -- each of the files is a copy of one that stands there, under any name, and none is a difference file
 abbrev pub AreCopies : (files copies : Files) → Type 0
 AreCopies files copies = (name bytes : List ℕ) → copies name ≡ Some bytes → (is_delta name ≡ false) × IsCopied files bytes
-
--- the inventories of each database agree with its pages
-abbrev pub HaveSound : Files → Type 0
-HaveSound files = (name : List ℕ) (b : Base) → is_delta name ≡ false → entry_in files name ≡ IsBase b → IsSoundImage b.image

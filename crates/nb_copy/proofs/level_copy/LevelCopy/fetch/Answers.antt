@@ -9,8 +9,8 @@ use Rattle.nb_state.proofs.MakesLaws.{open_still}
 use Rattle.nb_copy.specs.LevelCopying.{LevelCopying}
 use Rattle.nb_model.specs.Image.{page_at, image_size}
 use Rattle.nb_model.specs.Levels.{may_have_changed}
-use Rattle.nb_copy.proofs.PlaceLaws.{own_page, entry_low, may_place, may_above}
-use Rattle.nb_copy.proofs.ReadLaws.{entry_above, reads_both, reads_least}
+use Rattle.nb_copy.proofs.PlaceLaws.{own_page, entry_low, may_place}
+use Rattle.nb_copy.proofs.ReadLaws.{above_may, entry_above, reads_both, reads_least}
 use Rattle.nb_copy.proofs.level_copy.LevelCopy.fetch.Goals as goal
 
 pub returns-then-is_place-clause-fetched : goal.returns-then-is_place-clause-fetched
@@ -54,7 +54,17 @@ returns-clause-fetched g c t tells open_ stalled of ready =
     let next : c.self.inside.next ≡ c.args.self.now.next = ap (λ (v : LevelCopying). v.next) c.self.view_is ∙ ap (λ (v : LevelCopying). v.next) load.same in
     let page = with_items_is c.self.inside.page c.read_main.new.into (omega (arith, c.read_main.auto.into, ap length c.deref_mut.ensures.value, c.self.inside.page.ok.0)) in
     let still = open_still _ _ _ _ t load.engine load.quiet open_ in
-    (may_above frozen c.args.self.now.file.head.previous_scn c.args.self.now.next (found_above g c t tells open_ stalled of ready),
+    let copy = c.args.self.now in
+    let size : c.head-head.result.now.page_size ≡ copy.file.head.page_size =
+    ap (λ (h : LevelHead). h.page_size) c.head-head.ensures ∙ ap (λ (v : LevelCopying). v.file.head.page_size) c.self.view_is ∙ ap (λ (v : LevelCopying). v.file.head.page_size) load.same in
+    let scn : c.head-head.result.now.previous_scn ≡ copy.file.head.previous_scn =
+    ap (λ (h : LevelHead). h.previous_scn) c.head-head.ensures ∙ ap (λ (v : LevelCopying). v.file.head.previous_scn) c.self.view_is ∙ ap (λ (v : LevelCopying). v.file.head.previous_scn) load.same in
+    let place = ap (λ n. is_scn_place n copy.next) (sym size) ∙ ap (is_scn_place c.head-head.result.now.page_size) (sym next) ∙ sym c.is_place.ensures.value ∙ c.if-is_place.false in
+    let long = ap length c.deref-2.ensures.value ∙ c.self.invariant.scn_room in
+    let above = entry_above frozen copy.file.head.page_size copy.next c.in_ok-index.index copy.file.head.previous_scn c.entry.result c.deref-2.result.now of.size load.index
+    (sym size ∙ ap (λ (h : LevelHead). h.page_size) c.head-head.ensures ∙ sym long) load.inside (c.deref-2.ensures.value ∙ ap (λ (v : LevelCopying). v.scn_page) c.self.view_is ∙ load.entries t tells open_ stalled of ready) c.entry.ensures
+    (omega (arith, c.if-entry-head.false, scn)) c.requires.some place in
+    (above_may frozen copy.file.head.previous_scn copy.next above,
       page ∙ c.in_ok-read_main.ensures.page t tells still (ap (λ (e : Held). e.files.state) load.engine ∙ stalled) (omega (arith, c.requires.below, of.long, next)) ∙ ap (page_at frozen) next)
 
 pub returns-clause-quiet : goal.returns-clause-quiet
