@@ -22,11 +22,9 @@ use Rattle.nb_model.specs.Causes.{Cause, first_cause, when, read_only, not_state
 use Rattle.nb_model.specs.Chains.{History, pages_of, spots, free_spot}
 use Rattle.nb_model.specs.Image.{Page, Image, first_page, image_scn, image_size}
 use Rattle.nb_model.specs.Outcomes.{Backing, Outcome, Copies, ClosesBackup, Seen, next_guid, says}
-use Rattle.nb_model.specs.Sound.{IsSoundImage, HasHeader}
+use Rattle.nb_model.specs.Sound.{HasHeader}
 use Rattle.nb_model.specs.Strokes.{Stroke, begin}
 use Rattle.nb_model.specs.Trail.{Trail, after_stroke}
-use Rattle.nb_model.proofs.ControlMay.{may_begin}
-use Rattle.nb_model.proofs.ControlSound.{control_sound}
 use Rattle.nb_model.proofs.PutSound.{no_first}
 use Rattle.nb_state.specs.Open.{Held, IsOpen, name_of}
 use Rattle.nb_engine.specs.declared.walk.Room.{Room as Kept}
@@ -38,13 +36,11 @@ use Rattle.nb_engine.proofs.DoesLaws.{unless_none, unless_some, tries_opened}
 use Rattle.nb_engine.proofs.StaysLaws.{open_aside}
 use Rattle.nb_copy.specs.Starting.{Backed, StartMakes, HasNotBegun, StartsBackup, IsStarted, BeginsFor, earlier_cause, file_cause, ask_in, ask_by, turn_since}
 use Rattle.nb_copy.specs.declared.since.Since.{Since}
-use Rattle.nb_copy.specs.declared.since.Since.TheVariants.{Level, Guid}
 use Rattle.nb_copy.specs.declared.file_copy.FileCopy.{FileCopy}
 use Rattle.nb_copy.specs.FileStarting.{IsNewFile, IsStartedFile}
 use Rattle.nb_copy.specs.FileCopying.{file_count}
 use Rattle.nb_gather.specs.Making.{IsEmpty, IsMade}
-use Rattle.nb_copy.proofs.StartCauses.{scn_room}
-use Rattle.nb_copy.proofs.BegunLaws.{begun_image, begun_frozen, begun_long, begun_size, begun_state}
+use Rattle.nb_copy.proofs.BegunLaws.{begun_frozen, begun_long, begun_size, begun_state}
 use Rattle.nb_copy.proofs.FileCopyLaws.{IsFrozenOf, frozen_parts}
 use Rattle.nb_copy.proofs.FileStartLaws.{file_first, file_starts}
 use Rattle.nb_copy.proofs.RoomedLaws.{roomed_is, roomed_first}

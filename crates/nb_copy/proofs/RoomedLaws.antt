@@ -1,33 +1,25 @@
 -- A database behind the strokes that make room in the history.
 use Rattle.std.proofs.Common.{◌≡◌, ℕ, zero, suc, ◌+◌, ◌≤◌, List, [], length, refl, sym, ap, subst, ◌∙◌, arith}
-use Rattle.std.proofs.lemmas.List.{length-drop}
-use Rattle.std.specs.Prelude.{Bool, true, false, Option, Some, None}
-use Rattle.nb_fields.specs.Bytes.{bytes_of, with_part}
+use Rattle.std.specs.Prelude.{Option, Some, None}
 use Rattle.nb_fields.specs.Page.{kind_of}
-use Rattle.nb_fields.specs.Places.{is_inventory_place, is_scn_place}
-use Rattle.nb_fields.proofs.NumberLemmas.{length-bytes_of}
-use Rattle.nb_fields.proofs.PartLemmas.{length-with_part}
-use Rattle.nb_fields.proofs.SizeLemmas.{size_facts}
 use Rattle.nb_model.specs.Account.{Base}
-use Rattle.nb_model.specs.Image.{Page, Image, page_at, first_page, image_size}
+use Rattle.nb_model.specs.Image.{Image, page_at, first_page}
 use Rattle.nb_model.specs.Trail.{Trail}
 use Rattle.nb_model.specs.Forms.{Draft, drafted, needs, put, inventory_of, scn_page_of, is_free_page}
 use Rattle.nb_model.specs.Causes.{broken_at}
 use Rattle.nb_model.specs.Chains.{History, Spot, pages_of, found_pages, spots, free_spot, last_of, grown}
 use Rattle.nb_model.specs.Backups.{Room, room_in, needs_taken}
-use Rattle.nb_model.specs.Sound.{IsSoundImage, HasHeader}
+use Rattle.nb_model.specs.Sound.{HasHeader}
 use Rattle.nb_model.proofs.DraftLaws.{IsKept, IsOf, either, drafts_are, drafted_is, needs_keeps, grown_keeps}
 use Rattle.nb_model.proofs.DraftJoin.{join_put}
-use Rattle.nb_model.proofs.FitLaws.{IsWhole, fits_first}
 use Rattle.nb_model.proofs.HeaderLaws.{header-size}
 use Rattle.nb_model.proofs.MainLaws.{some_page}
-use Rattle.nb_model.proofs.PutSound.{IsPlain, needs_image, header_whole, plain_put}
-use Rattle.nb_model.proofs.SoundLaws.{all_at, header_kind}
+use Rattle.nb_model.proofs.PutSound.{needs_image}
+use Rattle.nb_model.proofs.SoundLaws.{header_kind}
 use Rattle.nb_base.specs.Takes.{after_strokes}
 use Rattle.nb_state.proofs.MakesLaws.{after_base}
 use Rattle.nb_engine.specs.Make.{new_of}
 use Rattle.nb_engine.specs.Room.{no_rows, linked_payload}
-use Rattle.nb_engine.proofs.GrowLaws.{new_longer, no_rows_short}
 use Rattle.nb_engine.proofs.NewLaws.{told}
 use Rattle.nb_engine.proofs.WalkLaws.{IsData, last_data}
 use Rattle.nb_copy.proofs.FirstLaws.{Starts, starts_itself, first_is, put_begins, new_begins}

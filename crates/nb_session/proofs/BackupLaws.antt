@@ -1,7 +1,7 @@
 -- The turns of a backup.
 use Rattle.std.proofs.Common.{◌≡◌, ◌⊎◌, inl, inr, ⊎_elim, ℕ, zero, suc, ◌-◌, ◌<◌, List, [], ◌∷◌, ◌++◌, length, replicate, refl, sym, ap, subst, ◌∙◌, arith}
 use Rattle.std.specs.Prelude.{Bool, Result, Ok, Err, IfErr, Some, None, true, false, Contains}
-use Rattle.std.specs.List.{AllByRecursion, slice_index_or}
+use Rattle.std.specs.List.{slice_index_or}
 use Rattle.std.proofs.lemmas.List.{append-nil}
 use Rattle.nb_fields.specs.Free.{is_free_file}
 use Rattle.nb_host.specs.Files.{Files}
@@ -30,7 +30,6 @@ use Rattle.nb_model.specs.Making.{MadeFile, kept_of, making}
 use Rattle.nb_model.specs.Owner.{delta_name}
 use Rattle.nb_model.specs.Outcomes.{Turn, Begins, Copies, ClosesBackup, Ends, Backing, Given, Seen, Outcome, DoesNothing, next_guid, next_time, without_guid, without_time, passes}
 use Rattle.nb_model.specs.Run.{Now, Event, base_now, outcome, is_sync, event_of}
-use Rattle.nb_model.specs.Sound.{IsSoundImage}
 use Rattle.nb_model.specs.Strokes.{Stroke, base_after}
 use Rattle.nb_model.specs.Trail.{Trail, StandsIn, after_stroke}
 use Rattle.nb_model.specs.Turns.{first_turn, turn}

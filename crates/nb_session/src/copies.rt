@@ -10,7 +10,6 @@ ghost use Rattle.nb_model.specs.Going.{IsMaking};
 ghost use Rattle.nb_model.specs.Outcomes.{Begins, Seen, Turn, next_guid};
 ghost use Rattle.nb_model.specs.Owner.{delta_name};
 ghost use Rattle.nb_model.specs.Run.{Now};
-ghost use Rattle.nb_model.specs.Sound.{IsSoundImage};
 ghost use Rattle.nb_model.specs.Trail.{Trail};
 ghost use Rattle.nb_model.specs.Turns.{first_turn};
 ghost use Rattle.nb_base.specs.Takes.{IsNoRefusal};

@@ -18,7 +18,6 @@ use Rattle.nb_model.specs.Account.{Base, IsBase, Account}
 use Rattle.nb_model.specs.Outcomes.{Given}
 use Rattle.nb_model.specs.Owner.{delta_name, owner, not_opened}
 use Rattle.nb_model.specs.Run.{IsRun, Opening, base_now, opening}
-use Rattle.nb_model.specs.Sound.{IsSoundImage}
 use Rattle.nb_model.specs.Strokes.{base_in}
 use Rattle.nb_model.specs.Trail.{settled}
 use Rattle.nb_model.proofs.OpeningLaws.{run_ends}

@@ -27,14 +27,14 @@ use Rattle.nb_model.specs.declared.reply.Reply.{Reply}
 use Rattle.nb_model.specs.declared.reply.Reply.TheVariants.{Refused, Pages, Opened as OpenedReply}
 use Rattle.nb_model.specs.declared.statement.Statement.{Statement}
 use Rattle.nb_model.specs.declared.statement.Statement.TheVariants.{CreateDb, OpenDb}
-use Rattle.nb_model.specs.Account.{Kept, Base, IsBase, Plain, Account, with_entry}
+use Rattle.nb_model.specs.Account.{Kept, Base, Plain, Account, with_entry}
 use Rattle.nb_model.specs.Causes.{is_free_entry, not_free}
 use Rattle.nb_model.specs.Gifts.{WasGiven}
 use Rattle.nb_model.specs.Image.{image_scn}
 use Rattle.nb_model.specs.NewGuids.{AreNew, guids_in}
 use Rattle.nb_model.specs.Generated.{generated, last_or_refusal, said_by_generated}
 use Rattle.nb_model.specs.Jobs.{all_sized, quiet, refusal_in}
-use Rattle.nb_model.specs.Outcomes.{Begins, Given}
+use Rattle.nb_model.specs.Outcomes.{Given}
 use Rattle.nb_model.specs.Output.{output, status_of}
 use Rattle.nb_model.specs.Owner.{delta_name, entry_in}
 use Rattle.nb_model.specs.Making.{IsNoneOf}

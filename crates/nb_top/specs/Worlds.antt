@@ -6,10 +6,9 @@ use Rattle.nb_host.specs.Files.{File, Files}
 use Rattle.nb_host.specs.Names.{is_name, is_delta}
 use Rattle.nb_host.specs.World.{World}
 use Rattle.nb_host.specs.Crash.{Leaves}
-use Rattle.nb_model.specs.Account.{Base, Kept, IsBase, Missing, Account}
+use Rattle.nb_model.specs.Account.{Kept, Missing, Account}
 use Rattle.nb_model.specs.NewGuids.{IsUnnamed}
 use Rattle.nb_model.specs.Owner.{entry_in}
-use Rattle.nb_model.specs.Sound.{IsSoundImage}
 
 -- The files read as these, and a stop leaves just them. A host that starts again from what a stop left begins so.
 pub record StartsFrom (w : World) (files : Files) : Type 0 where
