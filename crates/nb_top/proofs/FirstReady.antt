@@ -127,7 +127,7 @@ module _ (plan : Plan) (askable : IsAskable plan) (now : Now) (todo : now.todo �
   pub begins_making : HasHeader (base_now now).image → image_state (base_now now).image ≤ 2
       → (image_state (base_now now).image ≡ 1 → (is_header (first_page (base_now now).frozen) ≡ true) × (image_state (base_now now).frozen ≡ 1)) → MayBeGiven now.given → IsMaking now
   begins_making header state frozen sixteen =
-      begun_making now plan.sessions todo (each_further (λ s. IsNamed (Begins s)) named_further) (λ stalled. (frozen stalled).1) (begins_going (λ is. absurd (true≢false (sym is))) header state frozen sixteen)
+      begun_making now plan.sessions todo (each_further (λ s. IsNamed (Begins s)) named_further) (λ stalled. (frozen stalled).1) (begins_going {sound = false} (λ is. absurd (true≢false (sym is))) header state frozen sixteen)
 
   -- so on one that was opened
   pub opened_making : (w : World) (held : Held) → IsOpen w held (settled (base_now now)) → MayBeGiven now.given → IsMaking now
