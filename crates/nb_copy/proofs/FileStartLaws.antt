@@ -66,7 +66,7 @@ level_count level scn previous_scn guid previous frozen some =
     ap (λ (t : Bool). elim t as (λ z. ℕ) [ true ↦ length frozen | false ↦ length (changed previous_scn frozen) ]) (sym (ne_eqb level 0 (not_zero level some)))
 
 module _ (w : World) (name : List ℕ) (bare head : LevelHead) (guid : List ℕ) (scn count : ℕ) (frozen : Image) (page slot : ℕ) (head_is : head ≡ record bare { guid = guid; scn = scn }) (nine : bare.level ≤ 9) (sixteen : length guid ≡ 16) (previous : length bare.previous ≡ 16)
-    (four : scn < 4294967296) (wide : IsTrue (is_page_size bare.page_size)) (size : bare.page_size ≡ image_size frozen) (counted : count ≡ length frozen) (is : IsFrozenOf (image_size frozen) frozen) (made : IsMade w name) where
+    (four : scn < 4294967296) (wide : IsTrue (is_page_size bare.page_size)) (size : bare.page_size ≡ image_size frozen) (counted : count ≡ length frozen) (is : IsFrozenOf (image_size frozen) frozen) (five : 5 ≤ length frozen) (made : IsMade w name) where
   abbrev backing : Backing
   backing = record { name = name; ask = ask_by head; scn = head.scn; guid = head.guid; page = page; slot = slot }
 
@@ -118,7 +118,7 @@ module _ (w : World) (name : List ℕ) (bare head : LevelHead) (guid : List ℕ)
         goes = record {
           of = record {
             long = sym (ap (λ (c : LevelCopying). c.count) started ∙ counted);
-            least = is.least;
+            least = five;
             most = is.most;
             sizes = is.sizes;
             size = ap (λ (h : LevelHead). h.page_size) headed ∙ sized;

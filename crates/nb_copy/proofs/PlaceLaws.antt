@@ -1,5 +1,5 @@
 -- Where the SCN entry of a page stands, and which pages need none.
-use Rattle.std.proofs.Common.{◌≡◌, ◌⊎◌, inl, inr, ℕ, zero, suc, ◌*◌, ◌/◌, ◌%◌, ◌<◌, ◌≤◌, length, sym, ap, ◌∙◌, arith}
+use Rattle.std.proofs.Common.{◌≡◌, ◌⊎◌, inl, inr, ℕ, zero, suc, ◌*◌, ◌/◌, ◌%◌, ◌<◌, ◌≤◌, length, refl, sym, ap, ◌∙◌, arith}
 use Rattle.std.specs.Prelude.{Bool, true, false, slice_index, IsTrue, ◌==◌, ◌&&◌, ◌||◌, not, nat_lt}
 use Rattle.std.proofs.Math.Nat.{div-eq_of_lt, mod-eq-sub-div-mul, div-mul-le_self}
 use Rattle.std.proofs.lemmas.Bool.{and_parts, or_cases, or_right, eqb-true}

@@ -1,5 +1,5 @@
 -- The start of a backup behind its tests: room in the history, the file, and the begin.
-use Rattle.std.proofs.Common.{◌≡◌, ◌≢◌, inl, inr, ℕ, ◌+◌, ◌<◌, ◌≤◌, List, [], ◌∷◌, ◌++◌, length, replicate, refl, sym, ap, subst, ◌∙◌, arith, true≢false}
+use Rattle.std.proofs.Common.{◌≡◌, ◌≢◌, inl, inr, ℕ, ◌<◌, ◌≤◌, List, [], ◌∷◌, ◌++◌, length, replicate, refl, sym, ap, subst, ◌∙◌, arith, true≢false}
 use Rattle.std.specs.Prelude.{not, ◌==◌, nat_lt, IsTrue, Some, None, Result, Ok, Err}
 use Rattle.nb_fields.specs.Bytes.{number_in}
 use Rattle.nb_fields.specs.Header.{state_of, scn_of, size_of}
@@ -23,10 +23,13 @@ use Rattle.nb_model.specs.Chains.{History, pages_of, spots, free_spot}
 use Rattle.nb_model.specs.Image.{Page, Image, first_page, image_scn, image_size}
 use Rattle.nb_model.specs.Outcomes.{Backing, Outcome, Copies, ClosesBackup, Seen, next_guid, says}
 use Rattle.nb_model.specs.Sound.{HasHeader}
-use Rattle.nb_model.specs.Strokes.{Stroke, begin}
+use Rattle.nb_model.specs.Strokes.{Stroke, begin, base_after}
 use Rattle.nb_model.specs.Trail.{Trail, after_stroke}
+use Rattle.nb_model.proofs.PagesOnly.{WritesPages, drafts_write_pages, pages_stay}
 use Rattle.nb_model.proofs.PutSound.{no_first}
+use Rattle.nb_model.proofs.RoomThere.{room_keeps}
 use Rattle.nb_state.specs.Open.{Held, IsOpen, name_of}
+use Rattle.nb_state.proofs.MakesLaws.{after_base}
 use Rattle.nb_engine.specs.declared.walk.Room.{Room as Kept}
 use Rattle.nb_engine.specs.Room.{room_cause, IsRoomIn}
 use Rattle.nb_engine.specs.Tries.{Tries}
@@ -34,6 +37,7 @@ use Rattle.nb_engine.specs.Turns.{starting_cause}
 use Rattle.nb_engine.proofs.CauseLaws.{first_none, first_next}
 use Rattle.nb_engine.proofs.DoesLaws.{unless_none, unless_some, tries_opened}
 use Rattle.nb_engine.proofs.StaysLaws.{open_aside}
+use Rattle.nb_engine.proofs.WalkLaws.{history_least}
 use Rattle.nb_copy.specs.Starting.{Backed, StartMakes, HasNotBegun, StartsBackup, IsStarted, BeginsFor, earlier_cause, file_cause, ask_in, ask_by, turn_since}
 use Rattle.nb_copy.specs.declared.since.Since.{Since}
 use Rattle.nb_copy.specs.declared.file_copy.FileCopy.{FileCopy}
@@ -154,6 +158,13 @@ module _ (old mid : World) (a b : Held) (t : Trail) (s : Seen) (session : ℕ) (
 
     pub same_first : first_page u.base.image ≡ first_page image
     same_first = ap first_page seen ∙ roomed_first image header decided.0
+
+    -- page 4 is there, and the room makes the database no shorter
+    least : 5 ≤ length u.base.image
+    least =
+        let longer = (pages_stay xs s.base (room_keeps WritesPages drafts_write_pages image tt) header).stays.longer in
+        let after = ap (λ (b : Base). length b.image) (after_base t xs ∙ ap (λ (b : Base). base_after b xs) at) in
+        omega (arith, history_least image decided.0, longer, after)
 
     starts_here : starting_cause image ≡ None
     starts_here =
@@ -299,5 +310,5 @@ module _ (old mid : World) (a b : Held) (t : Trail) (s : Seen) (session : ℕ) (
                   stalled = now_stalled;
                   below = omega (arith, low, long);
                   goes =
-                      file_starts new name bare begun guid (image_scn u.base.image) count v.base.frozen kept.page kept.slot begins.head nine sixteen previous u_header.scn wide sized (count_is ∙ ap length (sym (begun_frozen u guid (Some ask)))) frozen_is (still_made (Ok begun) begins) f g is_new file;
+                      file_starts new name bare begun guid (image_scn u.base.image) count v.base.frozen kept.page kept.slot begins.head nine sixteen previous u_header.scn wide sized (count_is ∙ ap length (sym (begun_frozen u guid (Some ask)))) frozen_is (omega (arith, least, begun_long u guid (Some ask), ap length (begun_frozen u guid (Some ask)))) (still_made (Ok begun) begins) f g is_new file;
                 }
