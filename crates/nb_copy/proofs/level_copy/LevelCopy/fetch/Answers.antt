@@ -22,10 +22,11 @@ returns-then-is_place-clause-fetched g c t tells open_ stalled of ready =
     let next : c.self.inside.next ≡ c.args.self.now.next = ap (λ (v : LevelCopying). v.next) c.self.view_is ∙ ap (λ (v : LevelCopying). v.next) load.same in
     let is = subst (λ n. IsTrue (is_page_size n)) (sym head) c.self.invariant.is_size in
     let own = own_page frozen c.head-head.result.now.page_size c.self.inside.next size is (sym c.is_place.ensures.value ∙ c.if-is_place.true) in
-    let may = may_place frozen c.head-head.result.now.page_size c.args.self.now.file.head.previous_scn c.self.inside.next size (sym c.is_place.ensures.value ∙ c.if-is_place.true) in
-    (ap (may_have_changed frozen c.args.self.now.file.head.previous_scn) (sym next) ∙ may,
+    let may = may_place frozen c.head-head.result.now.page_size c.args.self.now.file.head.previous_scn c.self.inside.next size (sym c.is_place.ensures.value ∙ c.if-is_place.true) in (
+      ap (may_have_changed frozen c.args.self.now.file.head.previous_scn) (sym next) ∙ may,
       c.copy_from_slice.ensures.items ∙ c.deref.ensures.value ∙ ap (λ (v : LevelCopying). v.scn_page) c.self.view_is ∙ load.entries t tells open_ stalled of ready
-      ∙ ap (λ n. page_at frozen (Rattle.nb_model.specs.Forms.scn_page_of frozen n)) (sym next) ∙ ap (page_at frozen) (own ∙ next))
+          ∙ ap (λ n. page_at frozen (Rattle.nb_model.specs.Forms.scn_page_of frozen n)) (sym next) ∙ ap (page_at frozen) (own ∙ next),
+    )
 
 pub returns-then-entry-head-clause-fetched : goal.returns-then-entry-head-clause-fetched
 returns-then-entry-head-clause-fetched g c t tells open_ stalled of ready =
@@ -63,9 +64,10 @@ returns-clause-fetched g c t tells open_ stalled of ready =
     let long = ap length c.deref-2.ensures.value ∙ c.self.invariant.scn_room in
     let above = entry_above frozen copy.file.head.page_size copy.next c.in_ok-index.index copy.file.head.previous_scn c.entry.result c.deref-2.result.now of.size load.index
     (sym size ∙ ap (λ (h : LevelHead). h.page_size) c.head-head.ensures ∙ sym long) load.inside (c.deref-2.ensures.value ∙ ap (λ (v : LevelCopying). v.scn_page) c.self.view_is ∙ load.entries t tells open_ stalled of ready) c.entry.ensures
-    (omega (arith, c.if-entry-head.false, scn)) c.requires.some place in
-    (above_may frozen copy.file.head.previous_scn copy.next above,
-      page ∙ c.in_ok-read_main.ensures.page t tells still (ap (λ (e : Held). e.files.state) load.engine ∙ stalled) (omega (arith, c.requires.below, of.long, next)) ∙ ap (page_at frozen) next)
+    (omega (arith, c.if-entry-head.false, scn)) c.requires.some place in (
+      above_may frozen copy.file.head.previous_scn copy.next above,
+      page ∙ c.in_ok-read_main.ensures.page t tells still (ap (λ (e : Held). e.files.state) load.engine ∙ stalled) (omega (arith, c.requires.below, of.long, next)) ∙ ap (page_at frozen) next,
+    )
 
 pub returns-clause-quiet : goal.returns-clause-quiet
 returns-clause-quiet g c = quiet_joined _ _ _ c.in_ok-index.ensures.quiet c.read_main.ensures.quiet
