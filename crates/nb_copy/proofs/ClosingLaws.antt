@@ -172,7 +172,7 @@ pub written_all : (w : World) (f : FileCopy) (frozen : Image) → IsFileCopying 
 written_all w (Pages copy) frozen is all = all ∙ sym is.of.long
 written_all w (Level copy) frozen is all =
     let next : copy.next ≡ length frozen = all ∙ sym is.of.long in
-    let begun = is.begun (omega (arith, next, is.of.sound.least)) in
+    let begun = is.begun (omega (arith, next, is.of.least)) in
     begun.has.counted ∙ ap length (below_all copy frozen is.of copy.next (omega (arith, next)))
 
 -- A backup that goes on.

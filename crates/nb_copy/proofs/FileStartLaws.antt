@@ -7,9 +7,9 @@ use Rattle.nb_host.specs.World.{World}
 use Rattle.nb_level.specs.declared.head.LevelHead.{LevelHead}
 use Rattle.nb_level.specs.Heads.{head_of}
 use Rattle.nb_model.specs.Image.{Image, image_size}
-use Rattle.nb_model.specs.Levels.{joined, level_bytes, taken, file_for, file_of, count_in}
+use Rattle.nb_model.specs.Levels.{joined, level_bytes, changed, file_for, file_of, count_in}
 use Rattle.nb_model.specs.Outcomes.{Backing}
-use Rattle.nb_model.specs.Sound.{IsSoundImage, IsOfSize}
+use Rattle.nb_model.specs.Sound.{IsOfSize}
 use Rattle.nb_copy.specs.declared.file_copy.FileCopy.{FileCopy}
 use Rattle.nb_copy.specs.declared.file_copy.FileCopy.TheVariants.{Pages, Level}
 use Rattle.nb_copy.specs.Copying.{Copying}
@@ -40,15 +40,15 @@ not_zero : (level : ℕ) → 1 ≤ level → level ≢ 0
 not_zero level some e = absurd (omega (arith, some, e))
 
 level_file : (level scn previous_scn size : ℕ) (guid previous : List ℕ) (frozen : Image) → 1 ≤ level → size ≡ image_size frozen
-    → level_bytes 102 (record { level = level; guid = guid; previous = previous; size = size; scn = scn; previous_scn = previous_scn }) (taken previous_scn frozen)
+    → level_bytes 102 (record { level = level; guid = guid; previous = previous; size = size; scn = scn; previous_scn = previous_scn }) (changed previous_scn frozen)
     ≡ file_of 102 (record { guid = guid; scn = scn; ask = Some (record { level = level; previous = previous; previous_scn = previous_scn }); image = frozen })
 unfolding file_of file_for
 level_file level scn previous_scn size guid previous frozen some e =
-    ap (λ (n : ℕ). level_bytes 102 (record { level = level; guid = guid; previous = previous; size = n; scn = scn; previous_scn = previous_scn }) (taken previous_scn frozen)) e
+    ap (λ (n : ℕ). level_bytes 102 (record { level = level; guid = guid; previous = previous; size = n; scn = scn; previous_scn = previous_scn }) (changed previous_scn frozen)) e
     ∙ ap
     (λ (t : Bool). elim t as (λ z. List ℕ) [
       | true ↦ joined frozen
-      | false ↦ level_bytes 102 (record { level = level; guid = guid; previous = previous; size = image_size frozen; scn = scn; previous_scn = previous_scn }) (taken previous_scn frozen)
+      | false ↦ level_bytes 102 (record { level = level; guid = guid; previous = previous; size = image_size frozen; scn = scn; previous_scn = previous_scn }) (changed previous_scn frozen)
     ])
     (sym (ne_eqb level 0 (not_zero level some)))
 
@@ -59,14 +59,14 @@ pages_count zero scn previous_scn guid previous frozen e = refl
 pages_count (suc level) scn previous_scn guid previous frozen e = absurd (omega (arith, e))
 
 level_count : (level scn previous_scn : ℕ) (guid previous : List ℕ) (frozen : Image) → 1 ≤ level
-    → length (taken previous_scn frozen)
+    → length (changed previous_scn frozen)
     ≡ count_in (record { guid = guid; scn = scn; ask = Some (record { level = level; previous = previous; previous_scn = previous_scn }); image = frozen }) (record { level = level; previous = previous; previous_scn = previous_scn })
 unfolding count_in
 level_count level scn previous_scn guid previous frozen some =
-    ap (λ (t : Bool). elim t as (λ z. ℕ) [ true ↦ length frozen | false ↦ length (taken previous_scn frozen) ]) (sym (ne_eqb level 0 (not_zero level some)))
+    ap (λ (t : Bool). elim t as (λ z. ℕ) [ true ↦ length frozen | false ↦ length (changed previous_scn frozen) ]) (sym (ne_eqb level 0 (not_zero level some)))
 
 module _ (w : World) (name : List ℕ) (bare head : LevelHead) (guid : List ℕ) (scn count : ℕ) (frozen : Image) (page slot : ℕ) (head_is : head ≡ record bare { guid = guid; scn = scn }) (nine : bare.level ≤ 9) (sixteen : length guid ≡ 16) (previous : length bare.previous ≡ 16)
-    (four : scn < 4294967296) (wide : IsTrue (is_page_size bare.page_size)) (size : bare.page_size ≡ image_size frozen) (counted : count ≡ length frozen) (is : IsFrozenOf (image_size frozen) frozen) (sound : 1 ≤ bare.level → IsSoundImage frozen) (made : IsMade w name) where
+    (four : scn < 4294967296) (wide : IsTrue (is_page_size bare.page_size)) (size : bare.page_size ≡ image_size frozen) (counted : count ≡ length frozen) (is : IsFrozenOf (image_size frozen) frozen) (five : 5 ≤ length frozen) (made : IsMade w name) where
   abbrev backing : Backing
   backing = record { name = name; ask = ask_by head; scn = head.scn; guid = head.guid; page = page; slot = slot }
 
@@ -112,13 +112,15 @@ module _ (w : World) (name : List ℕ) (bare head : LevelHead) (guid : List ℕ)
       let sized : head.page_size ≡ image_size frozen = ap (λ (h : LevelHead). h.page_size) head_is ∙ size in
       record {
         name = ap (λ (c : LevelCopying). c.file.name) started ∙ new.0;
-        whole = ap (λ (h : LevelHead). level_bytes 102 (head_of h) (taken h.previous_scn frozen)) headed
+        whole = ap (λ (h : LevelHead). level_bytes 102 (head_of h) (changed h.previous_scn frozen)) headed
             ∙ level_file head.level head.scn head.previous_scn head.page_size head.guid head.previous frozen (omega (arith, some, level_is)) sized;
-        count = ap (λ (h : LevelHead). length (taken h.previous_scn frozen)) headed ∙ level_count head.level head.scn head.previous_scn head.guid head.previous frozen (omega (arith, some, level_is));
+        count = ap (λ (h : LevelHead). length (changed h.previous_scn frozen)) headed ∙ level_count head.level head.scn head.previous_scn head.guid head.previous frozen (omega (arith, some, level_is));
         goes = record {
           of = record {
             long = sym (ap (λ (c : LevelCopying). c.count) started ∙ counted);
-            sound = sound some;
+            least = five;
+            most = is.most;
+            sizes = is.sizes;
             size = ap (λ (h : LevelHead). h.page_size) headed ∙ sized;
             formed = subst (λ (h : LevelHead). IsHeaded (head_of h)) (sym headed) formed;
           };

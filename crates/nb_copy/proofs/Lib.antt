@@ -7,7 +7,6 @@ pub mod CopyCauses
 pub mod BegunLaws
 pub mod ClosingLaws
 pub mod FirstLaws
-pub mod NewWhole
 pub mod RoomedLaws
 pub mod FileStartLaws
 pub mod InUseLaws

@@ -1,16 +1,16 @@
 -- Where the SCN entry of a page stands, and which pages need none.
-use Rattle.std.proofs.Common.{◌≡◌, ◌⊎◌, inl, inr, ℕ, zero, suc, ◌*◌, ◌/◌, ◌%◌, ◌<◌, ◌≤◌, length, sym, ap, ◌∙◌, arith}
-use Rattle.std.specs.Prelude.{true, false, slice_index, IsTrue, ◌==◌, ◌&&◌, nat_lt}
+use Rattle.std.proofs.Common.{◌≡◌, ◌⊎◌, inl, inr, ℕ, zero, suc, ◌*◌, ◌/◌, ◌%◌, ◌<◌, ◌≤◌, length, refl, sym, ap, ◌∙◌, arith}
+use Rattle.std.specs.Prelude.{Bool, true, false, slice_index, IsTrue, ◌==◌, ◌&&◌, ◌||◌, not, nat_lt}
 use Rattle.std.proofs.Math.Nat.{div-eq_of_lt, mod-eq-sub-div-mul, div-mul-le_self}
-use Rattle.std.proofs.lemmas.Bool.{and_parts, or_cases, eqb-true}
+use Rattle.std.proofs.lemmas.Bool.{and_parts, or_cases, or_right, eqb-true}
 use Rattle.nb_fields.specs.Places.{is_page_size, entries_in, scn_place, is_scn_place}
 use Rattle.nb_fields.proofs.SizeLemmas.{size_facts}
-use Rattle.nb_fields.specs.Page.{stamp_of}
 use Rattle.nb_model.specs.Image.{Page, Image, image_size, page_at}
-use Rattle.nb_model.specs.Sound.{HasEntries}
+use Rattle.nb_model.specs.Levels.{may_have_changed}
+use Rattle.nb_model.proofs.ReadLaws.{lt_no}
 use Rattle.nb_scn.specs.Entries.{entries}
 use Rattle.nb_alloc.proofs.PutLaws.{other-with}
-use Rattle.nb_model.specs.Forms.{scn_page_of, scn_entry}
+use Rattle.nb_model.specs.Forms.{scn_page_of, scn_entry, has_entry}
 use Rattle.nb_alloc.proofs.RaiseLaws.{scn_page-is, entry-is}
 use Rattle.nb_gather.proofs.FitLaws.{lt_tells}
 
@@ -54,10 +54,22 @@ loaded_place image size p k index place same is some cover number at (inr none) 
 pub own_page : (image : Image) (size p : ℕ) → size ≡ image_size image → IsTrue (is_page_size size) → is_scn_place size p ≡ true → scn_page_of image p ≡ p
 own_page image size p same is place = ap (λ n. scn_place n (p / entries_in n)) (sym same) ∙ scn_own size p is place
 
--- a page whose entry isn't above an SCN has no stamp above it
-pub entry_low : (image : Image) (size p index scn value : ℕ) (old : Page) → HasEntries image → size ≡ image_size image → index ≡ p % entries_in size → size ≡ length old → index < entries_in size → old ≡ page_at image (scn_page_of image p)
-    → value ≡ slice_index (entries old) index → value ≤ scn → 1 ≤ p → p < length image → is_scn_place size p ≡ false → stamp_of (page_at image p) ≤ scn
-entry_low image size p index scn value old has same number long inside is found low some below other =
+-- page 0 and an SCN page have no entry, and may have changed
+may_none : (image : Image) (scn p : ℕ) → (p == 0 || is_scn_place (image_size image) p) ≡ true → may_have_changed image scn p ≡ true
+unfolding may_have_changed has_entry
+may_none image scn p none = ap (λ (t : Bool). not (elim t as (λ z. Bool) [ true ↦ false | false ↦ true ]) || nat_lt scn (scn_entry image p)) none
+
+pub may_first : (image : Image) (scn : ℕ) → may_have_changed image scn 0 ≡ true
+may_first image scn = may_none image scn 0 refl
+
+pub may_place : (image : Image) (size scn p : ℕ) → size ≡ image_size image → is_scn_place size p ≡ true → may_have_changed image scn p ≡ true
+may_place image size scn p same place = may_none image scn p (or_right (p == 0) (is_scn_place (image_size image) p) (ap (λ n. is_scn_place n p) (sym same) ∙ place))
+
+-- a page whose entry isn't above an SCN hasn't changed since
+pub entry_low : (image : Image) (size p index scn value : ℕ) (old : Page) → size ≡ image_size image → index ≡ p % entries_in size → size ≡ length old → index < entries_in size → old ≡ page_at image (scn_page_of image p)
+    → value ≡ slice_index (entries old) index → value ≤ scn → 1 ≤ p → is_scn_place size p ≡ false → may_have_changed image scn p ≡ false
+unfolding may_have_changed
+entry_low image size p index scn value old same number long inside is found low some other =
     let known : slice_index (entries old) index ≡ scn_entry image p = entry-is image size p index old same number long inside is in
-    let stamp = has.no_lower p below (other-with image p size same (λ e. absurd (omega (arith, e, some))) other) in
-    omega (arith, stamp, known, found, low)
+    let has : has_entry image p ≡ true = other-with image p size same (λ e. absurd (omega (arith, e, some))) other in
+    ap (λ (t : Bool). not t || nat_lt scn (scn_entry image p)) has ∙ lt_no scn (scn_entry image p) (omega (arith, known, found, low))

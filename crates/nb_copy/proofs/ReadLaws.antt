@@ -1,12 +1,13 @@
 -- How many pages the copy of a level reads.
 use Rattle.std.proofs.Common.{◌≡◌, ◌⊎◌, inl, inr, ℕ, zero, suc, ◌+◌, ◌%◌, ◌<◌, ◌≤◌, length, refl, sym, ap, ◌∙◌, arith}
-use Rattle.std.specs.Prelude.{Bool, true, false, IsTrue, ◌==◌, ◌||◌, nat_lt, slice_index}
-use Rattle.std.proofs.lemmas.Bool.{and_from, and_left, or_left, or_right, ne_eqb, eq-eqb, lt-ltb}
+use Rattle.std.specs.Prelude.{Bool, true, false, IsTrue, ◌==◌, ◌||◌, not, nat_lt, slice_index}
+use Rattle.std.proofs.lemmas.Bool.{and_from, and_left, and_parts, or_left, or_right, ne_eqb, eq-eqb, lt-ltb}
 use Rattle.std.proofs.Math.Nat.{mod-eq_of_lt}
 use Rattle.nb_fields.specs.Places.{is_page_size, entries_in, is_scn_place}
 use Rattle.nb_fields.proofs.SizeLemmas.{size_facts}
 use Rattle.nb_model.specs.Image.{Page, Image, image_size, page_at}
 use Rattle.nb_model.specs.Forms.{has_entry, scn_entry, scn_page_of}
+use Rattle.nb_model.specs.Levels.{may_have_changed}
 use Rattle.nb_scn.specs.Entries.{entries}
 use Rattle.nb_alloc.proofs.PutLaws.{other-with}
 use Rattle.nb_alloc.proofs.RaiseLaws.{entry-is}
@@ -51,6 +52,11 @@ entry_above image size p index scn value old same number long inside is found hi
     let known : slice_index (entries old) index ≡ scn_entry image p = entry-is image size p index old same number long inside is in
     and_from (has_entry image p) (nat_lt scn (scn_entry image p)) (other-with image p size same (λ e. absurd (omega (arith, e, some))) other)
     (lt-ltb scn (scn_entry image p) (omega (arith, known, found, high)))
+
+-- so it may have changed since
+pub above_may : (image : Image) (scn p : ℕ) → is_above image scn p ≡ true → may_have_changed image scn p ≡ true
+unfolding is_above may_have_changed
+above_may image scn p above = or_right (not (has_entry image p)) (nat_lt scn (scn_entry image p)) (and_parts (has_entry image p) (nat_lt scn (scn_entry image p)) above).1
 
 -- page 0 and SCN pages have no entry
 none_above : (image : Image) (scn p : ℕ) → has_entry image p ≡ false → one_if (is_above image scn p) ≡ 0

@@ -1,5 +1,5 @@
 -- The start of a backup behind its tests: room in the history, the file, and the begin.
-use Rattle.std.proofs.Common.{◌≡◌, ◌≢◌, inl, inr, ℕ, ◌+◌, ◌<◌, ◌≤◌, List, [], ◌∷◌, ◌++◌, length, replicate, refl, sym, ap, subst, ◌∙◌, arith, true≢false}
+use Rattle.std.proofs.Common.{◌≡◌, ◌≢◌, inl, inr, ℕ, ◌<◌, ◌≤◌, List, [], ◌∷◌, ◌++◌, length, replicate, refl, sym, ap, subst, ◌∙◌, arith, true≢false}
 use Rattle.std.specs.Prelude.{not, ◌==◌, nat_lt, IsTrue, Some, None, Result, Ok, Err}
 use Rattle.nb_fields.specs.Bytes.{number_in}
 use Rattle.nb_fields.specs.Header.{state_of, scn_of, size_of}
@@ -22,13 +22,14 @@ use Rattle.nb_model.specs.Causes.{Cause, first_cause, when, read_only, not_state
 use Rattle.nb_model.specs.Chains.{History, pages_of, spots, free_spot}
 use Rattle.nb_model.specs.Image.{Page, Image, first_page, image_scn, image_size}
 use Rattle.nb_model.specs.Outcomes.{Backing, Outcome, Copies, ClosesBackup, Seen, next_guid, says}
-use Rattle.nb_model.specs.Sound.{IsSoundImage, HasHeader}
-use Rattle.nb_model.specs.Strokes.{Stroke, begin}
+use Rattle.nb_model.specs.Sound.{HasHeader}
+use Rattle.nb_model.specs.Strokes.{Stroke, begin, base_after}
 use Rattle.nb_model.specs.Trail.{Trail, after_stroke}
-use Rattle.nb_model.proofs.ControlMay.{may_begin}
-use Rattle.nb_model.proofs.ControlSound.{control_sound}
+use Rattle.nb_model.proofs.PagesOnly.{WritesPages, drafts_write_pages, pages_stay}
 use Rattle.nb_model.proofs.PutSound.{no_first}
+use Rattle.nb_model.proofs.RoomThere.{room_keeps}
 use Rattle.nb_state.specs.Open.{Held, IsOpen, name_of}
+use Rattle.nb_state.proofs.MakesLaws.{after_base}
 use Rattle.nb_engine.specs.declared.walk.Room.{Room as Kept}
 use Rattle.nb_engine.specs.Room.{room_cause, IsRoomIn}
 use Rattle.nb_engine.specs.Tries.{Tries}
@@ -36,18 +37,17 @@ use Rattle.nb_engine.specs.Turns.{starting_cause}
 use Rattle.nb_alloc.proofs.CauseLaws.{first_none, first_next}
 use Rattle.nb_alloc.proofs.DoesLaws.{unless_none, unless_some, tries_opened}
 use Rattle.nb_engine.proofs.StaysLaws.{open_aside}
-use Rattle.nb_copy.specs.Starting.{Backed, StartMakes, HasNotBegun, StartsBackup, IsStarted, BeginsFor, GoesByEntries, IsItsLevel, earlier_cause, file_cause, ask_in, ask_by, turn_since}
+use Rattle.nb_engine.proofs.WalkLaws.{history_least}
+use Rattle.nb_copy.specs.Starting.{Backed, StartMakes, HasNotBegun, StartsBackup, IsStarted, BeginsFor, earlier_cause, file_cause, ask_in, ask_by, turn_since}
 use Rattle.nb_copy.specs.declared.since.Since.{Since}
-use Rattle.nb_copy.specs.declared.since.Since.TheVariants.{Level, Guid}
 use Rattle.nb_copy.specs.declared.file_copy.FileCopy.{FileCopy}
 use Rattle.nb_copy.specs.FileStarting.{IsNewFile, IsStartedFile}
 use Rattle.nb_copy.specs.FileCopying.{file_count}
 use Rattle.nb_gather.specs.Making.{IsEmpty, IsMade}
-use Rattle.nb_copy.proofs.StartCauses.{scn_room}
-use Rattle.nb_copy.proofs.BegunLaws.{begun_image, begun_frozen, begun_long, begun_size, begun_state}
+use Rattle.nb_copy.proofs.BegunLaws.{begun_frozen, begun_long, begun_size, begun_state}
 use Rattle.nb_copy.proofs.FileCopyLaws.{IsFrozenOf, frozen_parts}
 use Rattle.nb_copy.proofs.FileStartLaws.{file_first, file_starts}
-use Rattle.nb_copy.proofs.RoomedLaws.{roomed_is, roomed_first, roomed_sound}
+use Rattle.nb_copy.proofs.RoomedLaws.{roomed_is, roomed_first}
 use Rattle.nb_copy.proofs.BesideLaws.{starts_struck, starts_made, starts_then, starts_more, made_kept}
 use Rattle.nb_copy.proofs.StartLaws.{early, strokes, started, struck_some, struck_most, turn_late, turn_told, turn_strokes, turn_started}
 
@@ -55,11 +55,6 @@ use Rattle.nb_copy.proofs.StartLaws.{early, strokes, started, struck_some, struc
 abbrev starting_of : Page → Cause
 starting_of p =
     first_cause (when (not (number_in 65 1 p == 0)) (Access 1) ∷ when (not (state_of p == 0)) (WrongState (state_of p)) ∷ when (nat_lt 4294967293 (scn_of p)) (ScnExhausted (scn_of p)) ∷ [])
-
--- a backup whose level isn't 0 goes by SCN entries
-goes_by : (since : Since) (level : ℕ) → IsItsLevel since level → 1 ≤ level → GoesByEntries since
-goes_by (Level asked) level its some = omega (arith, its, some)
-goes_by (Guid guid) level its some = tt
 
 -- Behind the tests.
 module _ (old mid : World) (a b : Held) (t : Trail) (s : Seen) (session : ℕ) (since : Since) (name : List ℕ) (runs : a.running ≡ s.running) (at : t.base ≡ s.base) (is : IsOpen old a t) (apart : OfFiles (name_of a) name → ⊥)
@@ -164,8 +159,12 @@ module _ (old mid : World) (a b : Held) (t : Trail) (s : Seen) (session : ℕ) (
     pub same_first : first_page u.base.image ≡ first_page image
     same_first = ap first_page seen ∙ roomed_first image header decided.0
 
-    pub still_sound : IsSoundImage t.base.image → IsSoundImage u.base.image
-    still_sound sound = subst IsSoundImage (sym seen) (roomed_sound image header decided.0 (subst (λ (x : Base). IsSoundImage x.image) at sound))
+    -- page 4 is there, and the room makes the database no shorter
+    least : 5 ≤ length u.base.image
+    least =
+        let longer = (pages_stay xs s.base (room_keeps WritesPages drafts_write_pages image tt) header).stays.longer in
+        let after = ap (λ (b : Base). length b.image) (after_base t xs ∙ ap (λ (b : Base). base_after b xs) at) in
+        omega (arith, history_least image decided.0, longer, after)
 
     starts_here : starting_cause image ≡ None
     starts_here =
@@ -267,7 +266,7 @@ module _ (old mid : World) (a b : Held) (t : Trail) (s : Seen) (session : ℕ) (
               })
 
           -- its copier
-          module _ (kept : Kept) (f g : FileCopy) (count : ℕ) (sixteen : length guid ≡ 16) (its_level : IsItsLevel since bare.level) (sound : GoesByEntries since → IsSoundImage t.base.image) (asked : ask_by bare ≡ ask) (roomed : IsRoomIn image kept) (low : kept.page < length (room_in image).draft.image) (is_new : IsNewFile name bare f) (file : IsStartedFile f g begun count)
+          module _ (kept : Kept) (f g : FileCopy) (count : ℕ) (sixteen : length guid ≡ 16) (asked : ask_by bare ≡ ask) (roomed : IsRoomIn image kept) (low : kept.page < length (room_in image).draft.image) (is_new : IsNewFile name bare f) (file : IsStartedFile f g begun count)
               (counted : count ≡ d.files.count) (nine : bare.level ≤ 9) (previous : length bare.previous ≡ 16) (wide : IsTrue (is_page_size bare.page_size)) (size : bare.page_size ≡ a.files.page_size) where
             abbrev its : Backing
             its = record { name = name; ask = ask_by begun; scn = begun.scn; guid = begun.guid; page = kept.page; slot = kept.slot }
@@ -301,11 +300,6 @@ module _ (old mid : World) (a b : Held) (t : Trail) (s : Seen) (session : ℕ) (
             frozen_is =
                 subst (λ (n : ℕ). IsFrozenOf n v.base.frozen) (begins.opened.files.agrees.page_size ∙ ap image_size (sym (begun_frozen u guid (Some ask)))) (frozen_parts new d v begins.opened now_stalled)
 
-            frozen_sound : 1 ≤ bare.level → IsSoundImage v.base.frozen
-            frozen_sound some =
-                subst IsSoundImage (sym (begun_frozen u guid (Some ask) ∙ begun_image u guid (Some ask)))
-                (control_sound 1 (image_scn u.base.image + 1) guid u.base.image u_header (still_sound (sound (goes_by since bare.level its_level some))) (may_begin u.base.image u_header guid sixteen (scn_room u.base.image starts_there)))
-
             pub started_is : IsStarted new d v (record { backing = its; page_size = begun.page_size; file = g }) (started s session since name)
             started_is =
                 let firsts = file_first name bare begun count f g is_new file in
@@ -316,5 +310,5 @@ module _ (old mid : World) (a b : Held) (t : Trail) (s : Seen) (session : ℕ) (
                   stalled = now_stalled;
                   below = omega (arith, low, long);
                   goes =
-                      file_starts new name bare begun guid (image_scn u.base.image) count v.base.frozen kept.page kept.slot begins.head nine sixteen previous u_header.scn wide sized (count_is ∙ ap length (sym (begun_frozen u guid (Some ask)))) frozen_is frozen_sound (still_made (Ok begun) begins) f g is_new file;
+                      file_starts new name bare begun guid (image_scn u.base.image) count v.base.frozen kept.page kept.slot begins.head nine sixteen previous u_header.scn wide sized (count_is ∙ ap length (sym (begun_frozen u guid (Some ask)))) frozen_is (omega (arith, least, begun_long u guid (Some ask), ap length (begun_frozen u guid (Some ask)))) (still_made (Ok begun) begins) f g is_new file;
                 }

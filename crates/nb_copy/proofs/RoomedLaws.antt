@@ -1,28 +1,21 @@
 -- A database behind the strokes that make room in the history.
 use Rattle.std.proofs.Common.{◌≡◌, ℕ, zero, suc, ◌+◌, ◌≤◌, List, [], length, refl, sym, ap, subst, ◌∙◌, arith}
-use Rattle.std.proofs.lemmas.List.{length-drop}
-use Rattle.std.specs.Prelude.{Bool, true, false, Option, Some, None}
-use Rattle.nb_fields.specs.Bytes.{bytes_of, with_part}
+use Rattle.std.specs.Prelude.{Option, Some, None}
 use Rattle.nb_fields.specs.Page.{kind_of}
-use Rattle.nb_fields.specs.Places.{is_inventory_place, is_scn_place}
-use Rattle.nb_fields.proofs.NumberLemmas.{length-bytes_of}
-use Rattle.nb_fields.proofs.PartLemmas.{length-with_part}
-use Rattle.nb_fields.proofs.SizeLemmas.{size_facts}
 use Rattle.nb_model.specs.Account.{Base}
-use Rattle.nb_model.specs.Image.{Page, Image, page_at, first_page, image_size}
+use Rattle.nb_model.specs.Image.{Image, page_at, first_page}
 use Rattle.nb_model.specs.Trail.{Trail}
 use Rattle.nb_model.specs.Forms.{Draft, drafted, needs, put, inventory_of, scn_page_of, is_free_page}
 use Rattle.nb_model.specs.Causes.{broken_at}
 use Rattle.nb_model.specs.Chains.{History, Spot, pages_of, found_pages, spots, free_spot, last_of, grown}
 use Rattle.nb_model.specs.Backups.{Room, room_in, needs_taken}
-use Rattle.nb_model.specs.Sound.{IsSoundImage, HasHeader}
+use Rattle.nb_model.specs.Sound.{HasHeader}
 use Rattle.nb_model.proofs.DraftLaws.{IsKept, IsOf, either, drafts_are, drafted_is, needs_keeps, grown_keeps}
 use Rattle.nb_model.proofs.DraftJoin.{join_put}
-use Rattle.nb_model.proofs.FitLaws.{IsWhole, fits_first}
 use Rattle.nb_model.proofs.HeaderLaws.{header-size}
 use Rattle.nb_model.proofs.MainLaws.{some_page}
-use Rattle.nb_model.proofs.PutSound.{IsPlain, needs_image, header_whole, plain_put}
-use Rattle.nb_model.proofs.SoundLaws.{all_at, header_kind}
+use Rattle.nb_model.proofs.PutSound.{needs_image}
+use Rattle.nb_model.proofs.SoundLaws.{header_kind}
 use Rattle.nb_base.specs.Takes.{after_strokes}
 use Rattle.nb_state.proofs.MakesLaws.{after_base}
 use Rattle.nb_engine.specs.Make.{new_of}
@@ -30,7 +23,6 @@ use Rattle.nb_engine.specs.Room.{no_rows, linked_payload}
 use Rattle.nb_engine.proofs.GrowLaws.{new_longer, no_rows_short}
 use Rattle.nb_alloc.proofs.NewLaws.{told}
 use Rattle.nb_engine.proofs.WalkLaws.{IsData, last_data}
-use Rattle.nb_copy.proofs.NewWhole.{whole}
 use Rattle.nb_copy.proofs.FirstLaws.{Starts, starts_itself, first_is, put_begins, new_begins}
 
 -- the new page of the history, and its number
@@ -119,59 +111,3 @@ module _ (image : Image) (h : HasHeader image) (linked : broken_at (pages_of His
   -- page 0 stays
   pub roomed_first : first_page (room_in image).draft.image ≡ first_page image
   roomed_first = subst (λ (r : Room). first_page r.draft.image ≡ first_page image) (sym (room_is image)) (first_by (free_spot (spots History image)))
-
-  -- where the inventories agree with the pages, they do behind it
-  module _ (is : IsSoundImage image) where
-    y_whole : IsWhole y
-    y_whole = whole 5 (told no_rows) refl (λ p. no_rows_short) (length image + 4) image (header_whole image h is)
-
-    y_size : image_size y ≡ image_size image
-    y_size = ap image_size y_starts.is
-
-    y_long : length image ≤ length y
-    y_long = new_longer 5 (told no_rows) image
-
-    two_five : ◌≡◌ {A = ℕ} 2 5 → ⊥
-    two_five e = absurd (omega (arith, e))
-
-    ten_five : ◌≡◌ {A = ℕ} 10 5 → ⊥
-    ten_five e = absurd (omega (arith, e))
-
-    not_inventory : (t : Bool) → is_inventory_place (image_size image) last ≡ t → t ≡ false
-    not_inventory true e = absurd (two_five (sym (is.sound.system.inventories last data_page.low e) ∙ data_page.kind))
-    not_inventory false e = refl
-
-    not_scn_page : (t : Bool) → is_scn_place (image_size image) last ≡ t → t ≡ false
-    not_scn_page true e = absurd (ten_five (sym (is.sound.system.scn_pages last data_page.low e) ∙ data_page.kind))
-    not_scn_page false e = refl
-
-    y_plain : IsPlain y last
-    y_plain =
-        let low = data_page.low in
-        let most = y_whole.sound.most in
-        record {
-          place = record { behind = behind; there = omega (arith, low, y_long); most = omega (arith, low, y_long, most) };
-          no_inventory = ap (λ (n : ℕ). is_inventory_place n last) y_size ∙ not_inventory _ refl;
-          no_scn_page = ap (λ (n : ℕ). is_scn_place n last) y_size ∙ not_scn_page _ refl;
-        }
-
-    payload_fits : 16 + length payload ≤ image_size y
-    payload_fits =
-        let low = data_page.low in
-        let long : length (page_at y last) ≡ image_size y = all_at (λ (page : Page). length page ≡ image_size y) y y_whole.sound.sizes last (omega (arith, low, y_long)) in
-        let facts = size_facts (image_size y) y_whole.fields.size in
-        let kept = length-with_part 16 (bytes_of 4 (new_link image).1) (page_at y last) (omega (arith, length-bytes_of 4 (new_link image).1, long, facts.at_least)) in
-        omega (arith, length-drop 16 (with_part 16 (bytes_of 4 (new_link image).1) (page_at y last)), kept, long, facts.at_least)
-
-    abbrev b : Base
-    b = record { image = y; frozen = []; diverted = [] }
-
-    link_whole : IsWhole (put last 5 payload (drafted y)).image
-    link_whole = (plain_put (λ bytes. Unit {0}) (λ bytes e. tt) b last 5 payload (drafted y) (fits_first (λ bytes. Unit {0}) b y_whole) y_plain refl payload_fits (λ bytes e. tt)).fits.whole
-
-    sound_by : (o : Option Spot) → IsSoundImage (room_by image o).draft.image
-    sound_by (Some s) = subst IsSoundImage (sym (taken_same image s)) is
-    sound_by None = subst IsSoundImage (sym grown_image) link_whole.sound
-
-    pub roomed_sound : IsSoundImage (room_in image).draft.image
-    roomed_sound = subst (λ (r : Room). IsSoundImage r.draft.image) (sym (room_is image)) (sound_by (free_spot (spots History image)))

@@ -5,7 +5,7 @@ use Rattle.nb_host.specs.declared.faults.HostFault.{HostFault}
 use Rattle.nb_state.specs.declared.turns.Progress.{Progress}
 use Rattle.nb_state.specs.declared.turns.Progress.TheVariants.{More, Finished}
 use Rattle.nb_model.specs.Image.{Image}
-use Rattle.nb_model.specs.Levels.{joined, taken}
+use Rattle.nb_model.specs.Levels.{joined, changed}
 use Rattle.nb_copy.specs.declared.file_copy.FileCopy.{FileCopy}
 use Rattle.nb_copy.specs.declared.file_copy.FileCopy.TheVariants.{Pages, Level}
 use Rattle.nb_gather.specs.Making.{IsKept}
@@ -45,7 +45,7 @@ whole_file (Level copy) frozen = whole_level copy frozen
 -- how many pages it has then
 abbrev pub whole_count : FileCopy → Image → ℕ
 whole_count (Pages copy) frozen = length frozen
-whole_count (Level copy) frozen = length (taken copy.file.head.previous_scn frozen)
+whole_count (Level copy) frozen = length (changed copy.file.head.previous_scn frozen)
 
 -- a copy of this image goes on
 abbrev pub IsFileCopying : World → FileCopy → Image → Type 0

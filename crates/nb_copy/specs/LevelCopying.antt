@@ -5,8 +5,8 @@ use Rattle.nb_host.specs.World.{World}
 use Rattle.nb_level.specs.Heads.{head_of}
 use Rattle.nb_model.specs.Image.{Page, Image, Numbered, page_at, image_size}
 use Rattle.nb_model.specs.Forms.{scn_page_of}
-use Rattle.nb_model.specs.Levels.{level_bytes, taken}
-use Rattle.nb_model.specs.Sound.{IsSoundImage}
+use Rattle.nb_model.specs.Levels.{level_bytes, may_have_changed, changed_from, changed}
+use Rattle.nb_model.specs.Sound.{IsOfSize}
 use Rattle.nb_gather.specs.Gathering.{LevelWriting, IsHeaded, HasTaken}
 use Rattle.nb_gather.specs.Making.{IsMade}
 
@@ -21,16 +21,18 @@ pub record LevelCopying : Type 0 where
 
 -- the pages that the level takes of the first so many
 abbrev pub taken_below : (turns : ℕ) → LevelCopying → Image → List Numbered
-taken_below turns copy frozen = taken copy.file.head.previous_scn (take turns frozen)
+taken_below turns copy frozen = changed_from (may_have_changed frozen copy.file.head.previous_scn) 0 copy.file.head.previous_scn (take turns frozen)
 
 -- the whole file
 abbrev pub whole_level : LevelCopying → Image → List ℕ
-whole_level copy frozen = level_bytes 102 (head_of copy.file.head) (taken copy.file.head.previous_scn frozen)
+whole_level copy frozen = level_bytes 102 (head_of copy.file.head) (changed copy.file.head.previous_scn frozen)
 
--- it copies this image, whose inventories agree with its pages
+-- it copies this image, whatever its inventories hold
 pub record IsLevelOf (copy : LevelCopying) (frozen : Image) : Type 0 where
   pub long : length frozen ≡ copy.count
-  pub sound : IsSoundImage frozen
+  pub least : 5 ≤ length frozen
+  pub most : length frozen ≤ 1048576
+  pub sizes : IsOfSize (image_size frozen) frozen
   pub size : copy.file.head.page_size ≡ image_size frozen
   pub formed : IsHeaded (head_of copy.file.head)
 
@@ -38,7 +40,8 @@ pub record IsLevelOf (copy : LevelCopying) (frozen : Image) : Type 0 where
 abbrev pub HasEntriesOf : LevelCopying → Image → Type 0
 HasEntriesOf copy frozen = 2 ≤ copy.next → copy.scn_page ≡ page_at frozen (scn_page_of frozen (copy.next - 1))
 
--- The head stands in its file, and of the pages that were dealt with it took those whose stamp is above the SCN of the earlier backup.
+-- The head stands in its file, and of the pages that were dealt with it took those that may have changed and whose stamp is above the SCN of the
+-- earlier backup.
 pub record IsLevelBegun (w : World) (copy : LevelCopying) (frozen : Image) : Type 0 where
   pub has : HasTaken w copy.file (taken_below copy.next copy frozen)
   pub entries : HasEntriesOf copy frozen

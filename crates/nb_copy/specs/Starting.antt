@@ -123,11 +123,6 @@ abbrev pub IsItsLevel : Since → (level : ℕ) → Type 0
 IsItsLevel (Level asked) level = level ≡ asked
 IsItsLevel (Guid guid) level = level ≤ 9
 
--- A backup of level 1 to 9 takes pages by their SCN entries, which tell what has changed where the inventories agree with the pages.
-abbrev pub GoesByEntries : Since → Type 0
-GoesByEntries (Level level) = 0 < level
-GoesByEntries (Guid guid) = Unit {0}
-
 -- the first turn of the statement that asks for it
 abbrev pub turn_since : Seen → (session : ℕ) → Since → (name : List ℕ) → Outcome
 turn_since s session (Level level) name = backup_turn s session level name

@@ -1,12 +1,11 @@
 -- What the turns of a copier answer.
-use Rattle.std.specs.Prelude.{◌≡◌, ◌+◌, ◌<◌, ◌≤◌, Bool, true, false, Result, Ok, Err}
-use Rattle.nb_fields.specs.Page.{stamp_of}
+use Rattle.std.specs.Prelude.{◌≡◌, ◌+◌, ◌<◌, Bool, true, false, Result, Ok, Err}
 use Rattle.nb_host.specs.World.{World}
 use Rattle.nb_host.specs.declared.faults.HostFault.{HostFault}
 use Rattle.nb_state.specs.declared.turns.Progress.{Progress}
 use Rattle.nb_state.specs.declared.turns.Progress.TheVariants.{More, Finished}
 use Rattle.nb_model.specs.Image.{Page, Image, page_at}
-use Rattle.nb_model.specs.Levels.{joined}
+use Rattle.nb_model.specs.Levels.{joined, may_have_changed}
 use Rattle.nb_gather.specs.Making.{IsKept}
 use Rattle.nb_copy.specs.Copying.{Copying, IsCopying}
 use Rattle.nb_copy.specs.LevelCopying.{LevelCopying, IsLevelCopying, whole_level}
@@ -37,8 +36,8 @@ LevelCounts (Ok More) before after =
 LevelCounts (Ok Finished) before after = (before.next ≡ before.count) × (after ≡ record before { file = record before.file { run = after.file.run } })
 LevelCounts (Err fault) before after = Unit {0}
 
--- the page that is dealt with was read, or it wasn't and its stamp isn't above the SCN of the earlier backup
+-- the page that is dealt with may have changed since the earlier backup and was read, or it may not
 abbrev pub Fetched : Result Bool HostFault → (before : LevelCopying) (page : Page) (frozen : Image) → Type 0
-Fetched (Ok true) before page frozen = page ≡ page_at frozen before.next
-Fetched (Ok false) before page frozen = stamp_of (page_at frozen before.next) ≤ before.file.head.previous_scn
+Fetched (Ok true) before page frozen = (may_have_changed frozen before.file.head.previous_scn before.next ≡ true) × (page ≡ page_at frozen before.next)
+Fetched (Ok false) before page frozen = may_have_changed frozen before.file.head.previous_scn before.next ≡ false
 Fetched (Err fault) before page frozen = Unit {0}

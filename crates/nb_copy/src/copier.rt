@@ -11,7 +11,6 @@ ghost use Rattle.nb_model.specs.Causes.{first_cause};
 ghost use Rattle.nb_model.specs.Forms.{HasItsEntry};
 ghost use Rattle.nb_model.specs.Outcomes.{Seen, next_guid, next_time};
 ghost use Rattle.nb_model.specs.Owner.{delta_name};
-ghost use Rattle.nb_model.specs.Sound.{IsSoundImage};
 ghost use Rattle.nb_model.specs.Trail.{Trail};
 ghost use Rattle.nb_base.specs.Open.{OfFiles};
 ghost use Rattle.nb_state.specs.Open.{IsOpen, but_pages};
@@ -21,7 +20,7 @@ ghost use Rattle.nb_engine.specs.Stays.{StaysOpen};
 ghost use Rattle.nb_copy.specs.FileCopying.{file_count, file_next, file_written};
 ghost use Rattle.nb_gather.specs.Making.{IsMade};
 ghost use Rattle.nb_copy.specs.Reading.{asked_scn, page_reads};
-ghost use Rattle.nb_copy.specs.Starting.{StartsBackup, BeginsFor, IsBackingUp, IsNotMemory, KnowsFree, GoesByEntries, IsNineAtMost, IsItsLevel, ask_by, ask_in, earlier_cause, file_cause, turn_since};
+ghost use Rattle.nb_copy.specs.Starting.{StartsBackup, BeginsFor, IsBackingUp, IsNotMemory, KnowsFree, IsNineAtMost, IsItsLevel, ask_by, ask_in, earlier_cause, file_cause, turn_since};
 ghost use Rattle.nb_copy.specs.Closing.{BackupTurn, BackupCounts, Closes, GaveTimeAtMost, ReadsTwo};
 
 use crate::file_copy::FileCopy;
@@ -158,7 +157,7 @@ fn start_from<H: Host>(
     name: &Name,
 ) -> Result<Copier, Fault>
     requires level { IsNineAtMost since }
-    ensures turn { (s : Seen) (t : Trail) → IsTrue H.tells → t.base ≡ s.base → engine.old.running ≡ s.running → IsOpen (H.world host.old) engine.old t → (GoesByEntries since → IsSoundImage t.base.image)
+    ensures turn { (s : Seen) (t : Trail) → IsTrue H.tells → t.base ≡ s.base → engine.old.running ≡ s.running → IsOpen (H.world host.old) engine.old t
         → KnowsFree 0 (H.world host.old).files s name.now → (name.now ≡ delta_name engine.old.files.name → ⊥) → GaveAtMost (H.world host.old) (H.world host.new) (next_guid s.given)
         → StartsBackup result (H.world host.old) (H.world host.new) engine.old engine.new t name.now (next_guid s.given) (turn_since s session since name.now) }
     ensures asks { (t : Trail) → IsTrue H.tells → IsOpen (H.world host.old) engine.old t → (guid : List ℕ) × (length guid ≡ 16) × GaveAtMost (H.world host.old) (H.world host.new) guid }
@@ -209,7 +208,7 @@ impl Copier {
         name: &Name,
     ) -> Result<Copier, Fault>
         requires level { level ≤ 9 }
-        ensures turn { (s : Seen) (t : Trail) → IsTrue H.tells → t.base ≡ s.base → engine.old.running ≡ s.running → IsOpen (H.world host.old) engine.old t → (0 < level → IsSoundImage t.base.image)
+        ensures turn { (s : Seen) (t : Trail) → IsTrue H.tells → t.base ≡ s.base → engine.old.running ≡ s.running → IsOpen (H.world host.old) engine.old t
             → KnowsFree 0 (H.world host.old).files s name.now → (name.now ≡ delta_name engine.old.files.name → ⊥) → GaveAtMost (H.world host.old) (H.world host.new) (next_guid s.given)
             → StartsBackup result (H.world host.old) (H.world host.new) engine.old engine.new t name.now (next_guid s.given) (backup_turn s session level name.now) }
         ensures asks { (t : Trail) → IsTrue H.tells → IsOpen (H.world host.old) engine.old t → (guid : List ℕ) × (length guid ≡ 16) × GaveAtMost (H.world host.old) (H.world host.new) guid }
@@ -244,7 +243,7 @@ impl Copier {
         guid: &[u8; 16],
         name: &Name,
     ) -> Result<Copier, Fault>
-        ensures turn { (s : Seen) (t : Trail) → IsTrue H.tells → t.base ≡ s.base → engine.old.running ≡ s.running → IsOpen (H.world host.old) engine.old t → IsSoundImage t.base.image
+        ensures turn { (s : Seen) (t : Trail) → IsTrue H.tells → t.base ≡ s.base → engine.old.running ≡ s.running → IsOpen (H.world host.old) engine.old t
             → KnowsFree 0 (H.world host.old).files s name.now → (name.now ≡ delta_name engine.old.files.name → ⊥) → GaveAtMost (H.world host.old) (H.world host.new) (next_guid s.given)
             → StartsBackup result (H.world host.old) (H.world host.new) engine.old engine.new t name.now (next_guid s.given) (since_turn s session guid.now name.now) }
         ensures asks { (t : Trail) → IsTrue H.tells → IsOpen (H.world host.old) engine.old t → (guid : List ℕ) × (length guid ≡ 16) × GaveAtMost (H.world host.old) (H.world host.new) guid }

@@ -26,8 +26,8 @@ use std::marker::Model;
 
 /// A level of 1 to 9: the pages of a frozen image that changed since an earlier backup. Its file is made before the first turn.
 ///
-/// A page is taken by its stamp. It is read only where its SCN entry says that it may have changed, since an entry is at least the
-/// stamp. Page 0 and the SCN pages have no entry, and are always read.
+/// A page is read only where its SCN entry says that it may have changed, and taken then by its stamp. Where the inventories agree with the
+/// pages an entry is at least the stamp, so that no page is lacking. Page 0 and the SCN pages have no entry, and are always read.
 #[derive(Drop)]
 pub struct LevelCopy {
     file: LevelFile,

@@ -9,10 +9,12 @@ use Rattle.nb_host.specs.Files.{Files}
 use Rattle.nb_host.specs.Names.{is_delta}
 use Rattle.nb_model.specs.Account.{Ask, Kept, Account}
 use Rattle.nb_model.specs.Image.{Image, first_page, image_size}
-use Rattle.nb_model.specs.Levels.{Head, Contents, joined, taken, head_in, head_for, file_for, file_of, level_bytes, read_level}
+use Rattle.nb_model.specs.Levels.{Head, Contents, joined, taken, changed, head_in, head_for, file_for, file_of, level_bytes, read_level}
 use Rattle.nb_model.specs.Restoring.{Link, level_link, next_link, next_links}
-use Rattle.nb_model.specs.Stands.{nil, IsKeptAs, IsBegun, IsLineTo, IsAncestor, IsSpan, Stands}
+use Rattle.nb_model.specs.Sound.{IsSoundImage}
+use Rattle.nb_model.specs.Stands.{nil, to_record, IsKeptAs, IsBegun, IsLineTo, IsAncestor, IsSpan, Stands}
 use Rattle.nb_model.proofs.ChainLaws.{kept_accepted}
+use Rattle.nb_model.proofs.ChangedLaws.{sound_changed}
 use Rattle.nb_model.proofs.HeaderLaws.{same-header}
 use Rattle.nb_model.proofs.OpenedLaws.{joined_front}
 use Rattle.nb_model.proofs.StandsLaws.{header_no_level}
@@ -30,16 +32,16 @@ no_pages image bytes c header reads is =
     header_no_level bytes c (same-header bytes (first_page image) (ap (take 64) all ∙ joined_front image [] header) ∙ header) reads
 
 -- so the file of a record that is read as a level is one
-file_level : (version : ℕ) (q : Kept) (o : Option Ask) (bytes : List ℕ) (c : Contents) → IsBegun q → read_level bytes ≡ Ok c → bytes ≡ file_for version q o
+file_level : (version : ℕ) (q : Kept) (o : Option Ask) (bytes : List ℕ) (c : Contents) → IsBegun q → IsSoundImage q.image → read_level bytes ≡ Ok c → bytes ≡ file_for version q o
     → (ask : Ask) × (o ≡ Some ask) × (bytes ≡ level_bytes version (head_for q ask) (taken ask.previous_scn q.image))
 unfolding file_for
-file_level version q None bytes c begun reads is = absurd (no_pages q.image bytes c begun.header reads is)
-file_level version q (Some ask) bytes c begun reads is = by (ask.level == 0) is
+file_level version q None bytes c begun whole reads is = absurd (no_pages q.image bytes c begun.header reads is)
+file_level version q (Some ask) bytes c begun whole reads is = by (ask.level == 0) is
   where
-    by : (t : Bool) → bytes ≡ elim t as (λ x. List ℕ) [ true ↦ joined q.image | false ↦ level_bytes version (head_for q ask) (taken ask.previous_scn q.image) ]
+    by : (t : Bool) → bytes ≡ elim t as (λ x. List ℕ) [ true ↦ joined q.image | false ↦ level_bytes version (head_for q ask) (changed ask.previous_scn q.image) ]
         → (a : Ask) × (Some ask ≡ Some a) × (bytes ≡ level_bytes version (head_for q a) (taken a.previous_scn q.image))
     by true k = absurd (no_pages q.image bytes c begun.header reads k)
-    by false k = (ask, refl, k)
+    by false k = (ask, refl, k ∙ ap (level_bytes version (head_for q ask)) (sound_changed ask.previous_scn q.image whole))
 
 own_file : (version : ℕ) (q : Kept) → file_of version q ≡ file_for version q q.ask
 unfolding file_of
@@ -72,6 +74,9 @@ module _ (files : Files) (account : Account) (stands : Stands files account) (na
   begun : IsBegun r
   begun = stands.sound_images.records r named.there
 
+  whole : IsSoundImage r.image
+  whole = stands.sound_images.images r.image (to_record r named.there refl)
+
   -- with some ask, its own or that of a span
   record IsAsked : Type 0 where
     ask : Ask
@@ -80,9 +85,9 @@ module _ (files : Files) (account : Account) (stands : Stands files account) (na
 
   asked : IsAsked
   asked = elim ((stands.kept_records.levels name level plain there).level c r read named) [
-    | inl own ↦ let is = file_level c.version r r.ask level c begun read (own ∙ own_file c.version r) in record { ask = is.0; is = is.2; either = inl is.1 }
+    | inl own ↦ let is = file_level c.version r r.ask level c begun whole read (own ∙ own_file c.version r) in record { ask = is.0; is = is.2; either = inl is.1 }
     | inr span ↦
-        let is = file_level c.version r (Some span.0) level c begun read span.2 in
+        let is = file_level c.version r (Some span.0) level c begun whole read span.2 in
         record { ask = is.0; is = is.2; either = inr (subst (IsSpan account.kept r) (some_same span.0 is.0 is.1) span.1) }
   ]
 

@@ -9,11 +9,12 @@ use Rattle.nb_host.specs.declared.refusals.Refusal.{Refusal}
 use Rattle.nb_model.specs.Image.{Page, Image, Numbered, image_size, first_page}
 use Rattle.nb_model.specs.Account.{Ask, Kept}
 use Rattle.nb_model.specs.Causes.{Cause, first_cause, when}
-use Rattle.nb_model.specs.Levels.{Head, IsHead, IsLevel, Contents, AreRising, AreOfSize, taken_from, taken, head_for, file_for, file_of, level_bytes, begins_level, read_level, is_first_page}
+use Rattle.nb_model.specs.Levels.{Head, IsHead, IsLevel, Contents, AreRising, AreOfSize, taken_from, taken, changed, head_for, file_for, file_of, level_bytes, begins_level, read_level, is_first_page}
 use Rattle.nb_model.specs.Restoring.{Link, level_link, not_behind, next_link, next_links, linked}
 use Rattle.nb_model.specs.Sound.{IsOfSize, IsSoundImage}
 use Rattle.nb_model.specs.Stands.{IsBegun}
 use Rattle.nb_model.specs.Line.{IsLine, IsKeptNext, HoldsNext, HoldLine, next_files}
+use Rattle.nb_model.proofs.ChangedLaws.{sound_changed}
 use Rattle.nb_model.proofs.ReadLaws.{eq_yes}
 use Rattle.nb_model.proofs.LevelLaws.{level_read, begins_there}
 use Rattle.nb_model.proofs.RunLaws.{same_self}
@@ -53,9 +54,11 @@ begins : (image : Image) → 1 ≤ length image → Begins image
 begins [] h = absurd (omega arith)
 begins (p ∷ ps) h = record { first = p; rest = ps; is = refl }
 
-file_is : (version : ℕ) (q : Kept) (ask : Ask) → q.ask ≡ Some ask → (ask.level == 0) ≡ false → file_of version q ≡ level_bytes version (head_for q ask) (taken ask.previous_scn q.image)
+file_is : (version : ℕ) (q : Kept) (ask : Ask) → q.ask ≡ Some ask → (ask.level == 0) ≡ false → IsSoundImage q.image → file_of version q ≡ level_bytes version (head_for q ask) (taken ask.previous_scn q.image)
 unfolding file_of file_for
-file_is version q ask asked level = rw (asked, file_for) (rw (level, file_for) refl)
+file_is version q ask asked level whole =
+    let spelled : file_of version q ≡ level_bytes version (head_for q ask) (changed ask.previous_scn q.image) = rw (asked, file_for) (rw (level, file_for) refl) in
+    spelled ∙ ap (level_bytes version (head_for q ask)) (sound_changed ask.previous_scn q.image whole)
 
 and_both : (a b : Bool) → a ≡ true → b ≡ true → (a && b) ≡ true
 and_both a b e f = rw (e, f) refl
@@ -119,7 +122,7 @@ kept_accepted k version r last name q ask eg es ez next =
     subst (λ (x : Image). ask.previous_scn < stamp_of (first_page x)) b.is (omega (arith, next.whole.sound.stamps.head, next.begun.scn, next.scn, next.later)) in
     let all : taken ask.previous_scn q.image ≡ (0, b.first) ∷ rs = ap (taken ask.previous_scn) b.is ∙ taken_first ask.previous_scn b.first b.rest high in
     let level : (ask.level == 0) ≡ false = elim (eqb_tells ask.level 0) [ inl w ↦ absurd (omega (arith, w.1, next.some, next.level)) | inr w ↦ w.0 ] in
-    let file : file_of version q ≡ level_bytes version h ((0, b.first) ∷ rs) = file_is version q ask next.asked level ∙ ap (level_bytes version h) all in
+    let file : file_of version q ≡ level_bytes version h ((0, b.first) ∷ rs) = file_is version q ask next.asked level next.whole ∙ ap (level_bytes version h) all in
     let spelled = level_read _ version h (0, b.first) rs (file_in_grammar version q ask b.first b.rest b.is next.known next.head next.whole next.begun later) in
     ap (next_link k last name) file
     ∙ accepts k last name (level_bytes version h ((0, b.first) ∷ rs)) _ (begins_bytes version h ((0, b.first) ∷ rs)) spelled

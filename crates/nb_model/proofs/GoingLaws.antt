@@ -16,7 +16,7 @@ use Rattle.nb_model.specs.Account.{Base, Account, Ask}
 use Rattle.nb_model.specs.Backups.{room_in, close_backup, close_copy}
 use Rattle.nb_model.specs.Causes.{is_free_entry, runs_other, broken_at, not_of_form, short_for}
 use Rattle.nb_model.specs.Chains.{History, pages_of, spots, free_spot}
-use Rattle.nb_model.specs.Going.{AreBeginnings, AreMerging, IsNamed, AreNamed, HasRoom, Runs, goes_by_entries, IsAt, waits, backs_up, copies, ends as ending, merges, IsGoing, IsMaking}
+use Rattle.nb_model.specs.Going.{AreBeginnings, AreMerging, IsNamed, AreNamed, HasRoom, Runs, IsAt, waits, backs_up, copies, ends as ending, merges, IsGoing, IsMaking}
 use Rattle.nb_model.specs.Image.{Page, Image, first_page, image_size, image_state, image_scn, image_guid, trimmed}
 use Rattle.nb_model.specs.Outcomes.{Turn, Begins, Copies, ClosesBackup, ClosesCopy, Ends, Merges, Finishes, Backing, Seen, Outcome, Given, next_guid, passes}
 use Rattle.nb_model.specs.Pages.{ends_by, end_strokes}
@@ -124,10 +124,6 @@ pub record OthersStay (sound : Bool) (now : Now) (o : Outcome) : Type 0 where
 abbrev pub IsFrozenThen : Base → Base → Type 0
 IsFrozenThen old new = ((image_state old.image ≡ 1) × (new.frozen ≡ old.frozen)) ⊎ (new.frozen ≡ new.image)
 
--- the turn begins no level of 1 to 9
-abbrev IsNoLevel : Turn → Type 0
-IsNoLevel turn = goes_by_entries turn ≡ false
-
 -- What a turn does where it comes.
 pub record IsStep (sound : Bool) (now : Now) (session : ℕ) (o : Outcome) (rest : List Turn) : Type 0 where
   pub header : HasHeader (base_after (base_now now) o.strokes).image
@@ -136,17 +132,11 @@ pub record IsStep (sound : Bool) (now : Now) (session : ℕ) (o : Outcome) (rest
   pub frozen : image_state (base_after (base_now now) o.strokes).image ≡ 1 → IsFrozenThen (base_now now) (base_after (base_now now) o.strokes)
   pub sixteen : AreSixteen o.given.guids
   pub own : IsAt sound (stands_then session rest o now) (session - 1) (o.next ++ rest)
-  pub fresh : AllByRecursion IsNoLevel o.next
   pub others : (other number : ℕ) → other ≢ session - 1 → 1 ≤ number → Runs now other number → OthersStay sound now o
 
 merge_turns : (n : ℕ) (reply : Reply) (rest : List Turn) → AreBeginnings rest → AreMerging ((replicate n Merges ++ Finishes reply ∷ []) ++ rest)
 merge_turns zero reply rest all = all
 merge_turns (suc n) reply rest all = merge_turns n reply rest all
-
--- a turn so often, and then one
-many_fresh : (n : ℕ) (t u : Turn) → IsNoLevel t → IsNoLevel u → AllByRecursion IsNoLevel (replicate n t ++ u ∷ [])
-many_fresh zero t u h last = (last, tt)
-many_fresh (suc n) t u h last = (h, many_fresh n t u h last)
 
 begun_frozen : (b : Base) (guid : List ℕ) (ask : Option Ask) → (base_after b (begin guid ask ∷ [])).frozen ≡ (base_after b (begin guid ask ∷ [])).image
 unfolding base_after on_base
@@ -229,16 +219,15 @@ module _ {sound : Bool} (session : ℕ) (now : Now) (going : IsGoing sound now) 
     headed : StaysHeaded b (base_after b o.strokes)
     headed = pages_stay o.strokes b pages going.header
 
-    pages_step : o.given.guids ≡ s.given.guids → IsAt sound (stands_then session rest o now) (session - 1) (o.next ++ rest) → AllByRecursion IsNoLevel o.next
+    pages_step : o.given.guids ≡ s.given.guids → IsAt sound (stands_then session rest o now) (session - 1) (o.next ++ rest)
         → ((other number : ℕ) → other ≢ session - 1 → Runs now other number → (o.running ≡ s.running) × (o.made ≡ None) × ((p : ℕ) → HasItsEntry b.image p → HasItsEntry (base_after b o.strokes).image p)) → IsStep sound now session o rest
-    pages_step given own fresh others = record {
+    pages_step given own others = record {
       header = headed.header;
       sure = sure;
       state = omega (arith, headed.stays.state, going.state);
       frozen = λ stalled. inl (sym headed.stays.state ∙ stalled, headed.stays.frozen);
       sixteen = subst AreSixteen (sym given) going.sixteen;
       own = own;
-      fresh = fresh;
       others = λ other number off some runs. let all = others other number off runs in record {
         running = all.0;
         state = headed.stays.state;
@@ -250,7 +239,7 @@ module _ {sound : Bool} (session : ℕ) (now : Now) (going : IsGoing sound now) 
 
     once_step : (left : Given) → left.guids ≡ s.given.guids → IsOnce s left o → AreBeginnings rest → ((p : ℕ) → HasItsEntry b.image p → HasItsEntry (base_after b o.strokes).image p) → IsStep sound now session o rest
     once_step left same once all entries = pages_step (ap (λ (g : Given). g.guids) once.given ∙ same)
-        (waits (subst (λ (ts : List Turn). AreBeginnings (ts ++ rest)) (sym once.next) all)) (subst (AllByRecursion IsNoLevel) (sym once.next) tt) (λ other number off runs. (once.running, once.made, entries))
+        (waits (subst (λ (ts : List Turn). AreBeginnings (ts ++ rest)) (sym once.next) all)) (λ other number off runs. (once.running, once.made, entries))
 
   -- It is refused.
   refused_step : (rest : List Turn) → AreBeginnings rest → (r : Refusal) → IsStep sound now session (refused s r) rest
@@ -277,7 +266,6 @@ module _ {sound : Bool} (session : ℕ) (now : Now) (going : IsGoing sound now) 
         frozen = λ stalled. inr (begun_frozen b (next_guid s.given) None);
         sixteen = rest_sixteen s.given.guids going.sixteen;
         own = waits all;
-        fresh = tt;
         others = λ other number off some runs. absurd (none_runs may.normal other number some runs);
       }
 
@@ -297,7 +285,6 @@ module _ {sound : Bool} (session : ℕ) (now : Now) (going : IsGoing sound now) 
         frozen = λ stalled. absurd (omega (arith, state, stalled));
         sixteen = going.sixteen;
         own = merges (merge_turns (length b.diverted) reply rest all) (runs_then session rest (ended ss) now (session - 1) session 2 refl refl state);
-        fresh = many_fresh (length b.diverted) Merges (Finishes reply) refl refl;
         others = λ other number off some runs. absurd (alone other number off runs);
       }
 
@@ -327,7 +314,6 @@ module _ {sound : Bool} (session : ℕ) (now : Now) (going : IsGoing sound now) 
             (runs_then session rest o now (session - 1) session 1 refl refl new.state)
             (room_then session rest o now (room_in b.image).page (room_in b.image).slot (record { below = new.there.below; entry = new.there.entry; plain = λ is. (surely is).room.plain }))
             (free_then session rest o now going refl name may.free);
-        fresh = many_fresh (length (room_in b.image).draft.image) Copies _ refl refl;
         others = λ other number off some runs. absurd (none_runs may.may.normal other number some runs);
       }
 
@@ -337,7 +323,6 @@ module _ {sound : Bool} (session : ℕ) (now : Now) (going : IsGoing sound now) 
       (copies (length b.frozen) name rest (append_assoc (replicate (length b.frozen) Copies) (ClosesCopy name ∷ []) rest) all
       (runs_then session rest (copied s session name) now (session - 1) session 1 refl refl (ap (λ (x : Base). image_state x.image) (no_more b) ∙ may.stalled))
       (free_then session rest (copied s session name) now going refl name may.free))
-      (many_fresh (length b.frozen) Copies (ClosesCopy name) refl refl)
       (λ other number off runs. absurd (none_some runs.by (sym may.alone ∙ runs.running)))
     where
       none_some : (by : ℕ) → None ≡ Some by → ⊥
@@ -367,10 +352,6 @@ module _ {sound : Bool} (session : ℕ) (now : Now) (going : IsGoing sound now) 
   unfolding close_backup
   running_is backing = refl
 
-  closing_fresh : (backing : Backing) → AllByRecursion IsNoLevel (close_backup s backing).next
-  unfolding close_backup
-  closing_fresh backing = (refl, tt)
-
   closing : (backing : Backing) (rest : List Turn) → AreBeginnings rest → Runs (stands_then session rest (close_backup s backing) now) (session - 1) 1
       → IsAt sound (stands_then session rest (close_backup s backing) now) (session - 1) ((close_backup s backing).next ++ rest)
   unfolding close_backup
@@ -386,13 +367,13 @@ module _ {sound : Bool} (session : ℕ) (now : Now) (going : IsGoing sound now) 
     still_runs rest = runs_then session rest (passes s) now (session - 1) runs.by number runs.running runs.its (ap (λ (x : Base). image_state x.image) (no_more b) ∙ runs.state)
 
     passed_step : (rest : List Turn) → IsAt sound (stands_then session rest (passes s) now) (session - 1) rest → IsStep sound now session (passes s) rest
-    passed_step rest own = pages_step rest (passes s) tt sure_none refl own tt (λ other m off its. (refl, refl, entries_none))
+    passed_step rest own = pages_step rest (passes s) tt sure_none refl own (λ other m off its. (refl, refl, entries_none))
 
     -- the level file is whole, and its row is written
     closed_step : (backing : Backing) (rest : List Turn) → number ≡ 1 → AreBeginnings rest → (sound ≡ true → HasPlace b.image backing) → IsStep sound now session (close_backup s backing) rest
     closed_step backing rest one all place = pages_step rest (close_backup s backing) (close_pages s backing)
         (λ is. (fitting_keeps AnyPage (close_backup s backing).strokes b (close_fits s backing going.header (going.sure is) (place is)) going.header (going.sure is)).sound)
-        (given_is backing) own (closing_fresh backing) (λ other m off its. absurd (only_one other m off its))
+        (given_is backing) own (λ other m off its. absurd (only_one other m off its))
       where
         own : IsAt sound (stands_then session rest (close_backup s backing) now) (session - 1) ((close_backup s backing).next ++ rest)
         own = closing backing rest all (runs_then session rest (close_backup s backing) now (session - 1) runs.by 1 (running_is backing ∙ runs.running) runs.its
@@ -409,7 +390,6 @@ module _ {sound : Bool} (session : ℕ) (now : Now) (going : IsGoing sound now) 
           frozen = λ stalled. absurd (omega (arith, new.is, stalled));
           sixteen = going.sixteen;
           own = waits all;
-          fresh = tt;
           others = λ other m off some its. absurd (only_one other m off its);
         }
 
@@ -462,7 +442,7 @@ module _ {sound : Bool} (session : ℕ) (now : Now) (going : IsGoing sound now) 
   unfolding outcome turn close_copy
   copy_step zero name u rest tail e all runs free =
       step_as u (ClosesCopy name) rest tail e
-      (pages_step session now going tail (close_copy (seen_now now) name) tt (sure_none session now going) refl (waits all) tt (λ other m off its. absurd (only_one session now going 1 runs other m off its)))
+      (pages_step session now going tail (close_copy (seen_now now) name) tt (sure_none session now going) refl (waits all) (λ other m off its. absurd (only_one session now going 1 runs other m off its)))
   copy_step (suc left) name u rest tail e all runs free =
       let behind : List Turn = replicate left Copies ++ ClosesCopy name ∷ tail in
       step_as u Copies rest behind e
@@ -530,14 +510,6 @@ module _ {sound : Bool} (session : ℕ) (now : Now) (going : IsGoing sound now) 
   stalled_then before = subst (λ (x : Base). image_state x.image ≡ 1 → image_state x.frozen ≡ 1) (sym (then_base session rest o now))
       (λ stalled. frozen_keeps (λ image. image_state image ≡ 1) (step.frozen stalled) before stalled)
 
-  -- levels are still to begin where that may be
-  abbrev AreLevels : List Turn → Type 0
-  AreLevels turns = AllByRecursion (λ (turn : Turn). goes_by_entries turn ≡ true → sound ≡ true) turns
-
-  levels_behind : (xs ys : List Turn) → AllByRecursion IsNoLevel xs → AreLevels ys → AreLevels (xs ++ ys)
-  levels_behind [] ys none all = all
-  levels_behind (x ∷ xs) ys none all = (λ level. absurd (true≢false (sym level ∙ none.0)), levels_behind xs ys none.1 all)
-
   pub going_then : IsGoing sound last
   going_then = record {
     header = subst (λ (x : Base). HasHeader x.image) (sym base) step.header;
@@ -548,11 +520,6 @@ module _ {sound : Bool} (session : ℕ) (now : Now) (going : IsGoing sound now) 
     each = λ place. elim (eqb_tells place (session - 1)) [
       | inl w ↦ subst (λ (p : ℕ). IsAt sound last p (get_or last.todo p [])) (sym w.1) (subst (IsAt sound last (session - 1)) (sym (own_todo session now u rest is o)) step.own)
       | inr w ↦ subst (IsAt sound last place) (sym (other_todo session now u rest is o place w.1)) (at_stays place w.1 (get_or now.todo place []) (going.each place))
-    ];
-    levels = λ place. elim (eqb_tells place (session - 1)) [
-      | inl w ↦ subst (λ (p : ℕ). AreLevels (get_or last.todo p [])) (sym w.1)
-          (subst AreLevels (sym (own_todo session now u rest is o)) (levels_behind o.next rest step.fresh (subst AreLevels is (going.levels (session - 1))).1))
-      | inr w ↦ subst AreLevels (sym (other_todo session now u rest is o place w.1)) (going.levels place)
     ];
     sixteen = subst (λ (g : Given). AreSixteen g.guids) (sym (then_given session rest o now)) step.sixteen;
   }
@@ -635,7 +602,6 @@ named_turn {sound = sound} session now named going = one_cases (λ p. AreNamed p
 -- So do the files that are to be made.
 pub making_turn : (session : ℕ) (now : Now) → IsMaking now → IsMaking (one_turn session now).1
 making_turn session now m = record {
-  sound = m.sound;
   going = going_turn session now m.named m.going;
   named = named_turn session now m.named m.going;
   stalled = one_cases (λ p. image_state (base_now p.1).image ≡ 1 → image_state (base_now p.1).frozen ≡ 1) session now m.stalled
@@ -705,22 +671,20 @@ all_beginnings [] = tt
 all_beginnings (x ∷ xs) = (tt, all_beginnings xs)
 
 pub begun_going : {sound : Bool} (now : Now) (sessions : List (List Statement)) → now.todo ≡ begun sessions → HasHeader (base_now now).image → (sound ≡ true → IsSoundImage (base_now now).image)
-    → ((place : ℕ) → AllByRecursion (λ (x : Statement). goes_by_entries (Begins x) ≡ true → sound ≡ true) (slice_index_or sessions place [])) → image_state (base_now now).image ≤ 2
+    → image_state (base_now now).image ≤ 2
     → (image_state (base_now now).image ≡ 1 → is_header (first_page (base_now now).frozen) ≡ true) → AllByRecursion (λ (guid : List ℕ). length guid ≡ 16) now.given.guids → IsGoing sound now
-begun_going {sound = sound} now sessions is header sure levels state frozen sixteen = record {
+begun_going now sessions is header sure state frozen sixteen = record {
   header = header;
   sure = sure;
   state = state;
   frozen = frozen;
   each = λ place. waits (subst AreBeginnings (sym (begun_at now sessions is place)) (all_beginnings (get_or sessions place [])));
-  levels = λ place. subst (AllByRecursion (λ (turn : Turn). goes_by_entries turn ≡ true → sound ≡ true)) (sym (begun_at now sessions is place))
-      (all_begin (λ (turn : Turn). goes_by_entries turn ≡ true → sound ≡ true) (get_or sessions place []) (levels place));
   sixteen = sixteen;
 }
 
 pub begun_named : (now : Now) (sessions : List (List Statement)) → now.todo ≡ begun sessions → ((place : ℕ) → AllByRecursion (λ (x : Statement). IsNamed (Begins x)) (slice_index_or sessions place [])) → AreNamed now
 begun_named now sessions is named place = subst (AllByRecursion IsNamed) (sym (begun_at now sessions is place)) (all_begin IsNamed (get_or sessions place []) (named place))
 
-pub begun_making : {sound : Bool} (now : Now) (sessions : List (List Statement)) → now.todo ≡ begun sessions → ((place : ℕ) → AllByRecursion (λ (x : Statement). IsNamed (Begins x)) (slice_index_or sessions place []))
-    → (image_state (base_now now).image ≡ 1 → image_state (base_now now).frozen ≡ 1) → IsGoing sound now → IsMaking now
-begun_making {sound = sound} now sessions is named stalled going = record { sound = sound; going = going; named = begun_named now sessions is named; stalled = stalled }
+pub begun_making : (now : Now) (sessions : List (List Statement)) → now.todo ≡ begun sessions → ((place : ℕ) → AllByRecursion (λ (x : Statement). IsNamed (Begins x)) (slice_index_or sessions place []))
+    → (image_state (base_now now).image ≡ 1 → image_state (base_now now).frozen ≡ 1) → IsGoing false now → IsMaking now
+begun_making now sessions is named stalled going = record { going = going; named = begun_named now sessions is named; stalled = stalled }

@@ -11,6 +11,7 @@ pub mod ReadLaws
 pub mod GatherLaws
 pub mod LevelLaws
 pub mod SpelledLaws
+pub mod ChangedLaws
 pub mod ChainLaws
 pub mod WholeLaws
 pub mod AfterLaws

@@ -17,7 +17,7 @@ use Rattle.nb_host.specs.declared.refusals.Refusal.TheVariants.{NoFile}
 use Rattle.nb_model.specs.Image.{Image, Numbered, first_page}
 use Rattle.nb_model.specs.Account.{Ask, Kept, Base, Entry, Plain, IsBase, Account, with_entry}
 use Rattle.nb_model.specs.Causes.{Cause, not_database}
-use Rattle.nb_model.specs.Levels.{Head, Contents, first_fault, head_for, head_in, head_then, joined, taken, level_bytes, file_for, file_of, read_level, read_pages, with_head}
+use Rattle.nb_model.specs.Levels.{Head, Contents, first_fault, head_for, head_in, head_then, joined, changed, level_bytes, file_for, file_of, read_level, read_pages, with_head}
 use Rattle.nb_model.specs.Making.{MadeFile, IsNoneOf, IsOfKept, its_file, its_pages, IsNoBackup}
 use Rattle.nb_model.specs.Owner.{delta_name, owner, owner_in, owner_with, entry_in, entry_of_files}
 use Rattle.nb_model.specs.Stands.{IsKeptAs, IsBegun, IsFileOf, IsCopyOf, IsSpan, HoldsItsRecord, is_applying, Stands}
@@ -56,11 +56,11 @@ opened_header name bytes delta b opens =
     ap is_header (some_same bytes main.bytes main.there) ∙ formed_header main.bytes main.formed
 
 -- the file of a record is the pages of its image, or a level
-file_cases : (version : ℕ) (r : Kept) → (file_of version r ≡ joined r.image) ⊎ ((ask : Ask) × (file_of version r ≡ level_bytes version (head_for r ask) (taken ask.previous_scn r.image)))
+file_cases : (version : ℕ) (r : Kept) → (file_of version r ≡ joined r.image) ⊎ ((ask : Ask) × (file_of version r ≡ level_bytes version (head_for r ask) (changed ask.previous_scn r.image)))
 unfolding file_of file_for
 file_cases version r = by r.ask
   where
-    by : (asked : Option Ask) → (file_for version r asked ≡ joined r.image) ⊎ ((ask : Ask) × (file_for version r asked ≡ level_bytes version (head_for r ask) (taken ask.previous_scn r.image)))
+    by : (asked : Option Ask) → (file_for version r asked ≡ joined r.image) ⊎ ((ask : Ask) × (file_for version r asked ≡ level_bytes version (head_for r ask) (changed ask.previous_scn r.image)))
     by None = inl refl
     by (Some ask) = elim (eqb_tells ask.level 0) [ inl w ↦ inl (rw (w.0, file_for) refl) | inr w ↦ inr (ask, rw (w.0, file_for) refl) ]
 
@@ -131,17 +131,17 @@ module _ (all kept : List Kept) (among : (r : Kept) → Contains kept r → Cont
           err_ok _ (NoFile (delta_name name)) b (owner-formed name (joined r.image) None is ∙ ap (λ (n : ℕ). owner_in n name (joined r.image) None) stalled ∙ stalled_alone name (joined r.image)) opens
 
   -- the bytes of a level of a record, where they are its file or that of a span of it
-  spelled_whole : (r : Kept) (ask : Ask) (bytes : List ℕ) → Contains all r → bytes ≡ level_bytes 102 (head_for r ask) (taken ask.previous_scn r.image) → IsFileOf kept 102 r bytes → IsWholeFile kept bytes
+  spelled_whole : (r : Kept) (ask : Ask) (bytes : List ℕ) → Contains all r → bytes ≡ level_bytes 102 (head_for r ask) (changed ask.previous_scn r.image) → IsFileOf kept 102 r bytes → IsWholeFile kept bytes
   spelled_whole r ask bytes there is file =
       let one : IsBegun r = begun r there in
       let sixteen : length r.guid ≡ 16 = ap length (sym one.guid) ∙ length-part 32 16 (first_page r.image) (omega (arith, header-long (first_page r.image) one.header)) in
-      let plain : is_header bytes ≡ true → ⊥ = λ header. level_no_header 102 (head_for r ask) (taken ask.previous_scn r.image) (ap is_header (sym is) ∙ header) in
+      let plain : is_header bytes ≡ true → ⊥ = λ header. level_no_header 102 (head_for r ask) (changed ask.previous_scn r.image) (ap is_header (sym is) ∙ header) in
       record {
         holds = record {
           level = λ c q reads named.
               let spelled = read_head bytes c reads in
-              let guid : c.head.guid ≡ r.guid = ap (λ (h : Head). h.guid) spelled.1 ∙ ap (λ (x : List ℕ). (head_in x).guid) is ∙ level_guid (head_for r ask) (taken ask.previous_scn r.image) sixteen in
-              let version : c.version ≡ 102 = spelled.0 ∙ ap (number_in 4 2) is ∙ level_version (head_for r ask) (taken ask.previous_scn r.image) in
+              let guid : c.head.guid ≡ r.guid = ap (λ (h : Head). h.guid) spelled.1 ∙ ap (λ (x : List ℕ). (head_in x).guid) is ∙ level_guid (head_for r ask) (changed ask.previous_scn r.image) sixteen in
+              let version : c.version ≡ 102 = spelled.0 ∙ ap (number_in 4 2) is ∙ level_version (head_for r ask) (changed ask.previous_scn r.image) in
               subst (λ (x : Kept). IsFileOf kept c.version x bytes) (meant r q c.head.guid there guid named) (subst (λ (v : ℕ). IsFileOf kept v r bytes) (sym version) file);
           copy = λ q header stalled whole named. absurd (plain header);
         };
@@ -149,7 +149,7 @@ module _ (all kept : List Kept) (among : (r : Kept) → Contains kept r → Cont
         rests = λ applying. plain (and_parts (is_header bytes) (state_of bytes == 3) applying).0;
       }
 
-  level_whole : (r : Kept) (ask : Ask) → Contains all r → file_of 102 r ≡ level_bytes 102 (head_for r ask) (taken ask.previous_scn r.image) → IsWholeFile kept (file_of 102 r)
+  level_whole : (r : Kept) (ask : Ask) → Contains all r → file_of 102 r ≡ level_bytes 102 (head_for r ask) (changed ask.previous_scn r.image) → IsWholeFile kept (file_of 102 r)
   level_whole r ask there is = spelled_whole r ask (file_of 102 r) there is (inl refl)
 
   whole_file : (bytes : List ℕ) → IsOfKept all bytes → IsWholeFile kept bytes
@@ -167,7 +167,7 @@ its_whole : (files : Files) (account : Account) → Stands files account → (by
 its_whole files account stands = whole_among files account stands account.kept (λ r there. there)
 
 -- a level of a record with an ask of level 1 or more
-pub span_bytes : (r : Kept) (ask : Ask) → 1 ≤ ask.level → file_for 102 r (Some ask) ≡ level_bytes 102 (head_for r ask) (taken ask.previous_scn r.image)
+pub span_bytes : (r : Kept) (ask : Ask) → 1 ≤ ask.level → file_for 102 r (Some ask) ≡ level_bytes 102 (head_for r ask) (changed ask.previous_scn r.image)
 unfolding file_for
 span_bytes r ask some = elim (eqb_tells ask.level 0) [ inl w ↦ absurd (omega (arith, some, w.1)) | inr w ↦ rw (w.0, file_for) refl ]
 

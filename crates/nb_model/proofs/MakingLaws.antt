@@ -14,7 +14,7 @@ use Rattle.nb_model.specs.Backups.{close_backup, close_copy}
 use Rattle.nb_model.specs.Causes.{is_free_entry}
 use Rattle.nb_model.specs.Going.{AreBeginnings, AreMerging, AreNamed, Runs, IsAt, waits, backs_up, copies, ends as ending, merges, IsGoing, IsMaking}
 use Rattle.nb_model.specs.Image.{Image, Numbered, first_page, image_state}
-use Rattle.nb_model.specs.Levels.{Head, head_then, level_bytes, head_for, taken, file_for, file_of, joined}
+use Rattle.nb_model.specs.Levels.{Head, head_then, level_bytes, head_for, changed, file_for, file_of, joined}
 use Rattle.nb_model.specs.Making.{MadeFile, kept_of, making, making_by, making_all, under_way, AreAmong, NamesOnce}
 use Rattle.nb_model.specs.Outcomes.{Turn, Begins, Copies, ClosesBackup, ClosesCopy, Ends, Merges, Finishes, Backing, Seen, Outcome}
 use Rattle.nb_model.specs.Pages.{ends_by}
@@ -247,7 +247,7 @@ module _ (frozen : Image) (header : is_header (first_page frozen) ≡ true) (sta
   unfolding file_of file_for
   backup_used b = elim (eqb_tells b.ask.level 0) [
     | inl w ↦ rw (w.0, file_for) (joined_used frozen header stalled)
-    | inr w ↦ rw (w.0, file_for) (level_used 102 (head_for (kept_of b frozen) b.ask) (taken b.ask.previous_scn frozen))
+    | inr w ↦ rw (w.0, file_for) (level_used 102 (head_for (kept_of b frozen) b.ask) (changed b.ask.previous_scn frozen))
   ]
 
   turn_used : (t : Turn) (f : MadeFile) → Contains (making frozen (t ∷ [])) f → is_free_file (Some f.1) ≡ false

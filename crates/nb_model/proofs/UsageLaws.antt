@@ -1,6 +1,6 @@
 -- No statement is refused as words that name no job.
 use Rattle.std.proofs.Common.{◌≡◌, ◌≢◌, ℕ, zero, suc, List, [], ◌∷◌, ◌++◌, refl, sym, ap, subst, ◌∙◌}
-use Rattle.std.specs.Prelude.{Bool, Option, Some, None, true, false}
+use Rattle.std.specs.Prelude.{Bool, Option, Some, None, false}
 use Rattle.std.specs.List.{AllByRecursion}
 use Rattle.std.proofs.lemmas.Bool.{true≢false}
 use Rattle.nb_host.specs.declared.refusals.Refusal.{Refusal}

@@ -1,5 +1,5 @@
 -- What holds between two turns: a copy or a merge of one session at most is under way, and then the database is in the state for it.
-use Rattle.std.specs.Prelude.{◌≡◌, ℕ, ◌+◌, ◌-◌, ◌*◌, ◌<◌, ◌≤◌, List, [], ◌∷◌, ◌++◌, length, replicate, Some, Bool, true, false, not, ◌==◌}
+use Rattle.std.specs.Prelude.{◌≡◌, ℕ, ◌+◌, ◌-◌, ◌*◌, ◌<◌, ◌≤◌, List, [], ◌∷◌, ◌++◌, length, replicate, Some, Bool, true, false}
 use Rattle.std.specs.List.{AllByRecursion, slice_index_or}
 use Rattle.nb_fields.specs.Places.{is_inventory_place, is_scn_place}
 use Rattle.nb_fields.specs.Header.{is_header}
@@ -77,12 +77,6 @@ pub record Runs (now : Now) (place number : ℕ) : Type 0 where
   pub its : by - 1 ≡ place
   pub state : image_state (base_now now).image ≡ number
 
--- The turn begins a backup of a level of 1 to 9, which takes pages by their SCN entries.
-abbrev pub goes_by_entries : Turn → Bool
-goes_by_entries (Begins (Backup level name)) = not (level == 0)
-goes_by_entries (Begins (BackupSince guid name)) = true
-goes_by_entries other = false
-
 -- What the session at that place has still to do: to begin statements, or first the rest of one that is under way.
 pub data IsAt (sound : Bool) (now : Now) (place : ℕ) (todo : List Turn) : Type 0 where
   waits : AreBeginnings todo → IsAt sound now place todo
@@ -95,22 +89,18 @@ pub data IsAt (sound : Bool) (now : Now) (place : ℕ) (todo : List Turn) : Type
   merges : AreMerging todo → Runs now place 2 → IsAt sound now place todo
 
 -- What stands between two turns: a database in one of the three states, whatever else stands in it, and each session waits or is under way. Its
--- inventories are sound where that is said, and that has to be so where a level of 1 to 9 is still to begin. Of what may still be given each GUID
--- has 16 bytes.
+-- inventories are sound where that is said. Of what may still be given each GUID has 16 bytes.
 pub record IsGoing (sound : Bool) (now : Now) : Type 0 where
   pub header : HasHeader (base_now now).image
   pub sure : sound ≡ true → IsSoundImage (base_now now).image
   pub state : image_state (base_now now).image ≤ 2
   pub frozen : image_state (base_now now).image ≡ 1 → is_header (first_page (base_now now).frozen) ≡ true
   pub each : (place : ℕ) → IsAt sound now place (slice_index_or now.todo place [])
-  pub levels : (place : ℕ) → AllByRecursion (λ (turn : Turn). goes_by_entries turn ≡ true → sound ≡ true) (slice_index_or now.todo place [])
   pub sixteen : AllByRecursion (λ (guid : List ℕ). length guid ≡ 16) now.given.guids
 
 -- What holds between two turns of all files that are still to be made: it goes on, they have names, and in the stalled state the frozen
 -- image is in that state.
 pub record IsMaking (now : Now) : Type 0 where
-  -- whether the inventories are known to be sound
-  pub sound : Bool
-  pub going : IsGoing sound now
+  pub going : IsGoing false now
   pub named : AreNamed now
   pub stalled : image_state (base_now now).image ≡ 1 → image_state (base_now now).frozen ≡ 1

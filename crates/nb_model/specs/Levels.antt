@@ -10,6 +10,7 @@ use Rattle.nb_fields.specs.Header.{is_header, state_of, size_of, scn_of, guid_of
 use Rattle.nb_host.specs.Names.{same_name}
 use Rattle.nb_model.specs.Image.{Page, Image, Numbered, image_size}
 use Rattle.nb_model.specs.Account.{Ask, Kept}
+use Rattle.nb_model.specs.Forms.{has_entry, scn_entry}
 
 -- the head of a level file
 pub record Head : Type 0 where
@@ -30,9 +31,23 @@ unfoldable pub taken_from : (n scn : ℕ) → Image → List Numbered
 taken_from n scn [] = []
 taken_from n scn (p ∷ ps) = elim (nat_lt scn (stamp_of p)) [ true ↦ (n, p) ∷ taken_from (n + 1) scn ps | false ↦ taken_from (n + 1) scn ps ]
 
--- the pages that a level since that SCN takes
+-- the pages that were stamped since that SCN
 abbrev pub taken : (scn : ℕ) → Image → List Numbered
 taken scn image = taken_from 0 scn image
+
+-- page p may have changed since that SCN: it has no SCN entry, or its entry, as it stands, is above
+unfoldable pub may_have_changed : Image → (scn p : ℕ) → Bool
+may_have_changed image scn p = not (has_entry image p) || nat_lt scn (scn_entry image p)
+
+-- those that may have changed and whose stamp is above the SCN, with their numbers; the first page of the list is number n
+unfoldable pub changed_from : (may : ℕ → Bool) (n scn : ℕ) → Image → List Numbered
+changed_from may n scn [] = []
+changed_from may n scn (p ∷ ps) = elim (may n && nat_lt scn (stamp_of p)) [ true ↦ (n, p) ∷ changed_from may (n + 1) scn ps | false ↦ changed_from may (n + 1) scn ps ]
+
+-- The pages that a level since that SCN takes, whatever the SCN pages hold. Where no entry is below the stamp of its page these are all that were
+-- stamped since.
+abbrev pub changed : (scn : ℕ) → Image → List Numbered
+changed scn image = changed_from (may_have_changed image scn) 0 scn image
 
 -- all pages with their numbers
 unfoldable pub numbered_from : (n : ℕ) → Image → List Numbered
@@ -108,7 +123,7 @@ unfoldable pub file_for : (version : ℕ) → Kept → Option Ask → List ℕ
 file_for version kept None = joined kept.image
 file_for version kept (Some ask) = elim (ask.level == 0) [
   | true ↦ joined kept.image
-  | false ↦ level_bytes version (head_for kept ask) (taken ask.previous_scn kept.image)
+  | false ↦ level_bytes version (head_for kept ask) (changed ask.previous_scn kept.image)
 ]
 
 unfoldable pub file_of : (version : ℕ) → Kept → List ℕ
@@ -116,7 +131,7 @@ file_of version kept = file_for version kept kept.ask
 
 -- how many pages it has
 unfoldable pub count_in : Kept → Ask → ℕ
-count_in kept ask = elim (ask.level == 0) [ true ↦ length kept.image | false ↦ length (taken ask.previous_scn kept.image) ]
+count_in kept ask = elim (ask.level == 0) [ true ↦ length kept.image | false ↦ length (changed ask.previous_scn kept.image) ]
 
 -- Page 0 in a level file is a header in the stalled state, of the head's page size and GUID, with the SCN behind the head's.
 unfoldable pub is_first_page : Head → Page → Bool

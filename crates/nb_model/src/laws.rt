@@ -3,10 +3,10 @@
 ghost use Rattle.nb_model.specs.Account.{Account, Ask, Base, IsBase, Kept, Plain, base_of, with_entry};
 ghost use Rattle.nb_model.specs.Earlier.{IsCovered, IsEarlier, LowersNone};
 ghost use Rattle.nb_model.specs.Follows.{Follows, IsMixed};
-ghost use Rattle.nb_model.specs.Forms.{drafted, give_page, new_page, put, take_page};
+ghost use Rattle.nb_model.specs.Forms.{drafted, give_page, has_entry, new_page, put, scn_entry, take_page};
 ghost use Rattle.nb_model.specs.Going.{AreBeginnings, AreNamed, IsGoing, IsNamed};
 ghost use Rattle.nb_model.specs.Image.{Image, Numbered, Page, first_page, image_guid, image_scn, image_size, image_state, is_forced, is_read_only, overwritten, page_at, trimmed, with_page, written_at};
-ghost use Rattle.nb_model.specs.Levels.{Contents, Head, IsLevel, read_level, taken};
+ghost use Rattle.nb_model.specs.Levels.{Contents, Head, IsLevel, changed, read_level, taken};
 ghost use Rattle.nb_model.specs.Line.{AreZeroPages, HoldLine, HoldsFirst, IsLine, first_file, last_in, next_files};
 ghost use Rattle.nb_model.specs.Making.{IsNoBackup, IsOfKept, MadeFile};
 ghost use Rattle.nb_model.specs.Outcomes.{Begins, DoesNothing, Seen};
@@ -53,6 +53,11 @@ pub fn lineage_mixes()
 /// The pages stamped above the SCN, written over, give the image that follows.
 pub fn lineage_restores()
     ensures { (size s : ℕ) (a b : Image) → Follows a s b → overwritten size (taken s b) a ≡ b }
+{}
+
+/// A level has each page that was stamped since its SCN, where no SCN entry is below the stamp of its page.
+pub fn a_level_has_what_was_stamped()
+    ensures { (image : Image) (s : ℕ) → ((p : ℕ) → p < length image → has_entry image p ≡ true → stamp_of (page_at image p) ≤ scn_entry image p) → changed s image ≡ taken s image }
 {}
 
 /// The files of a line of backups give the image of its last, whatever pages of zeros stood behind the first.

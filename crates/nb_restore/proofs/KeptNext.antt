@@ -8,10 +8,12 @@ use Rattle.nb_host.specs.Files.{Files}
 use Rattle.nb_host.specs.Names.{is_delta}
 use Rattle.nb_model.specs.Image.{Image, Numbered, first_page}
 use Rattle.nb_model.specs.Account.{Ask, Kept, Account}
-use Rattle.nb_model.specs.Levels.{Head, Contents, IsHead, joined, taken, body_bytes, end_bytes, head_then, head_in, head_for, file_for, file_of, level_bytes, read_level}
+use Rattle.nb_model.specs.Levels.{Head, Contents, IsHead, joined, taken, changed, body_bytes, end_bytes, head_then, head_in, head_for, file_for, file_of, level_bytes, read_level}
 use Rattle.nb_model.specs.Line.{HoldsNext}
 use Rattle.nb_model.specs.Restoring.{Link}
+use Rattle.nb_model.specs.Sound.{IsSoundImage}
 use Rattle.nb_model.specs.Stands.{nil, to_record, IsKeptAs, IsBegun, Stands}
+use Rattle.nb_model.proofs.ChangedLaws.{sound_changed}
 use Rattle.nb_model.proofs.HeaderLaws.{header-long, header-size, header-room, same-header}
 use Rattle.nb_model.proofs.MainLaws.{some_page}
 use Rattle.nb_model.proofs.ReadLaws.{eq_no}
@@ -32,16 +34,16 @@ no_pages image bytes c header reads is =
     header_no_level bytes c (same-header bytes (first_page image) (ap (take 64) is ∙ joined_first image header) ∙ header) reads
 
 -- so the file of a record that is read as a level is one
-file_level : (version : ℕ) (q : Kept) (o : Option Ask) (bytes : List ℕ) (c : Contents) → IsBegun q → read_level bytes ≡ Ok c → bytes ≡ file_for version q o
+file_level : (version : ℕ) (q : Kept) (o : Option Ask) (bytes : List ℕ) (c : Contents) → IsBegun q → IsSoundImage q.image → read_level bytes ≡ Ok c → bytes ≡ file_for version q o
     → (ask : Ask) × (o ≡ Some ask) × (bytes ≡ level_bytes version (head_for q ask) (taken ask.previous_scn q.image))
 unfolding file_for
-file_level version q None bytes c begun reads is = absurd (no_pages q.image bytes c begun.header reads is)
-file_level version q (Some ask) bytes c begun reads is = by (ask.level == 0) is
+file_level version q None bytes c begun whole reads is = absurd (no_pages q.image bytes c begun.header reads is)
+file_level version q (Some ask) bytes c begun whole reads is = by (ask.level == 0) is
   where
-    by : (t : Bool) → bytes ≡ elim t as (λ x. List ℕ) [ true ↦ joined q.image | false ↦ level_bytes version (head_for q ask) (taken ask.previous_scn q.image) ]
+    by : (t : Bool) → bytes ≡ elim t as (λ x. List ℕ) [ true ↦ joined q.image | false ↦ level_bytes version (head_for q ask) (changed ask.previous_scn q.image) ]
         → (a : Ask) × (Some ask ≡ Some a) × (bytes ≡ level_bytes version (head_for q a) (taken a.previous_scn q.image))
     by true k = absurd (no_pages q.image bytes c begun.header reads k)
-    by false k = (ask, refl, k)
+    by false k = (ask, refl, k ∙ ap (level_bytes version (head_for q ask)) (sound_changed ask.previous_scn q.image whole))
 
 own_file : (version : ℕ) (q : Kept) → file_of version q ≡ file_for version q q.ask
 unfolding file_of
@@ -53,9 +55,11 @@ unfolding level_bytes head_then
 same_level version h k rs e =
     ap (λ (bs : List ℕ). 78 ∷ 66 ∷ 65 ∷ 75 ∷ (bytes_of 2 version ++ (bs ++ (h.guid ++ (h.previous ++ (bytes_of 4 h.size ++ (bytes_of 4 h.scn ++ (bytes_of 4 h.previous_scn ++ (body_bytes version rs ++ end_bytes (length rs)))))))))) e
 
-level_file_of : (version : ℕ) (q : Kept) (ask : Ask) → 1 ≤ ask.level → file_of version (with_ask (Some ask) q) ≡ level_bytes version (head_for q ask) (taken ask.previous_scn q.image)
+level_file_of : (version : ℕ) (q : Kept) (ask : Ask) → 1 ≤ ask.level → IsSoundImage q.image → file_of version (with_ask (Some ask) q) ≡ level_bytes version (head_for q ask) (taken ask.previous_scn q.image)
 unfolding file_of file_for
-level_file_of version q ask some = rw (eq_no ask.level 0 (λ e. absurd (omega arith)), file_for) refl
+level_file_of version q ask some whole =
+    let spelled : file_of version (with_ask (Some ask) q) ≡ level_bytes version (head_for q ask) (changed ask.previous_scn q.image) = rw (eq_no ask.level 0 (λ e. absurd (omega arith)), file_for) refl in
+    spelled ∙ ap (level_bytes version (head_for q ask)) (sound_changed ask.previous_scn q.image whole)
 
 -- the file of that name is that of a record, with some ask
 pub record HoldsKeptNext (files : Files) (k : ℕ) (r : Kept) (name : List ℕ) (q : Kept) : Type 0 where
@@ -69,6 +73,9 @@ module _ (files : Files) (account : Account) (stands : Stands files account) (k 
 
   begun : IsBegun q
   begun = stands.sound_images.records q named.there
+
+  whole : IsSoundImage q.image
+  whole = stands.sound_images.images q.image (to_record q named.there refl)
 
   -- with this ask
   module _ (ask : Ask) (is : bytes ≡ level_bytes file.contents.version (head_for q ask) (taken ask.previous_scn q.image)) where
@@ -92,7 +99,7 @@ module _ (files : Files) (account : Account) (stands : Stands files account) (k 
     level = sym (reads_level file.contents.version (head_for q ask) rs) ∙ ap (λ (h : Head). bytes_of 2 h.level) (sym head_is) ∙ ap (bytes_of 2) file.behind.level
 
     its_file : bytes ≡ file_of file.contents.version (with_ask (Some now) q)
-    its_file = is ∙ same_level file.contents.version (head_for q ask) k rs level ∙ sym (level_file_of file.contents.version q now some)
+    its_file = is ∙ same_level file.contents.version (head_for q ask) k rs level ∙ sym (level_file_of file.contents.version q now some whole)
 
     goes_on : AsksFrom account.kept q ask → HoldsKeptNext files k (with_ask o r) name q
     goes_on asks =
@@ -123,7 +130,7 @@ module _ (files : Files) (account : Account) (stands : Stands files account) (k 
               scn = scn;
               later = leads.earlier;
               head = head;
-              whole = stands.sound_images.images q.image (to_record q named.there refl);
+              whole = whole;
               begun = begun_with (Some now) q begun;
               follows = leads.follows;
             };
@@ -135,9 +142,9 @@ module _ (files : Files) (account : Account) (stands : Stands files account) (k 
       let its : IsKeptAs account.kept file.contents.head.guid q = subst (λ (x : Link). IsKeptAs account.kept x.guid q) file.is named in
       elim ((stands.kept_records.levels name bytes plain there).level file.contents q file.read its) [
         | inl own ↦
-            let is = file_level file.contents.version q q.ask bytes file.contents begun file.read (own ∙ own_file file.contents.version q) in
+            let is = file_level file.contents.version q q.ask bytes file.contents begun whole file.read (own ∙ own_file file.contents.version q) in
             goes_on is.0 is.2 (own_asks files account stands q is.0 named.there is.1 (not_none is.0 is.2))
         | inr span ↦
-            let is = file_level file.contents.version q (Some span.0) bytes file.contents begun file.read span.2 in
+            let is = file_level file.contents.version q (Some span.0) bytes file.contents begun whole file.read span.2 in
             goes_on is.0 is.2 (subst (λ (a : Ask). AsksFrom account.kept q a) (some_same span.0 is.0 is.1) (span_asks files account stands q span.0 named.there span.1))
       ]

@@ -1,7 +1,7 @@
 -- The turns of a backup.
 use Rattle.std.proofs.Common.{◌≡◌, ◌⊎◌, inl, inr, ⊎_elim, ℕ, zero, suc, ◌-◌, ◌<◌, List, [], ◌∷◌, ◌++◌, length, replicate, refl, sym, ap, subst, ◌∙◌, arith}
 use Rattle.std.specs.Prelude.{Bool, Result, Ok, Err, IfErr, Some, None, true, false, Contains}
-use Rattle.std.specs.List.{AllByRecursion, slice_index_or}
+use Rattle.std.specs.List.{slice_index_or}
 use Rattle.std.proofs.lemmas.List.{append-nil}
 use Rattle.nb_fields.specs.Free.{is_free_file}
 use Rattle.nb_host.specs.Files.{Files}
@@ -23,14 +23,13 @@ use Rattle.nb_model.specs.Backups.{Room, room_in, close_backup}
 use Rattle.nb_model.specs.Causes.{is_free_entry}
 use Rattle.nb_model.specs.Gifts.{Foretells, WasGiven}
 use Rattle.nb_model.specs.Forms.{HasItsEntry}
-use Rattle.nb_model.specs.Going.{IsAt, IsGoing, goes_by_entries}
+use Rattle.nb_model.specs.Going.{IsAt, IsGoing}
 use Rattle.nb_model.specs.Image.{Image, image_scn}
 use Rattle.nb_model.specs.Levels.{file_of, count_in}
 use Rattle.nb_model.specs.Making.{MadeFile, kept_of, making}
 use Rattle.nb_model.specs.Owner.{delta_name}
 use Rattle.nb_model.specs.Outcomes.{Turn, Begins, Copies, ClosesBackup, Ends, Backing, Given, Seen, Outcome, DoesNothing, next_guid, next_time, without_guid, without_time, passes}
 use Rattle.nb_model.specs.Run.{Now, Event, base_now, outcome, is_sync, event_of}
-use Rattle.nb_model.specs.Sound.{IsSoundImage}
 use Rattle.nb_model.specs.Strokes.{Stroke, base_after}
 use Rattle.nb_model.specs.Trail.{Trail, StandsIn, after_stroke}
 use Rattle.nb_model.specs.Turns.{first_turn, turn}
@@ -480,11 +479,6 @@ module _ (old new : World) (a b : Held) (t : Trail) (now : Now) (session : ℕ) 
               ∙ ap (λ (r : Reply). Ends r ∷ []) (sym is_level);
           goes = goes.running ∙ runs;
         }
-
--- Where a level of 1 to 9 begins the inventories are sound.
-pub level_sound : {sound : Bool} (session : ℕ) (now : Now) → IsGoing sound now → (u : Turn) (rest : List Turn) → slice_index_or now.todo (session - 1) [] ≡ u ∷ rest → goes_by_entries u ≡ true → IsSoundImage (base_now now).image
-level_sound {sound = sound} session now going u rest here goes =
-    going.sure ((subst (AllByRecursion (λ (turn : Turn). goes_by_entries turn ≡ true → sound ≡ true)) here (going.levels (session - 1))).0 goes)
 
 -- What a further turn may rely on.
 pub record MayGoOn (held : Held) (t : Trail) (copier : Backed) : Type 0 where

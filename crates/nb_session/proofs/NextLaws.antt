@@ -65,14 +65,12 @@ at_giving now given place todo (merges turns runs) = merges turns (record { by =
 
 pub making_giving : (now : Now) (given : Given) → AreSixteen given.guids → IsMaking now → IsMaking (giving now given)
 making_giving now given sixteen making = record {
-  sound = making.sound;
   going = record {
     header = making.going.header;
     sure = making.going.sure;
     state = making.going.state;
     frozen = making.going.frozen;
     each = λ place. at_giving now given place (slice_index_or now.todo place []) (making.going.each place);
-    levels = making.going.levels;
     sixteen = sixteen;
   };
   named = making.named;

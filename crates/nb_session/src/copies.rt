@@ -6,11 +6,10 @@ ghost use Rattle.nb_change.specs.Changes.{Only};
 ghost use Rattle.nb_change.specs.Counts.{CountsDevice};
 ghost use Rattle.nb_page.specs.Free.{is_free_name};
 ghost use Rattle.nb_model.specs.declared.statement.Statement.TheVariants.{CopyTo};
-ghost use Rattle.nb_model.specs.Going.{IsMaking, goes_by_entries};
+ghost use Rattle.nb_model.specs.Going.{IsMaking};
 ghost use Rattle.nb_model.specs.Outcomes.{Begins, Seen, Turn, next_guid};
 ghost use Rattle.nb_model.specs.Owner.{delta_name};
 ghost use Rattle.nb_model.specs.Run.{Now};
-ghost use Rattle.nb_model.specs.Sound.{IsSoundImage};
 ghost use Rattle.nb_model.specs.Trail.{Trail};
 ghost use Rattle.nb_model.specs.Turns.{first_turn};
 ghost use Rattle.nb_base.specs.Takes.{IsNoRefusal};
@@ -71,7 +70,7 @@ fn start<H: Host>(
 ) -> Result<Copier, Fault>
     requires asked { IsFurther statement.now }
     requires backup { IsBackup statement.now }
-    ensures turn { (s : Seen) (t : Trail) → IsTrue H.tells → t.base ≡ s.base → engine.old.running ≡ s.running → IsOpen (H.world host.old) engine.old t → (goes_by_entries (Begins statement.now) ≡ true → IsSoundImage t.base.image)
+    ensures turn { (s : Seen) (t : Trail) → IsTrue H.tells → t.base ≡ s.base → engine.old.running ≡ s.running → IsOpen (H.world host.old) engine.old t
         → KnowsFree 0 (H.world host.old).files s (file_asked statement.now) → (file_asked statement.now ≡ delta_name engine.old.files.name → ⊥) → GaveAtMost (H.world host.old) (H.world host.new) (next_guid s.given)
         → StartsBackup result (H.world host.old) (H.world host.new) engine.old engine.new t (file_asked statement.now) (next_guid s.given) (first_turn s session statement.now) }
     ensures asks { (t : Trail) → IsTrue H.tells → IsOpen (H.world host.old) engine.old t → (guid : List ℕ) × (length guid ≡ 16) × GaveAtMost (H.world host.old) (H.world host.new) guid }

@@ -130,7 +130,7 @@ module _ (old : World) (account : Account) (given : Given) (plan : Plan) (tellin
 
     making : MayBeGiven given → IsMaking first.now
     making may =
-        begins_making plan askable first.now first.todo {sound = true} (λ is. well.sound) (λ asked. refl) (record { header = well.header; scn = well.scn }) (omega (arith, well.state)) (λ stalled. absurd (omega (arith, stalled, well.state)))
+        begins_making plan askable first.now first.todo (record { header = well.header; scn = well.scn }) (omega (arith, well.state)) (λ stalled. absurd (omega (arith, stalled, well.state)))
         (subst MayBeGiven (sym first.given_is) may)
       where
         well : IsWell [] (base_now first.now).image

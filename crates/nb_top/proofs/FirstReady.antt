@@ -1,8 +1,8 @@
 -- Behind the first statement the database stands ready for the turns of its sessions, and the files that they make are none of its two.
-use Rattle.std.proofs.Common.{◌≡◌, ◌≢◌, inl, inr, ℕ, zero, suc, ◌+◌, ◌-◌, ◌≤◌, List, [], ◌∷◌, length, get_or, refl, sym, ap, subst, ◌∙◌, arith}
+use Rattle.std.proofs.Common.{◌≡◌, ◌≢◌, inl, inr, ℕ, ◌+◌, ◌-◌, ◌≤◌, List, [], ◌∷◌, length, get_or, refl, sym, ap, subst, ◌∙◌, arith}
 use Rattle.std.specs.Prelude.{Bool, true, false, not, nat_le, is_some, ◌&&◌, Contains}
-use Rattle.std.specs.List.{AllByRecursion, list_any}
-use Rattle.std.proofs.lemmas.Bool.{and_parts, or_left, or_right, true≢false}
+use Rattle.std.specs.List.{AllByRecursion}
+use Rattle.std.proofs.lemmas.Bool.{and_parts, true≢false}
 use Rattle.std.proofs.lemmas.List.Elements.{Contains-append_left}
 use Rattle.nb_fields.specs.Header.{is_header}
 use Rattle.nb_host.specs.Names.{is_name, is_delta}
@@ -14,7 +14,7 @@ use Rattle.nb_model.specs.declared.statement.Statement.{Statement}
 use Rattle.nb_model.specs.declared.statement.Statement.TheVariants.{Backup, BackupSince, CopyTo, CreateTable}
 use Rattle.nb_model.specs.Account.{Base, IsBase, Account}
 use Rattle.nb_model.specs.Causes.{is_free_entry}
-use Rattle.nb_model.specs.Going.{IsNamed, IsGoing, IsMaking, goes_by_entries}
+use Rattle.nb_model.specs.Going.{IsNamed, IsGoing, IsMaking}
 use Rattle.nb_model.specs.Image.{Image, first_page, image_state}
 use Rattle.nb_model.specs.Making.{MadeFile, under_way}
 use Rattle.nb_model.specs.Outcomes.{Begins}
@@ -36,7 +36,7 @@ use Rattle.nb_session.specs.Ready.{IsReady}
 use Rattle.nb_session.proofs.NameLaws.{begun_plain, made_named}
 use Rattle.nb_copy.proofs.InUseLaws.{in_use}
 use Rattle.nb_session.proofs.ReadyLaws.{free_same}
-use Rattle.nb_top.specs.Performed.{KnowsNames, MayBeGiven, asks_levels}
+use Rattle.nb_top.specs.Performed.{KnowsNames, MayBeGiven}
 
 -- a name that a user may give, of so many bytes at most
 pub record GivenName (most : ℕ) (name : List ℕ) : Type 0 where
@@ -119,37 +119,20 @@ module _ (plan : Plan) (askable : IsAskable plan) (now : Now) (todo : now.todo �
       let same : place + 1 - 1 ≡ place = omega arith in
       all_so IsFurther Q so (get_or plan.sessions place []) (subst (λ (k : ℕ). AllByRecursion IsFurther (get_or plan.sessions k [])) same (askable.further (place + 1)))
 
-  -- where a statement may begin a level of 1 to 9 the script may
-  asked_among : (statements : List Statement) → (list_any (λ (x : Statement). goes_by_entries (Begins x)) statements ≡ true → asks_levels plan ≡ true) → AllByRecursion (λ (x : Statement). goes_by_entries (Begins x) ≡ true → asks_levels plan ≡ true) statements
-  asked_among [] some = tt
-  asked_among (x ∷ xs) some = (λ goes. some (or_left (goes_by_entries (Begins x)) _ goes), asked_among xs (λ later. some (or_right (goes_by_entries (Begins x)) _ later)))
+  -- the turns of its sessions can be taken on a database, whatever its inventories hold
+  pub begins_going : {sound : Bool} → (sound ≡ true → IsSoundImage (base_now now).image) → HasHeader (base_now now).image → image_state (base_now now).image ≤ 2
+      → (image_state (base_now now).image ≡ 1 → (is_header (first_page (base_now now).frozen) ≡ true) × (image_state (base_now now).frozen ≡ 1)) → MayBeGiven now.given → IsGoing sound now
+  begins_going sure header state frozen sixteen = begun_going now plan.sessions todo header sure state (λ stalled. (frozen stalled).0) sixteen
 
-  asked_at : (sessions : List (List Statement)) (place : ℕ) → (list_any (λ (statements : List Statement). list_any (λ (x : Statement). goes_by_entries (Begins x)) statements) sessions ≡ true → asks_levels plan ≡ true)
-      → AllByRecursion (λ (x : Statement). goes_by_entries (Begins x) ≡ true → asks_levels plan ≡ true) (get_or sessions place [])
-  asked_at [] zero some = tt
-  asked_at [] (suc place) some = tt
-  asked_at (ss ∷ sessions) zero some = asked_among ss (λ goes. some (or_left (list_any (λ (x : Statement). goes_by_entries (Begins x)) ss) _ goes))
-  asked_at (ss ∷ sessions) (suc place) some = asked_at sessions place (λ later. some (or_right (list_any (λ (x : Statement). goes_by_entries (Begins x)) ss) _ later))
-
-  levels_asked : (place : ℕ) → AllByRecursion (λ (x : Statement). goes_by_entries (Begins x) ≡ true → asks_levels plan ≡ true) (get_or plan.sessions place [])
-  levels_asked place = asked_at plan.sessions place (λ is. is)
-
-  -- The turns of its sessions can be taken on a database whose inventories are sound, where a level of 1 to 9 may come.
-  module _ {sound : Bool} (sure : sound ≡ true → IsSoundImage (base_now now).image) (levels : asks_levels plan ≡ true → sound ≡ true) where
-    pub begins_going : HasHeader (base_now now).image → image_state (base_now now).image ≤ 2
-        → (image_state (base_now now).image ≡ 1 → (is_header (first_page (base_now now).frozen) ≡ true) × (image_state (base_now now).frozen ≡ 1)) → MayBeGiven now.given → IsGoing sound now
-    begins_going header state frozen sixteen =
-        begun_going now plan.sessions todo header sure (λ place. all_so (λ (x : Statement). goes_by_entries (Begins x) ≡ true → asks_levels plan ≡ true) (λ (x : Statement). goes_by_entries (Begins x) ≡ true → sound ≡ true) (λ x asked goes. levels (asked goes)) (get_or plan.sessions place []) (levels_asked place)) state (λ stalled. (frozen stalled).0) sixteen
-
-    pub begins_making : HasHeader (base_now now).image → image_state (base_now now).image ≤ 2
-        → (image_state (base_now now).image ≡ 1 → (is_header (first_page (base_now now).frozen) ≡ true) × (image_state (base_now now).frozen ≡ 1)) → MayBeGiven now.given → IsMaking now
-    begins_making header state frozen sixteen =
-        begun_making now plan.sessions todo (each_further (λ s. IsNamed (Begins s)) named_further) (λ stalled. (frozen stalled).1) (begins_going header state frozen sixteen)
+  pub begins_making : HasHeader (base_now now).image → image_state (base_now now).image ≤ 2
+      → (image_state (base_now now).image ≡ 1 → (is_header (first_page (base_now now).frozen) ≡ true) × (image_state (base_now now).frozen ≡ 1)) → MayBeGiven now.given → IsMaking now
+  begins_making header state frozen sixteen =
+      begun_making now plan.sessions todo (each_further (λ s. IsNamed (Begins s)) named_further) (λ stalled. (frozen stalled).1) (begins_going {sound = false} (λ is. absurd (true≢false (sym is))) header state frozen sixteen)
 
   -- so on one that was opened
-  pub opened_making : (w : World) (held : Held) → IsOpen w held (settled (base_now now)) → (asks_levels plan ≡ true → IsSoundImage (base_now now).image) → MayBeGiven now.given → IsMaking now
-  opened_making w held opened sound sixteen =
-      begins_making sound (λ is. is) (record { header = opened.files.agrees.header; scn = omega (arith, opened.agrees.scn, opened.agrees.four) }) (omega (arith, opened.files.agrees.state, opened.files.agrees.opened))
+  pub opened_making : (w : World) (held : Held) → IsOpen w held (settled (base_now now)) → MayBeGiven now.given → IsMaking now
+  opened_making w held opened sixteen =
+      begins_making (record { header = opened.files.agrees.header; scn = omega (arith, opened.agrees.scn, opened.agrees.four) }) (omega (arith, opened.files.agrees.state, opened.files.agrees.opened))
       (λ stalled.
       let same : (base_now now).frozen ≡ parts.main = parts.frozen.stalled (sym main_state ∙ stalled) in
       (ap (λ (image : Image). is_header (first_page image)) same ∙ parts.has.laid.header, ap image_state same ∙ sym main_state ∙ stalled))

@@ -9,10 +9,11 @@ use Rattle.nb_host.specs.Files.{Files}
 use Rattle.nb_host.specs.Names.{is_delta}
 use Rattle.nb_model.specs.Account.{Ask, Kept, Account}
 use Rattle.nb_model.specs.Image.{Page, Image, Numbered, image_size}
-use Rattle.nb_model.specs.Levels.{AreRising, Contents, Head, file_for, head_for, level_bytes, taken, taken_from}
+use Rattle.nb_model.specs.Levels.{AreRising, Contents, Head, file_for, head_for, level_bytes, taken, taken_from, changed}
 use Rattle.nb_model.specs.Sound.{IsSoundImage}
 use Rattle.nb_model.specs.Stands.{IsAncestor, IsKeptAs, IsLineTo, IsSpan, Stands, nil, to_record}
 use Rattle.nb_model.proofs.ChainLaws.{taken_rise}
+use Rattle.nb_model.proofs.ChangedLaws.{sound_changed}
 use Rattle.nb_model.proofs.FollowsLaws.{Meets, follows_on, meets}
 use Rattle.nb_model.proofs.MadeLaws.{span_bytes}
 use Rattle.nb_model.proofs.ReadLaws.{eq_no, eq_yes, lt_no, lt_yes}
@@ -246,10 +247,11 @@ module _ (files : Files) (account : Account) (stands : Stands files account) whe
     sound : IsSoundImage line.last.image
     sound = stands.sound_images.images line.last.image (to_record line.last line.kept_as.there refl)
 
-    pages_same : folded_pages (pages_of_each cs) ≡ taken line.from.scn line.last.image
+    pages_same : folded_pages (pages_of_each cs) ≡ changed line.from.scn line.last.image
     pages_same =
         rising_same 0 (folded_pages (pages_of_each cs)) (taken line.from.scn line.last.image) (folded_rises 1048576 0 (pages_of_each cs) (omega arith)) (taken_rise 0 line.from.scn line.last.image (omega (arith, sound.most)))
         (λ p. folded_page p (pages_of_each cs) (files_rise files None names cs accepted) ∙ line.pages p)
+        ∙ sym (sound_changed line.from.scn line.last.image sound)
 
     head_same : folded_head cs ≡ head_for line.last span_ask
     head_same =

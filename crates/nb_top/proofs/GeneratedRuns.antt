@@ -48,7 +48,7 @@ use Rattle.nb_top.specs.declared.status.Status.{Status}
 use Rattle.nb_top.specs.declared.status.Status.TheVariants.{Refused as RefusedStatus}
 use Rattle.nb_top.specs.declared.telling.Telling.TheVariants.{Sparingly}
 use Rattle.nb_top.specs.Numbers.{number_of}
-use Rattle.nb_top.specs.Performed.{asks_levels, EndsIn, Finished, ReadsAsked, RunReads, HasSmallScn, IsEnded, IsPerformed, IsReadRun, IsUnasked, Knows, KnowsNames, KnowsOpened, MayBeGiven, RunLeft, RunsTo, StandsAsked, Target, begins_refused, refused_at, script_made, seen_after, target_named, target_of}
+use Rattle.nb_top.specs.Performed.{EndsIn, Finished, ReadsAsked, RunReads, HasSmallScn, IsEnded, IsPerformed, IsReadRun, IsUnasked, Knows, KnowsNames, KnowsOpened, MayBeGiven, RunLeft, RunsTo, StandsAsked, Target, begins_refused, refused_at, script_made, seen_after, target_named, target_of}
 use Rattle.nb_top.specs.Requests.{Request, ToGenerate, ToRun}
 use Rattle.nb_session.proofs.ReadyLaws.{free_same}
 use Rattle.nb_top.proofs.GeneratedEvents.{IsApart, SomeRun, its_database, its_target, read_run, script_apart, some_run, with_script}
@@ -365,7 +365,7 @@ module _ (old : World) (number : ℕ) (name : List ℕ) (account : Account) (giv
 
     -- what is asked of it before the script is run
     pub knows_script : (mid : World) → Changes old mid (Only name) (Remade old name (IsUnfinishedOr bytes)) → IsKept mid name bytes → (plan : Plan) → script_of bytes ≡ Ok plan → Knows mid.files behind (Ok (ToRun plan Sparingly))
-    knows_script mid written kept plan read = (knows_behind mid written kept, subst (KnowsOpened mid.files behind (asks_levels plan)) (sym (creates_its_own number plan read)) tt)
+    knows_script mid written kept plan read = (knows_behind mid written kept, subst (KnowsOpened mid.files behind) (sym (creates_its_own number plan read)) tt)
 
     module _ (sixteen : MayBeGiven given) (mid : World) (written : Changes old mid (Only name) (Remade old name (IsUnfinishedOr bytes))) where
       -- the file was made, or some of it

@@ -1,11 +1,11 @@
 -- An account for which the files stand knows what any words ask of it.
-use Rattle.std.proofs.Common.{◌≡◌, inl, inr, ℕ, ◌<◌, List, true, false, refl, sym, ap, ◌∙◌, arith, length-append}
+use Rattle.std.proofs.Common.{◌≡◌, inl, inr, ℕ, ◌<◌, List, false, refl, sym, ap, ◌∙◌, arith, length-append}
 use Rattle.std.specs.Prelude.{Bool, ◌&&◌, not, nat_le, length, is_some, Option, Some, None, Result, Ok, Err}
 use Rattle.std.proofs.lemmas.Bool.{and_parts}
 use Rattle.std.proofs.lemmas.Bool.Decides.{leb_tells}
 use Rattle.nb_fields.specs.Free.{is_free_file}
 use Rattle.nb_host.specs.Files.{File, Files}
-use Rattle.nb_host.specs.Names.{is_delta, delta_suffix}
+use Rattle.nb_host.specs.Names.{delta_suffix}
 use Rattle.nb_host.specs.declared.refusals.Refusal.{Refusal}
 use Rattle.nb_host.specs.declared.refusals.Refusal.TheVariants.{Usage}
 use Rattle.nb_page.specs.Free.{has_delta, is_free_name}
@@ -13,10 +13,9 @@ use Rattle.nb_model.specs.declared.job.Job.{Job}
 use Rattle.nb_model.specs.declared.job.Job.TheVariants.{Run, Stat, Check, Reclaim, Gen, Backup, BackupSince, Restore, Apply, Lock, LockWithSize, Unlock, Fixup, Fold, Plan as PlanOf}
 use Rattle.nb_model.specs.declared.statement.Statement.{Statement}
 use Rattle.nb_model.specs.declared.statement.Statement.TheVariants.{OpenDb}
-use Rattle.nb_model.specs.Account.{Base, IsBase, Account}
+use Rattle.nb_model.specs.Account.{Account}
 use Rattle.nb_model.specs.Owner.{delta_name}
-use Rattle.nb_model.specs.Sound.{IsSoundImage}
-use Rattle.nb_model.specs.Stands.{IsSameImage, Stands, to_base}
+use Rattle.nb_model.specs.Stands.{IsSameImage, Stands}
 use Rattle.nb_model.specs.Words.{is_file, job_of}
 use Rattle.nb_model.proofs.GoingLaws.{name_short}
 use Rattle.nb_model.proofs.OpeningLaws.{free_entry}
@@ -25,7 +24,7 @@ use Rattle.nb_script.specs.Fits.{FitsFirst}
 use Rattle.nb_script.specs.Asked.{IsAskable}
 use Rattle.nb_script.specs.Scripts.{Plan}
 use Rattle.nb_top.specs.declared.telling.Telling.TheVariants.{All}
-use Rattle.nb_top.specs.Performed.{Knows, KnowsAsked, KnowsNames, KnowsOpened, asks_levels, levels_asked}
+use Rattle.nb_top.specs.Performed.{Knows, KnowsAsked, KnowsNames, KnowsOpened}
 use Rattle.nb_top.specs.Requests.{Asked, Runs, ToRun, FitsJob, request_asked, request_of, script_in, to_plan, to_run}
 use Rattle.nb_top.specs.Worlds.{HaveNames}
 use Rattle.nb_top.proofs.FirstReady.{base_name}
@@ -51,54 +50,50 @@ module _ (files : Files) (names : HaveNames files) where
         ∙ ap (λ (t : Bool). is_free_file (files name) && not t) (sym (none_long name long.1))
   ]
 
--- The account has under each name what the files hold, and where a level of 1 to 9 may come, each database there is sound.
-module _ (files : Files) (names : HaveNames files) (account : Account) (same : IsSameImage files account) (levels : Bool)
-    (sound : levels ≡ true → (name : List ℕ) (b : Base) → is_delta name ≡ false → account.entry name ≡ IsBase b → IsSoundImage b.image) where
+-- the account has under each name what the files hold
+module _ (files : Files) (names : HaveNames files) (account : Account) (same : IsSameImage files account) where
   known_names : KnowsNames files account
   known_names name plain = free_named files names name ∙ sym (free_entry files account name same plain)
 
-  known_opened : (own : Bool) → (own ≡ true → levels ≡ true) → (first : Statement) → FitsFirst first → KnowsOpened files account own first
-  known_opened own may (OpenDb name cache) fits =
-      let plain : is_delta name ≡ false = (base_name name fits.0).plain in
-      record { same = same name plain; sound = λ asked b is. sound (may asked) name b plain is }
-  known_opened own may other fits = tt
+  known_opened : (first : Statement) → FitsFirst first → KnowsOpened files account first
+  known_opened (OpenDb name cache) fits = same name (base_name name fits.0).plain
+  known_opened other fits = tt
 
-  known_plan : (plan : Plan) → IsAskable plan → (asks_levels plan ≡ true → levels ≡ true) → Knows files account (Ok (ToRun plan All))
-  known_plan plan askable may = (known_names, known_opened (asks_levels plan) may plan.first askable.first.fits)
+  known_plan : (plan : Plan) → IsAskable plan → Knows files account (Ok (ToRun plan All))
+  known_plan plan askable = (known_names, known_opened plan.first askable.first.fits)
 
-  known_script : (name : List ℕ) (read : Result Plan Refusal) → script_in name (files name) ≡ read → (levels_asked (Runs (to_run read)) ≡ true → levels ≡ true) → Knows files account (to_run read)
-  known_script name (Ok plan) is may = known_plan plan (askable_in name (files name) plan is) may
-  known_script name (Err refusal) is may = tt
+  known_script : (name : List ℕ) (read : Result Plan Refusal) → script_in name (files name) ≡ read → Knows files account (to_run read)
+  known_script name (Ok plan) is = known_plan plan (askable_in name (files name) plan is)
+  known_script name (Err refusal) is = tt
 
   known_list : (keep : ℕ) (names : Result (List (List ℕ)) Refusal) → KnowsAsked files account (to_plan keep names)
   known_list keep (Ok names) = tt
   known_list keep (Err refusal) = tt
 
-  known_job : (job : Job) → FitsJob job → (levels_asked (request_of files job) ≡ true → levels ≡ true) → KnowsAsked files account (request_of files job)
-  known_job (Run name) fits may = known_script name (script_in name (files name)) refl may
-  known_job (Backup level db file) fits may = known_plan _ (backup_askable level db file fits) may
-  known_job (BackupSince guid db file) fits may = known_plan _ (since_askable guid db file fits) may
-  known_job (Stat db) fits may = known_plan _ (stat_askable db fits) may
-  known_job (Check db) fits may = known_plan _ (check_askable db fits) may
-  known_job (Reclaim db) fits may = known_plan _ (reclaim_askable db fits) may
-  known_job (Lock db) fits may = known_plan _ (begin_askable db fits) may
-  known_job (LockWithSize db) fits may = known_plan _ (begin_askable db fits) may
-  known_job (Unlock db) fits may = known_plan _ (end_askable db fits) may
-  known_job (Gen number name) fits may = known_names
-  known_job (Fixup db) fits may = same db (plain_file db (and_parts (is_file db) (nat_le (length db) 94) fits).0)
-  known_job (Restore db names) fits may = known_names db (plain_file db (and_parts (is_file db) (nat_le (length db) 94) fits.0).0)
-  known_job (Fold out names) fits may = known_names out (plain_file out fits.0)
-  known_job (PlanOf keep list) fits may = known_list keep (names_in list (files list))
-  known_job (Apply db file) fits may = same db (plain_file db (and_parts (is_file db) (nat_le (length db) 94) fits.0).0)
+  known_job : (job : Job) → FitsJob job → KnowsAsked files account (request_of files job)
+  known_job (Run name) fits = known_script name (script_in name (files name)) refl
+  known_job (Backup level db file) fits = known_plan _ (backup_askable level db file fits)
+  known_job (BackupSince guid db file) fits = known_plan _ (since_askable guid db file fits)
+  known_job (Stat db) fits = known_plan _ (stat_askable db fits)
+  known_job (Check db) fits = known_plan _ (check_askable db fits)
+  known_job (Reclaim db) fits = known_plan _ (reclaim_askable db fits)
+  known_job (Lock db) fits = known_plan _ (begin_askable db fits)
+  known_job (LockWithSize db) fits = known_plan _ (begin_askable db fits)
+  known_job (Unlock db) fits = known_plan _ (end_askable db fits)
+  known_job (Gen number name) fits = known_names
+  known_job (Fixup db) fits = same db (plain_file db (and_parts (is_file db) (nat_le (length db) 94) fits).0)
+  known_job (Restore db names) fits = known_names db (plain_file db (and_parts (is_file db) (nat_le (length db) 94) fits.0).0)
+  known_job (Fold out names) fits = known_names out (plain_file out fits.0)
+  known_job (PlanOf keep list) fits = known_list keep (names_in list (files list))
+  known_job (Apply db file) fits = same db (plain_file db (and_parts (is_file db) (nat_le (length db) 94) fits.0).0)
 
-  pub known_asked : (words : List (List ℕ)) → (levels_asked (request_asked files words) ≡ true → levels ≡ true) → KnowsAsked files account (request_asked files words)
+  pub known_asked : (words : List (List ℕ)) → KnowsAsked files account (request_asked files words)
   known_asked words = by (job_of words) refl
     where
-      by : (job : Option Job) → job_of words ≡ job → (levels_asked (elim job as (λ z. Asked) [ None ↦ Runs (Err Usage) | Some k ↦ request_of files k ]) ≡ true → levels ≡ true)
-          → KnowsAsked files account (elim job as (λ z. Asked) [ None ↦ Runs (Err Usage) | Some k ↦ request_of files k ])
-      by None is may = tt
-      by (Some job) is may = known_job job (fits_words words job is) may
+      by : (job : Option Job) → job_of words ≡ job → KnowsAsked files account (elim job as (λ z. Asked) [ None ↦ Runs (Err Usage) | Some k ↦ request_of files k ])
+      by None is = tt
+      by (Some job) is = known_job job (fits_words words job is)
 
 -- So it is of one for which the files stand.
 pub stands_known : (files : Files) (account : Account) → HaveNames files → Stands files account → (words : List (List ℕ)) → KnowsAsked files account (request_asked files words)
-stands_known files account names stands words = known_asked files names account stands.same_image true (λ always name b plain is. stands.sound_images.images b.image (to_base name b is refl)) words (λ asked. refl)
+stands_known files account names stands = known_asked files names account stands.same_image

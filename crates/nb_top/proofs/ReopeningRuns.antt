@@ -18,7 +18,6 @@ use Rattle.nb_model.specs.Account.{Base, IsBase, Account}
 use Rattle.nb_model.specs.Outcomes.{Given}
 use Rattle.nb_model.specs.Owner.{delta_name, owner, not_opened}
 use Rattle.nb_model.specs.Run.{IsRun, Opening, base_now, opening}
-use Rattle.nb_model.specs.Sound.{IsSoundImage}
 use Rattle.nb_model.specs.Strokes.{base_in}
 use Rattle.nb_model.specs.Trail.{settled}
 use Rattle.nb_model.proofs.OpeningLaws.{run_ends}
@@ -31,7 +30,7 @@ use Rattle.nb_script.specs.Asked.{IsAskable}
 use Rattle.nb_script.specs.Fits.{FitsFirst}
 use Rattle.nb_script.specs.Scripts.{Plan}
 use Rattle.nb_session.specs.declared.stop.Stop.{Stop}
-use Rattle.nb_top.specs.Performed.{asks_levels, cache_asked, KnowsNames, MayBeGiven, RunsTo, HoldsUnder, opened_reply, pages_first, refused_at}
+use Rattle.nb_top.specs.Performed.{cache_asked, KnowsNames, MayBeGiven, RunsTo, HoldsUnder, opened_reply, pages_first, refused_at}
 use Rattle.nb_top.specs.declared.telling.Telling.{Telling}
 use Rattle.nb_top.specs.Requests.{ToRun}
 use Rattle.nb_top.proofs.QuietRuns.{left_quietly, quiet_gave}
@@ -44,24 +43,24 @@ use Rattle.nb_top.proofs.Beginnings.{Beginning, FirstRefused, FirstDone}
 use Rattle.nb_top.proofs.ToldLaws.{Ran, performed_refused}
 use Rattle.nb_top.proofs.OpenLaws.{shown_entry, refused_entry, owner_never_usage}
 
-module _ (old : World) (account : Account) (given : Given) (plan : Plan) (telling : Telling) (askable : IsAskable plan) (name : List ℕ) (cache : ℕ) (first_is : plan.first ≡ OpenDb name cache) (knows : HoldsUnder old.files account (asks_levels plan) name) where
+module _ (old : World) (account : Account) (given : Given) (plan : Plan) (telling : Telling) (askable : IsAskable plan) (name : List ℕ) (cache : ℕ) (first_is : plan.first ≡ OpenDb name cache) (knows : HoldsUnder old.files account name) where
   -- what the call tells is what the run must say
   refused_ran : (refusal : Refusal) → owner name (old.files name) (old.files (delta_name name)) ≡ Err refusal → Ran account given plan (refused_at plan.first_session refusal) account given
   refused_ran refusal is =
       subst (λ (first : Statement). IsRun account given plan.first_session first plan.schedule plan.sessions (refused_at plan.first_session refusal) account given) (sym first_is)
       (run_ends account given plan.first_session (OpenDb name cache) plan.schedule plan.sessions (RefusedReply refusal)
       (not_reopened account given plan.sessions plan.first_session name cache refusal
-      (ap (not_opened name) knows.same ∙ refused_entry name (old.files name) (old.files (delta_name name)) refusal is)))
+      (ap (not_opened name) knows ∙ refused_entry name (old.files name) (old.files (delta_name name)) refusal is)))
 
   refused_ends : (refusal : Refusal) → owner name (old.files name) (old.files (delta_name name)) ≡ Err refusal → (opening account given plan.sessions plan.first_session plan.first).now ≡ None
   refused_ends refusal is =
       ap (λ (s : Statement). (opening account given plan.sessions plan.first_session s).now) first_is
       ∙ ap (λ (o : Opening). o.now)
       (not_reopened account given plan.sessions plan.first_session name cache refusal
-      (ap (not_opened name) knows.same ∙ refused_entry name (old.files name) (old.files (delta_name name)) refusal is))
+      (ap (not_opened name) knows ∙ refused_entry name (old.files name) (old.files (delta_name name)) refusal is))
 
   there : (b : Base) → owner name (old.files name) (old.files (delta_name name)) ≡ Ok b → account.entry name ≡ IsBase b
-  there b opens = knows.same ∙ shown_entry old.files name b opens
+  there b opens = knows ∙ shown_entry old.files name b opens
 
   -- the account behind it
   opened_behind : (b : Base) (here : account.entry name ≡ IsBase b) → IsBehind account name (first_opened account given plan name cache first_is b here).now
@@ -121,7 +120,7 @@ module _ (old : World) (account : Account) (given : Given) (plan : Plan) (tellin
                   ∙ ap (λ (s : Statement). opened_reply s held.files.count held.files.state) (sym first_is);
               counted = answer.opened.files.agrees.count ∙ sym (ap (λ (x : Base). length x.image) (ap base_in here ∙ base_in_base b)) ∙ ap (pages_first account) (sym first_is);
               ready = first_ready old mid account name plain names one.now one.name_is (opened_behind b here) held answer.named (answer.nothing_runs ∙ sym one.running) (subst (λ (r : Result Held Fault). IfOk r (λ h. h.cap ≡ cache_asked plan.first)) is cap ∙ sym one.cache_is) read opened;
-              making = opened_making plan askable one.now one.todo mid held opened (λ asked. subst (λ (x : Base). IsSoundImage x.image) (sym base) (knows.sound asked b here)) (subst MayBeGiven (sym one.given_is) may);
+              making = opened_making plan askable one.now one.todo mid held opened (subst MayBeGiven (sym one.given_is) may);
               named = answer.named;
               small = λ e. subst (λ (x : Base). image_scn x.image < 4294967296) (sym (ap base_in here ∙ base_in_base b))
                   (subst (λ (n : ℕ). n < 4294967296) answer.opened.agrees.scn (subst (λ (r : Result Held Fault). IfOk r (λ h. h.scn < 4294967296)) is scn));

@@ -18,7 +18,7 @@ use Rattle.nb_script.specs.Asked.{IsFirst, IsAskable}
 use Rattle.nb_script.specs.Scripts.{Plan}
 use Rattle.nb_session.specs.declared.stop.Stop.{Stop}
 use Rattle.nb_top.specs.declared.status.Status.{Status}
-use Rattle.nb_top.specs.Performed.{asks_levels, cache_asked, RunsTo, Knows, KnowsOpened, MayBeGiven}
+use Rattle.nb_top.specs.Performed.{cache_asked, RunsTo, Knows, KnowsOpened, MayBeGiven}
 use Rattle.nb_top.specs.declared.telling.Telling.{Telling}
 use Rattle.nb_top.specs.Requests.{ToRun}
 use Rattle.nb_top.proofs.Beginnings.{Beginning}
@@ -55,8 +55,8 @@ first_opens (OpenDb name cache) first = opens name cache refl
 first_opens other first = absurd (false_true first.opens)
 
 module _ (old : World) (account : Account) (given : Given) (plan : Plan) (telling : Telling) (askable : IsAskable plan) (knows : Knows old.files account (Ok (ToRun plan telling))) where
-  knows_opened : (first : Statement) → plan.first ≡ first → KnowsOpened old.files account (asks_levels plan) first
-  knows_opened first is = subst (λ (s : Statement). KnowsOpened old.files account (asks_levels plan) s) is knows.1
+  knows_opened : (first : Statement) → plan.first ≡ first → KnowsOpened old.files account first
+  knows_opened first is = subst (λ (s : Statement). KnowsOpened old.files account s) is knows.1
 
   -- nothing happened
   pub script_unbegun : (new : World) (e : Stop) → Quiet old new → RunsTo (Err e) old new (Ok (ToRun plan telling)) account given

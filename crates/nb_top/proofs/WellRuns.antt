@@ -1,5 +1,5 @@
 -- A run is well behind its first strokes: what was seen of its database is well along all further steps.
-use Rattle.std.proofs.Common.{◌≡◌, ◌≢◌, ◌⊎◌, inl, ℕ, ◌-◌, ◌+◌, ◌≤◌, List, [], ◌∷◌, ◌++◌, length, take, drop, true, refl, sym, ap, subst, ◌∙◌, arith, take-append-drop}
+use Rattle.std.proofs.Common.{◌≡◌, ◌≢◌, ◌⊎◌, inl, ℕ, ◌-◌, ◌+◌, ◌≤◌, List, [], ◌∷◌, ◌++◌, length, take, drop, true, sym, ap, subst, ◌∙◌, arith, take-append-drop}
 use Rattle.std.specs.Prelude.{Option, Some, Contains, true}
 use Rattle.std.proofs.Math.Seq.{take-append-add}
 use Rattle.std.proofs.lemmas.List.Elements.{Contains-append_left}
@@ -120,10 +120,10 @@ module _ (account : Account) (plan : Plan) (askable : IsAskable plan) (o : Openi
       ))
 
   going : IsGoing true now
-  going = begins_going plan askable now todo sure (λ asked. refl) header_now state_now frozen_now sixteen
+  going = begins_going plan askable now todo sure header_now state_now frozen_now sixteen
 
   making : IsMaking now
-  making = begins_making plan askable now todo sure (λ asked. refl) header_now state_now frozen_now sixteen
+  making = begins_making plan askable now todo header_now state_now frozen_now sixteen
 
   recorded : AllRecorded account.kept (settled b) now
   recorded = first_recorded account.kept (settled b) now plan.sessions todo

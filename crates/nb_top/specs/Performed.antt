@@ -9,7 +9,7 @@
 -- one at each moment, with the records of the backups that have begun by then.
 use Rattle.std.specs.Prelude.{◌≡◌, ◌≢◌, ◌⊎◌, ℕ, ◌<◌, ◌≤◌, List, [], ◌∷◌, ◌++◌, length, take, Bool, true, false, ◌&&◌, Option, None, Some, Result, Ok, Err, IfOk}
 use Rattle.std.specs.Global.{Vec}
-use Rattle.std.specs.List.{AllByRecursion, list_all, list_any}
+use Rattle.std.specs.List.{AllByRecursion, list_all}
 use Rattle.nb_fields.specs.Free.{is_free_file}
 use Rattle.nb_fields.specs.Fresh.{fresh_count}
 use Rattle.nb_host.specs.Files.{File, Files}
@@ -27,20 +27,18 @@ use Rattle.nb_model.specs.declared.reply.Reply.{Reply}
 use Rattle.nb_model.specs.declared.reply.Reply.TheVariants.{Refused, Pages, Opened as OpenedReply}
 use Rattle.nb_model.specs.declared.statement.Statement.{Statement}
 use Rattle.nb_model.specs.declared.statement.Statement.TheVariants.{CreateDb, OpenDb}
-use Rattle.nb_model.specs.Account.{Kept, Base, IsBase, Plain, Account, with_entry}
+use Rattle.nb_model.specs.Account.{Kept, Base, Plain, Account, with_entry}
 use Rattle.nb_model.specs.Causes.{is_free_entry, not_free}
 use Rattle.nb_model.specs.Gifts.{WasGiven}
-use Rattle.nb_model.specs.Going.{goes_by_entries}
 use Rattle.nb_model.specs.Image.{image_scn}
 use Rattle.nb_model.specs.NewGuids.{AreNew, guids_in}
 use Rattle.nb_model.specs.Generated.{generated, last_or_refusal, said_by_generated}
 use Rattle.nb_model.specs.Jobs.{all_sized, quiet, refusal_in}
-use Rattle.nb_model.specs.Outcomes.{Begins, Given}
+use Rattle.nb_model.specs.Outcomes.{Given}
 use Rattle.nb_model.specs.Output.{output, status_of}
 use Rattle.nb_model.specs.Owner.{delta_name, entry_in}
 use Rattle.nb_model.specs.Making.{IsNoneOf}
 use Rattle.nb_model.specs.Run.{Event, Now, Played, IsRun, AreFinished, play, rounds, strokes_of, replies_of, files_made}
-use Rattle.nb_model.specs.Sound.{IsSoundImage}
 use Rattle.nb_model.specs.Steps.{Step, steps_of, strokes_in, after_steps, acked_turns}
 use Rattle.nb_model.specs.Strokes.{Stroke, base_in, records_after}
 use Rattle.nb_model.specs.Trail.{Trail, StandsIn, ShowsIn, settled}
@@ -183,28 +181,23 @@ abbrev pub target_of : Result Request Refusal → List Event → Option Target
 target_of (Err refusal) events = None
 target_of (Ok request) events = elim (begins_refused (run_in request events)) [ true ↦ None | false ↦ target_asked request ]
 
--- whether a statement of the script may begin a level of 1 to 9, which takes pages by their SCN entries
-abbrev pub asks_levels : Plan → Bool
-asks_levels plan = list_any (λ (statements : List Statement). list_any (λ (x : Statement). goes_by_entries (Begins x)) statements) plan.sessions
-
--- The account has under the name what the files hold there. Where a level of 1 to 9 may come, the inventories of a database agree with its pages.
-pub record HoldsUnder (files : Files) (account : Account) (levels : Bool) (name : List ℕ) : Type 0 where
-  pub same : account.entry name ≡ entry_in files name
-  pub sound : levels ≡ true → (b : Base) → account.entry name ≡ IsBase b → IsSoundImage b.image
+-- the account has under the name what the files hold there
+abbrev pub HoldsUnder : Files → Account → (name : List ℕ) → Type 0
+HoldsUnder files account name = account.entry name ≡ entry_in files name
 
 -- of each name that a database or a backup may have the account knows whether it is free
 abbrev pub KnowsNames : Files → Account → Type 0
 KnowsNames files account = (name : List ℕ) → is_delta name ≡ false → is_free_name files name ≡ is_free_entry (account.entry name)
 
 -- of a database that is opened it has what the files hold
-abbrev pub KnowsOpened : Files → Account → (levels : Bool) → (first : Statement) → Type 0
-KnowsOpened files account levels (OpenDb name cache) = HoldsUnder files account levels name
-KnowsOpened files account levels other = Unit {0}
+abbrev pub KnowsOpened : Files → Account → (first : Statement) → Type 0
+KnowsOpened files account (OpenDb name cache) = HoldsUnder files account name
+KnowsOpened files account other = Unit {0}
 
 -- A run asks the account for what the files tell: whether names are free, and for the database that it opens.
 abbrev pub Knows : Files → Account → Result Request Refusal → Type 0
 Knows files account (Err refusal) = Unit {0}
-Knows files account (Ok (ToRun plan telling)) = KnowsNames files account × KnowsOpened files account (asks_levels plan) plan.first
+Knows files account (Ok (ToRun plan telling)) = KnowsNames files account × KnowsOpened files account plan.first
 Knows files account (Ok (ToGenerate number name)) = KnowsNames files account
 
 -- the name isn't that of the database, nor of its difference file
@@ -357,11 +350,6 @@ pub record PerformsRun (status : Status) (old new : World) (asked : Result Reque
   pub after : IsSure old account events → StandsAfter old new account (target_of asked events) events
   pub finished : status ≢ Device → status ≢ Memory → Finished status old new account (target_of asked events) events given left
   pub stands : status ≢ Device → status ≢ Memory → IsSure old account events → StandsFor new last
-
--- a level of 1 to 9 may come
-abbrev pub levels_asked : Asked → Bool
-levels_asked (Runs (Ok (ToRun plan telling))) = asks_levels plan
-levels_asked other = false
 
 -- What is asked for asks the account for what the files tell.
 abbrev pub KnowsAsked : Files → Account → Asked → Type 0

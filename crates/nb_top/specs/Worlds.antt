@@ -6,10 +6,9 @@ use Rattle.nb_host.specs.Files.{File, Files}
 use Rattle.nb_host.specs.Names.{is_name, is_delta}
 use Rattle.nb_host.specs.World.{World}
 use Rattle.nb_host.specs.Crash.{Leaves}
-use Rattle.nb_model.specs.Account.{Base, Kept, IsBase, Missing, Account}
+use Rattle.nb_model.specs.Account.{Kept, Missing, Account}
 use Rattle.nb_model.specs.NewGuids.{IsUnnamed}
 use Rattle.nb_model.specs.Owner.{entry_in}
-use Rattle.nb_model.specs.Sound.{IsSoundImage}
 
 -- The files read as these, and a stop leaves just them. A host that starts again from what a stop left begins so.
 pub record StartsFrom (w : World) (files : Files) : Type 0 where
@@ -53,7 +52,3 @@ pub record IsCopied (files : Files) (bytes : List ℕ) : Type 0 where
 -- each of the files is a copy of one that stands there, under any name, and none is a difference file
 abbrev pub AreCopies : (files copies : Files) → Type 0
 AreCopies files copies = (name bytes : List ℕ) → copies name ≡ Some bytes → (is_delta name ≡ false) × IsCopied files bytes
-
--- the inventories of each database agree with its pages
-abbrev pub HaveSound : Files → Type 0
-HaveSound files = (name : List ℕ) (b : Base) → is_delta name ≡ false → entry_in files name ≡ IsBase b → IsSoundImage b.image

@@ -1,6 +1,6 @@
 // Laws of the whole program: each is a public function with an empty body, whose contract is the law. They show that what a run is
 // promised on holds where a first run begins and where the next one begins behind a stop, and that a job is what it asks for.
-ghost use Rattle.std.specs.Prelude.{◌≡◌, ℕ, ◌+◌, ◌^◌, ◌<◌, List, [], Some, Result, Contains, true, false};
+ghost use Rattle.std.specs.Prelude.{◌≡◌, ℕ, ◌+◌, ◌^◌, ◌<◌, List, [], Some, Result, Contains, false};
 ghost use Rattle.nb_host.specs.Files.{Files, with_file};
 ghost use Rattle.nb_host.specs.Crash.{LeavesAll};
 ghost use Rattle.nb_host.specs.Moments.{AtEachMoment};
@@ -18,11 +18,11 @@ ghost use Rattle.nb_model.specs.declared.job.Job.{Job};
 ghost use Rattle.nb_session.specs.Others.{LeavesOthers};
 ghost use Rattle.nb_top.specs.declared.status.Status.{Status};
 ghost use Rattle.nb_top.specs.OneTurn.{DoesTurn, leaves_all, one_turn};
-ghost use Rattle.nb_top.specs.Performed.{IsPerformed, IsSure, KnowsAsked, PerformsRun, levels_asked};
+ghost use Rattle.nb_top.specs.Performed.{IsPerformed, IsSure, KnowsAsked, PerformsRun};
 ghost use Rattle.nb_top.specs.Requests.{Deed, Does, Request, Runs, request_asked, request_of, run_of};
 ghost use Rattle.nb_top.specs.Standing.{HoldsKept, NextMayBegin, StandsFor};
 ghost use Rattle.nb_top.specs.Touched.{OfAsked};
-ghost use Rattle.nb_top.specs.Worlds.{AreCopies, ArePlain, HaveNames, HaveSound, LeaveNames, NameNone, StartsFrom, account_of, empty, no_files};
+ghost use Rattle.nb_top.specs.Worlds.{AreCopies, ArePlain, HaveNames, LeaveNames, NameNone, StartsFrom, account_of, empty, no_files};
 
 use nb_host::Host;
 
@@ -84,11 +84,10 @@ pub fn counted_guids_are_new<H: Host>(_host: &H)
 
 /// An account for which the files stand knows what any words ask of it: of each name that a file may have it knows whether it is free, and of
 /// each database it has what the files tell. The files have names that a host may give them. Whatever else stands in them, as a difference file
-/// without its database or inventories that don't agree with the pages, the account that has under each name what they hold knows it too. Only
-/// where a level of 1 to 9 may come, the inventories of each database have to agree with its pages.
+/// without its database or inventories that don't agree with the pages, the account that has under each name what they hold knows it too.
 pub fn what_stands_is_known()
     ensures stands { (files : Files) (account : Account) (words : List (List ℕ)) → HaveNames files → Stands files account → KnowsAsked files account (request_asked files words) }
-    ensures whatever { (files : Files) (kept : List Kept) (words : List (List ℕ)) → HaveNames files → (levels_asked (request_asked files words) ≡ true → HaveSound files) → KnowsAsked files (account_of files kept) (request_asked files words) }
+    ensures whatever { (files : Files) (kept : List Kept) (words : List (List ℕ)) → HaveNames files → KnowsAsked files (account_of files kept) (request_asked files words) }
 {}
 
 /// A job that attaches is exactly the run of the script that opens its database and asks what the job asks. It says nothing of the opening

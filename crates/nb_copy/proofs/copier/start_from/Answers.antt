@@ -34,7 +34,7 @@ use Rattle.nb_level.specs.declared.head.LevelHead.{LevelHead}
 use Rattle.nb_copy.proofs.copier.start_from.Goals as goal
 
 pub returns-in_err-head-clause-turn : goal.returns-in_err-head-clause-turn
-returns-in_err-head-clause-turn g c s t tells same runs is sound free plain given =
+returns-in_err-head-clause-turn g c s t tells same runs is free plain given =
     let old = g.H.Host.world c.args.host.now in
     let mid = g.H.Host.world c.check_start.new.host in
     let seen : Seen = record s { base = t.base } in
@@ -44,7 +44,7 @@ returns-in_err-head-clause-turn g c s t tells same runs is sound free plain give
     (start_failed old mid c.args.engine.now c.check_start.new.engine t seen c.args.session c.args.since c.args.name.now refl runs is c.check_start.ensures.same c.check_start.ensures.quiet (c.check_start.ensures.open t tells is) fault (c.in_err-head.ensures.test seen t tells refl is (λ zero. free (sym (ap (λ (b : Base). image_state b.image) same) ∙ zero)))))
 
 pub returns-in_err-file-clause-turn : goal.returns-in_err-file-clause-turn
-returns-in_err-file-clause-turn g c s t tells same runs is sound free plain given =
+returns-in_err-file-clause-turn g c s t tells same runs is free plain given =
     let old = g.H.Host.world c.args.host.now in
     let mid = g.H.Host.world c.check_start.new.host in
     let seen : Seen = record s { base = t.base } in
@@ -59,7 +59,7 @@ pub returns-in_err-file-clause-asks : goal.returns-in_err-file-clause-asks
 returns-in_err-file-clause-asks g c t tells is = (replicate 16 0, refl, inl c.check_start.ensures.quiet.guids)
 
 pub returns-in_err-room-clause-turn : goal.returns-in_err-room-clause-turn
-returns-in_err-room-clause-turn g c s t tells same runs is sound free plain given =
+returns-in_err-room-clause-turn g c s t tells same runs is free plain given =
     let old = g.H.Host.world c.args.host.now in
     let mid = g.H.Host.world c.check_start.new.host in
     let new = g.H.Host.world c.history_room.new.host in
@@ -84,7 +84,7 @@ returns-in_err-room-clause-asks g c t tells is =
     (replicate 16 0, refl, inl ((c.in_err-room.ensures.some t tells here).makes.gave.guids ∙ c.check_start.ensures.quiet.guids))
 
 pub returns-in_err-make-clause-turn : goal.returns-in_err-make-clause-turn
-returns-in_err-make-clause-turn g c s t tells same runs is sound free plain given =
+returns-in_err-make-clause-turn g c s t tells same runs is free plain given =
     let old = g.H.Host.world c.args.host.now in
     let mid = g.H.Host.world c.check_start.new.host in
     let there = g.H.Host.world c.history_room.new.host in
@@ -110,7 +110,7 @@ returns-in_err-make-clause-asks g c t tells is =
     (replicate 16 0, refl, inl (c.in_err-make.ensures.log.guids ∙ (c.in_ok-room.ensures.some t tells here).makes.gave.guids ∙ c.check_start.ensures.quiet.guids))
 
 pub returns-in_err-head-2-clause-turn : goal.returns-in_err-head-2-clause-turn
-returns-in_err-head-2-clause-turn g c s t tells same runs is sound free plain given =
+returns-in_err-head-2-clause-turn g c s t tells same runs is free plain given =
     let old = g.H.Host.world c.args.host.now in
     let mid = g.H.Host.world c.check_start.new.host in
     let there = g.H.Host.world c.history_room.new.host in
@@ -166,7 +166,7 @@ returns-clause-asks g c t tells is =
     (asks.0, asks.1, given_before old made (g.H.Host.world c.begin.new.host) asks.0 gave asks.2)
 
 pub returns-clause-turn : goal.returns-clause-turn
-returns-clause-turn g c s t tells same runs is sound free plain given =
+returns-clause-turn g c s t tells same runs is free plain given =
     let old = g.H.Host.world c.args.host.now in
     let mid = g.H.Host.world c.check_start.new.host in
     let there = g.H.Host.world c.history_room.new.host in
@@ -199,7 +199,7 @@ returns-clause-turn g c s t tells same runs is sound free plain given =
     let asks = c.begin.ensures.asks tells in
     let sixteen : length guid ≡ 16 = ap length (sym (given_guid made.guids new.guids guid asks.0 begins.gave asks.2)) ∙ asks.1 in
     let nine : bare.level ≤ 9 = c.in_ok-head.ensures.level in
-    let started = started_is old there a b t seen c.args.session c.args.since name runs refl is apart none Room room tries made reads file gave new d empty left bare begun begins room c.in_ok-file.file c.start.new.self c.count.result sixteen c.in_ok-head.ensures.its_level sound (c.in_ok-head.ensures.head t tells is)
+    let started = started_is old there a b t seen c.args.session c.args.since name runs refl is apart none Room room tries made reads file gave new d empty left bare begun begins room c.in_ok-file.file c.start.new.self c.count.result sixteen (c.in_ok-head.ensures.head t tells is)
     (c.in_ok-room.ensures.room t tells here sized) (c.in_ok-room.ensures.below t tells here sized) c.in_ok-file.ensures c.start.ensures c.count.ensures.value nine c.in_ok-head.ensures.previous c.in_ok-head.ensures.sized c.in_ok-head.ensures.size in
     let copier : List ℕ → Backed = λ n. record { backing = record { name = n; ask = ask_by begun; scn = begun.scn; guid = begun.guid; page = room.page; slot = room.slot }; page_size = begun.page_size; file = c.start.new.self } in
     subst (λ (x : Base). StartsBackup (Ok (copier c.copied.result)) old new a d t name guid (turn_since (record s { base = x }) c.args.session c.args.since name)) same

@@ -1,19 +1,16 @@
-use Rattle.std.proofs.Common.{◌≡◌, [], refl, sym, ap, subst, ◌∙◌}
-use Rattle.std.specs.Prelude.{Ok, Err, None, true}
+use Rattle.std.proofs.Common.{[], refl, sym, ap, subst, ◌∙◌}
+use Rattle.std.specs.Prelude.{Ok, Err, None}
 use Rattle.nb_host.specs.declared.faults.Fault.{Fault}
 use Rattle.nb_host.specs.declared.faults.Fault.TheVariants.{Refused, Device, Memory}
 use Rattle.nb_model.specs.declared.reply.Reply.TheVariants.{Refused as RefusedBy}
-use Rattle.nb_model.specs.Account.{Base}
-use Rattle.nb_model.specs.Going.{goes_by_entries}
 use Rattle.nb_model.specs.Outcomes.{Begins, Given, next_guid}
-use Rattle.nb_model.specs.Sound.{IsSoundImage}
 use Rattle.nb_model.specs.Turns.{first_turn}
 use Rattle.nb_state.specs.Turns.{GaveAtMost}
 use Rattle.nb_copy.specs.Starting.{Backed, StartsBackup}
 use Rattle.nb_session.specs.declared.task.Taken.{Taken}
 use Rattle.nb_session.specs.Askers.{file_asked}
 use Rattle.nb_session.specs.Steps.{begun_in, IsBehind}
-use Rattle.nb_session.proofs.BackupLaws.{level_sound, file_plain, no_delta, seen_with, knows_free, starts_told, start_acts, start_apart, start_behind, start_refused}
+use Rattle.nb_session.proofs.BackupLaws.{file_plain, no_delta, seen_with, knows_free, starts_told, start_acts, start_apart, start_behind, start_refused}
 use Rattle.nb_session.proofs.EventLaws.{marks_made}
 use Rattle.nb_session.proofs.TouchingLaws.{start_touch}
 use Rattle.nb_session.proofs.TurnLaws.{turns_failed, turns_quiet, turns_refused, status_told}
@@ -35,9 +32,8 @@ returns-in-Ok-clause-turn g c how now t more tells ready makes here =
     let it = c.args.statement.now in
     let asks = c.requires.backup in
     let plain = file_plain it asks c.requires.asked.fits in
-    let sound = λ (goes : goes_by_entries (Begins it) ≡ true). subst (λ (x : Base). IsSoundImage x.image) (sym ready.base) (level_sound session now makes.going (Begins it) more here goes) in
     let asked = c.in-Ok.ensures.asks t tells ready.opened in
-    let starts = λ (given : Given) (most : GaveAtMost old mid (next_guid given)). c.in-Ok.ensures.turn (seen_with now given) t tells ready.base ready.running ready.opened sound (knows_free old a t now (file_asked it) ready makes.going plain) (no_delta a (file_asked it) plain) most in
+    let starts = λ (given : Given) (most : GaveAtMost old mid (next_guid given)). c.in-Ok.ensures.turn (seen_with now given) t tells ready.base ready.running ready.opened (knows_free old a t now (file_asked it) ready makes.going plain) (no_delta a (file_asked it) plain) most in
     turns_quiet how (λ copier. None) (Ok c.in-Ok.copier) (λ (taken : Taken). taken.refused) (λ (taken : Taken). taken.task) old mid mid a b t now session (Begins it) [] more (begun_in session (Begins it) now) (start_touch session it now) makes here
     (start_acts old mid a b t now session it asks ready (Ok c.in-Ok.copier) starts asked.0 asked.2 asked.1 c.start.ensures.cap) (marks_made (λ (copier : Backed). None) (Ok c.in-Ok.copier) old mid a b t now session (Begins it) (begun_in session (Begins it) now) (start_apart old mid a b t now session it asks ready plain) (λ m. g.met.H.Host.reads_left c.start.new.host tells m))
     c.under_way.result tt (ap (λ (x : Taken). x.refused) c.under_way.ensures) ready (λ said is. is)
@@ -56,11 +52,10 @@ returns-in-Err-Refused-clause-turn g c how now t more tells ready makes here =
     let asks = c.requires.backup in
     let plain = file_plain it asks c.requires.asked.fits in
     let refusal = c.in-Err-Refused.refusal in
-    let sound = λ (goes : goes_by_entries (Begins it) ≡ true). subst (λ (x : Base). IsSoundImage x.image) (sym ready.base) (level_sound session now makes.going (Begins it) more here goes) in
     let asked = c.in-Err-Refused.ensures.asks t tells ready.opened in
     let starts = λ (given : Given) (most : GaveAtMost old mid (next_guid given)).
     subst (λ (f : Fault). StartsBackup (Err f) old mid a b t (file_asked it) (next_guid given) (first_turn (seen_with now given) session it)) c.in-Err-Refused.field-0-is
-    (c.in-Err-Refused.ensures.turn (seen_with now given) t tells ready.base ready.running ready.opened sound (knows_free old a t now (file_asked it) ready makes.going plain) (no_delta a (file_asked it) plain) most) in
+    (c.in-Err-Refused.ensures.turn (seen_with now given) t tells ready.base ready.running ready.opened (knows_free old a t now (file_asked it) ready makes.going plain) (no_delta a (file_asked it) plain) most) in
     turns_refused how (λ copier. None) refusal old mid new a b t now session (Begins it) [] more (begun_in session (Begins it) now) (start_touch session it now) makes here
     (start_acts old mid a b t now session it asks ready (Err (Refused refusal)) starts asked.0 asked.2 asked.1 c.start.ensures.cap) (marks_made (λ (copier : Backed). None) (Err (Refused refusal)) old mid a b t now session (Begins it) (begun_in session (Begins it) now) (start_apart old mid a b t now session it asks ready plain) (λ m. g.met.H.Host.reads_left c.start.new.host tells m)) ready c.say_refused.result (c.say_refused.ensures.line tells) c.say_refused.ensures.taken
     (λ is. status_told session it now (RefusedBy refusal) is)
@@ -76,11 +71,10 @@ returns-in-Err-Device-clause-turn g c how now t more tells ready makes here =
     let it = c.args.statement.now in
     let asks = c.requires.backup in
     let plain = file_plain it asks c.requires.asked.fits in
-    let sound = λ (goes : goes_by_entries (Begins it) ≡ true). subst (λ (x : Base). IsSoundImage x.image) (sym ready.base) (level_sound session now makes.going (Begins it) more here goes) in
     let asked = c.in-Err-Device.ensures.asks t tells ready.opened in
     let starts = λ (given : Given) (most : GaveAtMost old mid (next_guid given)).
     subst (λ (f : Fault). StartsBackup (Err f) old mid a b t (file_asked it) (next_guid given) (first_turn (seen_with now given) session it)) c.in-Err-Device.field-0-is
-    (c.in-Err-Device.ensures.turn (seen_with now given) t tells ready.base ready.running ready.opened sound (knows_free old a t now (file_asked it) ready makes.going plain) (no_delta a (file_asked it) plain) most) in
+    (c.in-Err-Device.ensures.turn (seen_with now given) t tells ready.base ready.running ready.opened (knows_free old a t now (file_asked it) ready makes.going plain) (no_delta a (file_asked it) plain) most) in
     turns_failed how (λ copier. None) (Err Device) (λ (taken : Taken). taken.refused) (λ (taken : Taken). taken.task) old mid mid a b t now session (Begins it) [] more (begun_in session (Begins it) now) (start_touch session it now) makes here
     (start_acts old mid a b t now session it asks ready (Err Device) starts asked.0 asked.2 asked.1 c.start.ensures.cap) (marks_made (λ (copier : Backed). None) (Err Device) old mid a b t now session (Begins it) (begun_in session (Begins it) now) (start_apart old mid a b t now session it asks ready plain) (λ m. g.met.H.Host.reads_left c.start.new.host tells m)) (Err Device) refl
 
@@ -94,11 +88,10 @@ returns-in-Err-Memory-clause-turn g c how now t more tells ready makes here =
     let it = c.args.statement.now in
     let asks = c.requires.backup in
     let plain = file_plain it asks c.requires.asked.fits in
-    let sound = λ (goes : goes_by_entries (Begins it) ≡ true). subst (λ (x : Base). IsSoundImage x.image) (sym ready.base) (level_sound session now makes.going (Begins it) more here goes) in
     let asked = c.in-Err-Memory.ensures.asks t tells ready.opened in
     let starts = λ (given : Given) (most : GaveAtMost old mid (next_guid given)).
     subst (λ (f : Fault). StartsBackup (Err f) old mid a b t (file_asked it) (next_guid given) (first_turn (seen_with now given) session it)) c.in-Err-Memory.field-0-is
-    (c.in-Err-Memory.ensures.turn (seen_with now given) t tells ready.base ready.running ready.opened sound (knows_free old a t now (file_asked it) ready makes.going plain) (no_delta a (file_asked it) plain) most) in
+    (c.in-Err-Memory.ensures.turn (seen_with now given) t tells ready.base ready.running ready.opened (knows_free old a t now (file_asked it) ready makes.going plain) (no_delta a (file_asked it) plain) most) in
     turns_failed how (λ copier. None) (Err Memory) (λ (taken : Taken). taken.refused) (λ (taken : Taken). taken.task) old mid mid a b t now session (Begins it) [] more (begun_in session (Begins it) now) (start_touch session it now) makes here
     (start_acts old mid a b t now session it asks ready (Err Memory) starts asked.0 asked.2 asked.1 c.start.ensures.cap) (marks_made (λ (copier : Backed). None) (Err Memory) old mid a b t now session (Begins it) (begun_in session (Begins it) now) (start_apart old mid a b t now session it asks ready plain) (λ m. g.met.H.Host.reads_left c.start.new.host tells m)) (Err Memory) refl
 

@@ -1,11 +1,9 @@
-use Rattle.std.proofs.Common.{◌≡◌, ◌<◌, ℕ, refl, sym, ap, subst, arith}
-use Rattle.std.specs.Prelude.{Result, true, not, ◌==◌}
-use Rattle.std.proofs.lemmas.Bool.{ne_eqb}
+use Rattle.std.proofs.Common.{◌≡◌, ℕ, sym, subst}
+use Rattle.std.specs.Prelude.{Result}
 use Rattle.nb_host.specs.World.{World}
 use Rattle.nb_host.specs.declared.faults.Fault.{Fault}
 use Rattle.nb_model.specs.declared.statement.Statement.{Statement}
-use Rattle.nb_model.specs.Going.{goes_by_entries}
-use Rattle.nb_model.specs.Outcomes.{Begins, Seen, next_guid}
+use Rattle.nb_model.specs.Outcomes.{Seen, next_guid}
 use Rattle.nb_model.specs.Owner.{delta_name}
 use Rattle.nb_model.specs.Trail.{Trail}
 use Rattle.nb_model.specs.Turns.{first_turn}
@@ -14,22 +12,18 @@ use Rattle.nb_copy.specs.Starting.{Backed, KnowsFree, StartsBackup}
 use Rattle.nb_session.specs.Askers.{file_asked}
 use Rattle.nb_session.proofs.copies.start.Goals as goal
 
--- a level of 1 to 9 goes by the SCN entries
-level_goes : (level : ℕ) → 0 < level → not (level == 0) ≡ true
-level_goes level some = ap not (ne_eqb level 0 (λ e. absurd (omega (arith, e, some))))
-
 -- the start of the backup that a statement asks for
 abbrev StartsAsked : (result : Result Backed Fault) (old new : World) (a b : Held) (t : Trail) (s : Seen) (session : ℕ) → Statement → Type 0
 StartsAsked result old new a b t s session x = KnowsFree 0 old.files s (file_asked x) → (file_asked x ≡ delta_name (name_of a) → ⊥) → StartsBackup result old new a b t (file_asked x) (next_guid s.given) (first_turn s session x)
 
 pub returns-in-Backup-clause-turn : goal.returns-in-Backup-clause-turn
 unfolding first_turn
-returns-in-Backup-clause-turn g c s t tells same runs is sound free apart given =
+returns-in-Backup-clause-turn g c s t tells same runs is free apart given =
     subst (StartsAsked c.start.result (g.H.Host.world c.args.host.now) (g.H.Host.world c.start.new.host) c.args.engine.now c.start.new.engine t s c.args.session) (sym c.in-Backup.is)
-    (λ known off. c.start.ensures.turn s t tells same runs is (λ some. sound (subst (λ (x : Statement). goes_by_entries (Begins x) ≡ true) (sym c.in-Backup.is) (level_goes _ some))) known off given) free apart
+    (λ known off. c.start.ensures.turn s t tells same runs is known off given) free apart
 
 pub returns-in-BackupSince-clause-turn : goal.returns-in-BackupSince-clause-turn
 unfolding first_turn
-returns-in-BackupSince-clause-turn g c s t tells same runs is sound free apart given =
+returns-in-BackupSince-clause-turn g c s t tells same runs is free apart given =
     subst (StartsAsked c.start_since.result (g.H.Host.world c.args.host.now) (g.H.Host.world c.start_since.new.host) c.args.engine.now c.start_since.new.engine t s c.args.session) (sym c.in-BackupSince.is)
-    (λ known off. c.start_since.ensures.turn s t tells same runs is (sound (subst (λ (x : Statement). goes_by_entries (Begins x) ≡ true) (sym c.in-BackupSince.is) refl)) known off given) free apart
+    (λ known off. c.start_since.ensures.turn s t tells same runs is known off given) free apart

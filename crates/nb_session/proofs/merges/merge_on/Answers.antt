@@ -1,5 +1,5 @@
 use Rattle.std.proofs.Common.{[], ◌++◌, refl, sym, ap, subst, ◌∙◌}
-use Rattle.std.specs.Prelude.{Ok, Err, Some, true, None, false}
+use Rattle.std.specs.Prelude.{Ok, Err, Some, None, false}
 use Rattle.nb_model.specs.declared.reply.Reply.{Reply}
 use Rattle.nb_session.specs.Says.{SaysLine}
 use Rattle.nb_session.specs.Told.{told_line, told_reply}

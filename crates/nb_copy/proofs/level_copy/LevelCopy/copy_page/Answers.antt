@@ -21,11 +21,11 @@ returns-in_err-take-clause-left g c t tells open_ stalled of begun =
     let low : c.args.self.now.next < length frozen = omega (arith, c.requires.below, of.long) in
     let has = subst (λ (f : LevelWriting). HasTaken (g.H.Host.world c.fetch.new.host) f (taken_below c.args.self.now.next c.args.self.now frozen)) (sym filed) (taken_quiet _ _ _ _ fetch.quiet begun.has) in
     let read = subst (λ (b : Bool). Fetched (Ok b) c.args.self.now c.fetch.new.self.page frozen) c.if-may_be_changed.true (fetch.fetched t tells open_ stalled of begun.entries) in
-    let page = c.deref.ensures.value ∙ ap (λ (v : LevelCopying). v.page) c.self-2.view_is ∙ read in
+    let page = c.deref.ensures.value ∙ ap (λ (v : LevelCopying). v.page) c.self-2.view_is ∙ read.1 in
     let headed = ap (λ (f : LevelWriting). f.head) filed in
     let scn = ap (λ (h : LevelHead). h.previous_scn) headed in
     let all = ap (λ k. taken_below c.args.self.now.next c.args.self.now frozen ++ taken_from k c.self-2.inside.file.head.previous_scn (c.deref.result.now ∷ [])) next
-    ∙ next_taken c.args.self.now frozen of c.args.self.now.next c.self-2.inside.file.head.previous_scn c.deref.result.now low page scn in
+    ∙ next_taken c.args.self.now frozen of c.args.self.now.next c.self-2.inside.file.head.previous_scn c.deref.result.now low page scn read.0 in
     let may = subst (λ (h : LevelHead). MayHave h (taken_below c.args.self.now.next c.args.self.now frozen ++ taken_from c.self.inside.next c.self-2.inside.file.head.previous_scn (c.deref.result.now ∷ []))) (sym headed)
     (subst (MayHave c.args.self.now.file.head) (sym all) (may_below c.args.self.now frozen of (c.args.self.now.next + 1) (omega (arith, low)))) in
     renamed _ _ _ _ IsUnfinished (ap (λ (f : LevelWriting). f.name) filed) (quiet_then c.self-2.inside.file.name IsUnfinished _ _ _ fetch.quiet (c.take.ensures.left tells _ has may))
@@ -39,11 +39,11 @@ returns-in_ok-take-clause-left g c t tells open_ stalled of begun =
     let low : c.args.self.now.next < length frozen = omega (arith, c.requires.below, of.long) in
     let has = subst (λ (f : LevelWriting). HasTaken (g.H.Host.world c.fetch.new.host) f (taken_below c.args.self.now.next c.args.self.now frozen)) (sym filed) (taken_quiet _ _ _ _ fetch.quiet begun.has) in
     let read = subst (λ (b : Bool). Fetched (Ok b) c.args.self.now c.fetch.new.self.page frozen) c.if-may_be_changed.true (fetch.fetched t tells open_ stalled of begun.entries) in
-    let page = c.deref.ensures.value ∙ ap (λ (v : LevelCopying). v.page) c.self-2.view_is ∙ read in
+    let page = c.deref.ensures.value ∙ ap (λ (v : LevelCopying). v.page) c.self-2.view_is ∙ read.1 in
     let headed = ap (λ (f : LevelWriting). f.head) filed in
     let scn = ap (λ (h : LevelHead). h.previous_scn) headed in
     let all = ap (λ k. taken_below c.args.self.now.next c.args.self.now frozen ++ taken_from k c.self-2.inside.file.head.previous_scn (c.deref.result.now ∷ [])) next
-    ∙ next_taken c.args.self.now frozen of c.args.self.now.next c.self-2.inside.file.head.previous_scn c.deref.result.now low page scn in
+    ∙ next_taken c.args.self.now frozen of c.args.self.now.next c.self-2.inside.file.head.previous_scn c.deref.result.now low page scn read.0 in
     let may = subst (λ (h : LevelHead). MayHave h (taken_below c.args.self.now.next c.args.self.now frozen ++ taken_from c.self.inside.next c.self-2.inside.file.head.previous_scn (c.deref.result.now ∷ []))) (sym headed)
     (subst (MayHave c.args.self.now.file.head) (sym all) (may_below c.args.self.now frozen of (c.args.self.now.next + 1) (omega (arith, low)))) in
     renamed _ _ _ _ IsUnfinished (ap (λ (f : LevelWriting). f.name) filed) (quiet_then c.self-2.inside.file.name IsUnfinished _ _ _ fetch.quiet (c.take.ensures.left tells _ has may))
@@ -57,11 +57,11 @@ returns-in_ok-take-clause-copied g c t tells open_ stalled of begun =
     let low : c.args.self.now.next < length frozen = omega (arith, c.requires.below, of.long) in
     let has = subst (λ (f : LevelWriting). HasTaken (g.H.Host.world c.fetch.new.host) f (taken_below c.args.self.now.next c.args.self.now frozen)) (sym filed) (taken_quiet _ _ _ _ fetch.quiet begun.has) in
     let read = subst (λ (b : Bool). Fetched (Ok b) c.args.self.now c.fetch.new.self.page frozen) c.if-may_be_changed.true (fetch.fetched t tells open_ stalled of begun.entries) in
-    let page = c.deref.ensures.value ∙ ap (λ (v : LevelCopying). v.page) c.self-2.view_is ∙ read in
+    let page = c.deref.ensures.value ∙ ap (λ (v : LevelCopying). v.page) c.self-2.view_is ∙ read.1 in
     let headed = ap (λ (f : LevelWriting). f.head) filed in
     let scn = ap (λ (h : LevelHead). h.previous_scn) headed in
     let all = ap (λ k. taken_below c.args.self.now.next c.args.self.now frozen ++ taken_from k c.self-2.inside.file.head.previous_scn (c.deref.result.now ∷ [])) next
-    ∙ next_taken c.args.self.now frozen of c.args.self.now.next c.self-2.inside.file.head.previous_scn c.deref.result.now low page scn in
+    ∙ next_taken c.args.self.now frozen of c.args.self.now.next c.self-2.inside.file.head.previous_scn c.deref.result.now low page scn read.0 in
     let may = subst (λ (h : LevelHead). MayHave h (taken_below c.args.self.now.next c.args.self.now frozen ++ taken_from c.self.inside.next c.self-2.inside.file.head.previous_scn (c.deref.result.now ∷ []))) (sym headed)
     (subst (MayHave c.args.self.now.file.head) (sym all) (may_below c.args.self.now frozen of (c.args.self.now.next + 1) (omega (arith, low)))) in
     subst (λ (rs : List Numbered). HasTaken (g.H.Host.world c.take.new.host) c.take.new.self rs) all (c.in_ok-take.ensures.taken tells _ has may)
@@ -78,8 +78,8 @@ returns-else-may_be_changed-clause-copied g c t tells open_ stalled of begun =
     let filed = ap (λ (v : LevelCopying). v.file) c.self-2.view_is ∙ ap (λ (v : LevelCopying). v.file) fetch.same in
     let low : c.args.self.now.next < length frozen = omega (arith, c.requires.below, of.long) in
     let has = subst (λ (f : LevelWriting). HasTaken (g.H.Host.world c.fetch.new.host) f (taken_below c.args.self.now.next c.args.self.now frozen)) (sym filed) (taken_quiet _ _ _ _ fetch.quiet begun.has) in
-    let stamp = subst (λ (b : Bool). Fetched (Ok b) c.args.self.now c.fetch.new.self.page frozen) c.if-may_be_changed.false (fetch.fetched t tells open_ stalled of begun.entries) in
-    subst (λ (rs : List Numbered). HasTaken (g.H.Host.world c.fetch.new.host) c.self-2.inside.file rs) (next_passed c.args.self.now frozen of c.args.self.now.next low stamp) has
+    let passed = subst (λ (b : Bool). Fetched (Ok b) c.args.self.now c.fetch.new.self.page frozen) c.if-may_be_changed.false (fetch.fetched t tells open_ stalled of begun.entries) in
+    subst (λ (rs : List Numbered). HasTaken (g.H.Host.world c.fetch.new.host) c.self-2.inside.file rs) (next_passed c.args.self.now frozen of c.args.self.now.next low passed) has
 
 pub returns-in_err-may_be_changed-clause-touches : goal.returns-in_err-may_be_changed-clause-touches
 returns-in_err-may_be_changed-clause-touches g c tells = touches_quiet _ _ _ c.in_err-may_be_changed.ensures.quiet

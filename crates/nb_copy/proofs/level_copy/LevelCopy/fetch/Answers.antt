@@ -8,8 +8,9 @@ use Rattle.nb_state.specs.Open.{Held}
 use Rattle.nb_state.proofs.MakesLaws.{open_still}
 use Rattle.nb_copy.specs.LevelCopying.{LevelCopying}
 use Rattle.nb_model.specs.Image.{page_at, image_size}
-use Rattle.nb_copy.proofs.PlaceLaws.{own_page, entry_low}
-use Rattle.nb_copy.proofs.ReadLaws.{entry_above, reads_both, reads_least}
+use Rattle.nb_model.specs.Levels.{may_have_changed}
+use Rattle.nb_copy.proofs.PlaceLaws.{own_page, entry_low, may_place}
+use Rattle.nb_copy.proofs.ReadLaws.{above_may, entry_above, reads_both, reads_least}
 use Rattle.nb_copy.proofs.level_copy.LevelCopy.fetch.Goals as goal
 
 pub returns-then-is_place-clause-fetched : goal.returns-then-is_place-clause-fetched
@@ -21,8 +22,11 @@ returns-then-is_place-clause-fetched g c t tells open_ stalled of ready =
     let next : c.self.inside.next ≡ c.args.self.now.next = ap (λ (v : LevelCopying). v.next) c.self.view_is ∙ ap (λ (v : LevelCopying). v.next) load.same in
     let is = subst (λ n. IsTrue (is_page_size n)) (sym head) c.self.invariant.is_size in
     let own = own_page frozen c.head-head.result.now.page_size c.self.inside.next size is (sym c.is_place.ensures.value ∙ c.if-is_place.true) in
-    c.copy_from_slice.ensures.items ∙ c.deref.ensures.value ∙ ap (λ (v : LevelCopying). v.scn_page) c.self.view_is ∙ load.entries t tells open_ stalled of ready
-    ∙ ap (λ n. page_at frozen (Rattle.nb_model.specs.Forms.scn_page_of frozen n)) (sym next) ∙ ap (page_at frozen) (own ∙ next)
+    let may = may_place frozen c.head-head.result.now.page_size c.args.self.now.file.head.previous_scn c.self.inside.next size (sym c.is_place.ensures.value ∙ c.if-is_place.true) in (
+      ap (may_have_changed frozen c.args.self.now.file.head.previous_scn) (sym next) ∙ may,
+      c.copy_from_slice.ensures.items ∙ c.deref.ensures.value ∙ ap (λ (v : LevelCopying). v.scn_page) c.self.view_is ∙ load.entries t tells open_ stalled of ready
+          ∙ ap (λ n. page_at frozen (Rattle.nb_model.specs.Forms.scn_page_of frozen n)) (sym next) ∙ ap (page_at frozen) (own ∙ next),
+    )
 
 pub returns-then-entry-head-clause-fetched : goal.returns-then-entry-head-clause-fetched
 returns-then-entry-head-clause-fetched g c t tells open_ stalled of ready =
@@ -37,9 +41,9 @@ returns-then-entry-head-clause-fetched g c t tells open_ stalled of ready =
     let other = sym c.is_place.ensures.value ∙ c.if-is_place.false in
     let place = ap (λ n. Rattle.nb_fields.specs.Places.is_scn_place n c.args.self.now.next) (same ∙ sym size) ∙ ap (Rattle.nb_fields.specs.Places.is_scn_place c.head-head.result.now.page_size) (sym next) ∙ other in
     let long = ap length c.deref-2.ensures.value ∙ c.self.invariant.scn_room in
-    entry_low frozen c.args.self.now.file.head.page_size c.args.self.now.next c.in_ok-index.index c.args.self.now.file.head.previous_scn c.entry.result c.deref-2.result.now of.sound.sound.entries same load.index
+    entry_low frozen c.args.self.now.file.head.page_size c.args.self.now.next c.in_ok-index.index c.args.self.now.file.head.previous_scn c.entry.result c.deref-2.result.now same load.index
     (same ∙ sym size ∙ head ∙ sym long) load.inside (c.deref-2.ensures.value ∙ ap (λ (v : LevelCopying). v.scn_page) c.self.view_is ∙ load.entries t tells open_ stalled of ready) c.entry.ensures (omega (arith, c.if-entry-head.true, scn))
-    c.requires.some (omega (arith, c.requires.below, of.long)) place
+    c.requires.some place
 
 pub returns-in_err-read_main-clause-quiet : goal.returns-in_err-read_main-clause-quiet
 returns-in_err-read_main-clause-quiet g c = quiet_joined _ _ _ c.in_ok-index.ensures.quiet c.read_main.ensures.quiet
@@ -51,7 +55,19 @@ returns-clause-fetched g c t tells open_ stalled of ready =
     let next : c.self.inside.next ≡ c.args.self.now.next = ap (λ (v : LevelCopying). v.next) c.self.view_is ∙ ap (λ (v : LevelCopying). v.next) load.same in
     let page = with_items_is c.self.inside.page c.read_main.new.into (omega (arith, c.read_main.auto.into, ap length c.deref_mut.ensures.value, c.self.inside.page.ok.0)) in
     let still = open_still _ _ _ _ t load.engine load.quiet open_ in
-    page ∙ c.in_ok-read_main.ensures.page t tells still (ap (λ (e : Held). e.files.state) load.engine ∙ stalled) (omega (arith, c.requires.below, of.long, next)) ∙ ap (page_at frozen) next
+    let copy = c.args.self.now in
+    let size : c.head-head.result.now.page_size ≡ copy.file.head.page_size =
+    ap (λ (h : LevelHead). h.page_size) c.head-head.ensures ∙ ap (λ (v : LevelCopying). v.file.head.page_size) c.self.view_is ∙ ap (λ (v : LevelCopying). v.file.head.page_size) load.same in
+    let scn : c.head-head.result.now.previous_scn ≡ copy.file.head.previous_scn =
+    ap (λ (h : LevelHead). h.previous_scn) c.head-head.ensures ∙ ap (λ (v : LevelCopying). v.file.head.previous_scn) c.self.view_is ∙ ap (λ (v : LevelCopying). v.file.head.previous_scn) load.same in
+    let place = ap (λ n. is_scn_place n copy.next) (sym size) ∙ ap (is_scn_place c.head-head.result.now.page_size) (sym next) ∙ sym c.is_place.ensures.value ∙ c.if-is_place.false in
+    let long = ap length c.deref-2.ensures.value ∙ c.self.invariant.scn_room in
+    let above = entry_above frozen copy.file.head.page_size copy.next c.in_ok-index.index copy.file.head.previous_scn c.entry.result c.deref-2.result.now of.size load.index
+    (sym size ∙ ap (λ (h : LevelHead). h.page_size) c.head-head.ensures ∙ sym long) load.inside (c.deref-2.ensures.value ∙ ap (λ (v : LevelCopying). v.scn_page) c.self.view_is ∙ load.entries t tells open_ stalled of ready) c.entry.ensures
+    (omega (arith, c.if-entry-head.false, scn)) c.requires.some place in (
+      above_may frozen copy.file.head.previous_scn copy.next above,
+      page ∙ c.in_ok-read_main.ensures.page t tells still (ap (λ (e : Held). e.files.state) load.engine ∙ stalled) (omega (arith, c.requires.below, of.long, next)) ∙ ap (page_at frozen) next,
+    )
 
 pub returns-clause-quiet : goal.returns-clause-quiet
 returns-clause-quiet g c = quiet_joined _ _ _ c.in_ok-index.ensures.quiet c.read_main.ensures.quiet

@@ -18,7 +18,7 @@ returns-in_ok-read_main-clause-entries g c t tells open_ stalled of ready =
     let next = ap (λ (v : LevelCopying). v.next) c.self.view_is in
     let count = ap (λ (v : LevelCopying). v.count) c.self.view_is in
     let place = loaded_place frozen c.head.result.now.page_size c.self.inside.next c.covers-k.result.0 c.covers-k.result.1 c.place_of.result size (subst (λ n. IsTrue (is_page_size n)) (sym head) c.self.invariant.is_size) (omega (arith, c.requires.some, next))
-    c.covers-k.ensures.number c.covers-k.ensures.index c.place_of.ensures (⊎_elim inl (λ e. inr e.1) c.then-self-eq1.either) of.sound.least (omega (arith, c.requires.below, of.long, next)) in
+    c.covers-k.ensures.number c.covers-k.ensures.index c.place_of.ensures (⊎_elim inl (λ e. inr e.1) c.then-self-eq1.either) of.least (omega (arith, c.requires.below, of.long, next)) in
     page ∙ c.in_ok-read_main.ensures.page t tells open_ stalled place.1 ∙ ap (page_at frozen) place.0 ∙ ap (λ n. page_at frozen (Rattle.nb_model.specs.Forms.scn_page_of frozen n)) next
 
 pub returns-in_err-read_main-clause-loads : goal.returns-in_err-read_main-clause-loads
