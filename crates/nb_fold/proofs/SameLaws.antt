@@ -25,7 +25,7 @@ use Rattle.nb_fold.specs.Merging.{AllRise}
 use Rattle.nb_fold.specs.Same.{links_of}
 use Rattle.nb_fold.specs.Verdict.{chained, file_after, files_after, not_after, with_files}
 use Rattle.nb_fold.proofs.FoldedLaws.{folded_rises, none_above, none_below}
-use Rattle.nb_fold.proofs.PagesLaws.{level_pages}
+use Rattle.nb_level.proofs.PagesLaws.{level_pages}
 
 -- the page that is seen where one is written, or none
 abbrev pub seen : Option Page → (before : Page) → Page

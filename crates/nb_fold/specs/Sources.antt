@@ -56,11 +56,6 @@ AreOpened files (n ∷ ns) [] cs = ⊥
 AreOpened files (n ∷ ns) (s ∷ ss) [] = ⊥
 AreOpened files (n ∷ ns) (s ∷ ss) (c ∷ cs) = IsOpened files n s c × AreOpened files ns ss cs
 
--- why a file can't be folded by itself
-abbrev pub FileRefused : File → (name : List ℕ) → Refusal → Type 0
-FileRefused None name refusal = refusal ≡ NoFile name
-FileRefused (Some bytes) name refusal = (at : ℕ) × (read_level bytes ≡ Err at) × (refusal ≡ BadLevel name at)
-
 -- it answers such a value, or the device fails
 abbrev pub IsTaken : {T : Type 0} → Result T Fault → (T → Type 0) → Type 0
 IsTaken (Ok value) P = P value

@@ -7,7 +7,7 @@ use Rattle.nb_gather.specs.Making.{IsKept, IsUnfinished, IsUnfinishedOr}
 use Rattle.nb_fold.specs.Merging.{Makes}
 use Rattle.nb_fold.specs.Sources.{IsTaken}
 use Rattle.nb_fold.proofs.MergeLaws.{folding_begun, makes_or, makes_weaker}
-use Rattle.nb_fold.proofs.OpenLaws.{passed}
+use Rattle.nb_chain.proofs.AnswerLemmas.{passed}
 use Rattle.nb_fold.proofs.writing.write.Goals as goal
 
 pub returns-in_err-begin-clause-makes : goal.returns-in_err-begin-clause-makes
