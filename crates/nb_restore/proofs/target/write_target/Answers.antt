@@ -56,8 +56,8 @@ returns-in_err-write_levels-clause-done g c tells ps links plan =
     (c.in_err-write_levels.ensures.pages tells links
     (readers_ready _ _ _ _ _ _ _ _ _ ps _ (record { plan = plan; size_is = c.requires.size; long = refl; wide = c.requires.first; left = begin.left tells plan.stands; kept = begin.begun tells }) _ _ refl (c.copy_pages.ensures.left tells))))
 
-pub returns-in_err-finish-clause-left : goal.returns-in_err-finish-clause-left
-returns-in_err-finish-clause-left g c tells ps links plan =
+pub returns-in_err-write_first-clause-left : goal.returns-in_err-write_first-clause-left
+returns-in_err-write_first-clause-left g c tells ps links plan =
     let begin = c.in_ok-begin.ensures in
     let copy = c.in_ok-copy_pages.ensures in
     let write = c.in_ok-write_levels.ensures in
@@ -66,10 +66,10 @@ returns-in_err-finish-clause-left g c tells ps links plan =
     let written = all_written _ _ _ _ _ _ _ _ _ _ _ begun _ _ _ _ refl (copy.left tells) (write.left tells)
     (copy.pages tells ps c.args.page.now plan.whole.apart (level_0_there _ _ _ _ _ _ _ _ _ _ _ begun) plan.whole.sizes plan.whole.long begun.kept.reads)
     (write.pages tells links (readers_ready _ _ _ _ _ _ _ _ _ _ _ begun _ _ refl (copy.left tells))) in
-    since_left _ _ _ _ _ _ _ _ _ _ _ begun _ (all_since _ _ _ _ _ _ _ _ written _ c.put.ensures.written (g.met.H.Host.reads_left _ tells _) (c.finish.ensures.left tells))
+    since_left _ _ _ _ _ _ _ _ _ _ _ begun _ (all_since _ _ _ _ _ _ _ _ written _ c.put.ensures.written (g.met.H.Host.reads_left _ tells _) (c.write_first.ensures.left tells))
 
-pub returns-in_err-finish-clause-reads : goal.returns-in_err-finish-clause-reads
-returns-in_err-finish-clause-reads g c tells ps links plan =
+pub returns-in_err-write_first-clause-reads : goal.returns-in_err-write_first-clause-reads
+returns-in_err-write_first-clause-reads g c tells ps links plan =
     let begin = c.in_ok-begin.ensures in
     let copy = c.in_ok-copy_pages.ensures in
     let write = c.in_ok-write_levels.ensures in
@@ -78,7 +78,7 @@ returns-in_err-finish-clause-reads g c tells ps links plan =
     let written = all_written _ _ _ _ _ _ _ _ _ _ _ begun _ _ _ _ refl (copy.left tells) (write.left tells)
     (copy.pages tells ps c.args.page.now plan.whole.apart (level_0_there _ _ _ _ _ _ _ _ _ _ _ begun) plan.whole.sizes plan.whole.long begun.kept.reads)
     (write.pages tells links (readers_ready _ _ _ _ _ _ _ _ _ _ _ begun _ _ refl (copy.left tells))) in
-    inr (reads_has _ _ _ _ (all_since _ _ _ _ _ _ _ _ written _ c.put.ensures.written (g.met.H.Host.reads_left _ tells _) (c.finish.ensures.left tells)) (g.met.H.Host.reads_left _ tells))
+    inr (reads_has _ _ _ _ (all_since _ _ _ _ _ _ _ _ written _ c.put.ensures.written (g.met.H.Host.reads_left _ tells _) (c.write_first.ensures.left tells)) (g.met.H.Host.reads_left _ tells))
 
 pub returns-clause-left : goal.returns-clause-left
 returns-clause-left g c tells ps links plan =
@@ -90,7 +90,7 @@ returns-clause-left g c tells ps links plan =
     let written = all_written _ _ _ _ _ _ _ _ _ _ _ begun _ _ _ _ refl (copy.left tells) (write.left tells)
     (copy.pages tells ps c.args.page.now plan.whole.apart (level_0_there _ _ _ _ _ _ _ _ _ _ _ begun) plan.whole.sizes plan.whole.long begun.kept.reads)
     (write.pages tells links (readers_ready _ _ _ _ _ _ _ _ _ _ _ begun _ _ refl (copy.left tells))) in
-    since_left _ _ _ _ _ _ _ _ _ _ _ begun _ (all_since _ _ _ _ _ _ _ _ written _ c.put.ensures.written (g.met.H.Host.reads_left _ tells _) (c.in_ok-finish.ensures.left tells))
+    since_left _ _ _ _ _ _ _ _ _ _ _ begun _ (all_since _ _ _ _ _ _ _ _ written _ c.put.ensures.written (g.met.H.Host.reads_left _ tells _) (c.in_ok-write_first.ensures.left tells))
 
 pub returns-clause-reads : goal.returns-clause-reads
 returns-clause-reads g c tells ps links plan =
@@ -102,7 +102,7 @@ returns-clause-reads g c tells ps links plan =
     let written = all_written _ _ _ _ _ _ _ _ _ _ _ begun _ _ _ _ refl (copy.left tells) (write.left tells)
     (copy.pages tells ps c.args.page.now plan.whole.apart (level_0_there _ _ _ _ _ _ _ _ _ _ _ begun) plan.whole.sizes plan.whole.long begun.kept.reads)
     (write.pages tells links (readers_ready _ _ _ _ _ _ _ _ _ _ _ begun _ _ refl (copy.left tells))) in
-    inr (reads_has _ _ _ _ (all_since _ _ _ _ _ _ _ _ written _ c.put.ensures.written (g.met.H.Host.reads_left _ tells _) (c.in_ok-finish.ensures.left tells)) (g.met.H.Host.reads_left _ tells))
+    inr (reads_has _ _ _ _ (all_since _ _ _ _ _ _ _ _ written _ c.put.ensures.written (g.met.H.Host.reads_left _ tells _) (c.in_ok-write_first.ensures.left tells)) (g.met.H.Host.reads_left _ tells))
 
 pub returns-clause-done : goal.returns-clause-done
 returns-clause-done g c tells ps links plan =
@@ -114,4 +114,4 @@ returns-clause-done g c tells ps links plan =
     let written = all_written _ _ _ _ _ _ _ _ _ _ _ begun _ _ _ _ refl (copy.left tells) (write.left tells)
     (copy.pages tells ps c.args.page.now plan.whole.apart (level_0_there _ _ _ _ _ _ _ _ _ _ _ begun) plan.whole.sizes plan.whole.long begun.kept.reads)
     (write.pages tells links (readers_ready _ _ _ _ _ _ _ _ _ _ _ begun _ _ refl (copy.left tells))) in
-    all_kept _ _ _ _ _ _ _ _ written _ c.put.ensures.written (c.in_ok-finish.ensures.done tells)
+    all_kept _ _ _ _ _ _ _ _ written _ c.put.ensures.written (c.in_ok-write_first.ensures.done tells)
