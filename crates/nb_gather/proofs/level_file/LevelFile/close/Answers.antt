@@ -14,7 +14,8 @@ pub returns-in_err-sync-clause-left : goal.returns-in_err-sync-clause-left
 returns-in_err-sync-clause-left g c tells rs has may =
     let named = ap (λ (v : LevelWriting). v.name) (c.self.view_is ∙ c.in_ok-finish.ensures.same) in
     let sync = c.sync.ensures in
-    renamed _ _ _ _ _ named (synced_left _ c.self.inside.name named c.args.self.now.head rs may g.H.Host.tells _ _ _ _ (c.in_ok-finish.ensures.left tells rs has may) sync.files sync.log.said sync.time)
+    let whole_or : File → Type 0 = IsUnfinishedOr (level_bytes 102 (head_of c.args.self.now.head) rs) in
+    renamed _ _ _ _ whole_or named (synced_left _ c.self.inside.name named c.args.self.now.head rs may g.H.Host.tells _ _ _ _ (c.in_ok-finish.ensures.left tells rs has may) sync.files sync.log.said sync.time)
 
 pub returns-in_err-write_end-clause-left : goal.returns-in_err-write_end-clause-left
 returns-in_err-write_end-clause-left g c tells rs has may =
@@ -22,7 +23,8 @@ returns-in_err-write_end-clause-left g c tells rs has may =
     let counted = ap (λ (v : LevelWriting). v.written) (c.self.view_is ∙ c.in_ok-finish.ensures.same) ∙ has.counted in
     let sync = c.in_ok-sync.ensures in
     let end = c.write_end.ensures in
-    renamed _ _ _ _ _ named (ended_left _ c.self.inside.name named c.args.self.now.head rs may g.H.Host.tells _ _ _ _ _ tells (c.in_ok-finish.ensures.finished tells rs has may) sync.files c.self.inside.written counted _ (c.in_ok-finish.ensures.left tells rs has may) sync.log.said sync.time end.files end.log.said end.time)
+    let whole_or : File → Type 0 = IsUnfinishedOr (level_bytes 102 (head_of c.args.self.now.head) rs) in
+    renamed _ _ _ _ whole_or named (ended_left _ c.self.inside.name named c.args.self.now.head rs may g.H.Host.tells _ _ _ _ _ tells (c.in_ok-finish.ensures.finished tells rs has may) sync.files c.self.inside.written counted _ (c.in_ok-finish.ensures.left tells rs has may) sync.log.said sync.time end.files end.log.said end.time)
 
 pub returns-clause-left : goal.returns-clause-left
 returns-clause-left g c tells rs has may =
@@ -32,7 +34,8 @@ returns-clause-left g c tells rs has may =
     let end = c.in_ok-write_end.ensures in
     let last = c.sync-2.ensures in
     let written = ended_left _ c.self.inside.name named c.args.self.now.head rs may g.H.Host.tells _ _ _ _ _ tells (c.in_ok-finish.ensures.finished tells rs has may) sync.files c.self.inside.written counted _ (c.in_ok-finish.ensures.left tells rs has may) sync.log.said sync.time end.files end.log.said end.time in
-    renamed _ _ _ _ _ named (sync_then c.self.inside.name _ g.H.Host.tells _ _ _ _ written last.files last.log.said last.time)
+    let whole_or : File → Type 0 = IsUnfinishedOr (level_bytes 102 (head_of c.args.self.now.head) rs) in
+    renamed _ _ _ _ whole_or named (sync_then c.self.inside.name whole_or g.H.Host.tells _ _ _ _ written last.files last.log.said last.time)
 
 pub returns-clause-done : goal.returns-clause-done
 returns-clause-done g c tells rs has may =
