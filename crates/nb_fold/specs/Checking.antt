@@ -1,15 +1,11 @@
 -- Each of the files that are folded goes on from the one before it.
 use Rattle.std.specs.Prelude.{◌≡◌, ℕ, ◌+◌, ◌≤◌, List, [], ◌∷◌, ◌++◌, length, Option, Some, None, Result, Ok, Err}
-use Rattle.nb_host.specs.Files.{File, Files, bytes_of}
+use Rattle.nb_host.specs.Files.{Files}
 use Rattle.nb_host.specs.declared.faults.Fault.{Fault}
 use Rattle.nb_host.specs.declared.faults.Fault.TheVariants.{Refused, Device, Memory}
-use Rattle.nb_host.specs.declared.refusals.Refusal.TheVariants.{BadLevel}
-use Rattle.nb_model.specs.Causes.{Cause}
-use Rattle.nb_model.specs.Image.{Numbered}
-use Rattle.nb_model.specs.Levels.{Contents, read_level}
+use Rattle.nb_model.specs.Levels.{Contents}
 use Rattle.nb_level.specs.Heads.{head_of}
-use Rattle.nb_level.specs.Reading.{Reading, still_to_come}
-use Rattle.nb_fold.specs.Sources.{Held, FileRefused, IsOpened, AreOpened, AreOfPages}
+use Rattle.nb_fold.specs.Sources.{Held, IsOpened, AreOpened, AreOfPages}
 use Rattle.nb_fold.specs.Verdict.{file_after, chained}
 
 -- the last of these files has the head of these contents; there is none where there are none
