@@ -52,7 +52,7 @@ module _ (files : Files) (target : List ℕ) (names : List (List ℕ)) (count : 
   free = free_file files target accepted.free
 
   module _ (first : First) (listed : IsFirstOf files names first) (form : HasForm first.header) (least : 5 ≤ first.pages) (most : first.pages ≤ 1048576) where
-    says : FirstSays (files name) name (Ok first)
+    pub says : FirstSays (files name) name (Ok first)
     says = subst (λ (ns : List (List ℕ)). IsFirstOf files ns first) named listed
 
     abbrev size : ℕ
