@@ -1,5 +1,5 @@
 -- What the answers of the calls below say of a file.
-use Rattle.std.proofs.Common.{◌≡◌, ℕ, ◌-◌, List, [], ◌∷◌, ◌++◌, take, drop, refl, sym, ap, ◌∙◌, arith, nat_eq, ◌+◌, length, ◌≤◌}
+use Rattle.std.proofs.Common.{◌≡◌, ℕ, ◌-◌, List, take, drop, refl, sym, ap, ◌∙◌, arith, nat_eq, ◌+◌, length, ◌≤◌}
 use Rattle.std.specs.Prelude.{Bool, true, false, Some, None, Result, Ok, Err, IfOk}
 use Rattle.std.specs.Cmp.Lexicographic.{pointwise}
 use Rattle.std.proofs.lemmas.List.{take-take}
@@ -11,13 +11,10 @@ use Rattle.nb_host.specs.declared.refusals.Refusal.TheVariants.{NoFile, BadLevel
 use Rattle.nb_page.specs.Header.{header_in}
 use Rattle.nb_page.specs.declared.header.Header.{Header}
 use Rattle.nb_model.specs.Causes.{Cause}
-use Rattle.nb_model.specs.Image.{Numbered}
-use Rattle.nb_model.specs.Levels.{Head, Contents, behind, begins_level, level_signature, read_level}
+use Rattle.nb_model.specs.Levels.{Head, Contents, begins_level, level_signature, read_level}
 use Rattle.nb_model.specs.Restoring.{Link, first_link, not_whole, whole_link}
 use Rattle.nb_model.specs.Stands.{nil}
 use Rattle.nb_model.proofs.StandsLaws.{not_level}
-use Rattle.nb_level.specs.Reading.{Reading, still_to_come}
-use Rattle.nb_level.proofs.ReadingLemmas.{behind-behind}
 use Rattle.nb_level.specs.declared.head.LevelHead.{LevelHead}
 use Rattle.nb_chain.specs.declared.first_file.First.{First}
 use Rattle.nb_chain.specs.First.{FirstSays}

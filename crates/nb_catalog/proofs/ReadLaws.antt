@@ -1,17 +1,14 @@
 -- A file that was read, in a chain.
-use Rattle.std.proofs.Common.{◌≡◌, ℕ, zero, suc, ◌+◌, ◌<◌, ◌≤◌, List, [], ◌∷◌, length, refl, sym, ap, subst, ◌∙◌, arith, eq-eqb}
-use Rattle.std.specs.Prelude.{Bool, true, false, not, ◌&&◌, ◌||◌, ◌==◌, nat_le, nat_lt, Option, Some, None, Result, Ok, Err}
+use Rattle.std.proofs.Common.{◌≡◌, ℕ, zero, suc, ◌+◌, ◌<◌, ◌≤◌, List, [], ◌∷◌, length, refl, sym, ap, ◌∙◌, arith, eq-eqb}
+use Rattle.std.specs.Prelude.{Bool, true, false, ◌==◌, nat_le, Some, None, Result, Ok, Err}
 use Rattle.std.specs.List.{slice_index_or}
 use Rattle.std.proofs.lemmas.Bool.{and_parts, leb-true, eqb-true}
 use Rattle.nb_host.specs.Files.{File, Files}
 use Rattle.nb_host.specs.Names.{same_name}
 use Rattle.nb_host.specs.declared.refusals.Refusal.{Refusal}
 use Rattle.nb_model.specs.Causes.{Cause, first_cause}
-use Rattle.nb_model.specs.Image.{Numbered}
-use Rattle.nb_model.specs.Levels.{Head, Contents, Test, first_fault, ends_before, begins_level, head_in, read_level, read_pages, with_head}
+use Rattle.nb_model.specs.Levels.{Contents, begins_level, read_level}
 use Rattle.nb_model.specs.Restoring.{Link, level_link, whole_link, first_link, next_link, not_behind, not_whole}
-use Rattle.nb_fields.specs.Bytes.{number_in}
-use Rattle.nb_fields.specs.Places.{is_page_size}
 use Rattle.nb_level.specs.declared.head.LevelHead.{LevelHead}
 use Rattle.nb_level.proofs.ToldLaws.{level_told}
 use Rattle.nb_chain.proofs.StartLemmas.{first_whole, next_accepted}

@@ -2,14 +2,13 @@
 use Rattle.std.proofs.Common.{◌≡◌, ◌≢◌, inl, inr, ℕ, ◌+◌, ◌^◌, ◌<◌, ◌≤◌, List, [], ◌∷◌, ◌++◌, length, refl, sym, ap, subst, ◌∙◌, arith}
 use Rattle.std.specs.Prelude.{Bool, true, false, ◌&&◌, ◌==◌, Option, Some, None, Result, Ok, Err}
 use Rattle.std.specs.List.{AllByRecursion}
-use Rattle.std.specs.Cmp.Lexicographic.{told_text}
 use Rattle.std.proofs.lemmas.Bool.{and_parts, eqb-true}
 use Rattle.std.proofs.lemmas.Bool.Decides.{eqb_tells}
 use Rattle.nb_fields.specs.Header.{is_header, state_of, size_of, scn_of, guid_of}
 use Rattle.nb_host.specs.Files.{File, Files}
 use Rattle.nb_host.specs.Names.{same_name}
 use Rattle.nb_host.specs.declared.refusals.Refusal.{Refusal}
-use Rattle.nb_host.specs.declared.refusals.Refusal.TheVariants.{NoFile, ChainGuid, ChainLevel, ChainScn, ChainSize}
+use Rattle.nb_host.specs.declared.refusals.Refusal.TheVariants.{NoFile, ChainLevel}
 use Rattle.nb_model.specs.Causes.{Cause, first_cause}
 use Rattle.nb_model.specs.Image.{Image, Page, Numbered}
 use Rattle.nb_model.specs.Levels.{AreOfSize, AreRising, Contents, Head, begins_level, is_first_page, level_bytes, read_level}

@@ -1,18 +1,14 @@
 -- A level file is read to its end, and then again.
-use Rattle.std.proofs.Common.{◌≡◌, ℕ, ◌+◌, ◌≤◌, List, [], ◌∷◌, ◌++◌, length, sym, ap, subst, ◌∙◌, arith, length-append}
+use Rattle.std.proofs.Common.{◌≡◌, ℕ, List, sym, ap, subst, ◌∙◌}
 use Rattle.std.specs.Prelude.{Bool, IsTrue, Some, None, Result, Ok, Err, IsErr, IsErrAnd}
-use Rattle.std.proofs.lemmas.List.{append-nil}
 use Rattle.nb_host.specs.Files.{File, Files, bytes_of}
 use Rattle.nb_host.specs.declared.faults.Fault.{Fault}
 use Rattle.nb_host.specs.declared.faults.Fault.TheVariants.{Refused, Device, Memory}
 use Rattle.nb_host.specs.declared.refusals.Refusal.TheVariants.{BadLevel, NoFile}
-use Rattle.nb_model.specs.Image.{Numbered}
-use Rattle.nb_model.specs.Levels.{Contents, behind, read_level, with_head}
-use Rattle.nb_level.specs.Answers.{NextSays, StartSays}
+use Rattle.nb_model.specs.Levels.{Contents, read_level, with_head}
+use Rattle.nb_level.specs.Answers.{StartSays}
 use Rattle.nb_level.specs.Heads.{head_of}
 use Rattle.nb_level.specs.Reading.{Reading, still_to_come}
-use Rattle.nb_level.specs.declared.item.Item.{Item}
-use Rattle.nb_level.specs.declared.item.Item.TheVariants.{PageAt, End}
 use Rattle.nb_level.proofs.ToldLaws.{with_head-is}
 use Rattle.nb_fold.specs.Sources.{Held, IsGiven, IsTaken, IsOpened, Waits}
 

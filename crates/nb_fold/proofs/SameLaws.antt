@@ -1,19 +1,16 @@
 -- Files that are written over an image one after the other, and all at once by their fold.
 use Rattle.std.proofs.Common.{◌≡◌, ◌≢◌, inl, inr, ℕ, zero, suc, ◌+◌, ◌<◌, ◌≤◌, List, [], ◌∷◌, ◌++◌, refl, sym, ap, subst, ◌∙◌, arith}
-use Rattle.std.specs.Prelude.{Bool, true, false, not, ◌==◌, Option, Some, None, Result, Ok, Err}
+use Rattle.std.specs.Prelude.{true, false, Option, Some, None, Result, Ok, Err}
 use Rattle.std.specs.List.{AllByRecursion}
-use Rattle.std.specs.Cmp.Lexicographic.{told_text}
-use Rattle.std.proofs.lemmas.Bool.{eqb-true, true≢false}
 use Rattle.std.proofs.lemmas.Bool.Decides.{eqb_tells, leb_tells}
 use Rattle.nb_host.specs.Files.{File, Files}
 use Rattle.nb_host.specs.declared.refusals.Refusal.{Refusal}
-use Rattle.nb_host.specs.declared.refusals.Refusal.TheVariants.{NoFile, BadLevel, ChainGuid, ChainLevel, ChainScn, ChainSize}
-use Rattle.nb_host.specs.Names.{same_name}
-use Rattle.nb_model.specs.Causes.{Cause, when}
+use Rattle.nb_host.specs.declared.refusals.Refusal.TheVariants.{NoFile, BadLevel}
+use Rattle.nb_model.specs.Causes.{Cause}
 use Rattle.nb_model.specs.Image.{Page, Image, Numbered, trimmed, written_at, overwritten}
 use Rattle.nb_model.specs.Levels.{Contents, Head, AreRising, read_level}
 use Rattle.nb_model.specs.Owner.{main_page}
-use Rattle.nb_model.specs.Restoring.{Link, all_over, applied, level_link, not_behind}
+use Rattle.nb_model.specs.Restoring.{Link, all_over, applied, level_link}
 use Rattle.nb_model.proofs.OwnerLaws.{other_page}
 use Rattle.nb_model.proofs.ReadLaws.{eq_no}
 use Rattle.nb_model.proofs.TrimLaws.{trimmed_alike}

@@ -1,6 +1,6 @@
 -- What is left of a level file before its end is whole is no backup.
 use Rattle.std.proofs.Common.{◌≡◌, ◌⊎◌, inl, inr, ⊎_elim, ℕ, suc, ◌+◌, ◌/◌, ◌%◌, ◌<◌, List, [], ◌∷◌, ◌++◌, length, take, drop, refl, sym, ap, subst, ◌∙◌, arith, length-append, append_assoc}
-use Rattle.std.specs.Prelude.{Bool, true, false, not, ◌&&◌, ◌||◌, ◌==◌, nat_le, nat_lt, IsTrue, None, Some, Result, Ok, Err}
+use Rattle.std.specs.Prelude.{true, false, ◌||◌, ◌==◌, nat_le, IsTrue, Some, Ok}
 use Rattle.std.proofs.lemmas.Bool.{eqb-true, or_cases}
 use Rattle.std.proofs.lemmas.List.{drop_at, drop_all, drop-drop}
 use Rattle.nb_fields.specs.Bytes.{number_of, bytes_of, number_in}
@@ -8,8 +8,7 @@ use Rattle.nb_fields.specs.Header.{is_header, is_marked}
 use Rattle.nb_fields.specs.Places.{is_page_size}
 use Rattle.nb_fields.proofs.SizeLemmas.{size_facts}
 use Rattle.nb_change.proofs.NameLaws.{decide}
-use Rattle.nb_model.specs.Image.{Numbered}
-use Rattle.nb_model.specs.Levels.{Head, Stretch, Contents, Test, first_fault, ends_before, begins_level, head_then, head_in, with_head, run_bytes, end_bytes, end_mark, read_level, read_pages, read_runs}
+use Rattle.nb_model.specs.Levels.{Head, Stretch, Contents, head_then, head_in, run_bytes, end_bytes, end_mark, read_level, read_pages, read_runs}
 use Rattle.nb_model.proofs.ReadLaws.{and_no_right}
 use Rattle.nb_model.proofs.GatherLaws.{total}
 use Rattle.nb_level.proofs.ToldLaws.{level_told}

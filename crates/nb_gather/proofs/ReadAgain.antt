@@ -1,10 +1,10 @@
 -- What it says of bytes that they are read as runs.
-use Rattle.std.proofs.Common.{◌≡◌, ◌≢◌, ◌⊎◌, inl, inr, ℕ, suc, ◌+◌, ◌*◌, ◌≤◌, List, [], ◌∷◌, length, drop, refl, sym, ap, ◌∙◌, arith}
-use Rattle.std.specs.Prelude.{Bool, true, false, not, ◌&&◌, ◌||◌, ◌==◌, nat_lt, Option, None, Some, Result, Ok, Err}
-use Rattle.std.proofs.lemmas.Bool.Decides.{eqb_tells, leb_tells}
-use Rattle.nb_fields.specs.Bytes.{part, number_in}
+use Rattle.std.proofs.Common.{◌≡◌, ◌≢◌, ◌⊎◌, inl, inr, ℕ, suc, ◌+◌, ◌*◌, ◌≤◌, List, length, drop, refl, sym, ap, ◌∙◌, arith}
+use Rattle.std.specs.Prelude.{Bool, true, false, not, ◌||◌, ◌==◌, nat_lt, Option, None, Some, Result, Ok, Err}
+use Rattle.std.proofs.lemmas.Bool.Decides.{eqb_tells}
+use Rattle.nb_fields.specs.Bytes.{number_in}
 use Rattle.nb_model.specs.Image.{Numbered}
-use Rattle.nb_model.specs.Levels.{Head, Test, first_fault, ends_before, behind, read_end, read_runs, pages_in, barred_after, is_bad_number, is_first_page, end_mark}
+use Rattle.nb_model.specs.Levels.{Head, Test, first_fault, behind, read_end, read_runs, pages_in, barred_after, end_mark}
 use Rattle.nb_model.proofs.ReadLaws.{AreClear, eq_yes, run_tests, end_tests}
 use Rattle.nb_level.proofs.ToldLaws.{none_clear, not_long}
 

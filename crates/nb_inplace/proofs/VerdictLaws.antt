@@ -1,5 +1,5 @@
 -- What an accepted merge is: a standby in the normal or the applying state, and the level file that goes on from it.
-use Rattle.std.proofs.Common.{◌≡◌, ◌⊎◌, inl, inr, ℕ, zero, suc, ◌-◌, ◌≤◌, List, ◌∷◌, refl, sym, ap, ◌∙◌, arith}
+use Rattle.std.proofs.Common.{◌≡◌, ◌⊎◌, inl, inr, ℕ, zero, suc, ◌-◌, ◌≤◌, List, refl, sym, ap, ◌∙◌, arith}
 use Rattle.std.specs.Prelude.{Bool, true, false, not, ◌==◌, Some, None, Result, Ok, Err}
 use Rattle.std.specs.Cmp.Lexicographic.{told_text}
 use Rattle.std.proofs.lemmas.Bool.{eqb-true, eqb-false, or_parts}
@@ -8,7 +8,7 @@ use Rattle.nb_host.specs.Files.{File, Files}
 use Rattle.nb_host.specs.Names.{same_name}
 use Rattle.nb_host.specs.declared.refusals.Refusal.{Refusal}
 use Rattle.nb_host.specs.declared.refusals.Refusal.TheVariants.{NoFile, WrongState, BadLevel, Unfinished, ChainGuid, ChainSize, ChainScn, Access}
-use Rattle.nb_model.specs.Causes.{Cause, first_cause, when, not_database}
+use Rattle.nb_model.specs.Causes.{Cause, not_database}
 use Rattle.nb_model.specs.Image.{image_in, is_read_only}
 use Rattle.nb_model.specs.InPlace.{written_since, other_pages, not_next, not_finishing, not_mergeable, in_place_of, not_standby, bytes_in, in_place}
 use Rattle.nb_model.specs.Levels.{Contents, read_level}

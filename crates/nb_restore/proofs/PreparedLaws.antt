@@ -1,12 +1,12 @@
 -- An accepted chain is read again as what it was, and gives a plan.
-use Rattle.std.proofs.Common.{◌≡◌, ◌≢◌, ℕ, ◌*◌, ◌≤◌, List, [], ◌∷◌, length, get_or, sym, ap, subst, ◌∙◌, arith}
-use Rattle.std.specs.Prelude.{true, Some, None, Ok, Err, Contains}
+use Rattle.std.proofs.Common.{◌≡◌, ◌≢◌, ℕ, ◌*◌, ◌≤◌, List, [], ◌∷◌, length, sym, ap, subst, ◌∙◌, arith}
+use Rattle.std.specs.Prelude.{true, Some, Ok, Err, Contains}
 use Rattle.std.specs.Global.{Vec}
 use Rattle.std.proofs.lemmas.Bool.{and_parts}
 use Rattle.nb_fields.specs.Free.{is_free_file}
 use Rattle.nb_fields.specs.Header.{is_header, size_of}
 use Rattle.nb_fields.proofs.SizeLemmas.{size_facts}
-use Rattle.nb_host.specs.Files.{File, Files}
+use Rattle.nb_host.specs.Files.{Files}
 use Rattle.nb_host.specs.declared.faults.Fault.{Fault}
 use Rattle.nb_host.specs.declared.faults.Fault.TheVariants.{Refused, Device, Memory}
 use Rattle.nb_page.specs.Free.{is_free_name}
@@ -26,7 +26,7 @@ use Rattle.nb_restore.specs.Copied.{IsDone}
 use Rattle.nb_restore.specs.Plan.{IsAccepted, IsPrepared, PlanSays}
 use Rattle.nb_restore.specs.Sources.{IsLevel0, AreSources, AreReady, IsTaken}
 use Rattle.nb_restore.specs.Target.{IsPlan, IsUnfinishedPage}
-use Rattle.nb_restore.proofs.AnswerLaws.{ok_same, err_ok, some_same}
+use Rattle.nb_restore.proofs.AnswerLaws.{ok_same, some_same}
 use Rattle.nb_restore.proofs.ChainLaws.{sources, IsSplit, split_chain, IsCopy, copy_of, copy_apart, page_0_header, page_0_size, all_apart}
 
 -- nothing but the device fails, and memory

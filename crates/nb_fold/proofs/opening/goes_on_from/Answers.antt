@@ -22,7 +22,7 @@ returns-clause-test c last x is_last head =
     let l = last_there c.args.sources.now c.index-sources-sources.result last some c.index-sources-sources.is is_last in
     let here : head_of c.head-last.result ≡ l.0.head = ap head_of c.head-last.ensures.value ∙ l.2 in
     let same = same_test (c.from-wanted.result + 1) (l.0.head.level + 1) c.of.result l.0 c.args.name.now x (ap (λ (n : ℕ). n + 1) (c.from-wanted.ensures ∙ ap (λ (h : Head). h.level) here))
-        (c.of.ensures.guid ∙ ap (λ (h : Head). h.guid) here) (c.of.ensures.scn ∙ ap (λ (h : Head). h.scn) here) (c.of.ensures.size ∙ ap (λ (h : Head). h.size) here) in
+    (c.of.ensures.guid ∙ ap (λ (h : Head). h.guid) here) (c.of.ensures.scn ∙ ap (λ (h : Head). h.scn) here) (c.of.ensures.size ∙ ap (λ (h : Head). h.size) here) in
     subst (λ (o : Option Contents). Tested (not_after o c.args.name.now x) c.goes_on.result) (sym l.1) (subst (λ (cause : Cause). Tested cause c.goes_on.result) same (c.goes_on.ensures.test x head))
 
 pub returns-clause-size : goal.returns-clause-size
