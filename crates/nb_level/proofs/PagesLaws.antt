@@ -7,7 +7,7 @@ use Rattle.std.proofs.lemmas.List.{length-take-le}
 use Rattle.nb_fields.specs.Bytes.{number_in, part}
 use Rattle.nb_fields.specs.Places.{is_page_size}
 use Rattle.nb_model.specs.Image.{Page, Numbered}
-use Rattle.nb_model.specs.Levels.{Head, Contents, Test, AreRising, AreOfSize, first_fault, behind, head_in, end_mark, read_level, read_pages, read_end, read_singles, read_runs, pages_in, barred_after, with_head, is_bad_number, is_first_page}
+use Rattle.nb_model.specs.Levels.{Head, Contents, AreRising, AreOfSize, first_fault, behind, head_in, end_mark, read_level, read_pages, read_end, read_singles, read_runs, pages_in, barred_after, is_bad_number, is_first_page}
 use Rattle.nb_model.proofs.ReadLaws.{AreClear, single_tests, run_tests, end_tests, single_there, run_there}
 use Rattle.nb_level.proofs.ToldLaws.{none_clear, not_long, level_told}
 
