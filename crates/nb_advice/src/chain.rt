@@ -49,15 +49,19 @@ pub(crate) fn broken_file(
     Ok(Some(text))
 }
 
-/// Why a level file doesn't go on from the one before it.
-fn not_behind(
+/// Why files are no chain, whatever is to be made of them.
+fn not_chained(
     alloc: Global,
     files: &[Name],
     refused: &Refused<'_>,
+    seen: &Seen,
 ) -> Result<Option<String>, AllocError> {
     let [file, found, wanted] = refused.values;
     let before = before(files, file);
     let text = match refused.name {
+        "FileExists" => return not_free(alloc, file, seen),
+        "NoFile" => return no_file(alloc, file),
+        "BadLevel" => return broken_file(alloc, file, found, seen),
         "ChainGuid" => format!(in alloc;
             "{file} doesn't go on from {before}, which is the backup {wanted}, but from the backup {found}: give the file of that one before it"
         )?,
@@ -81,13 +85,10 @@ pub(crate) fn restore(
 ) -> Result<Option<String>, AllocError> {
     let [file, found, wanted] = refused.values;
     match refused.name {
-        "FileExists" => not_free(alloc, file, seen),
-        "NoFile" => no_file(alloc, file),
-        "BadLevel" => broken_file(alloc, file, found, seen),
         "ChainLevel" => Ok(Some(format!(in alloc;
             "{file} is of level {found}, and one of level {wanted} has to stand in its place: give a file of each level, that of level 0 first"
         )?)),
-        _ => not_behind(alloc, files, refused),
+        _ => not_chained(alloc, files, refused, seen),
     }
 }
 
@@ -100,17 +101,14 @@ pub(crate) fn fold(
 ) -> Result<Option<String>, AllocError> {
     let [file, found, wanted] = refused.values;
     match refused.name {
-        "FileExists" => not_free(alloc, file, seen),
-        "NoFile" => no_file(alloc, file),
         "BadLevel" if found == "0" => Ok(Some(format!(in alloc;
             "{file} is no level file: give those that -B 1 to -B 9 made, and restore one of level 0 with the file that they are folded into"
         )?)),
-        "BadLevel" => broken_file(alloc, file, found, seen),
         "ChainLevel" => Ok(Some(format!(in alloc;
             "{file} is of level {found}, and one of level {wanted} has to follow {}: give consecutive levels, the lowest first",
             before(files, file)
         )?)),
-        _ => not_behind(alloc, files, refused),
+        _ => not_chained(alloc, files, refused, seen),
     }
 }
 

@@ -1,5 +1,5 @@
 -- What the answers of the calls below say of a file.
-use Rattle.std.proofs.Common.{◌≡◌, ℕ, ◌-◌, List, [], ◌∷◌, ◌++◌, take, drop, refl, sym, ap, ◌∙◌, arith, nat_eq, ◌+◌, length, ◌≤◌}
+use Rattle.std.proofs.Common.{◌≡◌, ℕ, ◌-◌, List, take, drop, refl, sym, ap, ◌∙◌, arith, nat_eq, ◌+◌, length, ◌≤◌}
 use Rattle.std.specs.Prelude.{Bool, true, false, Some, None, Result, Ok, Err, IfOk}
 use Rattle.std.specs.Cmp.Lexicographic.{pointwise}
 use Rattle.std.proofs.lemmas.List.{take-take}
@@ -11,19 +11,17 @@ use Rattle.nb_host.specs.declared.refusals.Refusal.TheVariants.{NoFile, BadLevel
 use Rattle.nb_page.specs.Header.{header_in}
 use Rattle.nb_page.specs.declared.header.Header.{Header}
 use Rattle.nb_model.specs.Causes.{Cause}
-use Rattle.nb_model.specs.Image.{Numbered}
-use Rattle.nb_model.specs.Levels.{Head, Contents, behind, begins_level, level_signature, read_level}
+use Rattle.nb_model.specs.Levels.{Head, Contents, begins_level, level_signature, read_level}
 use Rattle.nb_model.specs.Restoring.{Link, first_link, not_whole, whole_link}
 use Rattle.nb_model.specs.Stands.{nil}
 use Rattle.nb_model.proofs.StandsLaws.{not_level}
-use Rattle.nb_level.specs.Reading.{Reading, still_to_come}
-use Rattle.nb_level.proofs.ReadingLemmas.{behind-behind}
 use Rattle.nb_level.specs.declared.head.LevelHead.{LevelHead}
 use Rattle.nb_chain.specs.declared.first_file.First.{First}
 use Rattle.nb_chain.specs.First.{FirstSays}
 use Rattle.nb_catalog.specs.Answers.{Says}
 use Rattle.nb_catalog.specs.Heads.{level_head, whole_head, read_file}
-use Rattle.nb_catalog.specs.Reads.{reads_of, LevelSays, IsLevelHead}
+use Rattle.nb_chain.specs.Level.{WholeSays, IsWhole}
+use Rattle.nb_catalog.specs.Reads.{reads_of}
 
 -- four bytes tell a level file
 pub first_begins : (first bytes : List ℕ) → first ≡ take 4 (drop 0 bytes) → begins_level first ≡ begins_level bytes
@@ -97,7 +95,7 @@ whole_read file name first begins is =
     ∙ ap (λ (h : LevelHead). Ok h) (sym (whole_same first.header bytes is.2.header))
 
 -- a level file
-pub level_says : (file : File) (name : List ℕ) (before after : ℕ) (result : Result LevelHead Fault) → begins_level (bytes_of file) ≡ true → LevelSays file name before after result → Says (read_file name file) result
+pub level_says : (file : File) (name : List ℕ) (before after : ℕ) (result : Result LevelHead Fault) → begins_level (bytes_of file) ≡ true → WholeSays file name before after result → Says (read_file name file) result
 level_says file name before after (Ok head) begins is =
     ap (read_file name) is.there ∙ read_level_ok name is.bytes is.contents (sym (ap (λ (f : File). begins_level (bytes_of f)) is.there) ∙ begins) is.read
     ∙ ap (λ (h : Head). Ok (level_head h)) (sym is.named)
@@ -106,13 +104,8 @@ level_says (Some bytes) name before after (Err (Refused r)) begins is = read_lev
 level_says file name before after (Err Device) begins is = tt
 level_says file name before after (Err Memory) begins is = tt
 
--- one page more of those that were still to come
-pub pages_more : (file : File) (first now next : Reading) (pages : List Numbered) (page : Numbered) → still_to_come (bytes_of file) first ≡ behind pages (still_to_come (bytes_of file) now)
-    → still_to_come (bytes_of file) now ≡ behind (page ∷ []) (still_to_come (bytes_of file) next) → still_to_come (bytes_of file) first ≡ behind (pages ++ page ∷ []) (still_to_come (bytes_of file) next)
-pages_more file first now next pages page so_far gives = so_far ∙ ap (behind pages) gives ∙ behind-behind pages (page ∷ []) (still_to_come (bytes_of file) next)
-
 -- how many reads a file takes
-pub level_reads : (file : File) (before after : ℕ) (head : LevelHead) → (is : IsLevelHead file before after head) → reads_of file ≡ length is.contents.pages + 3
+pub level_reads : (file : File) (before after : ℕ) (head : LevelHead) → (is : IsWhole file before after head) → reads_of file ≡ length is.contents.pages + 3
 unfolding reads_of
 level_reads file before after head is =
     ap reads_of is.there ∙ ap (λ (r : Result Contents ℕ). elim r as (λ x. ℕ) [ Err at ↦ 2 | Ok c ↦ length c.pages + 3 ]) is.read
@@ -122,7 +115,7 @@ unfolding reads_of
 whole_reads file bytes there begins =
     ap reads_of there ∙ ap (λ (r : Result Contents ℕ). elim r as (λ x. ℕ) [ Err at ↦ 2 | Ok c ↦ length c.pages + 3 ]) (not_level bytes (sym (ap (λ (f : File). begins_level (bytes_of f)) there) ∙ begins))
 
-pub level_counted : (file : File) (name : List ℕ) (result : Result LevelHead Fault) (start before after : ℕ) → LevelSays file name before after result → before ≤ start + 1 → IfOk result (λ head. after ≤ start + reads_of file)
+pub level_counted : (file : File) (name : List ℕ) (result : Result LevelHead Fault) (start before after : ℕ) → WholeSays file name before after result → before ≤ start + 1 → IfOk result (λ head. after ≤ start + reads_of file)
 level_counted file name (Ok head) start before after is begun = omega (arith, is.reads, begun, level_reads file before after head is)
 level_counted file name (Err fault) start before after is begun = tt
 
@@ -131,7 +124,3 @@ pub whole_counted : (file : File) (name : List ℕ) (result : Result LevelHead F
 whole_counted None name (Ok head) start before after begins is counted begun = absurd (cc (sym (read_none name) ∙ is))
 whole_counted (Some bytes) name (Ok head) start before after begins is counted begun = omega (arith, counted, begun, whole_reads (Some bytes) bytes refl begins)
 whole_counted file name (Err fault) start before after begins is counted begun = tt
-
--- a reader that goes on is the same but for its place
-pub same_on : (first now next : Reading) → next ≡ record now { place = next.place } → now ≡ record first { place = now.place } → next ≡ record first { place = next.place }
-same_on first now next on so_far = on ∙ ap (λ (r : Reading). record r { place = next.place }) so_far

@@ -1,7 +1,7 @@
 -- The files of a kept line by their names.
-use Rattle.std.proofs.Common.{◌≡◌, inl, inr, ℕ, zero, suc, ◌+◌, ◌<◌, List, [], ◌∷◌, ◌++◌, length, refl, sym, ap, subst, ◌∙◌, arith}
+use Rattle.std.proofs.Common.{◌≡◌, inl, inr, ℕ, zero, suc, ◌+◌, ◌<◌, List, [], ◌∷◌, length, refl, sym, ap, subst, ◌∙◌, arith}
 use Rattle.std.specs.Prelude.{◌⊎◌, Option, Some, None, Result, Ok, Err, Contains}
-use Rattle.std.specs.List.{AllByRecursion, slice_index_or}
+use Rattle.std.specs.List.{slice_index_or}
 use Rattle.std.proofs.lemmas.List.{get_or-map}
 use Rattle.std.proofs.lemmas.List.Quantifiers.{position-Some}
 use Rattle.nb_host.specs.Files.{Files}
@@ -13,7 +13,7 @@ use Rattle.nb_catalog.specs.Chained.{IsSafe, KeepsFiles, names_at}
 use Rattle.nb_catalog.specs.Heads.{read_file, read_files, whole_head}
 use Rattle.nb_catalog.specs.Lines.{is_parent, parent, parents_of, line_at}
 use Rattle.nb_catalog.specs.NameLists.{AreDistinct}
-use Rattle.nb_catalog.specs.Plans.{ArePlaces, Retention, entries_of, is_point, kept, line, plan_of, points}
+use Rattle.nb_catalog.specs.Plans.{ArePlaces, Retention, entries_of, is_point, plan_of, points}
 use Rattle.nb_catalog.proofs.EntryLemmas.{in_entries}
 use Rattle.nb_catalog.proofs.FileLemmas.{by_first, none_left}
 use Rattle.nb_catalog.proofs.InLemmas.{In, in_from, in_to, in_filter, in_map}

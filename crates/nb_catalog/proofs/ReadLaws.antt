@@ -1,18 +1,16 @@
 -- A file that was read, in a chain.
-use Rattle.std.proofs.Common.{◌≡◌, ℕ, zero, suc, ◌+◌, ◌<◌, ◌≤◌, List, [], ◌∷◌, length, refl, sym, ap, subst, ◌∙◌, arith, eq-eqb}
-use Rattle.std.specs.Prelude.{Bool, true, false, not, ◌&&◌, ◌||◌, ◌==◌, nat_le, nat_lt, Option, Some, None, Result, Ok, Err}
+use Rattle.std.proofs.Common.{◌≡◌, ℕ, zero, suc, ◌+◌, ◌<◌, ◌≤◌, List, [], ◌∷◌, length, refl, sym, ap, ◌∙◌, arith, eq-eqb}
+use Rattle.std.specs.Prelude.{Bool, true, false, ◌==◌, nat_le, Some, None, Result, Ok, Err}
 use Rattle.std.specs.List.{slice_index_or}
 use Rattle.std.proofs.lemmas.Bool.{and_parts, leb-true, eqb-true}
 use Rattle.nb_host.specs.Files.{File, Files}
 use Rattle.nb_host.specs.Names.{same_name}
 use Rattle.nb_host.specs.declared.refusals.Refusal.{Refusal}
 use Rattle.nb_model.specs.Causes.{Cause, first_cause}
-use Rattle.nb_model.specs.Image.{Numbered}
-use Rattle.nb_model.specs.Levels.{Head, Contents, Test, first_fault, ends_before, begins_level, head_in, read_level, read_pages, with_head}
+use Rattle.nb_model.specs.Levels.{Contents, begins_level, read_level}
 use Rattle.nb_model.specs.Restoring.{Link, level_link, whole_link, first_link, next_link, not_behind, not_whole}
-use Rattle.nb_fields.specs.Bytes.{number_in}
-use Rattle.nb_fields.specs.Places.{is_page_size}
 use Rattle.nb_level.specs.declared.head.LevelHead.{LevelHead}
+use Rattle.nb_level.proofs.ToldLaws.{level_told}
 use Rattle.nb_chain.proofs.StartLemmas.{first_whole, next_accepted}
 use Rattle.nb_catalog.specs.Answers.{with_first}
 use Rattle.nb_catalog.specs.Heads.{level_head, whole_head, read_file, read_files}
@@ -21,44 +19,10 @@ use Rattle.nb_catalog.proofs.HeadLemmas.{read_none, read_level_ok, read_level_er
 use Rattle.nb_catalog.proofs.FileLemmas.{none_left, by_first}
 
 -- the level of a level file is 1 to 9
-abbrev Low : ℕ → Type 0
-Low level = (1 ≤ level) × (level ≤ 9)
-
-clear_head : (t : Test) (ts : List Test) → first_fault (t ∷ ts) ≡ None → (t.0 ≡ false) × (first_fault ts ≡ None)
-unfolding first_fault
-clear_head (true, at) ts e = absurd (cc e)
-clear_head (false, at) ts e = (refl, e)
-
-not_false : (b : Bool) → not b ≡ false → b ≡ true
-not_false true is = refl
-not_false false is = absurd (cc is)
-
-with_head-is : (version : ℕ) (h : Head) (r : Result (List Numbered) ℕ) (c : Contents) → with_head version h r ≡ Ok c → c.head ≡ h
-with_head-is version h (Ok rs) c e = let same : record { version = version; head = h; pages = rs } ≡ c = cc e in ap (λ (x : Contents). x.head) (sym same)
-with_head-is version h (Err at) c e = absurd (cc e)
-
-abbrev head_tests : (bytes : List ℕ) → List Test
-head_tests bytes =
-    (not (begins_level bytes), 0)
-    ∷ ends_before 52 0 bytes
-    ∷ (not (number_in 4 2 bytes == 101 || number_in 4 2 bytes == 102), 4)
-    ∷ (not (nat_le 1 (head_in bytes).level && nat_le (head_in bytes).level 9), 6)
-    ∷ (not (is_page_size (head_in bytes).size), 40)
-    ∷ (not (nat_lt (head_in bytes).previous_scn (head_in bytes).scn), 44)
-    ∷ []
-
-level_low : (bytes : List ℕ) (c : Contents) → read_level bytes ≡ Ok c → Low c.head.level
-unfolding read_level
-level_low bytes c e = by (first_fault (head_tests bytes)) refl e
-  where
-    by : (o : Option ℕ) → first_fault (head_tests bytes) ≡ o
-        → elim o as (λ x. Result Contents ℕ) [ Some place ↦ Err place | None ↦ with_head (number_in 4 2 bytes) (head_in bytes) (read_pages (number_in 4 2 bytes) (head_in bytes) bytes) ] ≡ Ok c → Low c.head.level
-    by (Some place) is k = absurd (cc k)
-    by None is k =
-        let fourth = (clear_head _ _ (clear_head _ _ (clear_head _ _ (clear_head _ _ is).1).1).1).0 in
-        let parts = and_parts (nat_le 1 (head_in bytes).level) (nat_le (head_in bytes).level 9) (not_false _ fourth) in
-        let low : Low (head_in bytes).level = (leb-true 1 (head_in bytes).level parts.0, leb-true (head_in bytes).level 9 parts.1) in
-        subst (λ (h : Head). Low h.level) (sym (with_head-is (number_in 4 2 bytes) (head_in bytes) (read_pages (number_in 4 2 bytes) (head_in bytes) bytes) c k)) low
+level_low : (bytes : List ℕ) (c : Contents) → read_level bytes ≡ Ok c → (1 ≤ c.head.level) × (c.head.level ≤ 9)
+level_low bytes c e =
+    let parts = and_parts (nat_le 1 c.head.level) (nat_le c.head.level 9) (level_told bytes c e).level in
+    (leb-true 1 c.head.level parts.0, leb-true c.head.level 9 parts.1)
 
 -- it goes on from a file of these fields
 none_behind : (k : ℕ) (last : Link) (name : List ℕ) (c : Contents) → (c.head.level == k) ≡ true → same_name c.head.previous last.guid ≡ true → (c.head.size == last.size) ≡ true → (c.head.previous_scn == last.scn) ≡ true
@@ -93,7 +57,7 @@ module _ (name bytes : List ℕ) (head : LevelHead) (read : read_file name (Some
   as_level : (c : Contents) → begins_level bytes ≡ true → read_level bytes ≡ Ok c → IsRead name (Some bytes) head
   as_level c begins is =
       let same : level_head c.head ≡ head = cc (sym (read_level_ok name bytes c begins is) ∙ read) in
-      let low : Low c.head.level = level_low bytes c is in
+      let low = level_low bytes c is in
       let level : c.head.level ≡ head.level = ap (λ (h : LevelHead). h.level) same in
       record {
         bytes = bytes;

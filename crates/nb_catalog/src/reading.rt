@@ -9,12 +9,12 @@ ghost use Rattle.nb_catalog.specs.declared.entry.Entry.{Entry};
 ghost use Rattle.nb_catalog.specs.Chained.{IsChained};
 ghost use Rattle.nb_catalog.specs.Plans.{points};
 ghost use Rattle.nb_catalog.specs.Heads.{read_file, read_files};
-ghost use Rattle.nb_catalog.specs.Reads.{EndSays, LevelSays, all_reads, reads_of};
+ghost use Rattle.nb_catalog.specs.Reads.{all_reads, reads_of};
 
 use crate::Catalogue;
-use nb_chain::read_first;
+use nb_chain::{read_first, whole};
 use nb_host::{Fault, Host, HostFault, Name};
-use nb_level::{Item, LevelHead, LevelReader, begins_level};
+use nb_level::{LevelHead, begins_level};
 use nb_page::Header;
 use std::alloc::Global;
 
@@ -28,30 +28,6 @@ fn is_level<H: Host>(host: &mut H, name: &Name) -> Result<bool, HostFault>
     let mut first = [0; 4];
     let got = host.read_at(name, 0, &mut first)?;
     Ok(begins_level(&first[..got]))
-}
-
-/// Reads the pages of a level file that are still to come, up to its end.
-fn read_on<H: Host>(host: &mut H, reader: &mut LevelReader, page: &mut [u8]) -> Result<(), Fault>
-    requires { length page.old ≡ reader.old.head.page_size }
-    ensures answer { IsTrue H.tells → EndSays ((H.world host.old).files reader.old.name) reader.old (H.world host.old).reads (H.world host.new).reads result }
-    ensures quiet { Quiet (H.world host.old) (H.world host.new) }
-    ensures cause { CountsDevice result (H.faults host.old) (H.faults host.new) }
-{
-    while let Item::PageAt(_) = reader.next(host, page)? {}
-    Ok(())
-}
-
-/// Reads a level file to its end, once, and answers its head. It takes memory for two pages.
-fn read_level<H: Host>(alloc: Global, host: &mut H, name: &Name) -> Result<LevelHead, Fault>
-    ensures answer { IsTrue H.tells → LevelSays ((H.world host.old).files name.now) name.now (H.world host.old).reads (H.world host.new).reads result }
-    ensures quiet { Quiet (H.world host.old) (H.world host.new) }
-    ensures cause { CountsDevice result (H.faults host.old) (H.faults host.new) }
-{
-    let mut reader = LevelReader::start(alloc, host, name)?;
-    let head = reader.head();
-    let mut page = vec![in alloc; 0; head.page_size as usize]?;
-    read_on(host, &mut reader, &mut page)?;
-    Ok(head)
 }
 
 /// Reads the header of whole pages, and answers it as the head of level 0.
@@ -85,7 +61,7 @@ fn read_head<H: Host>(alloc: Global, host: &mut H, name: &Name) -> Result<LevelH
     ensures cause { CountsDevice result (H.faults host.old) (H.faults host.new) }
 {
     if is_level(host, name)? {
-        read_level(alloc, host, name)
+        whole(alloc, host, name)
     } else {
         read_whole(alloc, host, name)
     }

@@ -68,7 +68,7 @@ module _ (files : Files) (name : List ℕ) (names : List (List ℕ)) (bytes : Li
     last_is = next.next ∙ ap (λ (l : Link). bare (last_of l next.links)) begins ∙ last_bare (whole_link bytes) next.links
 
     pub check_all : (count : ℕ) → count ≡ without_blank (is_blank bytes first.header.page_size first.pages new) (max first.pages (length new)) → start ≤ before + 1 → after + count ≤ reads + max first.pages (length new) + 1
-        → IsChain files (name ∷ names) before after (record { page_size = last.page_size; count = count; guid = last.guid; scn = last.scn })
+        → IsChain files (name ∷ names) before after (record { first = first; page_size = last.page_size; count = count; guid = last.guid; scn = last.scn })
     check_all count counted started ended =
         let all : length (all_over (whole_link bytes ∷ next.links) []) ≡ max first.pages (length (links_noted next.links [])) = chain_length bytes first.pages next.links wide long in
         let told : count ≡ length (applied (whole_link bytes ∷ next.links)) =
@@ -79,7 +79,7 @@ module _ (files : Files) (name : List ℕ) (names : List (List ℕ)) (bytes : Li
         record {
           links = whole_link bytes ∷ next.links;
           accepted = behind_first ∙ ap (linked (whole_link bytes)) next.accepted;
-          last = is_last (record { page_size = last.page_size; count = count; guid = last.guid; scn = last.scn }) (whole_link bytes) next.links (ap (λ (l : Link). l.size) last_is) (ap (λ (l : Link). l.guid) last_is) (ap (λ (l : Link). l.scn) last_is);
+          last = is_last (record { first = first; page_size = last.page_size; count = count; guid = last.guid; scn = last.scn }) (whole_link bytes) next.links (ap (λ (l : Link). l.size) last_is) (ap (λ (l : Link). l.guid) last_is) (ap (λ (l : Link). l.scn) last_is);
           count = told;
           reads = omega (arith, all, told, same, started, ended, next.reads);
         }

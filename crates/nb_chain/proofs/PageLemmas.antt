@@ -12,6 +12,11 @@ use Rattle.nb_level.proofs.ReadingLemmas.{behind-behind, behind-none}
 use Rattle.nb_chain.specs.declared.overlay.Mark.{Mark}
 use Rattle.nb_chain.specs.Overlay.{noted, all_noted}
 
+-- one page more of those that were still to come
+pub pages_more : (file : File) (first now next : Reading) (pages : List Numbered) (page : Numbered) → still_to_come (bytes_of file) first ≡ behind pages (still_to_come (bytes_of file) now)
+    → still_to_come (bytes_of file) now ≡ behind (page ∷ []) (still_to_come (bytes_of file) next) → still_to_come (bytes_of file) first ≡ behind (pages ++ page ∷ []) (still_to_come (bytes_of file) next)
+pages_more file first now next pages page so_far gives = so_far ∙ ap (behind pages) gives ∙ behind-behind pages (page ∷ []) (still_to_come (bytes_of file) next)
+
 -- so far these pages were read, of those that were still to come, and noted
 pub record SoFar (file : File) (first now : Reading) (old new : List Mark) (before after : ℕ) : Type 0 where
   pub pages : List Numbered
@@ -37,7 +42,7 @@ module _ (file : File) (first now : Reading) (old new : List Mark) (before after
       → new' ≡ noted new (n, page) → after' ≤ after + 1 → SoFar file first next old new' before after'
   so_far_more next n page after' new' gives marks reads = record {
     pages = so_far.pages ++ (n, page) ∷ [];
-    left = so_far.left ∙ ap (behind so_far.pages) gives ∙ behind-behind so_far.pages ((n, page) ∷ []) (still_to_come (bytes_of file) next);
+    left = pages_more file first now next so_far.pages (n, page) so_far.left gives;
     marks = marks ∙ ap (λ (m : List Mark). noted m (n, page)) so_far.marks ∙ sym (noted_more so_far.pages (n, page) old);
     reads = omega (arith, so_far.reads, reads, length-append so_far.pages ((n, page) ∷ []));
   }

@@ -5,12 +5,19 @@ use Rattle.nb_host.specs.declared.faults.Fault.{Fault}
 use Rattle.nb_host.specs.declared.faults.Fault.TheVariants.{Refused, Device, Memory}
 use Rattle.nb_model.specs.Restoring.{Link, verdict, all_over, applied}
 use Rattle.nb_chain.specs.declared.checking.Chain.{Chain}
+use Rattle.nb_chain.specs.declared.first_file.First.{First}
+use Rattle.nb_chain.specs.First.{FirstSays}
 
 -- the chain is that of these links: page size, GUID and SCN are those of the last of them
 abbrev pub IsLast : Chain → List Link → Type 0
 IsLast chain [] = ⊥
 IsLast chain (l ∷ []) = (chain.page_size ≡ l.size) × (chain.guid ≡ l.guid) × (chain.scn ≡ l.scn)
 IsLast chain (l ∷ m ∷ ls) = IsLast chain (m ∷ ls)
+
+-- so the first of the files was read
+abbrev pub IsFirstOf : Files → (names : List (List ℕ)) → First → Type 0
+IsFirstOf files [] first = ⊥
+IsFirstOf files (name ∷ names) first = FirstSays (files name) name (Ok first)
 
 -- how many reads level files take: one for each page, one for the end, and two for the start
 abbrev pub level_reads : List Link → ℕ

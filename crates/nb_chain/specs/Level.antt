@@ -21,6 +21,13 @@ PagesSay file r old new before after (Err (Refused refusal)) = (at : ℕ) × (st
 PagesSay file r old new before after (Err Device) = Unit {0}
 PagesSay file r old new before after (Err Memory) = Unit {0}
 
+-- the pages that were still to come of a level file were read to its end, or the first broken place was met
+abbrev pub EndSays : File → Reading → (before after : ℕ) → Result Unit Fault → Type 0
+EndSays file r before after (Ok done) = (pages : List Numbered) × (still_to_come (bytes_of file) r ≡ Ok pages) × (after ≤ before + length pages + 1)
+EndSays file r before after (Err (Refused refusal)) = (at : ℕ) × (still_to_come (bytes_of file) r ≡ Err at) × (refusal ≡ BadLevel r.name at)
+EndSays file r before after (Err Device) = Unit {0}
+EndSays file r before after (Err Memory) = Unit {0}
+
 -- the whole of a level file was read, and its pages were noted
 pub record IsRead (file : File) (old new : List Mark) (before after : ℕ) (head : LevelHead) : Type 0 where
   pub bytes : List ℕ

@@ -3,14 +3,14 @@ ghost use Rattle.nb_fields.specs.Places.{is_page_size};
 ghost use Rattle.nb_page.specs.Header.{HasForm};
 ghost use Rattle.nb_page.specs.Quiet.{Quiet};
 ghost use Rattle.nb_level.specs.Answers.{CountsDevice};
-ghost use Rattle.nb_chain.specs.Chain.{CheckSays};
+ghost use Rattle.nb_chain.specs.Chain.{CheckSays, IsFirstOf};
 ghost use Rattle.nb_chain.specs.Next.{LevelsSay, tip_link, header_link};
 
 use crate::last_page::count_pages;
 use crate::next_file::read_next;
 use crate::overlay::Overlay;
-use crate::read_first;
 use crate::tip::Tip;
+use crate::{First, read_first};
 use nb_host::{Fault, Host, Name};
 use nb_page::Header;
 use std::alloc::Global;
@@ -18,6 +18,8 @@ use std::alloc::Global;
 /// What a chain of files gives.
 #[derive(Clone, Copy, Debug, PartialEq, Eq)]
 pub struct Chain {
+    /// Level 0, the first file.
+    pub first: First,
     /// In bytes.
     pub page_size: u32,
     /// How many pages the database has.
@@ -70,7 +72,7 @@ fn read_levels<H: Host>(
     Ok(last)
 }
 
-/// Checks a chain of 1 to 10 files, and answers what it gives. It changes nothing.
+/// Checks a chain of 1 to 10 files, and answers what it gives, and what it read of the first. It changes nothing.
 ///
 /// The first file is whole pages of a database in state 1, 5 to 1,048,576 of them. The file in place k behind it is a level
 /// file of level k whose previous GUID, page size and previous SCN are those of the file before it.
@@ -87,6 +89,10 @@ pub fn check<H: Host>(alloc: Global, host: &mut H, files: &[Name]) -> Result<Cha
         → CheckSays (H.world host.old).files files.now (H.world host.old).reads (H.world host.new).reads result }
     ensures size { IfOk result (λ chain. IsTrue (is_page_size chain.page_size)) }
     ensures most { IfOk result (λ chain. chain.count ≤ 1048576) }
+    ensures first { IsTrue H.tells → IfOk result (λ chain. IsFirstOf (H.world host.old).files files.now chain.first) }
+    ensures form { IfOk result (λ chain. HasForm chain.first.header) }
+    ensures least { IfOk result (λ chain. 5 ≤ chain.first.pages) }
+    ensures pages { IfOk result (λ chain. chain.first.pages ≤ 1048576) }
     ensures quiet { Quiet (H.world host.old) (H.world host.new) }
     ensures cause { CountsDevice result (H.faults host.old) (H.faults host.new) }
 {
@@ -103,6 +109,7 @@ pub fn check<H: Host>(alloc: Global, host: &mut H, files: &[Name]) -> Result<Cha
         scn,
     } = last;
     Ok(Chain {
+        first,
         page_size,
         count,
         guid,

@@ -2,7 +2,7 @@ ghost use Rattle.std.specs.Prelude.{◌≡◌, length, IsTrue, IfOk};
 ghost use Rattle.nb_fields.specs.Places.{is_page_size};
 ghost use Rattle.nb_page.specs.Quiet.{Quiet};
 ghost use Rattle.nb_level.specs.Answers.{CountsDevice};
-ghost use Rattle.nb_chain.specs.Level.{PagesSay, LevelSays, WholeSays};
+ghost use Rattle.nb_chain.specs.Level.{EndSays, PagesSay, LevelSays, WholeSays};
 
 use crate::overlay::Overlay;
 use nb_host::{Fault, Host, Name};
@@ -48,10 +48,26 @@ pub(crate) fn read_level<H: Host>(
     Ok(head)
 }
 
+/// Reads the pages of a level file that are still to come, up to its end.
+fn read_to_end<H: Host>(
+    host: &mut H,
+    reader: &mut LevelReader,
+    page: &mut [u8],
+) -> Result<(), Fault>
+    requires { length page.old ≡ reader.old.head.page_size }
+    ensures answer { IsTrue H.tells
+        → EndSays ((H.world host.old).files reader.old.name) reader.old (H.world host.old).reads (H.world host.new).reads result }
+    ensures quiet { Quiet (H.world host.old) (H.world host.new) }
+    ensures cause { CountsDevice result (H.faults host.old) (H.faults host.new) }
+{
+    while let Item::PageAt(_) = reader.next(host, page)? {}
+    Ok(())
+}
+
 /// Reads a level file from front to back, once, and answers its head. It changes nothing.
 ///
 /// The refusal is `NoFile`, where there is none, or `BadLevel`, with the first place that is broken. It takes memory for
-/// a page, and for a mark of each page up to the last that the file has.
+/// two pages.
 pub fn whole<H: Host>(alloc: Global, host: &mut H, file: &Name) -> Result<LevelHead, Fault>
     ensures answer { IsTrue H.tells
         → WholeSays ((H.world host.old).files file.now) file.now (H.world host.old).reads (H.world host.new).reads result }
@@ -59,7 +75,9 @@ pub fn whole<H: Host>(alloc: Global, host: &mut H, file: &Name) -> Result<LevelH
     ensures quiet { Quiet (H.world host.old) (H.world host.new) }
     ensures cause { CountsDevice result (H.faults host.old) (H.faults host.new) }
 {
-    let mut overlay = Overlay::new(alloc);
-    let head = read_level(alloc, host, file, &mut overlay)?;
+    let mut reader = LevelReader::start(alloc, host, file)?;
+    let head = reader.head();
+    let mut page = vec![in alloc; 0; head.page_size as usize]?;
+    read_to_end(host, &mut reader, &mut page)?;
     Ok(head)
 }

@@ -1,4 +1,4 @@
-ghost use Rattle.std.specs.Prelude.{◌≡◌, ◌≤◌, IsTrue, true, false, length, ℕ, ◌==◌, IfOk};
+ghost use Rattle.std.specs.Prelude.{◌≡◌, ◌≤◌, IsTrue, true, false, length, ℕ, ◌==◌, IfOk, OnOk};
 ghost use Rattle.nb_fields.specs.Bytes.{number_in};
 ghost use Rattle.nb_fields.specs.Header.{signature};
 ghost use Rattle.nb_fields.specs.Places.{is_page_size};
@@ -49,11 +49,12 @@ fn no_level(name: &Name, first: &[u8], place: u32) -> Fault
     }
 }
 
-/// Whether a level file goes on from the file before it, in that place of a chain. The refusals are `ChainLevel`, `ChainGuid`,
-/// `ChainSize` and `ChainScn`, in this order.
+/// Whether a level file goes on from the file before it, in that place of a chain, which is the level that it has to have. The
+/// refusals are `ChainLevel`, `ChainGuid`, `ChainSize` and `ChainScn`, in this order.
 #[tactic(auto, unfolding(nb_model::specs::Restoring::not_behind, nb_model::specs::Causes::first_cause))]
-fn goes_on(head: &LevelHead, last: &Tip, name: &Name, place: u32) -> Result<(), Fault>
+pub fn goes_on(head: &LevelHead, last: &Tip, name: &Name, place: u32) -> Result<(), Fault>
     ensures test { (c : Contents) → c.head ≡ head_of head.now → Tested (not_behind place (tip_link last.now) name.now c) result }
+    ensures size { OnOk result (head.now.page_size ≡ last.now.page_size) }
     ensures cause { (faults : ℕ) → CountsDevice result faults faults }
 {
     let refusal = if u32::from(head.level) != place {
@@ -112,15 +113,5 @@ pub(crate) fn read_next<H: Host>(
     }
     let head = read_level(alloc, host, name, overlay)?;
     goes_on(&head, last, name, place)?;
-    let LevelHead {
-        page_size,
-        guid,
-        scn,
-        ..
-    } = head;
-    Ok(Tip {
-        page_size,
-        guid,
-        scn,
-    })
+    Ok(Tip::of(&head))
 }

@@ -2,14 +2,13 @@
 use Rattle.std.proofs.Common.{◌≡◌, ◌≢◌, inl, inr, ℕ, ◌+◌, ◌^◌, ◌<◌, ◌≤◌, List, [], ◌∷◌, ◌++◌, length, refl, sym, ap, subst, ◌∙◌, arith}
 use Rattle.std.specs.Prelude.{Bool, true, false, ◌&&◌, ◌==◌, Option, Some, None, Result, Ok, Err}
 use Rattle.std.specs.List.{AllByRecursion}
-use Rattle.std.specs.Cmp.Lexicographic.{told_text}
 use Rattle.std.proofs.lemmas.Bool.{and_parts, eqb-true}
 use Rattle.std.proofs.lemmas.Bool.Decides.{eqb_tells}
 use Rattle.nb_fields.specs.Header.{is_header, state_of, size_of, scn_of, guid_of}
 use Rattle.nb_host.specs.Files.{File, Files}
 use Rattle.nb_host.specs.Names.{same_name}
 use Rattle.nb_host.specs.declared.refusals.Refusal.{Refusal}
-use Rattle.nb_host.specs.declared.refusals.Refusal.TheVariants.{NoFile, ChainGuid, ChainLevel, ChainScn, ChainSize}
+use Rattle.nb_host.specs.declared.refusals.Refusal.TheVariants.{NoFile, ChainLevel}
 use Rattle.nb_model.specs.Causes.{Cause, first_cause}
 use Rattle.nb_model.specs.Image.{Image, Page, Numbered}
 use Rattle.nb_model.specs.Levels.{AreOfSize, AreRising, Contents, Head, begins_level, is_first_page, level_bytes, read_level}
@@ -22,14 +21,14 @@ use Rattle.nb_model.proofs.RunLaws.{same_self}
 use Rattle.nb_model.proofs.StandsLaws.{not_level}
 use Rattle.nb_restore.proofs.AnswerLaws.{err_ok, ok_same, some_same}
 use Rattle.nb_restore.proofs.KeptChains.{verdict_first}
-use Rattle.nb_inplace.proofs.VerdictLaws.{clear_head}
+use Rattle.nb_restore.proofs.ChainLaws.{GoesBehind, goes_behind}
 use Rattle.nb_fold.specs.Folding.{bytes_for, folded, folded_head, folded_pages, last_head, last_page, or_before, page_of, pages_of_each}
 use Rattle.nb_fold.specs.Merging.{AllOfSize}
 use Rattle.nb_fold.specs.Same.{GiveTheSame, Gives, IsFoldOf, links_of}
 use Rattle.nb_fold.specs.Verdict.{chained, files_after}
 use Rattle.nb_fold.proofs.FoldedLaws.{folded_rises, folded_sizes, none_below}
-use Rattle.nb_fold.proofs.PagesLaws.{FirstIsZero, HasPages, level_pages}
-use Rattle.nb_fold.proofs.SameLaws.{AreNextFiles, AreOf, files_rise, folded_page, goes_after, next_files, no_files, same_image, sizes_alike, test_passed}
+use Rattle.nb_level.proofs.PagesLaws.{FirstIsZero, HasPages, level_pages}
+use Rattle.nb_fold.proofs.SameLaws.{AreNextFiles, AreOf, files_rise, folded_page, goes_after, next_files, no_files, same_image, sizes_alike}
 
 some_none : {X : Type 0} (x : X) → Some x ≡ None → ⊥
 some_none x e = cc
@@ -174,26 +173,6 @@ fold_read files name names cs e =
     (folded_page 0 (pages_of_each (are.first ∷ are.rest)) rise) (let low = have.0.later in omega (arith, low, later)))
 
 -- ---- what goes on from a link
-
-record GoesBehind (k : ℕ) (last : Link) (h : Head) : Type 0 where
-  pub level : h.level ≡ k
-  pub previous : h.previous ≡ last.guid
-  pub size : h.size ≡ last.size
-  pub previous_scn : h.previous_scn ≡ last.scn
-
-goes_behind : (k : ℕ) (last : Link) (name : List ℕ) (c : Contents) → not_behind k last name c ≡ None → GoesBehind k last c.head
-unfolding not_behind
-goes_behind k last name c none =
-    let level = clear_head _ _ none in
-    let guid = clear_head _ _ level.1 in
-    let size = clear_head _ _ guid.1 in
-    let scn = clear_head _ _ size.1 in
-    record {
-      level = eqb-true c.head.level k (test_passed (c.head.level == k) (ChainLevel name c.head.level k) level.0);
-      previous = told_text c.head.previous last.guid true (sym (test_passed (same_name c.head.previous last.guid) (ChainGuid name c.head.previous last.guid) guid.0));
-      size = eqb-true c.head.size last.size (test_passed (c.head.size == last.size) (ChainSize name c.head.size last.size) size.0);
-      previous_scn = eqb-true c.head.previous_scn last.scn (test_passed (c.head.previous_scn == last.scn) (ChainScn name c.head.previous_scn last.scn) scn.0);
-    }
 
 four_none : (a b c d : Cause) → a ≡ None → b ≡ None → c ≡ None → d ≡ None → first_cause (a ∷ b ∷ c ∷ d ∷ []) ≡ None
 unfolding first_cause

@@ -7,10 +7,17 @@ use Rattle.nb_host.specs.Files.{File, Files}
 use Rattle.nb_host.specs.declared.faults.Fault.{Fault}
 use Rattle.nb_host.specs.declared.faults.Fault.TheVariants.{Refused, Device, Memory}
 use Rattle.nb_host.specs.declared.refusals.Refusal.{Refusal}
+use Rattle.nb_model.specs.Causes.{Cause}
 use Rattle.nb_model.specs.Levels.{Contents, read_level}
+use Rattle.nb_model.specs.Restoring.{level_link, not_behind}
 use Rattle.nb_level.specs.Heads.{head_of}
-use Rattle.nb_fold.specs.Checking.{AddSays, AreAlike, AreChained, FileSays, IsAdded, IsLast, IsWhole, Tested, open_reads, first_size}
-use Rattle.nb_fold.specs.Sources.{Held, FileRefused, IsGiven, IsOpened, AreOpened, AreOfPages}
+use Rattle.nb_level.specs.declared.head.LevelHead.{LevelHead}
+use Rattle.nb_chain.specs.First.{Tested}
+use Rattle.nb_chain.specs.Level.{WholeSays, LevelRefused, IsWhole}
+use Rattle.nb_chain.specs.Next.{tip_link}
+use Rattle.nb_chain.specs.declared.tip.Tip.{Tip}
+use Rattle.nb_fold.specs.Checking.{AddSays, AreAlike, AreChained, IsAdded, IsLast, open_reads, first_size}
+use Rattle.nb_fold.specs.Sources.{Held, IsGiven, IsOpened, AreOpened, AreOfPages}
 use Rattle.nb_fold.specs.Verdict.{chained, file_after, files_after, not_after, with_files}
 
 -- the last of some files
@@ -62,13 +69,21 @@ reads_more : (cs : List Contents) (c : Contents) → open_reads (cs ++ c ∷ [])
 reads_more [] c = omega arith
 reads_more (d ∷ ds) c = let rest = reads_more ds c in omega (arith, rest)
 
+-- what goes on from the last of them goes on from its tip
+pub same_test : (k j : ℕ) (tip : Tip) (last : Contents) (name : List ℕ) (c : Contents) → k ≡ j → tip.guid ≡ last.head.guid → tip.scn ≡ last.head.scn → tip.page_size ≡ last.head.size
+    → not_behind k (tip_link tip) name c ≡ not_behind j (level_link last) name c
+unfolding not_behind
+same_test k j tip last name c place guid scn size =
+    let test : (k : ℕ) (guid : List ℕ) (scn size : ℕ) → Cause = λ k guid scn size. not_behind k (record { guid = guid; scn = scn; size = size; pages = [] }) name c in
+    ap (λ n. test n tip.guid tip.scn tip.page_size) place ∙ ap (λ g. test j g tip.scn tip.page_size) guid ∙ ap (λ n. test j last.head.guid n tip.page_size) scn ∙ ap (λ n. test j last.head.guid last.head.scn n) size
+
 -- What the next file is.
 module _ (files : Files) (name : List ℕ) (last : Option Contents) where
-  missing : files name ≡ None → (r : Refusal) → FileRefused None name r → file_after files last name ≡ Err r
+  missing : files name ≡ None → (r : Refusal) → LevelRefused None name r → file_after files last name ≡ Err r
   unfolding file_after
   missing is r refused = rw (is, file_after) (ap Err (sym refused))
 
-  broken : (bytes : List ℕ) → files name ≡ Some bytes → (r : Refusal) → FileRefused (Some bytes) name r → file_after files last name ≡ Err r
+  broken : (bytes : List ℕ) → files name ≡ Some bytes → (r : Refusal) → LevelRefused (Some bytes) name r → file_after files last name ≡ Err r
   unfolding file_after
   broken bytes is r refused = rw (is, file_after) (rw (refused.1, file_after) (ap Err (sym refused.2)))
 
@@ -81,11 +96,11 @@ module _ (files : Files) (name : List ℕ) (last : Option Contents) where
   goes_on bytes c is read test = rw (is, file_after) (rw (read, file_after) (rw (test, file_after) refl))
 
   -- it is none that can be folded
-  pub refused_file : (r : Refusal) (file : File) → files name ≡ file → FileRefused file name r → file_after files last name ≡ Err r
+  pub refused_file : (r : Refusal) (file : File) → files name ≡ file → LevelRefused file name r → file_after files last name ≡ Err r
   refused_file r None is refused = missing is r refused
   refused_file r (Some bytes) is refused = broken bytes is r refused
 
-  pub add_unread : (old new : List Held) (before mid after : ℕ) (fault : Fault) → FileSays (files name) name before mid (Err fault) → AddSays files name last old new before after (Err fault)
+  pub add_unread : (old new : List Held) (before mid after : ℕ) (fault : Fault) → WholeSays (files name) name before mid (Err fault) → AddSays files name last old new before after (Err fault)
   add_unread old new before mid after (Refused r) says = refused_file r (files name) refl says
   add_unread old new before mid after Device says = tt
   add_unread old new before mid after Memory says = tt
@@ -95,7 +110,7 @@ module _ (files : Files) (name : List ℕ) (last : Option Contents) where
   add_unopened P old new before after Device says = tt
   add_unopened P old new before after Memory says = tt
 
-  module _ (before mid : ℕ) (whole : IsWhole (files name) before mid) where
+  module _ (before mid : ℕ) (head : LevelHead) (whole : IsWhole (files name) before mid head) where
     -- it doesn't go on from the last
     pub add_apart : (old new : List Held) (after : ℕ) (fault : Fault) → Tested {T = Unit {0}} (not_after last name whole.contents) (Err fault) → AddSays files name last old new before after (Err fault)
     add_apart old new after (Refused r) tested = apart whole.bytes whole.contents r whole.there whole.read tested

@@ -34,7 +34,7 @@ use Rattle.nb_fold.specs.Prepared.{IsPrepared}
 use Rattle.nb_fold.specs.Sources.{Held, AllWait, AreOfPages, AreOpened, IsOpened, IsTaken, due, due_by}
 use Rattle.nb_fold.specs.Verdict.{chained, fold_verdict}
 use Rattle.nb_fold.proofs.FoldedLaws.{folded_rises, folded_sizes}
-use Rattle.nb_fold.proofs.PagesLaws.{HasPages, level_pages}
+use Rattle.nb_level.proofs.PagesLaws.{HasPages, level_pages}
 
 -- the verdict, by the name
 pub verdict_taken : (files : Files) (out : List ℕ) (names : List (List ℕ)) → is_free_name files out ≡ false → fold_verdict files out names ≡ Err (FileExists out)

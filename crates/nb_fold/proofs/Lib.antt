@@ -1,4 +1,3 @@
-pub mod PagesLaws
 pub mod FoldedLaws
 pub mod OpenLaws
 pub mod AddLaws

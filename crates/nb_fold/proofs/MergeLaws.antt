@@ -13,9 +13,11 @@ use Rattle.nb_change.proofs.MovedLaws.{remade_begun, remade_weaker}
 use Rattle.nb_change.proofs.CallLaws.{remade_alone}
 use Rattle.nb_page.specs.Quiet.{Quiet}
 use Rattle.nb_level.specs.declared.head.LevelHead.{LevelHead}
+use Rattle.nb_level.specs.Heads.{head_of}
 use Rattle.nb_model.specs.Image.{Page, Numbered}
+use Rattle.nb_model.specs.Levels.{level_bytes}
 use Rattle.nb_gather.specs.Gathering.{LevelWriting, HasTaken, MayHave}
-use Rattle.nb_gather.specs.Making.{IsUnfinished}
+use Rattle.nb_gather.specs.Making.{IsUnfinished, IsUnfinishedOr}
 use Rattle.nb_gather.proofs.CloseLaws.{still_unfinished}
 use Rattle.nb_gather.proofs.FitLaws.{may_front}
 use Rattle.nb_gather.proofs.QuietLaws.{named, remade_twice}
@@ -158,3 +160,21 @@ folding_begun old mid file sources whole most ready has same others = record {
   apart = ready.apart;
   reads = omega (arith, ready.reads, same);
 }
+
+-- The file was made, also where that failed.
+module _ (old one : World) (file : LevelWriting) (out : List ℕ) (named_so : file.name ≡ out) (sources : List Held) (whole : List Numbered) (most : ℕ) (ready : IsReady old file sources whole most) (first : MakesOr old one out IsUnfinished) where
+  -- its head stands there
+  pub folding_made : HasTaken one file [] → one.reads ≡ old.reads → IsFolding one file sources whole most
+  folding_made has same = folding_begun old one file sources whole most ready has same (λ m other. first.left.others_read m (λ e. other (e ∙ sym named_so)))
+
+  -- pages are folded into it
+  pub folded_or : (two : World) → Leaves one out (one.files out) → Makes one two file.name IsUnfinished → MakesOr old two out IsUnfinished
+  folded_or two was makes = makes_or old one two out IsUnfinished was first (subst (λ (n : List ℕ). Makes one two n IsUnfinished) named_so makes)
+
+  -- and it is closed
+  pub closed_or : (two three : World) (later : LevelWriting) → later.name ≡ file.name → later.head ≡ file.head → Leaves one out (one.files out) → Leaves two out (two.files out) → Makes one two file.name IsUnfinished
+      → Makes two three later.name (IsUnfinishedOr (level_bytes 102 (head_of later.head) whole)) → MakesOr old three out (IsUnfinishedOr (level_bytes 102 (head_of file.head) whole))
+  closed_or two three later name head was then_was makes closes =
+      let all : File → Type 0 = IsUnfinishedOr (level_bytes 102 (head_of file.head) whole) in
+      let last : Makes two three later.name all = subst (λ (h : LevelHead). Makes two three later.name (IsUnfinishedOr (level_bytes 102 (head_of h) whole))) head closes in
+      makes_or old two three out all then_was (makes_weaker old two out IsUnfinished all (λ f is. inl is) (folded_or two was makes)) (subst (λ (n : List ℕ). Makes two three n all) (name ∙ named_so) last)

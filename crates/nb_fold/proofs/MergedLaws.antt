@@ -22,7 +22,7 @@ use Rattle.nb_fold.specs.Merging.{AllRise}
 use Rattle.nb_fold.specs.Same.{IsMergedInto, merged_each}
 use Rattle.nb_fold.specs.Verdict.{chained}
 use Rattle.nb_fold.proofs.AcceptLaws.{AllHave, files_have, last_zero, zero_there}
-use Rattle.nb_fold.proofs.PagesLaws.{HasPages}
+use Rattle.nb_level.proofs.PagesLaws.{HasPages}
 use Rattle.nb_fold.proofs.SameLaws.{AreOf, files_rise, folded_over, next_files, over_each, page_each, page_over, seen, sizes_alike}
 
 -- page 0 alone is another

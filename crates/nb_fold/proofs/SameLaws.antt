@@ -1,31 +1,28 @@
 -- Files that are written over an image one after the other, and all at once by their fold.
 use Rattle.std.proofs.Common.{◌≡◌, ◌≢◌, inl, inr, ℕ, zero, suc, ◌+◌, ◌<◌, ◌≤◌, List, [], ◌∷◌, ◌++◌, refl, sym, ap, subst, ◌∙◌, arith}
-use Rattle.std.specs.Prelude.{Bool, true, false, not, ◌==◌, Option, Some, None, Result, Ok, Err}
+use Rattle.std.specs.Prelude.{true, false, Option, Some, None, Result, Ok, Err}
 use Rattle.std.specs.List.{AllByRecursion}
-use Rattle.std.specs.Cmp.Lexicographic.{told_text}
-use Rattle.std.proofs.lemmas.Bool.{eqb-true, true≢false}
 use Rattle.std.proofs.lemmas.Bool.Decides.{eqb_tells, leb_tells}
 use Rattle.nb_host.specs.Files.{File, Files}
 use Rattle.nb_host.specs.declared.refusals.Refusal.{Refusal}
-use Rattle.nb_host.specs.declared.refusals.Refusal.TheVariants.{NoFile, BadLevel, ChainGuid, ChainLevel, ChainScn, ChainSize}
-use Rattle.nb_host.specs.Names.{same_name}
-use Rattle.nb_model.specs.Causes.{Cause, when}
+use Rattle.nb_host.specs.declared.refusals.Refusal.TheVariants.{NoFile, BadLevel}
+use Rattle.nb_model.specs.Causes.{Cause}
 use Rattle.nb_model.specs.Image.{Page, Image, Numbered, trimmed, written_at, overwritten}
 use Rattle.nb_model.specs.Levels.{Contents, Head, AreRising, read_level}
 use Rattle.nb_model.specs.Owner.{main_page}
-use Rattle.nb_model.specs.Restoring.{Link, all_over, applied, level_link, not_behind}
+use Rattle.nb_model.specs.Restoring.{Link, all_over, applied, level_link}
 use Rattle.nb_model.proofs.OwnerLaws.{other_page}
 use Rattle.nb_model.proofs.ReadLaws.{eq_no}
 use Rattle.nb_model.proofs.TrimLaws.{trimmed_alike}
 use Rattle.nb_inplace.proofs.PagesLaws.{written_page}
 use Rattle.nb_restore.proofs.AnswerLaws.{ok_same, err_ok}
-use Rattle.nb_inplace.proofs.VerdictLaws.{clear_head}
+use Rattle.nb_restore.proofs.ChainLaws.{goes_behind}
 use Rattle.nb_fold.specs.Folding.{folded, folded_from, folded_pages, last_page, or_before, page_of, pages_of_each, with_number}
 use Rattle.nb_fold.specs.Merging.{AllRise}
 use Rattle.nb_fold.specs.Same.{links_of}
 use Rattle.nb_fold.specs.Verdict.{chained, file_after, files_after, not_after, with_files}
 use Rattle.nb_fold.proofs.FoldedLaws.{folded_rises, none_above, none_below}
-use Rattle.nb_fold.proofs.PagesLaws.{level_pages}
+use Rattle.nb_level.proofs.PagesLaws.{level_pages}
 
 -- the page that is seen where one is written, or none
 abbrev pub seen : Option Page → (before : Page) → Page
@@ -121,22 +118,7 @@ applied_same before cs same rise =
     ap trimmed (all_over-append before (links_of cs) [] ∙ links_over size cs (all_over before []) same) ∙ folded_over size (pages_of_each cs) (all_over before []) rise
     ∙ ap trimmed (sym (all_over-append before (level_link (folded cs) ∷ []) []))
 
--- What files hold that go on from one another.
-some_none : (r : Refusal) → Some r ≡ None → ⊥
-some_none r h = cc
-
-when_clear : (b : Bool) (r : Refusal) → when b r ≡ None → b ≡ false
-when_clear true r e = absurd (some_none r e)
-when_clear false r e = refl
-
-not_false : (b : Bool) → not b ≡ false → b ≡ true
-not_false true e = refl
-not_false false e = absurd (true≢false e)
-
-pub test_passed : (test : Bool) (r : Refusal) → when (not test) r ≡ None → test ≡ true
-test_passed test r e = not_false test (when_clear (not test) r e)
-
--- what a head names of the file before it
+-- What files hold that go on from one another: what a head names of the file before it.
 pub record GoesAfter (last h : Head) : Type 0 where
   pub level : h.level ≡ last.level + 1
   pub previous : h.previous ≡ last.guid
@@ -144,18 +126,9 @@ pub record GoesAfter (last h : Head) : Type 0 where
   pub previous_scn : h.previous_scn ≡ last.scn
 
 pub goes_after : (last : Contents) (name : List ℕ) (c : Contents) → not_after (Some last) name c ≡ None → GoesAfter last.head c.head
-unfolding not_behind
 goes_after last name c none =
-    let level = clear_head _ _ none in
-    let guid = clear_head _ _ level.1 in
-    let size = clear_head _ _ guid.1 in
-    let scn = clear_head _ _ size.1 in
-    record {
-      level = eqb-true c.head.level (last.head.level + 1) (test_passed (c.head.level == last.head.level + 1) (ChainLevel name c.head.level (last.head.level + 1)) level.0);
-      previous = told_text c.head.previous last.head.guid true (sym (test_passed (same_name c.head.previous last.head.guid) (ChainGuid name c.head.previous last.head.guid) guid.0));
-      size = eqb-true c.head.size last.head.size (test_passed (c.head.size == last.head.size) (ChainSize name c.head.size last.head.size) size.0);
-      previous_scn = eqb-true c.head.previous_scn last.head.scn (test_passed (c.head.previous_scn == last.head.scn) (ChainScn name c.head.previous_scn last.head.scn) scn.0);
-    }
+    let goes = goes_behind (last.head.level + 1) (level_link last) name c none in
+    record { level = goes.level; previous = goes.previous; size = goes.size; previous_scn = goes.previous_scn }
 
 -- the next file
 pub record IsNextFile (files : Files) (last : Option Contents) (name : List ℕ) (c : Contents) : Type 0 where

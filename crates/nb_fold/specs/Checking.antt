@@ -1,44 +1,12 @@
--- The files that are folded are read to their ends, and each goes on from the one before it.
+-- Each of the files that are folded goes on from the one before it.
 use Rattle.std.specs.Prelude.{◌≡◌, ℕ, ◌+◌, ◌≤◌, List, [], ◌∷◌, ◌++◌, length, Option, Some, None, Result, Ok, Err}
-use Rattle.nb_host.specs.Files.{File, Files, bytes_of}
+use Rattle.nb_host.specs.Files.{Files}
 use Rattle.nb_host.specs.declared.faults.Fault.{Fault}
 use Rattle.nb_host.specs.declared.faults.Fault.TheVariants.{Refused, Device, Memory}
-use Rattle.nb_host.specs.declared.refusals.Refusal.TheVariants.{BadLevel}
-use Rattle.nb_model.specs.Causes.{Cause}
-use Rattle.nb_model.specs.Image.{Numbered}
-use Rattle.nb_model.specs.Levels.{Contents, read_level}
+use Rattle.nb_model.specs.Levels.{Contents}
 use Rattle.nb_level.specs.Heads.{head_of}
-use Rattle.nb_level.specs.Reading.{Reading, still_to_come}
-use Rattle.nb_fold.specs.Sources.{Held, FileRefused, IsOpened, AreOpened, AreOfPages}
+use Rattle.nb_fold.specs.Sources.{Held, IsOpened, AreOpened, AreOfPages}
 use Rattle.nb_fold.specs.Verdict.{file_after, chained}
-
--- the pages that were still to come were read, or the first broken place was met
-abbrev pub EndSays : File → Reading → (before after : ℕ) → Result (Unit {0}) Fault → Type 0
-EndSays file r before after (Ok done) = (pages : List Numbered) × (still_to_come (bytes_of file) r ≡ Ok pages) × (after ≤ before + length pages + 1)
-EndSays file r before after (Err (Refused refusal)) = (at : ℕ) × (still_to_come (bytes_of file) r ≡ Err at) × (refusal ≡ BadLevel r.name at)
-EndSays file r before after (Err Device) = Unit {0}
-EndSays file r before after (Err Memory) = Unit {0}
-
--- the file is a level file
-pub record IsWhole (file : File) (before after : ℕ) : Type 0 where
-  pub bytes : List ℕ
-  pub there : file ≡ Some bytes
-  pub contents : Contents
-  pub read : read_level bytes ≡ Ok contents
-  pub reads : after ≤ before + length contents.pages + 2
-
-abbrev pub FileSays : File → (name : List ℕ) (before after : ℕ) → Result (Unit {0}) Fault → Type 0
-FileSays file name before after (Ok done) = IsWhole file before after
-FileSays file name before after (Err (Refused refusal)) = FileRefused file name refusal
-FileSays file name before after (Err Device) = Unit {0}
-FileSays file name before after (Err Memory) = Unit {0}
-
--- a test is passed exactly where no cause applies
-abbrev pub Tested : {T : Type 0} → Cause → Result T Fault → Type 0
-Tested cause (Ok value) = cause ≡ None
-Tested cause (Err (Refused refusal)) = cause ≡ Some refusal
-Tested cause (Err Device) = ⊥
-Tested cause (Err Memory) = ⊥
 
 -- the last of these files has the head of these contents; there is none where there are none
 abbrev pub IsLast : List Held → Option Contents → Type 0

@@ -1,11 +1,9 @@
 -- The files that are folded, while they are read side by side.
 use Rattle.std.specs.Prelude.{◌≡◌, ℕ, ◌+◌, ◌-◌, ◌<◌, ◌≤◌, ◌==◌, List, [], ◌∷◌, Option, Some, None, Bool, true, false, Result, Ok, Err}
 use Rattle.std.specs.List.{AllByRecursion}
-use Rattle.nb_host.specs.Files.{File, Files, bytes_of}
+use Rattle.nb_host.specs.Files.{Files, bytes_of}
 use Rattle.nb_host.specs.declared.faults.Fault.{Fault}
 use Rattle.nb_host.specs.declared.faults.Fault.TheVariants.{Refused, Device, Memory}
-use Rattle.nb_host.specs.declared.refusals.Refusal.{Refusal}
-use Rattle.nb_host.specs.declared.refusals.Refusal.TheVariants.{NoFile, BadLevel}
 use Rattle.nb_model.specs.Image.{Page, Numbered}
 use Rattle.nb_model.specs.Levels.{Contents, read_level}
 use Rattle.nb_level.specs.Heads.{head_of}
@@ -55,11 +53,6 @@ AreOpened files [] (s ∷ ss) cs = ⊥
 AreOpened files (n ∷ ns) [] cs = ⊥
 AreOpened files (n ∷ ns) (s ∷ ss) [] = ⊥
 AreOpened files (n ∷ ns) (s ∷ ss) (c ∷ cs) = IsOpened files n s c × AreOpened files ns ss cs
-
--- why a file can't be folded by itself
-abbrev pub FileRefused : File → (name : List ℕ) → Refusal → Type 0
-FileRefused None name refusal = refusal ≡ NoFile name
-FileRefused (Some bytes) name refusal = (at : ℕ) × (read_level bytes ≡ Err at) × (refusal ≡ BadLevel name at)
 
 -- it answers such a value, or the device fails
 abbrev pub IsTaken : {T : Type 0} → Result T Fault → (T → Type 0) → Type 0

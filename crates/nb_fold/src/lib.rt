@@ -6,7 +6,6 @@
 //! it reads, whatever is answered; and no other file is touched. `laws` says what a restore gives with that file.
 #![tactic(auto)]
 
-mod checking;
 mod folded;
 mod folding;
 pub mod laws;

@@ -3,13 +3,14 @@ ghost use Rattle.nb_change.specs.Counts.{CountsDevice};
 ghost use Rattle.nb_model.specs.Levels.{Contents};
 ghost use Rattle.nb_level.specs.Heads.{head_of};
 ghost use Rattle.nb_page.specs.Quiet.{Quiet};
+ghost use Rattle.nb_chain.specs.First.{Tested};
 ghost use Rattle.nb_host.specs.declared.faults.Fault.TheVariants.{Refused};
 ghost use Rattle.nb_host.specs.declared.refusals.Refusal.{Refusal};
 ghost use Rattle.nb_fold.specs.Verdict.{chained, not_after};
-ghost use Rattle.nb_fold.specs.Checking.{AddSays, AreAlike, AreChained, IsLast, Tested, first_size};
+ghost use Rattle.nb_fold.specs.Checking.{AddSays, AreAlike, AreChained, IsLast, first_size};
 
-use crate::checking::{check_file, goes_on};
 use crate::source::Source;
+use nb_chain::{Tip, goes_on, whole};
 use nb_host::{Fault, Host, Name};
 use nb_level::LevelHead;
 use std::alloc::Global;
@@ -23,7 +24,9 @@ fn goes_on_from(sources: &[Source], head: &LevelHead, name: &Name) -> Result<(),
     if sources.is_empty() {
         return Ok(());
     }
-    goes_on(&sources[sources.len() - 1].head(), head, name)
+    let last = sources[sources.len() - 1].head();
+    let wanted = u32::from(last.level) + 1;
+    goes_on(head, &Tip::of(&last), name, wanted)
 }
 
 /// Reads a file to its end, tests that it goes on from the last of those before, and begins to read it again.
@@ -41,7 +44,7 @@ fn add<H: Host>(
     ensures quiet { Quiet (H.world host.old) (H.world host.new) }
     ensures cause { CountsDevice result (H.faults host.old) (H.faults host.new) }
 {
-    check_file(alloc, host, name)?;
+    whole(alloc, host, name)?;
     let source = Source::start(alloc, host, name)?;
     goes_on_from(sources, &source.head(), name)?;
     sources.push(source)?;

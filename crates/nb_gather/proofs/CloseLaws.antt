@@ -26,6 +26,7 @@ use Rattle.nb_gather.specs.Making.{IsUnfinished, IsUnfinishedOr}
 use Rattle.nb_gather.proofs.AppendLaws.{appended, whole_torn, torn_unfinished, run_read, run_reads, run_left}
 use Rattle.nb_gather.proofs.FitLaws.{RunsFit, runs_fit, complete_all, total_runs}
 use Rattle.nb_gather.proofs.NoLevelLaws.{head_more, no_backup, end_torn}
+use Rattle.nb_gather.proofs.QuietLaws.{renamed, sync_then}
 use Rattle.nb_gather.proofs.TornLaws.{Torn, torn_self, torn_of}
 use Rattle.nb_gather.proofs.UnfinishedLaws.{AreFit}
 use Rattle.nb_gather.proofs.WaitingLaws.{none_waits, one_waits}
@@ -129,6 +130,33 @@ module _ (name : List ℕ) (head : LevelHead) (rs : List Numbered) (may : MayHav
     end_reads x written counted appends =
         let before : there.files name ≡ Some front = ap (λ (f : Files). f name) syncs.still.files ∙ stands.reads in
         ap (λ (f : Files). f name) (appends.files told) ∙ with_file-same there.files name _ ∙ ap (λ (f : File). with_bytes f (end_bytes written)) before ∙ ap (λ n. Some (front ++ end_bytes n)) counted ∙ ap Some (sym whole_is)
+
+-- So is a file of this name that goes by another term within.
+module _ (name inner : List ℕ) (named : inner ≡ name) (head : LevelHead) (rs : List Numbered) (may : MayHave head rs) where
+  abbrev closing : File → Type 0
+  closing = IsUnfinishedOr (level_bytes 102 (head_of head) rs)
+
+  -- the pages are kept
+  pub synced_left : {T E : Type 0} (tells : Bool) (result : Result T E) (old mid there : World) → Changes old mid (Only name) (Remade old name IsUnfinished) → Syncs tells result mid there inner → there.said ≡ mid.said → Passes mid there
+      → Changes old there (Only inner) (Remade old inner closing)
+  synced_left tells result old mid there finished syncs silent time =
+      sync_then inner closing tells result old mid there (more_than inner head rs may old mid (renamed old mid name inner IsUnfinished (sym named) finished)) syncs silent time
+
+  -- and the end is written
+  module _ {V G : Type 0} (tells : Bool) (value : V) (old mid there new : World) (told : IsTrue tells) (stands : Reads mid name (level_front head (runs_of rs))) (syncs : Syncs {E = G} tells (Ok value) mid there inner) (written : ℕ) (counted : written ≡ length rs) where
+    stands_in : Reads mid inner (level_front head (runs_of rs))
+    stands_in = subst (λ (n : List ℕ). Reads mid n (level_front head (runs_of rs))) (sym named) stands
+
+    pub ended_left : {T E : Type 0} (result : Result T E) → Changes old mid (Only name) (Remade old name IsUnfinished) → there.said ≡ mid.said → Passes mid there → AppendsBytes tells result there new inner (end_bytes written) → new.said ≡ there.said → Passes there new
+        → Changes old new (Only inner) (Remade old inner closing)
+    ended_left result finished silent time appends then_silent then_time =
+        end_written inner head rs may tells value old mid there new told stands_in syncs result written counted (synced_left tells (Ok value) old mid there finished syncs silent time) appends then_silent then_time
+
+    pub ended_or : {T E : Type 0} (result : Result T E) → AppendsBytes tells result there new inner (end_bytes written) → closing (new.files inner)
+    ended_or result appends = end_or inner head rs may tells value old mid there new told stands_in syncs result written counted appends
+
+    pub ended_reads : {E : Type 0} (x : Unit {0}) → AppendsBytes {E = E} tells (Ok x) there new inner (end_bytes written) → new.files inner ≡ Some (level_bytes 102 (head_of head) rs)
+    ended_reads x appends = end_reads inner head rs may tells value old mid there new told stands_in syncs x written counted appends
 
 -- the stamp of a page, as its head has it
 pub stamp_in : (page : Page) → (head_in page).scn ≡ stamp_of page

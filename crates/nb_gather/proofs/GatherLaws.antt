@@ -13,10 +13,11 @@ use Rattle.nb_model.specs.Image.{Numbered}
 use Rattle.nb_model.specs.Levels.{Stretch, runs_of}
 use Rattle.nb_model.proofs.GatherLaws.{total}
 use Rattle.nb_model.proofs.ReadLaws.{eq_yes}
-use Rattle.nb_gather.specs.Gathering.{Waiting, Holds, HoldsAll, Reads, HasTaken, MayHave, complete, incomplete, level_front}
+use Rattle.nb_gather.specs.Gathering.{LevelWriting, Waiting, Holds, HoldsAll, Reads, HasTaken, MayHave, complete, incomplete, level_front}
 use Rattle.nb_gather.specs.Making.{IsUnfinished}
 use Rattle.nb_gather.proofs.AppendLaws.{run_read, run_reads, run_left}
 use Rattle.nb_gather.proofs.FitLaws.{RunsFit, runs_fit, may_front, lt_tells}
+use Rattle.nb_gather.proofs.QuietLaws.{renamed}
 use Rattle.nb_gather.proofs.RunLaws.{no_both, one_run, longer_run, goes_on, Grows, runs_added, grown_none, grown_other, grown_more, grown_full}
 use Rattle.nb_gather.proofs.UnfinishedLaws.{AreFit}
 use Rattle.nb_gather.proofs.WaitingLaws.{none_waits, one_waits, holds_one, holds_longer, goes_as, taken_still, taken_with}
@@ -142,3 +143,35 @@ module _ (head : LevelHead) (rs : List Numbered) (r : Numbered) (run : Waiting) 
       → AddsTwo {E = E} (Ok x) old new name (bytes_of 4 run.first ++ bytes_of 4 run.count) run.bytes → HasTaken new (record { name = name; head = head; written = written + 1; run = last }) (rs ++ r ∷ [])
   completes_taken x old new written last counted holds stands adds =
       taken_with head rs r new name written last counted completes.s waits completes.grows holds (run_read name head (complete (runs_of rs)) run completes.s completes.holds x old new stands adds)
+
+-- A file with these fields takes a page.
+module _ (outer self : LevelWriting) (view : self ≡ outer) (w : World) (rs : List Numbered) (r : Numbered) (has : HasTaken w outer rs) (may : MayHave outer.head (rs ++ r ∷ [])) where
+  inside : HasTaken w self rs
+  inside = subst (λ (v : LevelWriting). HasTaken w v rs) (sym view) has
+
+  fits : MayHave self.head (rs ++ r ∷ [])
+  fits = subst (λ (v : LevelWriting). MayHave v.head (rs ++ r ∷ [])) (sym view) may
+
+  -- into the run that waits
+  pub run_still : (new : Waiting) → Joined self.run new r → may_join self.run r ≡ true → (new.count == 16) ≡ false → HasTaken w (record { name = self.name; head = self.head; written = self.written + 1; run = new }) (rs ++ r ∷ [])
+  run_still new joined takes short = joins_still self.head rs r fits self.run inside.waits new joined w self.name self.written inside.counted inside.stands takes short
+
+  pub run_full : (new : Waiting) → Joined self.run new r → may_join self.run r ≡ true → (new.count == 16) ≡ true → Completes new rs r []
+  run_full new joined takes full = joins_full self.head rs r fits self.run inside.waits new joined takes full
+
+  -- or not
+  pub run_other : may_join self.run r ≡ false → Completes self.run rs r (one_run r ∷ [])
+  run_other takes = other_run self.head rs r fits self.run inside.waits takes
+
+  -- the run that is complete is appended
+  module _ (run : Waiting) (waits : List Stretch) (completes : Completes run rs r waits) where
+    pub appends_left : {T E : Type 0} (result : Result T E) (new : World) → IsTimely w → AddsTwo result w new self.name (bytes_of 4 run.first ++ bytes_of 4 run.count) run.bytes → new.said ≡ w.said → Changes w new (Only outer.name) (Remade w outer.name IsUnfinished)
+    appends_left result new timely adds silent =
+        renamed w new self.name outer.name IsUnfinished (ap (λ (v : LevelWriting). v.name) view) (completes_left self.head rs r run waits completes self.name result w new timely fits inside.stands adds silent)
+
+    pub appends_reads : {T E : Type 0} (result : Result T E) (new : World) → AddsTwo result w new self.name (bytes_of 4 run.first ++ bytes_of 4 run.count) run.bytes → IsUnfinished (new.files outer.name)
+    appends_reads result new adds = subst (λ (v : LevelWriting). IsUnfinished (new.files v.name)) view (completes_reads self.head rs r run waits completes self.name result w new fits inside.stands adds)
+
+    pub appends_taken : {T E : Type 0} (x : T) (new : World) (last : Waiting) → HoldsAll last waits → AddsTwo {E = E} (Ok x) w new self.name (bytes_of 4 run.first ++ bytes_of 4 run.count) run.bytes
+        → HasTaken new (record { name = self.name; head = self.head; written = self.written + 1; run = last }) (rs ++ r ∷ [])
+    appends_taken x new last holds adds = completes_taken self.head rs r run waits completes self.name x w new self.written last inside.counted holds inside.stands adds

@@ -1,6 +1,6 @@
 -- What is left of a level file before its end is whole is no backup.
 use Rattle.std.proofs.Common.{◌≡◌, ◌⊎◌, inl, inr, ⊎_elim, ℕ, suc, ◌+◌, ◌/◌, ◌%◌, ◌<◌, List, [], ◌∷◌, ◌++◌, length, take, drop, refl, sym, ap, subst, ◌∙◌, arith, length-append, append_assoc}
-use Rattle.std.specs.Prelude.{Bool, true, false, not, ◌&&◌, ◌||◌, ◌==◌, nat_le, nat_lt, IsTrue, None, Some, Result, Ok, Err}
+use Rattle.std.specs.Prelude.{true, false, ◌||◌, ◌==◌, nat_le, IsTrue, Some, Ok}
 use Rattle.std.proofs.lemmas.Bool.{eqb-true, or_cases}
 use Rattle.std.proofs.lemmas.List.{drop_at, drop_all, drop-drop}
 use Rattle.nb_fields.specs.Bytes.{number_of, bytes_of, number_in}
@@ -8,14 +8,14 @@ use Rattle.nb_fields.specs.Header.{is_header, is_marked}
 use Rattle.nb_fields.specs.Places.{is_page_size}
 use Rattle.nb_fields.proofs.SizeLemmas.{size_facts}
 use Rattle.nb_change.proofs.NameLaws.{decide}
-use Rattle.nb_model.specs.Image.{Numbered}
-use Rattle.nb_model.specs.Levels.{Head, Stretch, Contents, Test, first_fault, ends_before, begins_level, head_then, head_in, with_head, run_bytes, end_bytes, end_mark, read_level, read_pages, read_runs}
-use Rattle.nb_model.proofs.ReadLaws.{AreClear, and_no_right}
+use Rattle.nb_model.specs.Levels.{Head, Stretch, Contents, head_then, head_in, run_bytes, end_bytes, end_mark, read_level, read_pages, read_runs}
+use Rattle.nb_model.proofs.ReadLaws.{and_no_right}
 use Rattle.nb_model.proofs.GatherLaws.{total}
+use Rattle.nb_level.proofs.ToldLaws.{level_told}
 use Rattle.nb_gather.specs.Gathering.{IsHeaded}
 use Rattle.nb_gather.specs.Making.{IsNoBackup}
 use Rattle.nb_gather.proofs.TornLaws.{Torn, torn_take, torn_drop, torn_short, torn_self, torn_longer, torn_more}
-use Rattle.nb_gather.proofs.ReadAgain.{no_value, no_both, some_or, none_clear}
+use Rattle.nb_gather.proofs.ReadAgain.{no_both}
 use Rattle.nb_gather.proofs.UnfinishedLaws.{small_torn, AreFit, torn_runs}
 
 -- what stands behind a head goes on
@@ -49,44 +49,10 @@ unfolding is_header is_marked number_in number_of
 no_header bs [] torn = refl
 no_header bs (t ∷ ts) torn = ⊎_elim (λ e. subst (λ x. is_header (x ∷ ts) ≡ false) (sym e) (and_no_right (nat_le 64 (suc (length ts))) false refl)) (λ e. subst (λ x. is_header (x ∷ ts) ≡ false) (sym e) (and_no_right (nat_le 64 (suc (length ts))) false refl)) torn.0
 
--- the tests of a head
-abbrev head_tests : List ℕ → List Test
-head_tests bytes =
-    (not (begins_level bytes), 0)
-    ∷ ends_before 52 0 bytes
-    ∷ (not (number_in 4 2 bytes == 101 || number_in 4 2 bytes == 102), 4)
-    ∷ (not (nat_le 1 (head_in bytes).level && nat_le (head_in bytes).level 9), 6)
-    ∷ (not (is_page_size (head_in bytes).size), 40)
-    ∷ (not (nat_lt (head_in bytes).previous_scn (head_in bytes).scn), 44)
-    ∷ []
-
-not_false : (b : Bool) → not b ≡ false → b ≡ true
-not_false true is = refl
-not_false false is = absurd (no_both true refl is)
-
-with_head_ok : (version : ℕ) (h : Head) (r : Result (List Numbered) ℕ) (c : Contents) → with_head version h r ≡ Ok c → (vs : List Numbered) × (r ≡ Ok vs)
-with_head_ok version h (Ok vs) c is = (vs, refl)
-with_head_ok version h (Err at) c is = absurd (no_value at c is)
-
 module _ (bytes : List ℕ) where
-  fault_level : (p : ℕ) → first_fault (head_tests bytes) ≡ Some p → read_level bytes ≡ Err p
-  unfolding read_level
-  fault_level p fault = rw (fault, read_level) refl
-
-  clear_level : first_fault (head_tests bytes) ≡ None → read_level bytes ≡ with_head (number_in 4 2 bytes) (head_in bytes) (read_pages (number_in 4 2 bytes) (head_in bytes) bytes)
-  unfolding read_level
-  clear_level clear = rw (clear, read_level) refl
-
   runs_read : (version : ℕ) → version ≡ 102 → read_pages version (head_in bytes) bytes ≡ read_runs (length bytes) (head_in bytes) 52 0 0 end_mark (drop 52 bytes)
   unfolding read_pages
   runs_read version is = ap (λ v. read_pages v (head_in bytes) bytes) is
-
-  -- what a level file of version 102 tells
-  level_facts : (c : Contents) → read_level bytes ≡ Ok c → AreClear (head_tests bytes) × ((vs : List Numbered) × (read_pages (number_in 4 2 bytes) (head_in bytes) bytes ≡ Ok vs))
-  level_facts c is = elim (some_or (first_fault (head_tests bytes))) [
-    | inl fault ↦ absurd (no_value fault.0 c (sym (fault_level fault.0 fault.1) ∙ is))
-    | inr none ↦ (none_clear (head_tests bytes) none, with_head_ok (number_in 4 2 bytes) (head_in bytes) _ c (sym (clear_level none) ∙ is))
-  ]
 
 module _ (h : Head) (is : IsHeaded h) where
   -- behind the GUIDs
@@ -127,13 +93,13 @@ module _ (h : Head) (is : IsHeaded h) where
     unfolding head_in
     torn_level ts c torn reads =
         let tail : List ℕ = run_bytes ss ++ end_bytes (total ss) in
-        let facts = level_facts ts c reads in
-        let known = not_false _ facts.0.1.1.0 in
-        let sized = not_false _ facts.0.1.1.1.1.0 in
+        let told = level_told ts c reads in
+        let known : (number_in 4 2 ts == 101 || number_in 4 2 ts == 102) ≡ true = ap (λ v. v == 101 || v == 102) (sym told.version) ∙ told.known in
+        let sized : is_page_size (number_in 40 4 ts) ≡ true = ap (λ (h : Head). is_page_size h.size) (sym told.head) ∙ told.size in
         let version : number_in 4 2 ts ≡ 102 = ⊎_elim (λ e. e) (λ e. absurd (no_both (0 == 101 || 0 == 102) (subst (λ v. (v == 101 || v == 102) ≡ true) e known) refl)) (torn_version tail ts torn) in
         let size : number_in 40 4 ts ≡ h.size = ⊎_elim (λ e. e) (λ e. absurd (no_both (is_page_size 0) (subst (λ v. is_page_size v ≡ true) e sized) refl)) (torn_size tail ts torn) in
-        torn_runs (head_in ts) (total ss) (size_facts (number_in 40 4 ts) sized).at_least few ss (length ts) 52 0 0 end_mark (drop 52 ts) facts.1.0 (subst (λ n. AreFit n ss) (sym size) fit) (let e : 0 + total ss ≡ total ss = omega arith in e) (torn_tail tail ts torn)
-        (sym (runs_read ts (number_in 4 2 ts) version) ∙ facts.1.1)
+        torn_runs (head_in ts) (total ss) (size_facts (number_in 40 4 ts) sized).at_least few ss (length ts) 52 0 0 end_mark (drop 52 ts) c.pages (subst (λ n. AreFit n ss) (sym size) fit) (let e : 0 + total ss ≡ total ss = omega arith in e) (torn_tail tail ts torn)
+        (sym (runs_read ts (number_in 4 2 ts) version) ∙ told.pages)
 
     begins_torn : (tail ts : List ℕ) → Torn (head_then 102 h tail) ts → is_header ts ≡ false
     unfolding head_then

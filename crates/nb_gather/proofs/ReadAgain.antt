@@ -1,22 +1,23 @@
 -- What it says of bytes that they are read as runs.
-use Rattle.std.proofs.Common.{◌≡◌, ◌≢◌, ◌⊎◌, inl, inr, ℕ, suc, ◌+◌, ◌*◌, ◌≤◌, List, [], ◌∷◌, length, drop, refl, sym, ap, ◌∙◌, arith}
-use Rattle.std.specs.Prelude.{Bool, true, false, not, ◌&&◌, ◌||◌, ◌==◌, nat_lt, Option, None, Some, Result, Ok, Err}
-use Rattle.std.proofs.lemmas.Bool.Decides.{eqb_tells, leb_tells}
-use Rattle.nb_fields.specs.Bytes.{part, number_in}
+use Rattle.std.proofs.Common.{◌≡◌, ◌≢◌, ◌⊎◌, inl, inr, ℕ, suc, ◌+◌, ◌*◌, ◌≤◌, List, length, drop, refl, sym, ap, ◌∙◌, arith}
+use Rattle.std.specs.Prelude.{Bool, true, false, not, ◌||◌, ◌==◌, nat_lt, Option, None, Some, Result, Ok, Err}
+use Rattle.std.proofs.lemmas.Bool.Decides.{eqb_tells}
+use Rattle.nb_fields.specs.Bytes.{number_in}
 use Rattle.nb_model.specs.Image.{Numbered}
-use Rattle.nb_model.specs.Levels.{Head, Test, first_fault, ends_before, behind, read_end, read_runs, pages_in, barred_after, is_bad_number, is_first_page, end_mark}
-use Rattle.nb_model.proofs.ReadLaws.{AreClear, eq_yes}
+use Rattle.nb_model.specs.Levels.{Head, Test, first_fault, behind, read_end, read_runs, pages_in, barred_after, end_mark}
+use Rattle.nb_model.proofs.ReadLaws.{AreClear, eq_yes, run_tests, end_tests}
+use Rattle.nb_level.proofs.ToldLaws.{none_clear, not_long}
 
 -- a broken place is no value
 pub no_value : {A : Type 0} (at : ℕ) (value : A) → ◌≡◌ {A = Result A ℕ} (Err at) (Ok value) → ⊥
 no_value at value is = cc
 
 -- either way
-pub tells : (b : Bool) → (b ≡ true) ⊎ (b ≡ false)
+tells : (b : Bool) → (b ≡ true) ⊎ (b ≡ false)
 tells true = inl refl
 tells false = inr refl
 
-pub some_or : (o : Option ℕ) → ((p : ℕ) × (o ≡ Some p)) ⊎ (o ≡ None)
+some_or : (o : Option ℕ) → ((p : ℕ) × (o ≡ Some p)) ⊎ (o ≡ None)
 some_or None = inr refl
 some_or (Some p) = inl (p, refl)
 
@@ -27,39 +28,13 @@ or_no_left : (a b : Bool) → (a || b) ≡ false → a ≡ false
 or_no_left true b is = absurd (no_both true refl is)
 or_no_left false b is = refl
 
-lt_no_tells : (a b : ℕ) → nat_lt a b ≡ false → b ≤ a
-lt_no_tells a b is = elim (leb_tells (suc a) b) [ inl w ↦ absurd (no_both (nat_lt a b) w.0 is) | inr w ↦ (let h = w.1 in omega (arith, h)) ]
-
 not_no : (a b : ℕ) → not (a == b) ≡ false → a ≡ b
 not_no a b is = elim (eqb_tells a b) [ inl w ↦ w.1 | inr w ↦ absurd (no_both (not (a == b)) (ap not w.0) is) ]
-
--- no test failed
-pub none_clear : (ts : List Test) → first_fault ts ≡ None → AreClear ts
-unfolding first_fault
-none_clear [] is = tt
-none_clear (t ∷ ts) is = elim (tells t.0) [
-  | inl yes_ ↦ absurd (fault t.1 (sym (rw (yes_, first_fault) refl) ∙ is))
-  | inr no_ ↦ (no_, none_clear ts (sym (rw (no_, first_fault) refl) ∙ is))
-]
-  where
-    fault : (p : ℕ) → ◌≡◌ {A = Option ℕ} (Some p) None → ⊥
-    fault p e = cc
 
 -- with pages before
 pub behind_ok : (rs vs : List Numbered) (r : Result (List Numbered) ℕ) → behind rs r ≡ Ok vs → (ws : List Numbered) × (r ≡ Ok ws)
 behind_ok rs vs (Ok ws) is = (ws, refl)
 behind_ok rs vs (Err at) is = absurd (no_value at vs is)
-
--- the tests of a run
-abbrev pub run_tests : Head → (at count least barred : ℕ) (rest : List ℕ) → List Test
-run_tests h at count least barred rest =
-    (is_bad_number count least (number_in 0 4 rest) || number_in 0 4 rest == barred, at)
-    ∷ ends_before 8 at rest
-    ∷ (number_in 4 4 rest == 0 || (nat_lt 16 (number_in 4 4 rest) || nat_lt 1048576 (number_in 0 4 rest + number_in 4 4 rest)), at + 4)
-    ∷ (number_in 0 4 rest == 0 && nat_lt (length rest) (8 + h.size), at + length rest)
-    ∷ (number_in 0 4 rest == 0 && not (is_first_page h (part 8 h.size rest)), at + 8)
-    ∷ ends_before (8 + number_in 4 4 rest * h.size) at rest
-    ∷ []
 
 -- what is read behind a run
 abbrev pub rest_runs : (left : ℕ) → Head → (at count : ℕ) (rest : List ℕ) → Result (List Numbered) ℕ
@@ -68,6 +43,9 @@ rest_runs left h at count rest =
     let m : ℕ = number_in 4 4 rest in read_runs left h (at + 8 + m * h.size) (count + m) (n + m) (barred_after n m) (drop (8 + m * h.size) rest)
 
 module _ (left : ℕ) (h : Head) (at count least barred : ℕ) (rest : List ℕ) where
+  abbrev pub tests : List Test
+  tests = run_tests h at count least barred rest (number_in 0 4 rest) (number_in 4 4 rest)
+
   short_read : nat_lt (length rest) 4 ≡ true → read_runs (suc left) h at count least barred rest ≡ Err (at + length rest)
   unfolding read_runs
   short_read short = rw (short, read_runs) refl
@@ -76,11 +54,11 @@ module _ (left : ℕ) (h : Head) (at count least barred : ℕ) (rest : List ℕ)
   unfolding read_runs
   end_read long mark = rw (long, read_runs) (rw (mark, read_runs) refl)
 
-  fault_read : nat_lt (length rest) 4 ≡ false → (number_in 0 4 rest == end_mark) ≡ false → (p : ℕ) → first_fault (run_tests h at count least barred rest) ≡ Some p → read_runs (suc left) h at count least barred rest ≡ Err p
+  fault_read : nat_lt (length rest) 4 ≡ false → (number_in 0 4 rest == end_mark) ≡ false → (p : ℕ) → first_fault tests ≡ Some p → read_runs (suc left) h at count least barred rest ≡ Err p
   unfolding read_runs
   fault_read long other p fault = rw (long, read_runs) (rw (other, read_runs) (rw (fault, read_runs) refl))
 
-  run_read : nat_lt (length rest) 4 ≡ false → (number_in 0 4 rest == end_mark) ≡ false → first_fault (run_tests h at count least barred rest) ≡ None
+  run_read : nat_lt (length rest) 4 ≡ false → (number_in 0 4 rest == end_mark) ≡ false → first_fault tests ≡ None
       → read_runs (suc left) h at count least barred rest ≡ behind (pages_in h.size (number_in 4 4 rest) (number_in 0 4 rest) (drop 8 rest)) (rest_runs left h at count rest)
   unfolding read_runs
   run_read long other clear = rw (long, read_runs) (rw (other, read_runs) (rw (clear, read_runs) refl))
@@ -90,16 +68,16 @@ module _ (left : ℕ) (h : Head) (at count least barred : ℕ) (rest : List ℕ)
   IsEnd = (number_in 0 4 rest ≡ end_mark) × ((vs : List Numbered) × (read_end at count rest ≡ Ok vs))
 
   abbrev pub IsRunThere : Type 0
-  IsRunThere = (number_in 0 4 rest ≢ end_mark) × AreClear (run_tests h at count least barred rest) × ((vs : List Numbered) × (rest_runs left h at count rest ≡ Ok vs))
+  IsRunThere = (number_in 0 4 rest ≢ end_mark) × AreClear tests × ((vs : List Numbered) × (rest_runs left h at count rest ≡ Ok vs))
 
   pub runs_are : (vs : List Numbered) → read_runs (suc left) h at count least barred rest ≡ Ok vs → IsEnd ⊎ IsRunThere
   runs_are vs is = elim (tells (nat_lt (length rest) 4)) [
     | inl short ↦ absurd (no_value (at + length rest) vs (sym (short_read short) ∙ is))
     | inr long ↦ elim (eqb_tells (number_in 0 4 rest) end_mark) [
       | inl mark ↦ inl (mark.1, (vs, sym (end_read long mark.0) ∙ is))
-      | inr other ↦ elim (some_or (first_fault (run_tests h at count least barred rest))) [
+      | inr other ↦ elim (some_or (first_fault tests)) [
         | inl fault ↦ absurd (no_value fault.0 vs (sym (fault_read long other.0 fault.0 fault.1) ∙ is))
-        | inr clear ↦ inr (other.1, none_clear (run_tests h at count least barred rest) clear, behind_ok (pages_in h.size (number_in 4 4 rest) (number_in 0 4 rest) (drop 8 rest)) vs (rest_runs left h at count rest) (sym (run_read long other.0 clear) ∙ is))
+        | inr clear ↦ inr (other.1, none_clear tests clear, behind_ok (pages_in h.size (number_in 4 4 rest) (number_in 0 4 rest) (drop 8 rest)) vs (rest_runs left h at count rest) (sym (run_read long other.0 clear) ∙ is))
       ]
     ]
   ]
@@ -109,18 +87,15 @@ module _ (left : ℕ) (h : Head) (at count least barred : ℕ) (rest : List ℕ)
     pub some : number_in 4 4 rest ≢ 0
     pub fits : 8 + number_in 4 4 rest * h.size ≤ length rest
 
-  pub run_facts : AreClear (run_tests h at count least barred rest) → RunFacts
+  pub run_facts : AreClear tests → RunFacts
   run_facts clear = record {
     some = λ zero_. no_both (number_in 4 4 rest == 0) (eq_yes (number_in 4 4 rest) 0 zero_) (or_no_left (number_in 4 4 rest == 0) _ clear.1.1.0);
-    fits = lt_no_tells (length rest) (8 + number_in 4 4 rest * h.size) clear.1.1.1.1.1.0;
+    fits = not_long (length rest) (8 + number_in 4 4 rest * h.size) clear.1.1.1.1.1.0;
   }
 
 -- the tests of the end
 module _ (at count : ℕ) (rest : List ℕ) where
-  abbrev end_tests : List Test
-  end_tests = (count == 0, at) ∷ ends_before 8 at rest ∷ (not (number_in 4 4 rest == count), at + 4) ∷ (nat_lt 8 (length rest), at + 8) ∷ []
-
-  end_fault : (p : ℕ) → first_fault end_tests ≡ Some p → read_end at count rest ≡ Err p
+  end_fault : (p : ℕ) → first_fault (end_tests at count rest) ≡ Some p → read_end at count rest ≡ Err p
   unfolding read_end
   end_fault p fault = rw (fault, read_end) refl
 
@@ -129,11 +104,11 @@ module _ (at count : ℕ) (rest : List ℕ) where
     pub counted : number_in 4 4 rest ≡ count
 
   pub end_facts : (vs : List Numbered) → read_end at count rest ≡ Ok vs → EndFacts
-  end_facts vs is = elim (some_or (first_fault end_tests)) [
+  end_facts vs is = elim (some_or (first_fault (end_tests at count rest))) [
     | inl fault ↦ absurd (no_value fault.0 vs (sym (end_fault fault.0 fault.1) ∙ is))
     | inr none ↦
-        let clear = none_clear end_tests none in
-        let most : length rest ≤ 8 = lt_no_tells 8 (length rest) clear.1.1.1.0 in
-        let least : 8 ≤ length rest = lt_no_tells (length rest) 8 clear.1.0 in
+        let clear = none_clear (end_tests at count rest) none in
+        let most : length rest ≤ 8 = not_long 8 (length rest) clear.1.1.1.0 in
+        let least : 8 ≤ length rest = not_long (length rest) 8 clear.1.0 in
         record { long = omega (arith, most, least); counted = not_no (number_in 4 4 rest) count clear.1.1.0 }
   ]

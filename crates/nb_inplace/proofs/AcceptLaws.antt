@@ -21,7 +21,7 @@ use Rattle.nb_level.specs.Reading.{Reading, still_to_come}
 use Rattle.nb_level.specs.declared.head.LevelHead.{LevelHead}
 use Rattle.nb_chain.specs.Level.{WholeSays, LevelRefused}
 use Rattle.nb_restore.proofs.AnswerLaws.{some_same}
-use Rattle.nb_restore.proofs.HeadLaws.{with_head-is}
+use Rattle.nb_level.proofs.ToldLaws.{with_head-is}
 use Rattle.nb_fixup.specs.Tests.{Tested}
 use Rattle.nb_inplace.specs.Accepted.{AcceptSays, IsReaderOf}
 use Rattle.nb_inplace.specs.Standby.{IsStandby}

@@ -51,7 +51,8 @@ use Rattle.nb_inplace.specs.Tests.{stamp_cause}
 use Rattle.nb_inplace.specs.Verdict.{IsMergeable}
 use Rattle.nb_inplace.proofs.AcceptLaws.{head_clears}
 use Rattle.nb_inplace.proofs.ControlLaws.{applying-size, applying-header}
-use Rattle.nb_inplace.proofs.FirstLaws.{level_first, guid_sixteen}
+use Rattle.nb_level.proofs.PagesLaws.{level_pages}
+use Rattle.nb_inplace.proofs.FirstLaws.{level_first}
 use Rattle.nb_inplace.proofs.HalfLaws.{front_size, itself_half}
 use Rattle.nb_inplace.proofs.PagesLaws.{over_alike}
 use Rattle.nb_inplace.proofs.StampLaws.{since_image}
@@ -165,7 +166,7 @@ module _ (old : World) (standby name : List ℕ) (s : Standby) (reader : Reading
     head_size = sym (ap (λ (h : Head). h.size) fit.level.head) ∙ same_size
 
     sixteen : length c.head.guid ≡ 16
-    sixteen = guid_sixteen fit.level.bytes c fit.level.read
+    sixteen = (level_pages fit.level.bytes c fit.level.read).guid
 
     page_0 : first ≡ applying_page c.head.guid (first_page pages)
     page_0 = ready.1 ∙ ap (λ (g : List ℕ). applying_page g (first_page pages)) guid_is

@@ -17,7 +17,8 @@ use Rattle.nb_inplace.specs.Verdict.{IsMergeable}
 use Rattle.nb_inplace.specs.Half.{applying_page, IsBetween, IsHalf}
 use Rattle.nb_inplace.proofs.PagesLaws.{over_alike}
 use Rattle.nb_inplace.proofs.VerdictLaws.{IsAccepted, IsFor, as_it_stands, begun, accepted}
-use Rattle.nb_inplace.proofs.FirstLaws.{HasFirst, level_first, guid_sixteen}
+use Rattle.nb_level.proofs.PagesLaws.{level_pages}
+use Rattle.nb_inplace.proofs.FirstLaws.{HasFirst, level_first}
 use Rattle.nb_inplace.proofs.ControlLaws.{applying-size, applying-state, applying-pending, applying-guid, applying_same, applying_twice}
 
 -- bytes of the form, and page 0 of their image
@@ -74,7 +75,7 @@ module _ (files : Files) (standby name bytes : List ℕ) (c : Contents) (m : IsM
   its = accepted files standby name bytes c m
 
   sixteen : length c.head.guid ≡ 16
-  sixteen = guid_sixteen its.level c its.read
+  sixteen = (level_pages its.level c its.read).guid
 
   abbrev page : Page
   page = first_page (image_in bytes)

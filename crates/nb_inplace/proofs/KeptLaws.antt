@@ -23,7 +23,8 @@ use Rattle.nb_restore.proofs.AskLaws.{with_ask, guid_long}
 use Rattle.nb_restore.proofs.ChainLaws.{split_next}
 use Rattle.nb_restore.proofs.KeptNext.{HoldsKeptNext, kept_next}
 use Rattle.nb_restore.proofs.ParentLaws.{LeadsTo, AsksFrom, own_asks, span_asks}
-use Rattle.nb_restore.proofs.ReadLaws.{is_read, reads_previous}
+use Rattle.nb_level.proofs.ToldLaws.{level_told}
+use Rattle.nb_restore.proofs.ReadLaws.{reads_previous}
 
 -- pages with a header are no level file
 no_pages : (image : Image) (bytes : List ℕ) (c : Contents) → is_header (first_page image) ≡ true → read_level bytes ≡ Ok c → bytes ≡ joined image → ⊥
@@ -96,7 +97,7 @@ module _ (files : Files) (account : Account) (stands : Stands files account) (na
 
   previous_is : length ask.previous ≡ 16 → c.head.previous ≡ ask.previous
   previous_is sixteen =
-      ap (λ (h : Head). h.previous) ((is_read level c read).head ∙ ap head_in asked.is) ∙ reads_previous c.version (head_for r ask) (taken ask.previous_scn r.image) (guid_long r begun) sixteen
+      ap (λ (h : Head). h.previous) ((level_told level c read).head ∙ ap head_in asked.is) ∙ reads_previous c.version (head_for r ask) (taken ask.previous_scn r.image) (guid_long r begun) sixteen
 
   not_none : ask.previous ≢ nil
   not_none none = some (previous_is (ap length none) ∙ none)
@@ -128,7 +129,7 @@ module _ (files : Files) (account : Account) (stands : Stands files account) (na
   behind = record { guid = c.head.previous; scn = c.head.previous_scn; size = c.head.size; pages = [] }
 
   some_level : 1 ≤ c.head.level
-  some_level = elim (leb_tells 1 c.head.level) [ inl w ↦ w.1 | inr w ↦ absurd (true≢false (sym (and_parts (nat_le 1 c.head.level) (nat_le c.head.level 9) (is_read level c read).level).0 ∙ w.0)) ]
+  some_level = elim (leb_tells 1 c.head.level) [ inl w ↦ w.1 | inr w ↦ absurd (true≢false (sym (and_parts (nat_le 1 c.head.level) (nat_le c.head.level 9) (level_told level c read).level).0 ∙ w.0)) ]
 
   next : HoldsKeptNext files c.head.level (with_ask None from) name r
   next =

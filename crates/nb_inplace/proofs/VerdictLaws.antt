@@ -1,5 +1,5 @@
 -- What an accepted merge is: a standby in the normal or the applying state, and the level file that goes on from it.
-use Rattle.std.proofs.Common.{◌≡◌, ◌⊎◌, inl, inr, ℕ, zero, suc, ◌-◌, ◌≤◌, List, ◌∷◌, refl, sym, ap, ◌∙◌, arith}
+use Rattle.std.proofs.Common.{◌≡◌, ◌⊎◌, inl, inr, ℕ, zero, suc, ◌-◌, ◌≤◌, List, refl, sym, ap, ◌∙◌, arith}
 use Rattle.std.specs.Prelude.{Bool, true, false, not, ◌==◌, Some, None, Result, Ok, Err}
 use Rattle.std.specs.Cmp.Lexicographic.{told_text}
 use Rattle.std.proofs.lemmas.Bool.{eqb-true, eqb-false, or_parts}
@@ -8,31 +8,15 @@ use Rattle.nb_host.specs.Files.{File, Files}
 use Rattle.nb_host.specs.Names.{same_name}
 use Rattle.nb_host.specs.declared.refusals.Refusal.{Refusal}
 use Rattle.nb_host.specs.declared.refusals.Refusal.TheVariants.{NoFile, WrongState, BadLevel, Unfinished, ChainGuid, ChainSize, ChainScn, Access}
-use Rattle.nb_model.specs.Causes.{Cause, first_cause, when, not_database}
+use Rattle.nb_model.specs.Causes.{Cause, not_database}
 use Rattle.nb_model.specs.Image.{image_in, is_read_only}
 use Rattle.nb_model.specs.InPlace.{written_since, other_pages, not_next, not_finishing, not_mergeable, in_place_of, not_standby, bytes_in, in_place}
 use Rattle.nb_model.specs.Levels.{Contents, read_level}
 use Rattle.nb_model.proofs.FormLaws.{formed}
 use Rattle.nb_model.proofs.HeaderLaws.{header-state}
 use Rattle.nb_restore.proofs.AnswerLaws.{ok_same, err_ok}
-use Rattle.nb_restore.proofs.ChainLaws.{not_false}
+use Rattle.nb_restore.proofs.ChainLaws.{clear_head, not_false, test_passed, when_clear}
 use Rattle.nb_inplace.specs.Verdict.{IsMergeable}
-
-some_none : (r : Refusal) → Some r ≡ None → ⊥
-some_none r h = cc
-
--- causes of which none applies, one after another
-pub clear_head : (c : Cause) (cs : List Cause) → first_cause (c ∷ cs) ≡ None → (c ≡ None) × (first_cause cs ≡ None)
-unfolding first_cause
-clear_head None cs e = (refl, e)
-clear_head (Some r) cs e = absurd (some_none r e)
-
-when_clear : (test : Bool) (r : Refusal) → when test r ≡ None → test ≡ false
-when_clear true r e = absurd (some_none r e)
-when_clear false r e = refl
-
-passed : (test : Bool) (r : Refusal) → when (not test) r ≡ None → test ≡ true
-passed test r e = not_false test (when_clear (not test) r e)
 
 same_text : (a b : List ℕ) → same_name a b ≡ true → a ≡ b
 same_text a b e = told_text a b true (sym e)
@@ -54,10 +38,10 @@ goes_on name bytes c none =
     let access = clear_head _ _ scn.1 in
     let stamps = clear_head _ _ access.1 in
     record {
-      previous = same_text c.head.previous (guid_of bytes) (passed (same_name c.head.previous (guid_of bytes)) (ChainGuid name c.head.previous (guid_of bytes)) guid.0);
-      size = eqb-true c.head.size (size_of bytes) (passed (c.head.size == size_of bytes) (ChainSize name c.head.size (size_of bytes)) size.0);
-      previous_scn = eqb-true c.head.previous_scn (scn_of bytes - 1) (passed (c.head.previous_scn == scn_of bytes - 1) (ChainScn name c.head.previous_scn (scn_of bytes - 1)) scn.0);
-      read_only = passed (is_read_only (image_in bytes)) (Access 0) access.0;
+      previous = same_text c.head.previous (guid_of bytes) (test_passed (same_name c.head.previous (guid_of bytes)) (ChainGuid name c.head.previous (guid_of bytes)) guid.0);
+      size = eqb-true c.head.size (size_of bytes) (test_passed (c.head.size == size_of bytes) (ChainSize name c.head.size (size_of bytes)) size.0);
+      previous_scn = eqb-true c.head.previous_scn (scn_of bytes - 1) (test_passed (c.head.previous_scn == scn_of bytes - 1) (ChainScn name c.head.previous_scn (scn_of bytes - 1)) scn.0);
+      read_only = test_passed (is_read_only (image_in bytes)) (Access 0) access.0;
       unwritten = stamps.0;
     }
 
@@ -107,7 +91,7 @@ the_same name bytes c none =
     record {
       pending = same_text (pending_of bytes) c.head.guid (not_false _ parts.0);
       previous = same_text (guid_of bytes) c.head.previous (not_false _ parts.1);
-      size = eqb-true c.head.size (size_of bytes) (passed (c.head.size == size_of bytes) (ChainSize name c.head.size (size_of bytes)) size.0);
+      size = eqb-true c.head.size (size_of bytes) (test_passed (c.head.size == size_of bytes) (ChainSize name c.head.size (size_of bytes)) size.0);
     }
 
 -- the tests by the state

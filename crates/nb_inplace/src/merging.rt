@@ -5,7 +5,6 @@ ghost use Rattle.nb_change.specs.Gave.{GaveNothing};
 ghost use Rattle.nb_fields.specs.Places.{is_page_size};
 ghost use Rattle.nb_host.specs.Causes.{CountsFault};
 ghost use Rattle.nb_host.specs.Crash.{IsDurable, PageLeft};
-ghost use Rattle.nb_host.specs.Files.{with_page};
 ghost use Rattle.nb_model.specs.Image.{Page, Numbered};
 ghost use Rattle.nb_restore.specs.Target.{IsKept};
 ghost use Rattle.nb_inplace.specs.Apply.{Applies};
@@ -21,6 +20,7 @@ use crate::standby::Standby;
 use nb_fields::layouts::header;
 use nb_host::{Fault, Host, HostFault, Name};
 use nb_level::LevelReader;
+use nb_restore::write_first;
 use std::alloc::Global;
 
 /// How many bytes of the standby are read at a time, to test its stamps.
@@ -44,20 +44,6 @@ fn begin<H: Host>(
     if is_begun {
         return Ok(());
     }
-    host.write_page(standby, 0, first)?;
-    host.sync(standby)
-}
-
-/// Keeps the pages of the standby for good, and then its page 0.
-fn finish<H: Host>(host: &mut H, standby: &Name, first: &[u8]) -> Result<(), HostFault>
-    requires { IsTrue (is_page_size (length first.now)) }
-    ensures left { IsTrue H.tells
-        → Changes (H.world host.old) (H.world host.new) (Only standby.now) (Remade (H.world host.old) standby.now (PageLeft (0 * length first.now) first.now ((H.world host.old).files standby.now))) }
-    ensures done { IsTrue H.tells → OnOk result (IsKept (H.world host.new) standby.now (with_page ((H.world host.old).files standby.now) (0 * length first.now) first.now)) }
-    ensures gave { GaveNothing (H.world host.old) (H.world host.new) }
-    ensures cause { CountsFault result (H.faults host.old) (H.faults host.new) }
-{
-    host.sync(standby)?;
     host.write_page(standby, 0, first)?;
     host.sync(standby)
 }
@@ -90,7 +76,7 @@ fn merge<H: Host>(
     header::Access::put(first, 1);
     header::Pending::put(first, &[0; 16]);
     header::State::put(first, 0);
-    finish(host, standby, first)?;
+    write_first(host, standby, first)?;
     Ok(count)
 }
 

@@ -24,7 +24,7 @@ use Rattle.nb_restore.specs.Sources.{IsSource, AreSources}
 use Rattle.nb_restore.proofs.AnswerLaws.{ok_same, err_ok}
 
 -- causes of which none applies, one after another
-clear_head : (c : Cause) (cs : List Cause) → first_cause (c ∷ cs) ≡ None → (c ≡ None) × (first_cause cs ≡ None)
+pub clear_head : (c : Cause) (cs : List Cause) → first_cause (c ∷ cs) ≡ None → (c ≡ None) × (first_cause cs ≡ None)
 unfolding first_cause
 clear_head None cs e = (refl, e)
 clear_head (Some r) cs e = absurd (some_none e)
@@ -32,7 +32,7 @@ clear_head (Some r) cs e = absurd (some_none e)
     some_none : Some r ≡ None → ⊥
     some_none h = cc
 
-when_clear : (test : Bool) (r : Refusal) → when test r ≡ None → test ≡ false
+pub when_clear : (test : Bool) (r : Refusal) → when test r ≡ None → test ≡ false
 when_clear true r e = absurd (some_none e)
   where
     some_none : Some r ≡ None → ⊥
@@ -43,8 +43,8 @@ pub not_false : (b : Bool) → not b ≡ false → b ≡ true
 not_false true e = refl
 not_false false e = absurd (true≢false e)
 
-passed : (test : Bool) (r : Refusal) → when (not test) r ≡ None → test ≡ true
-passed test r e = not_false test (when_clear (not test) r e)
+pub test_passed : (test : Bool) (r : Refusal) → when (not test) r ≡ None → test ≡ true
+test_passed test r e = not_false test (when_clear (not test) r e)
 
 -- what the head of a level file in place k names of the file before it
 pub record GoesBehind (k : ℕ) (last : Link) (h : Head) : Type 0 where
@@ -53,7 +53,7 @@ pub record GoesBehind (k : ℕ) (last : Link) (h : Head) : Type 0 where
   pub size : h.size ≡ last.size
   pub previous_scn : h.previous_scn ≡ last.scn
 
-goes_behind : (k : ℕ) (last : Link) (name : List ℕ) (c : Contents) → not_behind k last name c ≡ None → GoesBehind k last c.head
+pub goes_behind : (k : ℕ) (last : Link) (name : List ℕ) (c : Contents) → not_behind k last name c ≡ None → GoesBehind k last c.head
 unfolding not_behind
 goes_behind k last name c none =
     let level = clear_head _ _ none in
@@ -61,10 +61,10 @@ goes_behind k last name c none =
     let size = clear_head _ _ guid.1 in
     let scn = clear_head _ _ size.1 in
     record {
-      level = eqb-true c.head.level k (passed (c.head.level == k) (ChainLevel name c.head.level k) level.0);
-      previous = told_text c.head.previous last.guid true (sym (passed (same_name c.head.previous last.guid) (ChainGuid name c.head.previous last.guid) guid.0));
-      size = eqb-true c.head.size last.size (passed (c.head.size == last.size) (ChainSize name c.head.size last.size) size.0);
-      previous_scn = eqb-true c.head.previous_scn last.scn (passed (c.head.previous_scn == last.scn) (ChainScn name c.head.previous_scn last.scn) scn.0);
+      level = eqb-true c.head.level k (test_passed (c.head.level == k) (ChainLevel name c.head.level k) level.0);
+      previous = told_text c.head.previous last.guid true (sym (test_passed (same_name c.head.previous last.guid) (ChainGuid name c.head.previous last.guid) guid.0));
+      size = eqb-true c.head.size last.size (test_passed (c.head.size == last.size) (ChainSize name c.head.size last.size) size.0);
+      previous_scn = eqb-true c.head.previous_scn last.scn (test_passed (c.head.previous_scn == last.scn) (ChainScn name c.head.previous_scn last.scn) scn.0);
     }
 
 -- the file behind another is a level file
@@ -217,7 +217,7 @@ whole_parts name bytes e = by (is_header bytes) refl e
     by true is h =
         let state = clear_head _ _ h in
         let long = clear_head _ _ state.1 in
-        (is, eqb-true (state_of bytes) 1 (passed (state_of bytes == 1) (BadLevel name 22) state.0), when_clear (is_bad_length bytes) (BadLevel name (length bytes)) long.0)
+        (is, eqb-true (state_of bytes) 1 (test_passed (state_of bytes == 1) (BadLevel name 22) state.0), when_clear (is_bad_length bytes) (BadLevel name (length bytes)) long.0)
 
 pub copy_of : (name bytes : List ℕ) (l : Link) → first_link name bytes ≡ Ok l → IsCopy bytes l
 unfolding first_link

@@ -22,7 +22,8 @@ use Rattle.nb_restore.proofs.AnswerLaws.{some_same}
 use Rattle.nb_restore.proofs.AskLaws.{with_ask, begun_with, guid_long}
 use Rattle.nb_restore.proofs.ChainLaws.{IsLevelFile}
 use Rattle.nb_restore.proofs.ParentLaws.{LeadsTo, AsksFrom, own_asks, span_asks}
-use Rattle.nb_restore.proofs.ReadLaws.{IsRead, is_read, reads_level, reads_previous}
+use Rattle.nb_level.proofs.ToldLaws.{IsTold, level_told}
+use Rattle.nb_restore.proofs.ReadLaws.{reads_level, reads_previous}
 
 -- pages with a header are no level file
 joined_first : (image : Image) → is_header (first_page image) ≡ true → take 64 (joined image) ≡ take 64 (first_page image)
@@ -68,8 +69,8 @@ pub record HoldsKeptNext (files : Files) (k : ℕ) (r : Kept) (name : List ℕ) 
 
 module _ (files : Files) (account : Account) (stands : Stands files account) (k : ℕ) (some : 1 ≤ k) (r : Kept) (r_there : Contains account.kept r) (o : Option Ask) (last : Link) (guid : last.guid ≡ r.guid)
     (name bytes : List ℕ) (there : files name ≡ Some bytes) (l : Link) (file : IsLevelFile k last bytes l) (q : Kept) (named : IsKeptAs account.kept l.guid q) where
-  read : IsRead bytes file.contents
-  read = is_read bytes file.contents file.read
+  read : IsTold bytes file.contents
+  read = level_told bytes file.contents file.read
 
   begun : IsBegun q
   begun = stands.sound_images.records q named.there

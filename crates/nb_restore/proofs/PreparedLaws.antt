@@ -1,12 +1,12 @@
 -- An accepted chain is read again as what it was, and gives a plan.
-use Rattle.std.proofs.Common.{◌≡◌, ◌≢◌, ℕ, ◌*◌, ◌≤◌, List, [], ◌∷◌, length, get_or, sym, ap, subst, ◌∙◌, arith}
-use Rattle.std.specs.Prelude.{true, Some, None, Ok, Err, Contains}
+use Rattle.std.proofs.Common.{◌≡◌, ◌≢◌, ℕ, ◌*◌, ◌≤◌, List, [], ◌∷◌, length, sym, ap, subst, ◌∙◌, arith}
+use Rattle.std.specs.Prelude.{true, Some, Ok, Err, Contains}
 use Rattle.std.specs.Global.{Vec}
 use Rattle.std.proofs.lemmas.Bool.{and_parts}
 use Rattle.nb_fields.specs.Free.{is_free_file}
 use Rattle.nb_fields.specs.Header.{is_header, size_of}
 use Rattle.nb_fields.proofs.SizeLemmas.{size_facts}
-use Rattle.nb_host.specs.Files.{File, Files}
+use Rattle.nb_host.specs.Files.{Files}
 use Rattle.nb_host.specs.declared.faults.Fault.{Fault}
 use Rattle.nb_host.specs.declared.faults.Fault.TheVariants.{Refused, Device, Memory}
 use Rattle.nb_page.specs.Free.{is_free_name}
@@ -18,20 +18,16 @@ use Rattle.nb_model.specs.Sound.{IsOfSize}
 use Rattle.nb_model.proofs.ImageLaws.{Pages, pages_of, cut-joined}
 use Rattle.nb_level.specs.Reading.{Reading}
 use Rattle.nb_chain.specs.declared.first_file.First.{First}
-use Rattle.nb_chain.specs.First.{FirstSays, FirstRefused}
+use Rattle.nb_chain.specs.Chain.{IsFirstOf}
+use Rattle.nb_chain.specs.First.{FirstSays}
 use Rattle.nb_chain.proofs.ImageLaws.{over}
 use Rattle.nb_chain.proofs.StartLemmas.{size_is}
 use Rattle.nb_restore.specs.Copied.{IsDone}
 use Rattle.nb_restore.specs.Plan.{IsAccepted, IsPrepared, PlanSays}
 use Rattle.nb_restore.specs.Sources.{IsLevel0, AreSources, AreReady, IsTaken}
 use Rattle.nb_restore.specs.Target.{IsPlan, IsUnfinishedPage}
-use Rattle.nb_restore.proofs.AnswerLaws.{ok_same, err_ok, some_same}
+use Rattle.nb_restore.proofs.AnswerLaws.{ok_same, some_same}
 use Rattle.nb_restore.proofs.ChainLaws.{sources, IsSplit, split_chain, IsCopy, copy_of, copy_apart, page_0_header, page_0_size, all_apart}
-
--- the first name, asked for twice
-pub first_same : (names : List (List ℕ)) (n m : List ℕ) → 1 ≤ length names → n ≡ get_or names 0 n → m ≡ get_or names 0 m → m ≡ n
-first_same [] n m some is also = absurd (omega (arith, some))
-first_same (x ∷ xs) n m some is also = also ∙ sym is
 
 -- nothing but the device fails, and memory
 pub taken_fails : (T : Type 0) (P : T → Type 0) (files : Files) (target : List ℕ) (names : List (List ℕ)) (fault : Fault) → IsTaken {T = T} (Err fault) P → PlanSays files target names (Err fault)
@@ -48,30 +44,17 @@ free_file : (files : Files) (name : List ℕ) → is_free_name files name ≡ tr
 unfolding is_free_name
 free_file files name free = (and_parts (is_free_file (files name)) _ free).0
 
-module _ (files : Files) (target : List ℕ) (names : List (List ℕ)) (count : ℕ) (accepted : IsAccepted files target names count) (name : List ℕ) (others : List (List ℕ)) (named : names ≡ name ∷ others) (now : Files) (still : now ≡ files) where
+module _ (files : Files) (target : List ℕ) (names : List (List ℕ)) (count : ℕ) (accepted : IsAccepted files target names count) (name : List ℕ) (others : List (List ℕ)) (named : names ≡ name ∷ others) where
   pub split : IsSplit files name others accepted.links
   split = split_chain files name others accepted.links (ap (verdict files) (sym named) ∙ accepted.accepted)
 
   free : is_free_file (files target) ≡ true
   free = free_file files target accepted.free
 
-  there_now : now name ≡ Some split.bytes
-  there_now = ap (λ (f : Files). f name) still ∙ split.there
+  module _ (first : First) (listed : IsFirstOf files names first) (form : HasForm first.header) (least : 5 ≤ first.pages) (most : first.pages ≤ 1048576) where
+    pub says : FirstSays (files name) name (Ok first)
+    says = subst (λ (ns : List (List ℕ)). IsFirstOf files ns first) named listed
 
-  -- level 0 isn't refused
-  pub first_fails : (fault : Fault) → FirstSays (now name) name (Err fault) → PlanSays files target names (Err fault)
-  first_fails (Refused refusal) says = absurd (by (now name) there_now says)
-    where
-      by : (file : File) → file ≡ Some split.bytes → FirstRefused file name refusal → ⊥
-      by None there refused = none_some there
-        where
-          none_some : None ≡ Some split.bytes → ⊥
-          none_some h = cc
-      by (Some bytes) there refused = err_ok refusal split.first (first_link name bytes) refused (ap (first_link name) (some_same bytes split.bytes there) ∙ split.accepted)
-  first_fails Device says = tt
-  first_fails Memory says = tt
-
-  module _ (first : First) (says : FirstSays (now name) name (Ok first)) (form : HasForm first.header) (least : 5 ≤ first.pages) (most : first.pages ≤ 1048576) where
     abbrev size : ℕ
     size = first.header.page_size
 
@@ -79,7 +62,7 @@ module _ (files : Files) (target : List ℕ) (names : List (List ℕ)) (count : 
     bytes = says.0
 
     there : files name ≡ Some bytes
-    there = ap (λ (f : Files). f name) (sym still) ∙ says.1
+    there = says.1
 
     first_is : split.first ≡ whole_link bytes
     first_is = ok_same split.first (whole_link bytes) (first_link name split.bytes) split.accepted (ap (first_link name) (some_same split.bytes bytes (sym split.there ∙ there)) ∙ says.2.accepted)

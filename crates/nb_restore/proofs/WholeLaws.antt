@@ -1,5 +1,5 @@
 -- The target from its making to its page 0 in the normal state.
-use Rattle.std.proofs.Common.{◌≡◌, inl, inr, ⊎_elim, ℕ, ◌*◌, ◌≤◌, List, ◌++◌, length, drop, sym, subst, ◌∙◌, arith}
+use Rattle.std.proofs.Common.{◌≡◌, ◌≢◌, inl, inr, ⊎_elim, ℕ, ◌*◌, ◌≤◌, List, ◌++◌, length, drop, refl, sym, subst, ◌∙◌, arith}
 use Rattle.std.specs.Prelude.{IsTrue, Some}
 use Rattle.nb_fields.specs.Places.{is_page_size}
 use Rattle.nb_fields.proofs.SizeLemmas.{size_facts}
@@ -11,6 +11,7 @@ use Rattle.nb_change.proofs.ChangesLaws.{composed, weaker_has}
 use Rattle.nb_model.specs.Image.{Page, Image, trimmed}
 use Rattle.nb_model.specs.Levels.{joined}
 use Rattle.nb_model.specs.Restoring.{Link, all_over}
+use Rattle.nb_model.specs.Sound.{IsOfSize}
 use Rattle.nb_model.specs.Strokes.{fixed}
 use Rattle.nb_level.specs.Reading.{Reading}
 use Rattle.nb_restore.specs.Copied.{Holds, KeepsFront, OverwritesAll}
@@ -30,6 +31,11 @@ pub record IsBegun (old mid : World) (target level_0 : List ℕ) (size count : �
   pub wide : length first ≡ size
   pub left : Changes old mid (Only target) (Remade old target IsFree)
   pub kept : IsKept mid target (Some page)
+
+pub begun_by : (old mid : World) (target level_0 : List ℕ) (count : ℕ) (readers : List Reading) (first page : Page) (pages : List Page) (links : List Link) → IsPlan old.files target level_0 (length page) count readers first page pages links
+    → IsTrue (is_page_size (length page)) → length first ≡ length page → (IsUnfinishedPage page → Changes old mid (Only target) (Remade old target IsFree)) → IsKept mid target (Some page)
+    → IsBegun old mid target level_0 (length page) count readers first page pages links
+begun_by old mid target level_0 count readers first page pages links plan size wide left kept = record { plan = plan; size_is = size; long = refl; wide = wide; left = left plan.stands; kept = kept }
 
 -- since the target was begun a stop leaves its name free, or this image
 abbrev pub Since : (mid new : World) (target : List ℕ) (image : Image) → Type 0
@@ -66,7 +72,7 @@ module _ (old mid : World) (target level_0 : List ℕ) (size count : ℕ) (reade
       subst (λ k. AreReady new.files target k links readers) (sym same) (ready_still old.files new.files target size links readers (λ m other. more.others_read m other ∙ begun.left.others_read m other) begun.plan.ready)
 
   -- the pages of level 0 and of the level files were written
-  pub all_written : (copied new : World) (wide : ℕ) (last : Page) → wide ≡ size → Changes mid copied (Only target) (Moved mid target KeepsFront) → Changes copied new (Only target) (Moved copied target KeepsFront)
+  all_written : (copied new : World) (wide : ℕ) (last : Page) → wide ≡ size → Changes mid copied (Only target) (Moved mid target KeepsFront) → Changes copied new (Only target) (Moved copied target KeepsFront)
       → copied.files target ≡ Some (page ++ drop size (joined pages)) → OverwritesAll wide links (copied.files target) (new.files target) first last
       → IsWritten mid new target size page last (all_over links pages)
   all_written copied new wide last same first_part second_part level_0_is over =
@@ -80,6 +86,14 @@ module _ (old mid : World) (target level_0 : List ℕ) (size count : ℕ) (reade
         holds = subst (λ k. OverwritesAll k links (copied.files target) (new.files target) first last) same over page pages held;
         head = head_all size 5 links pages (ready_headed old.files target size links readers begun.plan.ready) (level_0_head old.files target level_0 size count pages begun.plan.whole);
       }
+
+  -- by what is answered of whatever pages and links
+  pub written_by : (copied new : World) (wide : ℕ) (last : Page) → wide ≡ size → Changes mid copied (Only target) (Moved mid target KeepsFront) → Changes copied new (Only target) (Moved copied target KeepsFront)
+      → ((ps : List Page) (start : Page) → level_0 ≢ target → mid.files level_0 ≡ Some (joined ps) → IsOfSize size ps → length ps ≡ count → mid.files target ≡ Some start → copied.files target ≡ Some (start ++ drop size (joined ps)))
+      → ((ls : List Link) → AreReady copied.files target wide ls readers → OverwritesAll wide ls (copied.files target) (new.files target) first last) → IsWritten mid new target size page last (all_over links pages)
+  written_by copied new wide last same first_part second_part copies overwrites =
+      all_written copied new wide last same first_part second_part (copies pages page begun.plan.whole.apart level_0_there begun.plan.whole.sizes begun.plan.whole.long begun.kept.reads)
+      (overwrites links (readers_ready copied wide same first_part))
 
 module _ (old mid new : World) (target : List ℕ) (size : ℕ) (start first : Page) (image : Image) (written : IsWritten old mid target size start first image) (last : Page) (last_is : last ≡ normal_page first) where
   -- page 0 is written: a stop leaves the name free, or the whole

@@ -7,13 +7,14 @@ ghost use Rattle.nb_model.specs.Levels.{joined};
 ghost use Rattle.nb_model.specs.Sound.{IsOfSize};
 ghost use Rattle.nb_page.specs.Header.{HasForm};
 ghost use Rattle.nb_page.specs.Quiet.{Quiet};
+ghost use Rattle.nb_chain.specs.Chain.{IsFirstOf};
 ghost use Rattle.nb_restore.specs.Copied.{IsDone};
 ghost use Rattle.nb_restore.specs.Plan.{AcceptSays, PlanSays};
 ghost use Rattle.nb_restore.specs.Sources.{AreOfPages};
 ghost use Rattle.nb_restore.specs.Target.{IsUnfinishedPage};
 
 use crate::readers::start_readers;
-use nb_chain::{Chain, First, check, read_first};
+use nb_chain::{Chain, First, check};
 use nb_fields::layouts::header;
 use nb_host::{Fault, Host, Name, Refusal};
 use nb_level::LevelReader;
@@ -44,6 +45,10 @@ fn accept<H: Host>(
     requires some { 1 ≤ length files.now }
     requires few { length files.now ≤ 10 }
     ensures answer { IsTrue H.tells → AcceptSays (H.world host.old).files target.now files.now result }
+    ensures first { IsTrue H.tells → IfOk result (λ chain. IsFirstOf (H.world host.old).files files.now chain.first) }
+    ensures form { IfOk result (λ chain. HasForm chain.first.header) }
+    ensures least { IfOk result (λ chain. 5 ≤ chain.first.pages) }
+    ensures pages { IfOk result (λ chain. chain.first.pages ≤ 1048576) }
     ensures quiet { Quiet (H.world host.old) (H.world host.new) }
     ensures cause { CountsDevice result (H.faults host.old) (H.faults host.new) }
 {
@@ -102,12 +107,13 @@ pub(crate) fn prepare<H: Host>(
     ensures quiet { Quiet (H.world host.old) (H.world host.new) }
     ensures cause { CountsDevice result (H.faults host.old) (H.faults host.new) }
 {
+    let level_0 = &files[0];
     let chain = accept(alloc, host, target, files)?;
-    let First { header, pages } = read_first(alloc, host, &files[0])?;
+    let First { header, pages } = chain.first;
     let readers = start_readers(alloc, host, files, header.page_size)?;
     let mut first = vec![in alloc; 0; header.page_size as usize]?;
     let mut page = vec![in alloc; 0; header.page_size as usize]?;
-    read_page_0(host, &files[0], &header, &mut first, &mut page)?;
+    read_page_0(host, level_0, &header, &mut first, &mut page)?;
     Ok(Plan {
         count: chain.count,
         pages,

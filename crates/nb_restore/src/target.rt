@@ -1,8 +1,6 @@
 ghost use Rattle.std.specs.Prelude.{◌≡◌, ◌*◌, ◌<◌, ◌≤◌, IsTrue, List, OnOk, Some, [], length};
 ghost use Rattle.nb_fields.specs.Places.{is_page_size};
 ghost use Rattle.nb_host.specs.Causes.{CountsFault};
-ghost use Rattle.nb_host.specs.Crash.{PageLeft};
-ghost use Rattle.nb_host.specs.Files.{with_page};
 ghost use Rattle.nb_change.specs.Changes.{Changes, Only, Remade};
 ghost use Rattle.nb_change.specs.Counts.{CountsDevice};
 ghost use Rattle.nb_change.specs.Gave.{GaveNothing};
@@ -12,6 +10,7 @@ ghost use Rattle.nb_restore.specs.Copied.{IsDone};
 ghost use Rattle.nb_restore.specs.Sources.{AreOfPages};
 ghost use Rattle.nb_restore.specs.Target.{IsFree, IsFreeOr, IsKept, IsPlan, IsUnfinishedPage, KeepsImage, ReadsOr, restored};
 
+use crate::first::write_first;
 use crate::records::{copy_pages, write_levels};
 use nb_fields::layouts::header;
 use nb_host::{Fault, Host, HostFault, Name};
@@ -28,20 +27,6 @@ fn begin<H: Host>(host: &mut H, target: &Name, page: &[u8]) -> Result<(), HostFa
 {
     host.make(target)?;
     host.write_page(target, 0, page)?;
-    host.sync(target)
-}
-
-/// Keeps the pages of the target for good, and then its page 0.
-fn finish<H: Host>(host: &mut H, target: &Name, first: &[u8]) -> Result<(), HostFault>
-    requires { IsTrue (is_page_size (length first.now)) }
-    ensures left { IsTrue H.tells
-        → Changes (H.world host.old) (H.world host.new) (Only target.now) (Remade (H.world host.old) target.now (PageLeft (0 * length first.now) first.now ((H.world host.old).files target.now))) }
-    ensures done { IsTrue H.tells → OnOk result (IsKept (H.world host.new) target.now (with_page ((H.world host.old).files target.now) (0 * length first.now) first.now)) }
-    ensures gave { GaveNothing (H.world host.old) (H.world host.new) }
-    ensures cause { CountsFault result (H.faults host.old) (H.faults host.new) }
-{
-    host.sync(target)?;
-    host.write_page(target, 0, first)?;
     host.sync(target)
 }
 
@@ -74,6 +59,6 @@ pub(crate) fn write_target<H: Host>(
     copy_pages(host, target, file, page.len() as u32, pages, piece)?;
     write_levels(host, target, readers, first, page)?;
     header::State::put(first, 0);
-    finish(host, target, first)?;
+    write_first(host, target, first)?;
     Ok(())
 }

@@ -17,7 +17,7 @@ use Rattle.nb_model.proofs.ChangedLaws.{sound_changed}
 use Rattle.nb_model.proofs.FollowsLaws.{Meets, follows_on, meets}
 use Rattle.nb_model.proofs.MadeLaws.{span_bytes}
 use Rattle.nb_model.proofs.ReadLaws.{eq_no, eq_yes, lt_no, lt_yes}
-use Rattle.nb_restore.proofs.ReadLaws.{is_read}
+use Rattle.nb_level.proofs.ToldLaws.{level_told}
 use Rattle.nb_restore.proofs.ParentLaws.{LeadsTo}
 use Rattle.nb_inplace.proofs.KeptLaws.{IsOfRecord, of_record}
 use Rattle.nb_fold.specs.Folding.{bytes_for, first_head, folded, folded_head, folded_pages, last_head, last_page, or_before, page_of, pages_of_each}
@@ -215,7 +215,7 @@ module _ (files : Files) (account : Account) (stands : Stands files account) whe
       let all : cs ≡ are.first ∷ [] = are.all ∙ ap (λ (x : List Contents). are.first ∷ x) (no_files files (Some are.first) are.rest are.more) in
       let named = (subst (AreOfKept account.kept) all kept).0 in
       let one = of_record files account stands name are.next.bytes are.first named.0 plain.0 are.next.there are.next.read named.1 (subst (λ (x : List Contents). (first_head x).previous ≢ nil) all some) in
-      let level = and_parts (nat_le 1 are.first.head.level) (nat_le are.first.head.level 9) (is_read are.next.bytes are.first are.next.read).level in
+      let level = and_parts (nat_le 1 are.first.head.level) (nat_le are.first.head.level 9) (level_told are.next.bytes are.first are.next.read).level in
       subst (IsOfLine account.kept) (sym all) (of_one are.first named.0 named.1 one (leb-true 1 are.first.head.level level.0) (leb-true are.first.head.level 9 level.1))
   of_line last name (m ∷ ms) cs e plain kept some =
       let are = next_files files last name (m ∷ ms) cs e in
@@ -227,7 +227,7 @@ module _ (files : Files) (account : Account) (stands : Stands files account) whe
       let after : GoesAfter are.first.head more.first.head = goes_after are.first m more.first more.next.after in
       let not_none : more.first.head.previous ≢ nil = λ none. stands.kept_records.not_nil named.0 named.1.there (named.1.named ∙ sym after.previous ∙ none) in
       let rest = of_line (Some are.first) m ms are.rest are.more plain.1 (subst (AreOfKept account.kept) (sym more.all) each.1) (subst (λ (x : List Contents). (first_head x).previous ≢ nil) (sym more.all) not_none) in
-      let level = and_parts (nat_le 1 are.first.head.level) (nat_le are.first.head.level 9) (is_read are.next.bytes are.first are.next.read).level in
+      let level = and_parts (nat_le 1 are.first.head.level) (nat_le are.first.head.level 9) (level_told are.next.bytes are.first are.next.read).level in
       subst (IsOfLine account.kept) (sym all) (of_more are.first more.first more.rest named.0 named.1 one (leb-true 1 are.first.head.level level.0) (leb-true are.first.head.level 9 level.1) after (subst (IsOfLine account.kept) more.all rest))
 
   -- the file that they are folded into

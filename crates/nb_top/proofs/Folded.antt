@@ -23,7 +23,7 @@ use Rattle.nb_fold.specs.Fold.{FoldAnswers, FoldLeft, Folds}
 use Rattle.nb_fold.specs.Folding.{first_head, folded}
 use Rattle.nb_fold.specs.Verdict.{fold_turn, fold_verdict, made_turn}
 use Rattle.nb_fold.proofs.SameLaws.{next_files}
-use Rattle.nb_restore.proofs.ReadLaws.{is_read}
+use Rattle.nb_level.proofs.ToldLaws.{level_told}
 use Rattle.nb_top.specs.OneTurn.{OneTurn, folding, leaves_all}
 use Rattle.nb_top.specs.Served.{ServedAs, Serves}
 use Rattle.nb_top.proofs.FoldTurns.{FoldTurn, WhyRefused, refuses, folds, accepted_is, done_turn, refused_fold, refused_turn, turn_is, verdict_refused, why_refused}
@@ -48,7 +48,7 @@ unfolding folded
 fold_level files out [] some cs e = absurd (omega (arith, some))
 fold_level files out (name ∷ names) some cs e =
     let are = next_files files None name names cs (accepted_is files out (name ∷ names) cs e).1 in
-    let low = (and_parts (nat_le 1 are.first.head.level) (nat_le are.first.head.level 9) (is_read are.next.bytes are.first are.next.read).level).1 in
+    let low = (and_parts (nat_le 1 are.first.head.level) (nat_le are.first.head.level 9) (level_told are.next.bytes are.first are.next.read).level).1 in
     subst (λ (x : List Contents). (first_head x).level ≤ 9) (sym are.all) (leb-true are.first.head.level 9 low)
 
 module _ (old mid : World) (account : Account) (out : List ℕ) (names : List (List ℕ)) (knows : is_free_name old.files out ≡ is_free_entry (account.entry out)) (some : 1 ≤ length names) (result : Result Folded Fault) (level : ℕ)

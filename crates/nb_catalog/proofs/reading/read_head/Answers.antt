@@ -3,7 +3,7 @@ use Rattle.nb_host.specs.Files.{File, Files, bytes_of}
 use Rattle.nb_model.specs.Levels.{begins_level}
 use Rattle.nb_catalog.specs.Answers.{Says}
 use Rattle.nb_catalog.specs.Heads.{read_file}
-use Rattle.nb_catalog.specs.Reads.{LevelSays}
+use Rattle.nb_chain.specs.Level.{WholeSays}
 use Rattle.nb_catalog.proofs.HeadLemmas.{level_says, level_counted, whole_counted}
 use Rattle.nb_catalog.proofs.reading.read_head.Goals as goal
 
@@ -13,9 +13,9 @@ returns-then-branch-clause-answer g c tells =
     let file : File = (g.H.Host.world c.args.host.now).files name in
     let same = ap (λ (f : Files). f name) c.is_level.ensures.quiet.still.files in
     let before : ℕ = (g.H.Host.world c.is_level.new.host).reads in
-    let after : ℕ = (g.H.Host.world c.read_level.new.host).reads in
-    level_says file name before after c.read_level.result (sym (c.in_ok-is_level.ensures.answer tells) ∙ c.if-branch.true)
-    (subst (λ (f : File). LevelSays f name before after c.read_level.result) same (c.read_level.ensures.answer tells))
+    let after : ℕ = (g.H.Host.world c.whole.new.host).reads in
+    level_says file name before after c.whole.result (sym (c.in_ok-is_level.ensures.answer tells) ∙ c.if-branch.true)
+    (subst (λ (f : File). WholeSays f name before after c.whole.result) same (c.whole.ensures.answer tells))
 
 pub returns-then-branch-clause-reads : goal.returns-then-branch-clause-reads
 returns-then-branch-clause-reads g c tells =
@@ -23,9 +23,9 @@ returns-then-branch-clause-reads g c tells =
     let file : File = (g.H.Host.world c.args.host.now).files name in
     let same = ap (λ (f : Files). f name) c.is_level.ensures.quiet.still.files in
     let before : ℕ = (g.H.Host.world c.is_level.new.host).reads in
-    let after : ℕ = (g.H.Host.world c.read_level.new.host).reads in
-    level_counted file name c.read_level.result (g.H.Host.world c.args.host.now).reads before after
-    (subst (λ (f : File). LevelSays f name before after c.read_level.result) same (c.read_level.ensures.answer tells)) (c.is_level.ensures.reads tells)
+    let after : ℕ = (g.H.Host.world c.whole.new.host).reads in
+    level_counted file name c.whole.result (g.H.Host.world c.args.host.now).reads before after
+    (subst (λ (f : File). WholeSays f name before after c.whole.result) same (c.whole.ensures.answer tells)) (c.is_level.ensures.reads tells)
 
 pub returns-else-branch-clause-reads : goal.returns-else-branch-clause-reads
 returns-else-branch-clause-reads g c tells =

@@ -4,7 +4,7 @@ use Rattle.nb_host.specs.declared.faults.Fault.{Fault}
 use Rattle.nb_host.specs.Files.{Files}
 use Rattle.nb_chain.specs.declared.checking.Chain.{Chain}
 use Rattle.nb_chain.specs.Overlay.{is_blank, without_blank}
-use Rattle.nb_chain.specs.Chain.{CheckSays, IsChain}
+use Rattle.nb_chain.specs.Chain.{CheckSays, IsChain, IsFirstOf}
 use Rattle.nb_chain.specs.Next.{LevelsSay, AreNext}
 use Rattle.nb_chain.proofs.AnswerLemmas.{passed}
 use Rattle.nb_chain.proofs.LinkLemmas.{split}
@@ -56,4 +56,9 @@ returns-clause-answer g c tells =
     let all = check_all files name (drop 1 names) is.0 c.in_ok-first.first c.first_tip-tip.result is.1 is.2 c.first_tip-tip.ensures.value c.in_ok-first.ensures.form _ _ c.new-overlay.ensures before middle reads after c.in_ok-last.last next
     c.in_ok-count.count
     (counted ∙ ap (λ (k : ℕ). without_blank (is_blank is.0 k c.in_ok-first.first.pages c.read_levels.new.overlay) (max c.in_ok-first.first.pages (length c.read_levels.new.overlay))) size) (c.in_ok-first.ensures.reads tells) (c.in_ok-count.ensures.reads tells) in
-    subst (λ (l : List (List ℕ)). IsChain files l before after (record { page_size = c.in_ok-last.last.page_size; count = c.in_ok-count.count; guid = c.in_ok-last.last.guid; scn = c.in_ok-last.last.scn })) (sym (split names name c.requires.some c.index-files-0.is)) all
+    subst (λ (l : List (List ℕ)). IsChain files l before after (record { first = c.in_ok-first.first; page_size = c.in_ok-last.last.page_size; count = c.in_ok-count.count; guid = c.in_ok-last.last.guid; scn = c.in_ok-last.last.scn })) (sym (split names name c.requires.some c.index-files-0.is)) all
+
+pub returns-clause-first : goal.returns-clause-first
+returns-clause-first g c tells =
+    let name : List ℕ = c.index-files-0.result in
+    subst (λ (l : List (List ℕ)). IsFirstOf (g.H.Host.world c.args.host.now).files l c.in_ok-first.first) (sym (split c.args.files.now name c.requires.some c.index-files-0.is)) (c.in_ok-first.ensures.answer tells)

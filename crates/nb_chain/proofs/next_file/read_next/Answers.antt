@@ -1,4 +1,4 @@
-use Rattle.std.proofs.Common.{ℕ, List, take, refl, ap, ◌∙◌, sym, subst, arith}
+use Rattle.std.proofs.Common.{ℕ, List, take, ap, ◌∙◌, sym, subst, arith}
 use Rattle.std.specs.Prelude.{Err}
 use Rattle.nb_host.specs.declared.faults.Fault.{Fault}
 use Rattle.nb_host.specs.Files.{File, Files}
@@ -52,4 +52,4 @@ returns-clause-answer g c tells =
     let file : File = (g.H.Host.world c.args.host.now).files c.args.name.now in
     let is = subst (λ (f : File). IsRead f c.args.overlay.now c.read_level.new.overlay middle after c.in_ok-head.head) (ap (λ (f : Files). f c.args.name.now) c.read_start.ensures.quiet.still.files) (c.in_ok-head.ensures.answer tells) in
     next_is c.args.place c.args.last.now c.args.name.now c.args.overlay.now before file start.0 c.read_level.new.overlay middle after c.in_ok-head.head start.1 begins is
-    (record { page_size = c.in_ok-head.head.page_size; guid = c.in_ok-head.head.guid; scn = c.in_ok-head.head.scn }) (c.in_ok-goes_on.ensures.test is.contents (sym is.named)) refl refl refl (c.read_start.ensures.reads tells)
+    c.of.result (c.in_ok-goes_on.ensures.test is.contents (sym is.named)) c.of.ensures.guid c.of.ensures.scn c.of.ensures.size (c.read_start.ensures.reads tells)

@@ -53,8 +53,8 @@ last_page : (noted one two last : Page) → one ≡ with_part 65 (bytes_of 1 1) 
 last_page noted one two last is_one is_two is_last =
     is_last ∙ ap (with_part 22 (bytes_of 2 0)) (is_two ∙ ap (with_part 48 (replicate 16 0)) (is_one ∙ ap (λ (b : List ℕ). with_part 65 b noted) one_byte))
 
-pub returns-in_err-finish-clause-left : goal.returns-in_err-finish-clause-left
-returns-in_err-finish-clause-left g c tells guid ps records plan durable =
+pub returns-in_err-write_first-clause-left : goal.returns-in_err-write_first-clause-left
+returns-in_err-write_first-clause-left g c tells guid ps records plan durable =
     let old = g.H.Host.world c.args.host.now in
     let size = c.requires.size in
     let was = g.met.H.Host.reads_left c.args.host.now tells c.args.standby.now in
@@ -67,7 +67,7 @@ returns-in_err-finish-clause-left g c tells guid ps records plan durable =
     let all = written old _ _ _ _ _ _ _ _ _ size plan _ _ (g.H.Host.world c.count_pages.new.host) first kept (pages.left tells records plan.level.apart there) (g.met.H.Host.reads_left c.write_records.new.host tells) _ over.1 count.quiet
     _ c.in_ok-count.count (length c.write_records.new.page) over.0 c.write_records.auto.page (count.answer tells) in
     let last = last_page _ _ _ _ c.put.ensures.written c.put-2.ensures.written c.put-3.ensures.written in
-    ended_on old _ _ _ _ _ _ _ _ _ size plan _ all.left all.reads (g.met.H.Host.reads_left c.count_pages.new.host tells c.args.standby.now) _ all.holds _ last _ (c.in_err-finish.ensures.left tells)
+    ended_on old _ _ _ _ _ _ _ _ _ size plan _ all.left all.reads (g.met.H.Host.reads_left c.count_pages.new.host tells c.args.standby.now) _ all.holds _ last _ (c.in_err-write_first.ensures.left tells)
 
 pub returns-clause-left : goal.returns-clause-left
 returns-clause-left g c tells guid ps records plan durable =
@@ -83,7 +83,7 @@ returns-clause-left g c tells guid ps records plan durable =
     let all = written old _ _ _ _ _ _ _ _ _ size plan _ _ (g.H.Host.world c.count_pages.new.host) first kept (pages.left tells records plan.level.apart there) (g.met.H.Host.reads_left c.write_records.new.host tells) _ over.1 count.quiet
     _ c.in_ok-count.count (length c.write_records.new.page) over.0 c.write_records.auto.page (count.answer tells) in
     let last = last_page _ _ _ _ c.put.ensures.written c.put-2.ensures.written c.put-3.ensures.written in
-    ended_on old _ _ _ _ _ _ _ _ _ size plan _ all.left all.reads (g.met.H.Host.reads_left c.count_pages.new.host tells c.args.standby.now) _ all.holds _ last _ (c.in_ok-finish.ensures.left tells)
+    ended_on old _ _ _ _ _ _ _ _ _ size plan _ all.left all.reads (g.met.H.Host.reads_left c.count_pages.new.host tells c.args.standby.now) _ all.holds _ last _ (c.in_ok-write_first.ensures.left tells)
 
 pub returns-clause-done : goal.returns-clause-done
 returns-clause-done g c tells guid ps records plan durable =
@@ -99,4 +99,4 @@ returns-clause-done g c tells guid ps records plan durable =
     let all = written old _ _ _ _ _ _ _ _ _ size plan _ _ (g.H.Host.world c.count_pages.new.host) first kept (pages.left tells records plan.level.apart there) (g.met.H.Host.reads_left c.write_records.new.host tells) _ over.1 count.quiet
     _ c.in_ok-count.count (length c.write_records.new.page) over.0 c.write_records.auto.page (count.answer tells) in
     let last = last_page _ _ _ _ c.put.ensures.written c.put-2.ensures.written c.put-3.ensures.written in
-    ended_kept old _ _ _ _ _ _ _ _ _ size plan _ all.left all.reads (g.met.H.Host.reads_left c.count_pages.new.host tells c.args.standby.now) _ all.holds _ last _ _ all.counted (c.in_ok-finish.ensures.done tells)
+    ended_kept old _ _ _ _ _ _ _ _ _ size plan _ all.left all.reads (g.met.H.Host.reads_left c.count_pages.new.host tells c.args.standby.now) _ all.holds _ last _ _ all.counted (c.in_ok-write_first.ensures.done tells)

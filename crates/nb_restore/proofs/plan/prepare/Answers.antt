@@ -8,36 +8,35 @@ use Rattle.nb_model.specs.Image.{first_page}
 use Rattle.nb_restore.specs.Copied.{IsDone}
 use Rattle.nb_restore.specs.Plan.{PlanSays}
 use Rattle.nb_restore.specs.Target.{IsUnfinishedPage}
-use Rattle.nb_restore.proofs.PreparedLaws.{first_same, taken_fails, done_fails, first_fails, behind_now, page_0_of, prepared}
+use Rattle.nb_restore.proofs.PreparedLaws.{taken_fails, done_fails, behind_now, page_0_of, prepared}
 use Rattle.nb_restore.proofs.plan.prepare.Goals as goal
-
-pub returns-in_err-header-clause-answer : goal.returns-in_err-header-clause-answer
-returns-in_err-header-clause-answer g c tells =
-    passed _ (λ r. PlanSays (g.H.Host.world c.args.host.now).files c.args.target.now c.args.files.now r) c.from_residual-in_err-header.result c.in_err-header.field-0.0 c.from_residual-in_err-header.ensures
-    (first_fails _ _ _ _ (c.in_ok-chain.ensures.answer tells) c.index-files-0.result _ (split c.args.files.now c.index-files-0.result c.requires.some c.index-files-0.is) _ c.in_ok-chain.ensures.quiet.still.files c.in_err-header.field-0.0 (c.in_err-header.ensures.answer tells))
 
 pub returns-in_err-readers-clause-answer : goal.returns-in_err-readers-clause-answer
 returns-in_err-readers-clause-answer g c tells =
+    let chain = c.in_ok-chain.ensures in
     passed _ (λ r. PlanSays (g.H.Host.world c.args.host.now).files c.args.target.now c.args.files.now r) c.from_residual-in_err-readers.result c.in_err-readers.field-0.0 c.from_residual-in_err-readers.ensures
     (taken_fails _ _ _ _ _ c.in_err-readers.field-0.0 (c.in_err-readers.ensures.ready tells c.args.target.now _
-    (behind_now _ _ _ _ (c.in_ok-chain.ensures.answer tells) c.index-files-0.result _ (split c.args.files.now c.index-files-0.result c.requires.some c.index-files-0.is) _ c.in_ok-chain.ensures.quiet.still.files c.in_ok-header.field-0 (c.in_ok-header.ensures.answer tells) c.in_ok-header.ensures.form c.in_ok-header.ensures.least c.in_ok-header.ensures.most _ _ (c.in_ok-header.ensures.quiet.still.files ∙ c.in_ok-chain.ensures.quiet.still.files) refl)))
+    (behind_now _ _ _ _ (chain.answer tells) c.index-files-0.result _ (split c.args.files.now c.index-files-0.result c.requires.some c.index-files-0.is) c.in_ok-chain.chain.first (chain.first tells) chain.form chain.least chain.pages _ _ chain.quiet.still.files refl)))
 
 pub returns-in_err-read_page_0-clause-answer : goal.returns-in_err-read_page_0-clause-answer
 returns-in_err-read_page_0-clause-answer g c tells =
+    let chain = c.in_ok-chain.ensures in
     passed _ (λ r. PlanSays (g.H.Host.world c.args.host.now).files c.args.target.now c.args.files.now r) c.from_residual-in_err-read_page_0.result c.in_err-read_page_0.field-0.0 c.from_residual-in_err-read_page_0.ensures
     (done_fails (Unit {0}) _ _ _ _ c.in_err-read_page_0.field-0.0
-    (page_0_of _ _ _ _ (c.in_ok-chain.ensures.answer tells) c.index-files-0.result _ (split c.args.files.now c.index-files-0.result c.requires.some c.index-files-0.is) _ c.in_ok-chain.ensures.quiet.still.files c.in_ok-header.field-0 (c.in_ok-header.ensures.answer tells) c.in_ok-header.ensures.form c.in_ok-header.ensures.least c.in_ok-header.ensures.most
-    (λ ps. IsDone {T = Unit {0}} (Err c.in_err-read_page_0.field-0.0) ((c.read_page_0.new.first ≡ first_page ps) × IsUnfinishedPage c.read_page_0.new.page)) _ _ _ (c.in_ok-readers.ensures.quiet.still.files ∙ c.in_ok-header.ensures.quiet.still.files ∙ c.in_ok-chain.ensures.quiet.still.files) (first_same c.args.files.now c.index-files-0.result c.index-files-0-2.result c.requires.some c.index-files-0.is c.index-files-0-2.is) (omega (arith, ap length c.deref_mut.ensures.value, c.in_ok-first.ensures.len, c.in_ok-first.first.ok.0)) (c.in_err-read_page_0.ensures.answer tells)))
+    (page_0_of _ _ _ _ (chain.answer tells) c.index-files-0.result _ (split c.args.files.now c.index-files-0.result c.requires.some c.index-files-0.is) c.in_ok-chain.chain.first (chain.first tells) chain.form chain.least chain.pages
+    (λ ps. IsDone {T = Unit {0}} (Err c.in_err-read_page_0.field-0.0) ((c.read_page_0.new.first ≡ first_page ps) × IsUnfinishedPage c.read_page_0.new.page)) _ _ _ (c.in_ok-readers.ensures.quiet.still.files ∙ chain.quiet.still.files) refl (omega (arith, ap length c.deref_mut.ensures.value, c.in_ok-first.ensures.len, c.in_ok-first.first.ok.0)) (c.in_err-read_page_0.ensures.answer tells)))
 
 pub returns-clause-answer : goal.returns-clause-answer
 returns-clause-answer g c tells =
+    let chain = c.in_ok-chain.ensures in
+    let named = split c.args.files.now c.index-files-0.result c.requires.some c.index-files-0.is in
     let start : (with_items c.in_ok-first.first c.read_page_0.new.first).items ≡ c.read_page_0.new.first =
     with_items_is c.in_ok-first.first c.read_page_0.new.first (omega (arith, c.read_page_0.auto.first, ap length c.deref_mut.ensures.value, c.in_ok-first.first.ok.0)) in
     let page : (with_items c.in_ok-page.page c.read_page_0.new.page).items ≡ c.read_page_0.new.page =
     with_items_is c.in_ok-page.page c.read_page_0.new.page (omega (arith, c.read_page_0.auto.page, ap length c.deref_mut-2.ensures.value, c.in_ok-page.page.ok.0)) in
-    let read = page_0_of _ _ _ _ (c.in_ok-chain.ensures.answer tells) c.index-files-0.result _ (split c.args.files.now c.index-files-0.result c.requires.some c.index-files-0.is) _ c.in_ok-chain.ensures.quiet.still.files c.in_ok-header.field-0 (c.in_ok-header.ensures.answer tells) c.in_ok-header.ensures.form c.in_ok-header.ensures.least c.in_ok-header.ensures.most
-    (λ ps. (c.read_page_0.new.first ≡ first_page ps) × IsUnfinishedPage c.read_page_0.new.page) _ _ _ (c.in_ok-readers.ensures.quiet.still.files ∙ c.in_ok-header.ensures.quiet.still.files ∙ c.in_ok-chain.ensures.quiet.still.files) (first_same c.args.files.now c.index-files-0.result c.index-files-0-2.result c.requires.some c.index-files-0.is c.index-files-0-2.is) (omega (arith, ap length c.deref_mut.ensures.value, c.in_ok-first.ensures.len, c.in_ok-first.first.ok.0)) (c.in_ok-read_page_0.ensures.answer tells) in
-    prepared _ _ _ _ (c.in_ok-chain.ensures.answer tells) c.index-files-0.result _ (split c.args.files.now c.index-files-0.result c.requires.some c.index-files-0.is) _ c.in_ok-chain.ensures.quiet.still.files c.in_ok-header.field-0 (c.in_ok-header.ensures.answer tells) c.in_ok-header.ensures.form c.in_ok-header.ensures.least c.in_ok-header.ensures.most
-    _ _ c.in_ok-readers.readers _ (ap length page ∙ omega (arith, c.read_page_0.auto.page, ap length c.deref_mut-2.ensures.value, c.in_ok-page.ensures.len, c.in_ok-page.page.ok.0)) (c.in_ok-header.ensures.quiet.still.files ∙ c.in_ok-chain.ensures.quiet.still.files)
-    (c.in_ok-readers.ensures.ready tells c.args.target.now _ (behind_now _ _ _ _ (c.in_ok-chain.ensures.answer tells) c.index-files-0.result _ (split c.args.files.now c.index-files-0.result c.requires.some c.index-files-0.is) _ c.in_ok-chain.ensures.quiet.still.files c.in_ok-header.field-0 (c.in_ok-header.ensures.answer tells) c.in_ok-header.ensures.form c.in_ok-header.ensures.least c.in_ok-header.ensures.most _ _ (c.in_ok-header.ensures.quiet.still.files ∙ c.in_ok-chain.ensures.quiet.still.files) refl))
+    let read = page_0_of _ _ _ _ (chain.answer tells) c.index-files-0.result _ named c.in_ok-chain.chain.first (chain.first tells) chain.form chain.least chain.pages
+    (λ ps. (c.read_page_0.new.first ≡ first_page ps) × IsUnfinishedPage c.read_page_0.new.page) _ _ _ (c.in_ok-readers.ensures.quiet.still.files ∙ chain.quiet.still.files) refl (omega (arith, ap length c.deref_mut.ensures.value, c.in_ok-first.ensures.len, c.in_ok-first.first.ok.0)) (c.in_ok-read_page_0.ensures.answer tells) in
+    prepared _ _ _ _ (chain.answer tells) c.index-files-0.result _ named c.in_ok-chain.chain.first (chain.first tells) chain.form chain.least chain.pages
+    _ _ c.in_ok-readers.readers _ (ap length page ∙ omega (arith, c.read_page_0.auto.page, ap length c.deref_mut-2.ensures.value, c.in_ok-page.ensures.len, c.in_ok-page.page.ok.0)) chain.quiet.still.files
+    (c.in_ok-readers.ensures.ready tells c.args.target.now _ (behind_now _ _ _ _ (chain.answer tells) c.index-files-0.result _ named c.in_ok-chain.chain.first (chain.first tells) chain.form chain.least chain.pages _ _ chain.quiet.still.files refl))
     (start ∙ read.0, subst IsUnfinishedPage (sym page) read.1)

@@ -3,9 +3,8 @@ use Rattle.nb_host.specs.Files.{Files}
 use Rattle.nb_model.specs.Image.{Numbered}
 use Rattle.nb_level.specs.Reading.{Reading}
 use Rattle.nb_page.proofs.QuietLemmas.{quiet_call, quiet_joined}
-use Rattle.nb_chain.proofs.PageLemmas.{gives_there}
-use Rattle.nb_catalog.proofs.HeadLemmas.{pages_more, same_on}
-use Rattle.nb_catalog.proofs.reading.read_on.Goals as goal
+use Rattle.nb_chain.proofs.PageLemmas.{pages_more, gives_there}
+use Rattle.nb_chain.proofs.level_file.read_to_end.Goals as goal
 
 pub loop-preserved : goal.loop-preserved
 loop-preserved g c =
@@ -15,7 +14,7 @@ loop-preserved g c =
     let same : (g.H.Host.world c.loop.host).files c.loop.reader.name ≡ files c.loop.reader.name = ap (λ (f : Files). f c.loop.reader.name) loop.quiet.still.files in
     let named : files c.loop.reader.name ≡ files c.args.reader.now.name = ap (λ (r : Reading). files r.name) loop.same in
     record {
-      same = same_on c.args.reader.now c.loop.reader c.next.new.self c.next.ensures.same loop.same;
+      same = c.next.ensures.same ∙ ap (λ (r : Reading). record r { place = c.next.new.self.place }) loop.same;
       quiet = quiet_joined _ _ _ loop.quiet (quiet_call _ _ (g.met.H.Host.timely _) c.next.ensures.files log.said log.guids log.times c.next.ensures.time);
       cause = c.in_ok-next.ensures.cause ∙ loop.cause;
       so_far = λ tells.

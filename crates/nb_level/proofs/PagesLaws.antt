@@ -7,38 +7,15 @@ use Rattle.std.proofs.lemmas.List.{length-take-le}
 use Rattle.nb_fields.specs.Bytes.{number_in, part}
 use Rattle.nb_fields.specs.Places.{is_page_size}
 use Rattle.nb_model.specs.Image.{Page, Numbered}
-use Rattle.nb_model.specs.Levels.{Head, Contents, Test, AreRising, AreOfSize, first_fault, behind, head_in, end_mark, read_level, read_pages, read_end, read_singles, read_runs, pages_in, barred_after, with_head, is_bad_number, is_first_page}
-use Rattle.nb_model.proofs.LevelLaws.{head_tests}
+use Rattle.nb_model.specs.Levels.{Head, Contents, AreRising, AreOfSize, first_fault, behind, head_in, end_mark, read_level, read_pages, read_end, read_singles, read_runs, pages_in, barred_after, is_bad_number, is_first_page}
 use Rattle.nb_model.proofs.ReadLaws.{AreClear, single_tests, run_tests, end_tests, single_there, run_there}
-
--- tests of which none fails
-none_clear : (ts : List Test) → first_fault ts ≡ None → AreClear ts
-unfolding first_fault
-none_clear [] e = tt
-none_clear (t ∷ ts) e = by (none_clear ts) t.0 refl e
-  where
-    some_none : (x : Option ℕ) → x ≡ Some t.1 → x ≡ None → ⊥
-    some_none x f g = cc
-
-    by : (first_fault ts ≡ None → AreClear ts) → (b : Bool) → t.0 ≡ b → elim b as (λ z. Option ℕ) [ true ↦ Some t.1 | false ↦ first_fault ts ] ≡ None → AreClear (t ∷ ts)
-    by later true is f = absurd (some_none (Some t.1) refl f)
-    by later false is f = (is, later f)
-
-not_long : (a b : ℕ) → nat_lt a b ≡ false → b ≤ a
-not_long a b e = elim (leb_tells (suc a) b) [ inl w ↦ absurd (true≢false (sym w.0 ∙ e)) | inr w ↦ omega arith ]
-
-long_yes : (a b : ℕ) → nat_lt a b ≡ true → a < b
-long_yes a b e = elim (leb_tells (suc a) b) [ inl w ↦ w.1 | inr w ↦ absurd (true≢false (sym e ∙ w.0)) ]
+use Rattle.nb_level.proofs.ToldLaws.{none_clear, not_long, level_told}
 
 not_low : (a b : ℕ) → nat_le a b ≡ false → b < a
 not_low a b e = elim (leb_tells a b) [ inl w ↦ absurd (true≢false (sym w.0 ∙ e)) | inr w ↦ omega arith ]
 
 not_same : (a b : ℕ) → (a == b) ≡ false → a ≢ b
 not_same a b e = elim (eqb_tells a b) [ inl w ↦ absurd (true≢false (sym w.0 ∙ e)) | inr w ↦ w.1 ]
-
-not_not : (b : Bool) → not b ≡ false → b ≡ true
-not_not true e = refl
-not_not false e = absurd (true≢false e)
 
 zero_tells : (n : ℕ) (b : Bool) → (n == 0 && not b) ≡ false → n ≡ 0 → b ≡ true
 zero_tells n true e is = refl
@@ -256,43 +233,26 @@ pub record HasPages (h : Head) (rs : List Numbered) : Type 0 where
   pub sizes : AreOfSize h.size rs
   pub first : FirstIsZero h rs
 
-pub level_pages : (bytes : List ℕ) (c : Contents) → read_level bytes ≡ Ok c → HasPages c.head c.pages
-unfolding read_level read_pages head_in
-level_pages bytes c e = by (first_fault (head_tests bytes version h)) refl e
+pages_are : (h : Head) (version : ℕ) (bytes : List ℕ) (all : List Numbered) → read_pages version h bytes ≡ Ok all → AreFrom h 0 0 all
+unfolding read_pages
+pages_are h version bytes all e = by (version == 101) e
   where
-    version : ℕ
-    version = number_in 4 2 bytes
+    by : (b : Bool) → elim b as (λ z. Result (List Numbered) ℕ) [ true ↦ read_singles (length bytes) h 52 0 0 (drop 52 bytes) | false ↦ read_runs (length bytes) h 52 0 0 end_mark (drop 52 bytes) ] ≡ Ok all → AreFrom h 0 0 all
+    by true f = singles_are h (length bytes) 52 0 0 (drop 52 bytes) all f
+    by false f = runs_are h (length bytes) 52 0 0 end_mark (drop 52 bytes) all f
 
-    h : Head
-    h = head_in bytes
-
-    none_is : (x : Result Contents ℕ) (at : ℕ) → x ≡ Err at → x ≡ Ok c → ⊥
-    none_is x at f g = cc
-
-    from : (all : List Numbered) → read_pages version h bytes ≡ Ok all → AreFrom h 0 0 all
-    from all f = of (version == 101) f
-      where
-        of : (b : Bool) → elim b as (λ z. Result (List Numbered) ℕ) [ true ↦ read_singles (length bytes) h 52 0 0 (drop 52 bytes) | false ↦ read_runs (length bytes) h 52 0 0 end_mark (drop 52 bytes) ] ≡ Ok all → AreFrom h 0 0 all
-        of true g = singles_are h (length bytes) 52 0 0 (drop 52 bytes) all g
-        of false g = runs_are h (length bytes) 52 0 0 end_mark (drop 52 bytes) all g
-
-    of_pages : AreClear (head_tests bytes version h) → (pages : Result (List Numbered) ℕ) → read_pages version h bytes ≡ pages → with_head version h pages ≡ Ok c → HasPages c.head c.pages
-    of_pages clear (Err at) is f = absurd (none_is (Err at) at refl f)
-    of_pages clear (Ok all) is f =
-        let same : record { version = version; head = h; pages = all } ≡ c = cc in
-        let long : 52 ≤ length bytes = not_long (length bytes) 52 clear.1.0 in
-        let are = from all is in
-        subst (λ (x : Contents). HasPages x.head x.pages) same (record {
-          level = not_not (nat_le 1 h.level && nat_le h.level 9) clear.1.1.1.0;
-          guid = part_long 8 16 bytes (omega (arith, long));
-          previous = part_long 24 16 bytes (omega (arith, long));
-          size = not_not (is_page_size h.size) clear.1.1.1.1.0;
-          later = long_yes h.previous_scn h.scn (not_not (nat_lt h.previous_scn h.scn) clear.1.1.1.1.1.0);
-          rising = are.rising;
-          sizes = are.sizes;
-          first = are.first refl;
-        })
-
-    by : (x : Option ℕ) → first_fault (head_tests bytes version h) ≡ x → elim x as (λ z. Result Contents ℕ) [ Some place ↦ Err place | None ↦ with_head version h (read_pages version h bytes) ] ≡ Ok c → HasPages c.head c.pages
-    by (Some place) is f = absurd (none_is (Err place) place refl f)
-    by None is f = of_pages (none_clear (head_tests bytes version h) is) (read_pages version h bytes) refl f
+pub level_pages : (bytes : List ℕ) (c : Contents) → read_level bytes ≡ Ok c → HasPages c.head c.pages
+unfolding head_in
+level_pages bytes c e =
+    let told = level_told bytes c e in
+    let are : AreFrom c.head 0 0 c.pages = subst (λ (h : Head). AreFrom h 0 0 c.pages) (sym told.head) (pages_are (head_in bytes) (number_in 4 2 bytes) bytes c.pages told.pages) in
+    record {
+      level = told.level;
+      guid = ap (λ (h : Head). length h.guid) told.head ∙ part_long 8 16 bytes (omega (arith, told.long));
+      previous = ap (λ (h : Head). length h.previous) told.head ∙ part_long 24 16 bytes (omega (arith, told.long));
+      size = told.size;
+      later = told.later;
+      rising = are.rising;
+      sizes = are.sizes;
+      first = are.first refl;
+    }

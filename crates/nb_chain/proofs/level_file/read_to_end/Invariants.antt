@@ -5,7 +5,7 @@ use Rattle.nb_model.specs.Image.{Numbered}
 use Rattle.nb_model.specs.Levels.{behind}
 use Rattle.nb_level.specs.Reading.{still_to_come}
 use Rattle.nb_page.specs.Quiet.{Quiet}
-use Rattle.nb_catalog.proofs.reading.read_on.Given as goal
+use Rattle.nb_chain.proofs.level_file.read_to_end.Given as goal
 
 -- some pages were read so far
 abbrev pub invariant-loop : goal.invariant-loop

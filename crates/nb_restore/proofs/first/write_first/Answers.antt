@@ -4,7 +4,7 @@ use Rattle.nb_host.specs.World.{World}
 use Rattle.nb_host.specs.Crash.{PageLeft}
 use Rattle.nb_restore.proofs.FrontLaws.{named, page_read}
 use Rattle.nb_restore.proofs.TargetLaws.{sync_first, page_last, sync_more, sync_kept}
-use Rattle.nb_fixup.proofs.fixing.write_first.Goals as goal
+use Rattle.nb_restore.proofs.first.write_first.Goals as goal
 
 -- what a write of page 0 leaves
 abbrev kept : (page : List ℕ) (w : World) (name : List ℕ) → File → Type 0
