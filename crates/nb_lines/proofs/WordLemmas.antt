@@ -24,6 +24,11 @@ one_word_more words i word start here spaced_here next low so_far space put =
     grouped : (a b c : List ℕ) → (a ++ b ++ 32 ∷ []) ++ c ≡ a ++ (b ++ 32 ∷ (c ++ []))
     grouped a b c = simp append_assoc (ap (λ (l : List ℕ). a ++ (b ++ 32 ∷ l)) (sym (append-nil c)))
 
+-- a line with no word more
+pub no_words : (line : List ℕ) → line ≡ line ++ spaced []
+unfolding spaced
+no_words line = sym (append-nil line)
+
 -- words and then more
 pub words_then : (a b : List Word) (start middle end : List ℕ) → middle ≡ start ++ spaced a → end ≡ middle ++ spaced b → end ≡ start ++ spaced (a ++ b)
 words_then a b start middle end first second = second ∙ ap (λ (l : List ℕ). l ++ spaced b) first ∙ append_assoc start (spaced a) (spaced b) ∙ ap (λ (l : List ℕ). start ++ l) (sym (spaced-append a b))

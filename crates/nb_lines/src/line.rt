@@ -1,128 +1,104 @@
 // The line of a reply.
-ghost use Rattle.std.specs.Prelude.{◌≡◌, ◌++◌, IfOk, IfErr, OnOk};
+ghost use Rattle.std.specs.Prelude.{◌≡◌, ◌++◌, ◌∷◌, [], take, drop, IfOk, IfErr, OnOk};
 ghost use Rattle.nb_host.specs.declared.faults.Fault.TheVariants.{Memory};
 ghost use Rattle.nb_model.specs.declared.reply.Reply.TheVariants.{Leaked, Planned};
-ghost use Rattle.nb_model.specs.Lines.{line_text, spaced, name_words, page_words, reply_words, refusal_words, row_words};
+ghost use Rattle.nb_model.specs.Lines.{is, line_text, number, spaced, name_words, page_words, reply_words, refusal_words, row_words};
 
 use crate::word::{Word, push_number, push_words};
 use nb_host::{Fault, Name, Refusal};
 use nb_model::{NameList, PageList, Reply, RowList};
 use std::alloc::{AllocError, Global};
 
-/// The number of a refusal, its name and the values of its fields.
-fn push_refusal(line: &mut Vec<u8>, refusal: &Refusal) -> Result<(), AllocError>
-    ensures { OnOk result (line.new.items ≡ line.old.items ++ spaced (refusal_words refusal.now)) }
+/// The number and the name of a refusal.
+fn name_of(refusal: &Refusal) -> (u64, &'static str)
+    ensures { number result.0 ∷ is result.1.now ∷ [] ≡ take 2 (refusal_words refusal.now) }
 {
     match refusal {
-        Refusal::Usage => push_words(line, &[Word::Number(1), Word::Is("Usage")]),
-        Refusal::BadScript { line: at } => push_words(
-            line,
-            &[
-                Word::Number(2),
-                Word::Is("BadScript"),
-                Word::Number(*at as u64),
-            ],
-        ),
-        Refusal::NoFile { name } => push_words(
-            line,
-            &[Word::Number(3), Word::Is("NoFile"), Word::Name(name)],
-        ),
-        Refusal::FileExists { name } => push_words(
-            line,
-            &[Word::Number(4), Word::Is("FileExists"), Word::Name(name)],
-        ),
-        Refusal::NotDatabase { page } => push_words(
-            line,
-            &[
-                Word::Number(5),
-                Word::Is("NotDatabase"),
-                Word::Number(*page as u64),
-            ],
-        ),
-        Refusal::WrongState { found } => push_words(
-            line,
-            &[
-                Word::Number(6),
-                Word::Is("WrongState"),
-                Word::Number(*found as u64),
-            ],
-        ),
-        Refusal::BadDelta { page } => push_words(
-            line,
-            &[
-                Word::Number(7),
-                Word::Is("BadDelta"),
-                Word::Number(*page as u64),
-            ],
-        ),
-        Refusal::Unfinished => push_words(line, &[Word::Number(8), Word::Is("Unfinished")]),
-        Refusal::PageRange { page, count } => push_words(
-            line,
-            &[
-                Word::Number(9),
-                Word::Is("PageRange"),
-                Word::Number(*page as u64),
-                Word::Number(*count as u64),
-            ],
-        ),
-        Refusal::NotAllocated { page } => push_words(
-            line,
-            &[
-                Word::Number(10),
-                Word::Is("NotAllocated"),
-                Word::Number(*page as u64),
-            ],
-        ),
-        Refusal::SystemPage { page } => push_words(
-            line,
-            &[
-                Word::Number(11),
-                Word::Is("SystemPage"),
-                Word::Number(*page as u64),
-            ],
-        ),
-        Refusal::Full { count } => push_words(
-            line,
-            &[
-                Word::Number(12),
-                Word::Is("Full"),
-                Word::Number(*count as u64),
-            ],
-        ),
-        Refusal::ScnExhausted { scn } => push_words(
-            line,
-            &[
-                Word::Number(13),
-                Word::Is("ScnExhausted"),
-                Word::Number(*scn as u64),
-            ],
-        ),
-        Refusal::NoHistory { level } => push_words(
-            line,
-            &[
-                Word::Number(14),
-                Word::Is("NoHistory"),
-                Word::Number(*level as u64),
-            ],
-        ),
-        Refusal::BadLevel { name, at } => push_words(
-            line,
-            &[
-                Word::Number(15),
-                Word::Is("BadLevel"),
-                Word::Name(name),
-                Word::Number(*at),
-            ],
-        ),
+        Refusal::Usage => (1, "Usage"),
+        Refusal::BadScript { .. } => (2, "BadScript"),
+        Refusal::NoFile { .. } => (3, "NoFile"),
+        Refusal::FileExists { .. } => (4, "FileExists"),
+        Refusal::NotDatabase { .. } => (5, "NotDatabase"),
+        Refusal::WrongState { .. } => (6, "WrongState"),
+        Refusal::BadDelta { .. } => (7, "BadDelta"),
+        Refusal::Unfinished => (8, "Unfinished"),
+        Refusal::PageRange { .. } => (9, "PageRange"),
+        Refusal::NotAllocated { .. } => (10, "NotAllocated"),
+        Refusal::SystemPage { .. } => (11, "SystemPage"),
+        Refusal::Full { .. } => (12, "Full"),
+        Refusal::ScnExhausted { .. } => (13, "ScnExhausted"),
+        Refusal::NoHistory { .. } => (14, "NoHistory"),
+        Refusal::BadLevel { .. } => (15, "BadLevel"),
+        Refusal::ChainLevel { .. } => (16, "ChainLevel"),
+        Refusal::ChainGuid { .. } => (17, "ChainGuid"),
+        Refusal::ChainSize { .. } => (18, "ChainSize"),
+        Refusal::ChainScn { .. } => (19, "ChainScn"),
+        Refusal::Access { .. } => (20, "Access"),
+        Refusal::TextLong { .. } => (21, "TextLong"),
+        Refusal::NoTable => (22, "NoTable"),
+        Refusal::TableExists => (23, "TableExists"),
+        Refusal::KeyExists { .. } => (24, "KeyExists"),
+        Refusal::NoKey { .. } => (25, "NoKey"),
+        Refusal::TooManyTables => (26, "TooManyTables"),
+        Refusal::BackupRunning { .. } => (27, "BackupRunning"),
+        Refusal::DeltaPresent { .. } => (28, "DeltaPresent"),
+        Refusal::ScriptLong { .. } => (29, "ScriptLong"),
+        Refusal::NoGuid { .. } => (30, "NoGuid"),
+        Refusal::Unsound { .. } => (31, "Unsound"),
+        Refusal::ShadowName { .. } => (32, "ShadowName"),
+    }
+}
+
+/// The values of a refusal's fields.
+#[tactic(auto, using(crate::proofs::WordLemmas::no_words))]
+fn push_fields(line: &mut Vec<u8>, refusal: &Refusal) -> Result<(), AllocError>
+    ensures { OnOk result (line.new.items ≡ line.old.items ++ spaced (drop 2 (refusal_words refusal.now))) }
+{
+    match refusal {
+        Refusal::Usage
+        | Refusal::Unfinished
+        | Refusal::NoTable
+        | Refusal::TableExists
+        | Refusal::TooManyTables => Ok(()),
+        Refusal::BadScript { line: n }
+        | Refusal::NotDatabase { page: n }
+        | Refusal::WrongState { found: n }
+        | Refusal::BadDelta { page: n }
+        | Refusal::NotAllocated { page: n }
+        | Refusal::SystemPage { page: n }
+        | Refusal::Full { count: n }
+        | Refusal::ScnExhausted { scn: n }
+        | Refusal::NoHistory { level: n }
+        | Refusal::Access { found: n }
+        | Refusal::BackupRunning { session: n } => push_words(line, &[Word::Number(*n as u64)]),
+        Refusal::TextLong { len: n }
+        | Refusal::KeyExists { key: n }
+        | Refusal::NoKey { key: n }
+        | Refusal::ScriptLong { bytes: n } => push_words(line, &[Word::Number(*n)]),
+        Refusal::PageRange { page: m, count: n } | Refusal::Unsound { fact: m, page: n } =>
+            push_words(line, &[Word::Number(*m as u64), Word::Number(*n as u64)]),
+        Refusal::NoFile { name }
+        | Refusal::FileExists { name }
+        | Refusal::DeltaPresent { name }
+        | Refusal::ShadowName { name } => push_words(line, &[Word::Name(name)]),
+        Refusal::BadLevel { name, at } => push_words(line, &[Word::Name(name), Word::Number(*at)]),
         Refusal::ChainLevel {
+            name,
+            found,
+            wanted,
+        }
+        | Refusal::ChainSize {
+            name,
+            found,
+            wanted,
+        }
+        | Refusal::ChainScn {
             name,
             found,
             wanted,
         } => push_words(
             line,
             &[
-                Word::Number(16),
-                Word::Is("ChainLevel"),
                 Word::Name(name),
                 Word::Number(*found as u64),
                 Word::Number(*wanted as u64),
@@ -134,103 +110,19 @@ fn push_refusal(line: &mut Vec<u8>, refusal: &Refusal) -> Result<(), AllocError>
             wanted,
         } => push_words(
             line,
-            &[
-                Word::Number(17),
-                Word::Is("ChainGuid"),
-                Word::Name(name),
-                Word::Guid(found),
-                Word::Guid(wanted),
-            ],
+            &[Word::Name(name), Word::Guid(found), Word::Guid(wanted)],
         ),
-        Refusal::ChainSize {
-            name,
-            found,
-            wanted,
-        } => push_words(
-            line,
-            &[
-                Word::Number(18),
-                Word::Is("ChainSize"),
-                Word::Name(name),
-                Word::Number(*found as u64),
-                Word::Number(*wanted as u64),
-            ],
-        ),
-        Refusal::ChainScn {
-            name,
-            found,
-            wanted,
-        } => push_words(
-            line,
-            &[
-                Word::Number(19),
-                Word::Is("ChainScn"),
-                Word::Name(name),
-                Word::Number(*found as u64),
-                Word::Number(*wanted as u64),
-            ],
-        ),
-        Refusal::Access { found } => push_words(
-            line,
-            &[
-                Word::Number(20),
-                Word::Is("Access"),
-                Word::Number(*found as u64),
-            ],
-        ),
-        Refusal::TextLong { len } => push_words(
-            line,
-            &[Word::Number(21), Word::Is("TextLong"), Word::Number(*len)],
-        ),
-        Refusal::NoTable => push_words(line, &[Word::Number(22), Word::Is("NoTable")]),
-        Refusal::TableExists => push_words(line, &[Word::Number(23), Word::Is("TableExists")]),
-        Refusal::KeyExists { key } => push_words(
-            line,
-            &[Word::Number(24), Word::Is("KeyExists"), Word::Number(*key)],
-        ),
-        Refusal::NoKey { key } => push_words(
-            line,
-            &[Word::Number(25), Word::Is("NoKey"), Word::Number(*key)],
-        ),
-        Refusal::TooManyTables => push_words(line, &[Word::Number(26), Word::Is("TooManyTables")]),
-        Refusal::BackupRunning { session } => push_words(
-            line,
-            &[
-                Word::Number(27),
-                Word::Is("BackupRunning"),
-                Word::Number(*session as u64),
-            ],
-        ),
-        Refusal::DeltaPresent { name } => push_words(
-            line,
-            &[Word::Number(28), Word::Is("DeltaPresent"), Word::Name(name)],
-        ),
-        Refusal::ScriptLong { bytes } => push_words(
-            line,
-            &[
-                Word::Number(29),
-                Word::Is("ScriptLong"),
-                Word::Number(*bytes),
-            ],
-        ),
-        Refusal::NoGuid { guid } => push_words(
-            line,
-            &[Word::Number(30), Word::Is("NoGuid"), Word::Guid(guid)],
-        ),
-        Refusal::Unsound { fact, page } => push_words(
-            line,
-            &[
-                Word::Number(31),
-                Word::Is("Unsound"),
-                Word::Number(*fact as u64),
-                Word::Number(*page as u64),
-            ],
-        ),
-        Refusal::ShadowName { name } => push_words(
-            line,
-            &[Word::Number(32), Word::Is("ShadowName"), Word::Name(name)],
-        ),
+        Refusal::NoGuid { guid } => push_words(line, &[Word::Guid(guid)]),
     }
+}
+
+/// The number of a refusal, its name and the values of its fields.
+fn push_refusal(line: &mut Vec<u8>, refusal: &Refusal) -> Result<(), AllocError>
+    ensures { OnOk result (line.new.items ≡ line.old.items ++ spaced (refusal_words refusal.now)) }
+{
+    let (code, name) = name_of(refusal);
+    push_words(line, &[Word::Number(code), Word::Is(name)])?;
+    push_fields(line, refusal)
 }
 
 /// Key and text of each row.
