@@ -1,7 +1,7 @@
 -- Words after words.
-use Rattle.std.proofs.Common.{◌≡◌, ℕ, ◌+◌, ◌<◌, length, take, get_or, map, List, [], ◌∷◌, ◌++◌, refl, sym, ◌∙◌, ap, append_assoc, slice_get, Some}
+use Rattle.std.proofs.Common.{◌≡◌, ℕ, ◌+◌, ◌<◌, length, take, drop, get_or, map, List, [], ◌∷◌, ◌++◌, refl, sym, ◌∙◌, ap, append_assoc, slice_get, Some}
 use Rattle.std.proofs.lemmas.Option.{get_or_from_slice_get}
-use Rattle.std.proofs.lemmas.List.{take_more, map-append, append-nil}
+use Rattle.std.proofs.lemmas.List.{take_more, take-append-drop, map-append, append-nil}
 use Rattle.nb_model.specs.Lines.{Word, is, number, quoted, word_text, spaced, name_words, page_words, row_words}
 use Rattle.nb_lines.specs.declared.word.Word.{Word as InLine}
 use Rattle.nb_lines.specs.Words.{seen}
@@ -57,6 +57,10 @@ pub one_page_more : (pages : List ℕ) (i page : ℕ) (start here next : List �
 one_page_more pages i page start here next low so_far put =
     words_then (page_words (take i pages)) (number (get_or pages i page) ∷ []) start here next so_far put
     ∙ ap (λ (ws : List Word). start ++ spaced ws) (sym (ap page_words (take_more pages i page low) ∙ map-append number (take i pages) (get_or pages i page ∷ [])))
+
+-- the first so many words and then the others
+pub all_then : (n : ℕ) (words : List Word) (start middle end : List ℕ) → middle ≡ start ++ spaced (take n words) → end ≡ middle ++ spaced (drop n words) → end ≡ start ++ spaced words
+all_then n words start middle end first second = words_then (take n words) (drop n words) start middle end first second ∙ ap (λ (ws : List Word). start ++ spaced ws) (take-append-drop n words)
 
 -- numbers, and then two lists of names
 pub plan_said : (front dropped orphans : List Word) (start first second end : List ℕ) → first ≡ start ++ spaced front → second ≡ first ++ spaced dropped → end ≡ second ++ spaced orphans → end ≡ start ++ spaced (front ++ (dropped ++ orphans))

@@ -122,7 +122,8 @@ fn push_refusal(line: &mut Vec<u8>, refusal: &Refusal) -> Result<(), AllocError>
 {
     let (code, name) = name_of(refusal);
     push_words(line, &[Word::Number(code), Word::Is(name)])?;
-    push_fields(line, refusal)
+    push_fields(line, refusal)?;
+    Ok(())
 }
 
 /// Key and text of each row.
