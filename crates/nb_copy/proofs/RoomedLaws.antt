@@ -20,7 +20,6 @@ use Rattle.nb_base.specs.Takes.{after_strokes}
 use Rattle.nb_state.proofs.MakesLaws.{after_base}
 use Rattle.nb_engine.specs.Make.{new_of}
 use Rattle.nb_engine.specs.Room.{no_rows, linked_payload}
-use Rattle.nb_engine.proofs.GrowLaws.{new_longer, no_rows_short}
 use Rattle.nb_alloc.proofs.NewLaws.{told}
 use Rattle.nb_engine.proofs.WalkLaws.{IsData, last_data}
 use Rattle.nb_copy.proofs.FirstLaws.{Starts, starts_itself, first_is, put_begins, new_begins}
