@@ -1,5 +1,5 @@
 -- How many reads the search for a new page makes.
-use Rattle.std.proofs.Common.{◌≡◌, inl, inr, ℕ, zero, suc, ◌+◌, ◌-◌, ◌*◌, ◌/◌, ◌<◌, ◌≤◌, subst, arith, mul-le-mul_right}
+use Rattle.std.proofs.Common.{◌≡◌, inl, inr, ℕ, zero, suc, ◌+◌, ◌-◌, ◌*◌, ◌/◌, ◌<◌, ◌≤◌, refl, ap, subst, arith, mul-le-mul_right}
 use Rattle.std.specs.Prelude.{IsTrue, Option, Some, IfSome}
 use Rattle.std.proofs.Math.Nat.{div-zero, div-mul-le_self, lt-div-mul-add}
 use Rattle.std.proofs.lemmas.Bool.Decides.{leb_tells}
@@ -20,6 +20,14 @@ scn_place_some size (suc k) is =
     let least = entries-least size is in
     let more : entries_in size ≤ suc k * entries_in size = omega arith in
     omega arith
+
+-- the inventory page of a page stands before it, or is that page
+pub inventory_most : (size p : ℕ) → 1 ≤ p → inventory_place size (p / bits_in size) ≤ p
+inventory_most size p some = by (p / bits_in size) refl
+  where
+    by : (k : ℕ) → p / bits_in size ≡ k → inventory_place size k ≤ p
+    by zero e = some
+    by (suc k) e = let under : suc k * bits_in size ≤ p = omega (arith, div-mul-le_self p (bits_in size), ap (λ (n : ℕ). n * bits_in size) e) in omega (arith, under)
 
 -- a page that is no lower has an inventory page that is no lower
 pub no_lower : (b a n : ℕ) → a ≤ n → a / b ≤ n / b

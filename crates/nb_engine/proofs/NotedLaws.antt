@@ -23,7 +23,7 @@ use Rattle.nb_alloc.specs.Put.{entry_cause}
 use Rattle.nb_alloc.specs.Mark.{mark_cause}
 use Rattle.nb_alloc.proofs.BehindLaws.{entry_by, other_by}
 use Rattle.nb_alloc.proofs.CauseLaws.{first_none, first_next}
-use Rattle.nb_engine.proofs.RoomLaws.{inventory_most}
+use Rattle.nb_alloc.proofs.SearchReads.{inventory_most}
 use Rattle.nb_alloc.proofs.RoomsLaws.{needs_broken, both_empty, none_broken, no_entry_broken}
 
 -- the page is one of these

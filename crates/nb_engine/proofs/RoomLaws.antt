@@ -16,6 +16,7 @@ use Rattle.nb_model.proofs.PutSound.{needs_image}
 use Rattle.nb_engine.specs.Room.{taken_draft}
 use Rattle.nb_alloc.proofs.CauseLaws.{first_none, first_next, first_here}
 use Rattle.nb_alloc.proofs.PutLaws.{none_of, is_kind-parts}
+use Rattle.nb_alloc.proofs.SearchReads.{inventory_most}
 
 -- the inventory page of a page stands before its SCN page
 before_scn : (size p : ℕ) → IsTrue (is_page_size size) → inventory_place size (p / bits_in size) < scn_place size (p / entries_in size)
@@ -43,14 +44,7 @@ before_scn size p is = by (p / bits_in size) (p / entries_in size) refl refl
             let some : 1 ≤ suc k * bits_in size = omega (arith, least, same) in
             omega (arith, more, same, some)
 
--- and not behind the page
-pub inventory_most : (size p : ℕ) → 1 ≤ p → inventory_place size (p / bits_in size) ≤ p
-inventory_most size p some = by (p / bits_in size) refl
-  where
-    by : (k : ℕ) → p / bits_in size ≡ k → inventory_place size k ≤ p
-    by zero e = some
-    by (suc k) e = let under : suc k * bits_in size ≤ p = omega (arith, div-mul-le_self p (bits_in size), ap (λ (n : ℕ). n * bits_in size) e) in omega (arith, under)
-
+-- the SCN page of a page stands before it, or is that page
 scn_most : (size p : ℕ) → 2 ≤ p → scn_place size (p / entries_in size) ≤ p
 scn_most size p two = by (p / entries_in size) refl
   where

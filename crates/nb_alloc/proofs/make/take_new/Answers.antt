@@ -17,7 +17,7 @@ use Rattle.nb_fields.proofs.SizeLemmas.{SizeFacts, size_facts}
 use Rattle.nb_alloc.proofs.ContentLaws.{content_short}
 use Rattle.nb_alloc.proofs.WhereLaws.{where_tries}
 use Rattle.nb_alloc.proofs.NewLaws.{take_not, take_after, put_of, new_there}
-use Rattle.nb_engine.proofs.RoomLaws.{inventory_most}
+use Rattle.nb_alloc.proofs.SearchReads.{inventory_most}
 use Rattle.nb_alloc.proofs.make.take_new.Goals as goal
 
 pub returns-in_err-make_page-clause-makes : goal.returns-in_err-make_page-clause-makes
