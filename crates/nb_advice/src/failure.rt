@@ -1,4 +1,4 @@
-// What stands behind a run that failed.
+// What stands after a run that failed.
 use crate::seen::{Seen, There};
 use nb_host::Name;
 use nb_model::Job;
@@ -64,7 +64,7 @@ fn of_fold(alloc: Global, out: &Name, seen: &Seen) -> Result<Option<String>, All
     Ok(Some(text))
 }
 
-/// What is to be said behind a run of a job by words that ended early, by what is seen then and by the backup state that was seen before it.
+/// What is to be said after a run of a job by words that ended early, by what is seen then and by the backup state that was seen before it.
 /// None where nothing is left to do but to give the words again.
 pub fn standing(
     alloc: Global,

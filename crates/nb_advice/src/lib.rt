@@ -1,4 +1,4 @@
-//! What the standard error says to an administrator: which word is wrong, what to do about a refusal, and what stands behind a run that
+//! What the standard error says to an administrator: which word is wrong, what to do about a refusal, and what stands after a run that
 //! failed.
 //!
 //! Texts alone: each is made of a job, of the reply that refused it and of what a look at the files told, and no file is asked here. It

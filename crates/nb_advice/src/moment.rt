@@ -2,7 +2,7 @@
 use jiff_core::civil::DateTime;
 use std::alloc::{AllocError, Global};
 
-/// Seconds since the start of 1970 as `2026-11-28 03:00:04 UTC`, and none behind the year 9999.
+/// Seconds since the start of 1970 as `2026-11-28 03:00:04 UTC`, and none after the year 9999.
 pub(crate) fn moment(alloc: Global, seconds: u64) -> Result<Option<String>, AllocError> {
     let Ok(at) = DateTime::from_nanosecond(i128::from(seconds) * 1_000_000_000) else {
         return Ok(None);

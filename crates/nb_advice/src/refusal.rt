@@ -10,7 +10,7 @@ use crate::standby::merge;
 use nb_model::Job;
 use std::alloc::{AllocError, Global};
 
-/// What is to be said behind the refusal of a job by words: what stands, and what to do about it. None of a script, whose lines say it.
+/// What is to be said after the refusal of a job by words: what stands, and what to do about it. None of a script, whose lines say it.
 pub fn advice(
     alloc: Global,
     job: &Job,

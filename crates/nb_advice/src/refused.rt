@@ -1,7 +1,7 @@
 // The reply that refused a job.
 use std::str;
 
-/// A refusal, as its line says it: its name, and the values behind that, an empty text for each that it lacks.
+/// A refusal, as its line says it: its name, and the values after that, an empty text for each that it lacks.
 #[derive(Clone, Copy)]
 pub struct Refused<'a> {
     pub name: &'a str,

@@ -19,7 +19,7 @@ pub enum There {
     Other,
 }
 
-/// What was looked up behind a run, as far as it could be had.
+/// What was looked up after a run, as far as it could be had.
 #[derive(Clone, Copy, Debug)]
 pub struct Seen {
     /// The backup state that the header of the job's database tells.
@@ -92,7 +92,7 @@ pub fn is_level_of(first: &[u8; 64], header: &Header) -> bool {
 }
 
 impl There {
-    /// What a file is, by its first 64 bytes with zeros behind its end, its length, and its last 8 bytes.
+    /// What a file is, by its first 64 bytes with zeros after its end, its length, and its last 8 bytes.
     pub fn of(first: &[u8; 64], length: u64, last: &[u8; 8]) -> There {
         if first.starts_with(b"NBAK") {
             return There::of_level(ends_whole(first, length, last));

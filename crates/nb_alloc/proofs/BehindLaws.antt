@@ -1,4 +1,4 @@
--- A page that is written behind a search for new pages: what the search leaves of it.
+-- A page that is written after a search for new pages: what the search leaves of it.
 use Rattle.std.proofs.Common.{◌≡◌, ◌≢◌, ◌⊎◌, inl, inr, ℕ, ◌/◌, ◌<◌, ◌≤◌, List, [], ◌∷◌, length, refl, sym, ap, subst, ◌∙◌, arith}
 use Rattle.std.specs.Prelude.{Bool, true, false, not, ◌==◌, ◌||◌, nat_lt, min, IsTrue, Option, Some, None, Result, Ok, Err, IfOk, IfSome, unwrap_or}
 use Rattle.std.proofs.lemmas.Bool.{true≢false}
@@ -245,7 +245,7 @@ known_lacking x p (Some q) size is broken at =
     let positive : (nat_lt 0 q) ≡ true = elim (leb_tells 1 q) [ inl w ↦ w.0 | inr w ↦ absurd (omega (arith, w.1, low, at)) ] in
     known_begin x p q is (sym broken ∙ sym (ap (λ (t : Bool). page_if t q) positive)) (λ some. at)
 
--- Why the draft of new pages isn't made, with the page behind them.
+-- Why the draft of new pages isn't made, with the page after them.
 pub judged_none : (page : ℕ) (pages : List ℕ) (full : Bool) → judged pages full ≡ None → judged (page ∷ pages) full ≡ Some (NotDatabase page)
 unfolding first_cause lowest_broken
 judged_none page [] full none = refl
@@ -305,7 +305,7 @@ pub page_alone : (page : ℕ) → lowest_broken (page ∷ []) ≡ Some (NotDatab
 unfolding lowest_broken
 page_alone page = refl
 
--- one judgement behind another
+-- one judgement after another
 pub value_chain : {T : Type 0} (found mid result : Result T Fault) → IfOk mid (λ value. found ≡ Ok value) → IfOk result (λ value. mid ≡ Ok value) → IfOk result (λ value. found ≡ Ok value)
 value_chain {T = T} found mid (Ok value) first second = subst (λ (x : Result T Fault). IfOk x (λ v. found ≡ Ok v)) second first
 value_chain found mid (Err fault) first second = tt

@@ -19,7 +19,7 @@ pub unless_allowed : (s : Seen) (cause : Cause) (o : Outcome) → cause ≡ None
 unfolding unless
 unless_allowed s cause o e = ap (λ (c : Cause). unless s c o) e
 
--- the first of no causes, of causes behind one that doesn't apply, and behind one that does
+-- the first of no causes, of causes after one that doesn't apply, and after one that does
 pub first_none : first_cause [] ≡ None
 unfolding first_cause
 first_none = refl
@@ -43,7 +43,7 @@ unfolding first_cause
 none_behind None = refl
 none_behind (Some r) = refl
 
--- and of a list of causes with others behind it
+-- and of a list of causes with others after it
 pub first_front : (causes rest : List Cause) (r : Refusal) → first_cause causes ≡ Some r → first_cause (causes ++ rest) ≡ Some r
 unfolding first_cause
 first_front [] rest r e = cc

@@ -1,4 +1,4 @@
--- What a new page has behind its head, by its number.
+-- What a new page has after its head, by its number.
 use Rattle.std.proofs.Common.{◌≡◌, ℕ, zero, suc, ◌+◌, ◌-◌, ◌≤◌, List, ◌∷◌, ◌++◌, length, take, drop, replicate, refl, sym, ap, ◌∙◌, arith, append_assoc, length-append, length-drop}
 use Rattle.std.specs.Prelude.{Bool, true, false, ◌==◌, Option, Some, None, is_some, not, unwrap_or}
 use Rattle.std.proofs.lemmas.List.{replicate-append-replicate, take-append-drop, take_at, drop_at, drop-drop, length-take-le}

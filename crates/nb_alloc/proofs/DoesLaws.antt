@@ -93,7 +93,7 @@ tries_made result old new a b t cause xs none never makes = record {
   idle = λ r some. absurd (none_some (sym none ∙ some));
 }
 
--- what is open behind the strokes
+-- what is open after the strokes
 pub tries_opened : {T : Type 0} (value : T) (old new : World) (a b : Held) (t : Trail) (cause : Cause) (xs : List Stroke) → Tries (Ok value) old new a b t cause xs → IsOpen new b (after_strokes t xs)
 tries_opened value old new a b t cause xs tries = subst (λ (ss : List Stroke). IsOpen new b (after_strokes t ss)) (unless_none cause xs tries.test) tries.makes.opened
 

@@ -132,7 +132,7 @@ module _ (image : Image) (size from : ℕ) (map : Page) (same : size ≡ image_s
           taken_before = λ r l h i. taken_within free (omega arith) lowest.used_before r l (omega arith);
         }
 
--- the search goes on behind them
+-- the search goes on after them
 pub taken_on : (image : Image) (from page next : ℕ) → AreTaken image from page → AreTaken image page next → AreTaken image from next
 taken_on image from page next before here r low high inside = elim (leb_tells (suc r) page) [ inl w ↦ before r low w.1 inside | inr w ↦ here r (omega (arith, w.1)) high inside ]
 
@@ -140,7 +140,7 @@ taken_on image from page next before here r low high inside = elim (leb_tells (s
 pub some_near : (image : Image) (page behind free : ℕ) (found : Option ℕ) → found ≡ Some free → MatchOption found (AreTaken image page behind) (IsFreeNear image page) → IsFreeNear image page free
 some_near image page behind free found e near = subst (λ (o : Option ℕ). MatchOption o (AreTaken image page behind) (IsFreeNear image page)) e near
 
--- where nothing was, the search goes on behind the pages with their bits in that inventory page
+-- where nothing was, the search goes on after the pages with their bits in that inventory page
 pub taken_behind : (image : Image) (from page size read next : ℕ) (found : Option ℕ) → size ≡ read → next ≡ (page / bits_in size + 1) * bits_in size → found ≡ None → AreTaken image from page
     → MatchOption found (AreTaken image page ((page / bits_in read + 1) * bits_in read)) (IsFreeNear image page) → AreTaken image from next
 taken_behind image from page size read next found same is none before near =
@@ -175,7 +175,7 @@ map_near image page free map near kind read =
     let last : free ≡ min free (length image - 1) = omega arith in
     record { most = omega arith; last = subst (λ (q : ℕ). IsMap image q map) last (map_of image page free map near.same kind read) }
 
--- and that of the last page below the length before the group behind
+-- and that of the last page below the length before the group after
 pub map_behind : (image : Image) (size page next : ℕ) (map : Page) → size ≡ image_size image → 0 < bits_in size → page < length image → next ≡ (page / bits_in size + 1) * bits_in size
     → not_kind image 2 (inventory_of image page) ≡ None → map ≡ page_at image (inventory_of image page) → IsMap image (min next (length image) - 1) map
 map_behind image size page next map same least low behind kind read =
@@ -195,6 +195,6 @@ map_last image from page p map end is looked inside =
     let last : min page (length image) - 1 ≡ min p (length image - 1) = omega arith in
     record { most = omega arith; last = subst (λ (q : ℕ). IsMap image q map) last (looked (omega arith)) }
 
--- How many inventory pages there are from that of page `from` on up to that of the last page before one, and up to that behind the end.
+-- How many inventory pages there are from that of page `from` on up to that of the last page before one, and up to that after the end.
 abbrev pub maps_before : (w from page count : ℕ) → ℕ
 maps_before w from page count = min (page / w) (count / w + 1) - from / w

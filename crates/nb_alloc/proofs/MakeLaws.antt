@@ -216,7 +216,7 @@ module _ (image : Image) (kind p : ℕ) where
   unfolding is_kind
   kind_past_end far = ap (λ (t : Bool). t && kind_of (page_at image p) == kind) (lt_no p (length image) far)
 
--- bytes that fill a page behind its head
+-- bytes that fill a page after its head
 pub filled_page : (old payload new : Page) → length payload ≡ length old - 16 → new ≡ take 16 old ++ payload → new ≡ with_payload old payload
 unfolding with_payload
 filled_page old payload new long is = is ∙ ap (λ (xs : List ℕ). take 16 old ++ xs) (sym (padded_whole (length old - 16) payload long))

@@ -27,7 +27,7 @@ pub bit_written : (index : ℕ) (free value : Bool) (old new : Page) → free �
 unfolding with_bit
 bit_written index free value old new same put = put ∙ ap (λ (t : Bool). with_bit index (bit_for t) old) (sym same)
 
--- a bit stands behind the head
+-- a bit stands after the head
 bit_generation : (index bit : ℕ) (old : Page) → generation_of (with_bit index bit old) ≡ generation_of old
 unfolding with_bit
 bit_generation index bit old =

@@ -187,7 +187,7 @@ index_same size p q is same =
     let i : ℕ = inventory_place size (p / bits_in size) in
     sym (inventory_index size (q / bits_in size) i is same) ∙ inventory_index size (p / bits_in size) i is refl
 
--- the first page behind them
+-- the first page after them
 pub next_group : (page w next : ℕ) → 0 < w → next ≡ (page / w + 1) * w → next / w ≡ page / w + 1
 next_group page w next some e = ap (λ (n : ℕ). n / w) e ∙ mul-div_cancel (page / w + 1) some
 

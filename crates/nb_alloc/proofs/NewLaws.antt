@@ -63,7 +63,7 @@ new_there b p kind payload map none low is five plain holds =
 
 -- A page is made as a draft has it, and then taken.
 module _ (t : Trail) (p : ℕ) (e : Draft) (of : IsOf t.base e) where
-  -- the image behind strokes that are those of the draft
+  -- the image after strokes that are those of the draft
   pub image_is : (made : List Stroke) → made ≡ e.strokes → (after_strokes t made).base.image ≡ e.image
   image_is made same = ap (λ (ss : List Stroke). (after_strokes t ss).base.image) same ∙ ap (λ (x : Base). x.image) (after_base t e.strokes) ∙ of.is
 
@@ -107,7 +107,7 @@ round_is b p = set_bit_keeps (IsOf b) (drafts_are b) 0 p (system_page p (drafted
 abbrev pub told : List ℕ → ℕ → List ℕ
 told payload = λ p. payload
 
--- What is left of these strokes behind those that are done.
+-- What is left of these strokes after those that are done.
 pub record RestOf (kind : ℕ) (payload : ℕ → List ℕ) (image : Image) (place : ℕ) (done strokes : List Stroke) (number : ℕ) : Type 0 where
   pub rest_strokes : List Stroke
   pub strokes_are : strokes ≡ done ++ rest_strokes

@@ -1,4 +1,4 @@
--- A page stroke of a page behind the first: what is known after it.
+-- A page stroke of a page after the first: what is known after it.
 use Rattle.std.proofs.Common.{◌∙◌, ◌≡◌, ◌≢◌, ℕ, ◌<◌, List, [], ◌∷◌, ◌++◌, length, sym, ap, subst, arith}
 use Rattle.std.specs.Prelude.{None, Result, Ok, IfErr}
 use Rattle.nb_fields.specs.Places.{entries_in}
@@ -26,7 +26,7 @@ use Rattle.nb_alloc.proofs.MarkLaws.{mark_cause-is, marked-is}
 pub makes_one : {T : Type 0} (result : Result T Fault) (old new : World) (a b : Held) (t : Trail) (s r : Stroke) → s ≡ r → Makes result old new a b t (s ∷ []) → Makes result old new a b t (r ∷ [])
 makes_one result old new a b t s r same makes = subst (λ (x : Stroke). Makes result old new a b t (x ∷ [])) same makes
 
--- what holds of the database behind strokes holds of what was seen then
+-- what holds of the database after strokes holds of what was seen then
 pub seen_after : (t : Trail) (xs : List Stroke) (P : Base → Type 0) → P (base_after t.base xs) → P (after_strokes t xs).base
 seen_after t xs P is = subst P (sym (after_base t xs)) is
 

@@ -147,7 +147,7 @@ pub map_read : (result : Result (Unit {0}) Fault) (x : Image) (p place : ℕ) (m
 map_read (Ok value) x p place map there read = record { kind = ap (not_kind x 2) (sym there) ∙ read.test; page = read.page ∙ ap (page_at x) there }
 map_read (Err fault) x p place map there read = tt
 
--- The places of system pages that were passed without their pages, behind page p.
+-- The places of system pages that were passed without their pages, after page p.
 module _ (x : Image) (p : ℕ) (size : IsTrue (is_page_size (image_size x))) where
   pub kind_map : is_inventory_place (image_size x) p ≡ true → system_kind x p ≡ 2
   kind_map e = ap (λ (t : Bool). elim t as (λ z. ℕ) [ true ↦ 2 | false ↦ 10 ]) e

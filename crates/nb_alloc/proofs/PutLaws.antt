@@ -62,7 +62,7 @@ may_raise image p none must =
     there : has_entry image p ≡ true → entry_cause image p ≡ not_kind image 10 (scn_page_of image p)
     there e = ap (λ (t : Bool). elim t as (λ z. Cause) [ true ↦ not_kind image 10 (scn_page_of image p) | false ↦ None ]) e
 
--- what stands behind the head of the SCN page then
+-- what stands after the head of the SCN page then
 abbrev raised_payload : Image → ℕ → List ℕ
 raised_payload image p = drop 16 (with_part (32 + 4 * entry_number image p) (bytes_of 4 (image_scn image)) (page_at image (scn_page_of image p)))
 

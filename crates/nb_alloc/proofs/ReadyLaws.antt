@@ -47,7 +47,7 @@ mark_ready x p map entry =
     first_next (not_kind x 2 (inventory_of x p)) (entry_cause x (inventory_of x p) ∷ []) (ap (λ (t : Bool). when (not t) (NotDatabase (inventory_of x p))) map)
     ∙ first_next (entry_cause x (inventory_of x p)) [] (entry_ready x (inventory_of x p) entry) ∙ first_none
 
--- they are so behind a page that is put there
+-- they are so after a page that is put there
 pub mark_put : (x : Image) (p kind : ℕ) (payload : List ℕ) → IsShaped x → IsReady x p → HasItsEntry x p → 5 ≤ p → p ≤ length x → 16 + length payload ≤ image_size x → mark_cause (put p kind payload (drafted x)).image p ≡ None
 mark_put x p kind payload shaped ready own five below room =
     let y : Image = (put p kind payload (drafted x)).image in
@@ -137,7 +137,7 @@ module _ (b : Base) (p : ℕ) (shaped : IsShaped b.image) (ready : IsReady b.ima
       by true e = mark_ready b.image p ready.map ready.map_entry
       by false e = mark_put b.image p kind (system_payload b.image p) shaped ready (own e) five below (omega (arith, facts.at_least, payload_whole b.image p shaped.size))
 
--- Behind it the search goes on by inventory pages of their kind.
+-- After it the search goes on by inventory pages of their kind.
 module _ (image : Image) (p : ℕ) where
   abbrev after : Image
   after = (round image p).image

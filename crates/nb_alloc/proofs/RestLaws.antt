@@ -1,4 +1,4 @@
--- A new page that nothing stops, on any image of the form: what is left of it behind each round.
+-- A new page that nothing stops, on any image of the form: what is left of it after each round.
 use Rattle.std.proofs.Common.{◌≡◌, ◌≢◌, inl, inr, ℕ, zero, suc, ◌+◌, ◌/◌, ◌<◌, ◌≤◌, List, ◌++◌, length, refl, sym, ap, subst, ◌∙◌, arith}
 use Rattle.std.specs.Prelude.{Bool, true, false, ◌==◌, Option, Some, None}
 use Rattle.std.proofs.lemmas.Bool.{true≢false}

@@ -1,4 +1,4 @@
--- The tests before new pages, and what is written behind them.
+-- The tests before new pages, and what is written after them.
 use Rattle.std.proofs.Common.{◌≡◌, ℕ, ◌+◌, ◌*◌, ◌<◌, ◌≤◌, List, [], ◌∷◌, ◌++◌, length, refl, sym, ap, subst, ◌∙◌, arith}
 use Rattle.std.specs.Prelude.{drop, Bool, true, false, not, ◌||◌, nat_lt, min, Some, None, Result, Ok, Err, IfOk, OnOk, IsErr, IsErrAnd}
 use Rattle.std.proofs.lemmas.Bool.{true≢false}
@@ -109,7 +109,7 @@ ends_judged (Err (Refused r)) old start from made fresh before after payload sho
 ends_judged (Err Device) old start from made fresh before after payload short known ends = record { test = tt; known = tt }
 ends_judged (Err Memory) old start from made fresh before after payload short known ends = record { test = tt; known = tt }
 
--- A second page behind the first: the draft goes on from the first,
+-- A second page after the first: the draft goes on from the first,
 second_is : (first second : ℕ → List ℕ) (image : Image) → second_data first second image ≡ joined_new (new_of 5 first image).0 (new_page 5 second (drafted (new_of 5 first image).0.image))
 second_is first second image = join_new (length (new_of 5 first image).0.image + 4) 5 second (new_of 5 first image).0
 
@@ -142,7 +142,7 @@ twice_judged S T result fault image from made fresh before after first second pa
       known = subst (λ (x : Image). IsKnown image x after) (sym (ap (λ (x : Image). (new_page 5 second (drafted x)).0.image) (ends.image 5 first) ∙ ends.again_image 5 second)) (ends.known known);
     })
 
--- with the page that is written behind them
+-- with the page that is written after them
 pub behind_judged : (d : Draft) (old : Image) (b : Behind) (number : ℕ) → b.page ≡ number → IsKnown old d.image b → judged (page_if b.lost b.page ++ (page_if (nat_lt 0 b.entry) b.entry ++ d.broken)) d.full ≡ behind_cause d number
 behind_judged d old b number is known =
     ap (λ (ps : List ℕ). judged (ps ++ (page_if (nat_lt 0 b.entry) b.entry ++ d.broken)) d.full) (sym (other_page d.image 5 b.page b.lost known.kind))
@@ -177,7 +177,7 @@ pub put_broken : (p kind : ℕ) (payload : List ℕ) (d : Draft) → (put p kind
 unfolding put written wrote
 put_broken p kind payload d = raised_broken p d
 
--- so a draft with a page written behind it isn't made
+-- so a draft with a page written after it isn't made
 wants_judged : (p : ℕ) (payload : List ℕ) (d : Draft) → draft_cause (wants d.image 5 p (put p 5 payload d)) ≡ behind_cause d p
 wants_judged p payload d =
     ap (λ (ps : List ℕ). judged (other_kind d.image 5 p ++ ps) (put p 5 payload d).full) (put_broken p 5 payload d)
@@ -193,7 +193,7 @@ pub slot_judged : (p slot : ℕ) (bytes : Slot) (d : Draft) → draft_cause (wan
 unfolding put_slot
 slot_judged p slot bytes d = wants_judged p (drop 16 (with_part (32 + 256 * slot) bytes (page_at d.image p))) d
 
--- Nothing keeps a draft from being made, nor page p from being written behind it.
+-- Nothing keeps a draft from being made, nor page p from being written after it.
 pub record IsFreeBehind (d : Draft) (p : ℕ) : Type 0 where
   pub clear : draft_cause d ≡ None
   pub kind : is_kind d.image 5 p ≡ true

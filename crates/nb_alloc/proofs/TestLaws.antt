@@ -48,7 +48,7 @@ pub at_ok : {T E P : Type 0} (result : Result T E) → IsOk result → OnOk resu
 at_ok (Ok value) is p = p
 at_ok (Err e) is p = absurd (not_false is)
 
--- a slice of all the elements of a vector, behind which it has room
+-- a slice of all the elements of a vector, after which it has room
 pub vec_whole : (deref items rest : List ℕ) (n : ℕ) → deref ≡ take n (items ++ rest) → length items ≡ n → deref ≡ items
 vec_whole deref items rest n is long = is ∙ take_at items rest n long
 

@@ -26,7 +26,7 @@ strikes_after old mid new a b t xs same quiet is left =
 pub stops_first : (old new : World) (a b : Held) (t : Trail) (xs : List Stroke) → Strikes old new (name_of a) t [] → IsOpen new b t → StopsBehind old new a b t xs
 stops_first old new a b t xs left opened = record { made = []; rest = xs; front = refl; left = left; opened = opened }
 
--- or behind the strokes
+-- or after the strokes
 pub stops_then : (old mid new : World) (a b c : Held) (t : Trail) (cause : Cause) (xs : List Stroke) → Tries {T = Unit {0}} (Ok tt) old mid a b t cause xs → Strikes mid new (name_of b) (after_strokes t xs) [] → IsOpen new c (after_strokes t xs)
     → StopsBehind old new a c t xs
 stops_then old mid new a b c t cause xs first left opened =

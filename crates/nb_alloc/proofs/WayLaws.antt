@@ -158,7 +158,7 @@ module _ (old start now : Image) (first from made fresh left : ℕ) (s : Searche
     fresh_now f (same_fresh e kept) = same_fresh e (λ at. let there = sym map_place_now ∙ at in map_same there ∙ kept there)
     fresh_now f (fresh_here e at none) = fresh_here e (map_place_now ∙ at) (map_same at ∙ none)
 
-    -- It goes on behind a system place,
+    -- It goes on after a system place,
     module _ (system : is_system_place size p ≡ true) (m f : ℕ) (made_is : IsMadeBehind old p made m) (fresh_is : IsFreshBehind old p fresh f) where
       system_now : is_system_place (image_size now) p ≡ true
       system_now = ap (λ (n : ℕ). is_system_place n p) way.size ∙ system
@@ -230,7 +230,7 @@ module _ (old start now : Image) (first from made fresh left : ℕ) (s : Searche
                 };
           }
 
-      -- with what is known of the page behind it,
+      -- with what is known of the page after it,
       pub known_on : (b : Behind) → IsKnown old now b → IsKnown old (round_at p now).image (gone p m f b)
       known_on b known =
           let low = way.made_before in
@@ -413,7 +413,7 @@ module _ (old start : Image) (first place made fresh : ℕ) (h : AtPlace old sta
         (subst (λ (f : ℕ). IsOnTheWay old (new_page kind payload (drafted start)).0.image (place + 1) h.made_before f) (sym (same_fresh_at h.fresh_is))
         (search_behind old start h.now first h.from h.made_before h.fresh_before h.left h.search most place h.at h.none h.other plain kind payload short))
 
--- The same with what is known of the page behind the search: it begins,
+-- The same with what is known of the page after the search: it begins,
 pub goes_begin : (old start : Image) (from made fresh : ℕ) (b : Behind) → IsOnTheWay old start from made fresh → GoesTo old start from from made fresh b b
 goes_begin old start from made fresh b way = record { now = start; tries = length start + 4; search = search_begins old start from made fresh way; known = λ k. k }
 
@@ -423,7 +423,7 @@ pub goes_at : (old start : Image) (first from made fresh : ℕ) (before after : 
 unfolding at_place
 goes_at old start first from made fresh before after s most place m f at none made_is fresh_is = record { at = at_place old start s.now first from made fresh s.tries s.search most place m f at none made_is fresh_is; known = s.known }
 
--- it goes on behind the place of a system page,
+-- it goes on after the place of a system page,
 pub goes_on : (old start : Image) (first place made fresh : ℕ) (before after : Behind) → AtKnown old start first place made fresh before after → length old ≤ 1048576 → is_system_place (image_size old) place ≡ true
     → GoesTo old start first (place + 1) made fresh before (gone place made fresh after)
 goes_on old start first place made fresh before after k most system =
@@ -502,7 +502,7 @@ ends_tested (Err (RefusedFault r)) old start from made fresh before after kind p
 ends_tested (Err Device) old start from made fresh before after kind payload short ends = tt
 ends_tested (Err Memory) old start from made fresh before after kind payload short ends = tt
 
--- and of the image behind it
+-- and of the image after it
 pub ends_shaped : {T : Type 0} (result : Result T Fault) (old start : Image) (from made fresh : ℕ) (before after : Behind) (kind : ℕ) (payload : ℕ → List ℕ) → IsShort payload → EndsBy result old start from made fresh before after
     → OnOk result (IsShaped (new_page kind payload (drafted start)).0.image)
 ends_shaped (Ok value) old start from made fresh before after kind payload short ends = (ends.way kind payload short).shaped

@@ -1,4 +1,4 @@
--- A page that is written behind a search for new pages: the page of a slot, or the last of a chain.
+-- A page that is written after a search for new pages: the page of a slot, or the last of a chain.
 use Rattle.std.specs.Prelude.{◌≡◌, ◌≢◌, ℕ, List, [], ◌∷◌, ◌++◌, Bool, true, false, not, ◌==◌, ◌||◌, nat_lt, Option, Some, None, Result, Ok, Err}
 use Rattle.nb_fields.specs.Places.{is_system_place}
 use Rattle.nb_host.specs.declared.faults.Fault.{Fault}
@@ -22,7 +22,7 @@ entry_broken image p = elim (has_entry image p) [ true ↦ other_kind image 10 (
 abbrev pub give_broken : Image → ℕ → List ℕ
 give_broken image p = entry_broken image (inventory_of image p) ++ other_kind image 2 (inventory_of image p)
 
--- why a draft isn't made behind which page p, a data page, is written
+-- why a draft isn't made after which page p, a data page, is written
 abbrev pub behind_cause : Draft → ℕ → Cause
 behind_cause d p = judged (other_kind d.image 5 p ++ (entry_broken d.image p ++ d.broken)) d.full
 
@@ -46,15 +46,15 @@ pub record IsKnown (old now : Image) (b : Behind) : Type 0 where
 abbrev pub entry_left : (entry place : ℕ) → ℕ
 entry_left entry place = elim (place == entry) [ true ↦ 0 | false ↦ entry ]
 
--- behind a place at which a system page will be made
+-- after a place at which a system page will be made
 abbrev pub passed : (place : ℕ) → Behind → Behind
 passed place b = record { page = b.page; entry = entry_left b.entry place; lost = b.lost || place == b.page }
 
--- and behind a place of a system page, where the last places without their pages are these
+-- and after a place of a system page, where the last places without their pages are these
 abbrev pub gone : (place made fresh : ℕ) → Behind → Behind
 gone place made fresh b = elim (made == place || fresh == place) [ true ↦ passed place b | false ↦ b ]
 
--- A search tests why that draft isn't made, and where it has ended with a page or a refusal, this is known of the page behind it.
+-- A search tests why that draft isn't made, and where it has ended with a page or a refusal, this is known of the page after it.
 pub record Judges {T : Type 0} (result : Result T Fault) (d : Draft) (old : Image) (b : Behind) : Type 0 where
   pub test : Tested result (judged d.broken d.full)
   pub known : WhereEnded result (IsKnown old d.image b)

@@ -22,11 +22,11 @@ abbrev pub owner_by : Option ℕ → (number : ℕ) → ℕ
 owner_by None number = number
 owner_by (Some owner) number = owner
 
--- a new data page without a next one, with these slots and zeros behind them; and its number
+-- a new data page without a next one, with these slots and zeros after them; and its number
 abbrev pub new_data : (owner : Option ℕ) (slots : List ℕ) → Image → Draft × ℕ
 new_data owner slots image = new_of 5 (λ p. data_payload 0 (owner_by owner p) slots) image
 
--- a new data page behind a chain, with these slots; and its number
+-- a new data page after a chain, with these slots; and its number
 abbrev pub new_behind : Chain → (slots : List ℕ) → Image → Draft × ℕ
 new_behind chain slots image = new_data (Some (owner_of chain)) slots image
 
@@ -34,7 +34,7 @@ new_behind chain slots image = new_data (Some (owner_of chain)) slots image
 abbrev pub second_data : (first second : ℕ → List ℕ) → Image → Draft × ℕ
 second_data first second image = new_page 5 second (new_page 5 first (drafted image)).0
 
--- page p becomes a data page with what these bytes have behind the head
+-- page p becomes a data page with what these bytes have after the head
 abbrev pub put_data : (p : ℕ) → Page → Image → Draft
 put_data p page image = put p 5 (drop 16 page) (drafted image)
 
@@ -46,6 +46,6 @@ data_cause image p = first_cause (not_kind image 5 p ∷ entry_cause image p ∷
 abbrev pub unmade : Image → Draft → Cause
 unmade image d = first_cause (too_short image ∷ not_of_form d ∷ no_room d ∷ [])
 
--- and one behind which page p, a data page, is written
+-- and one after which page p, a data page, is written
 abbrev pub unmade_behind : Image → Draft → (p : ℕ) → Cause
 unmade_behind image d p = first_cause (too_short image ∷ behind_cause d p ∷ [])

@@ -36,7 +36,7 @@ system_strokes image p = elim (is_kind image (system_kind image p) p) [ true ↦
 abbrev pub system_cause : Image → (p : ℕ) → Cause
 system_cause image p = elim (is_kind image (system_kind image p) p) [ true ↦ None | false ↦ entry_cause image p ]
 
--- what page p has behind its head: these bytes, of which, where it owns itself, four are its number
+-- what page p has after its head: these bytes, of which, where it owns itself, four are its number
 abbrev pub content : (own : Bool) (bytes : List ℕ) → (p : ℕ) → List ℕ
 content own bytes p = elim own [ true ↦ with_part 4 (bytes_of 4 p) bytes | false ↦ bytes ]
 
@@ -52,7 +52,7 @@ new_raw image = new_of 8 (λ p. text_payload []) image
 abbrev pub round : Image → (place : ℕ) → Draft
 round image place = take_page place (system_page place (drafted image))
 
--- the lowest free page behind that place then, or the length
+-- the lowest free page after that place then, or the length
 abbrev pub behind : Image → (place : ℕ) → ℕ
 behind image place = let after : Image = (round image place).image in free_from (length after - (place + 1)) (place + 1) after
 
@@ -61,12 +61,12 @@ pub record IsSupplied (image : Image) (p : ℕ) : Type 0 where
   pub shaped : IsShaped image
   pub ready : IsReady image p
 
--- Behind a system page that is made at page p the search goes on to a page that is left, by inventory pages of their kind.
+-- After a system page that is made at page p the search goes on to a page that is left, by inventory pages of their kind.
 pub record GoesOn (image : Image) (p : ℕ) : Type 0 where
   pub below : behind image p < 1048576
   pub maps : (k : ℕ) → k ≤ behind image p / bits_in (image_size (round image p).image) → is_kind (round image p).image 2 (inventory_place (image_size (round image p).image) k) ≡ true
 
--- The search goes on behind that place to the lowest free page, or the length. The map is the inventory page of that page.
+-- The search goes on after that place to the lowest free page, or the length. The map is the inventory page of that page.
 pub record IsOnward (image : Image) (place next : ℕ) (map : Page) : Type 0 where
   pub found : next ≡ free_from (length image - (place + 1)) (place + 1) image
   pub low : next ≤ length image
@@ -83,7 +83,7 @@ pub record MakesThese {T : Type 0} (result : Result T Fault) (old new : World) (
   pub makes : Makes result old new before after t strokes
   pub same : OnOk result (made ≡ strokes)
 
--- The call makes some strokes, and where P holds it makes these. Its value and the image behind what it made have Q.
+-- The call makes some strokes, and where P holds it makes these. Its value and the image after what it made have Q.
 pub record MakesWhere {T : Type 0} (P : Type 0) (Q : T → Image → Type 0) (result : Result T Fault) (old new : World) (before after : Held) (t : Trail) (strokes : List Stroke) : Type 0 where
   pub some : MakesSome result old new before after t
   pub ends : IfOk result (λ value. Q value (after_strokes t some.made).base.image)

@@ -1,4 +1,4 @@
--- How a search for new pages goes, on a database that nothing was written to yet: from image to image behind what it went past.
+-- How a search for new pages goes, on a database that nothing was written to yet: from image to image after what it went past.
 use Rattle.std.specs.Prelude.{◌≡◌, ◌≢◌, ℕ, suc, ◌+◌, ◌<◌, ◌≤◌, List, length, true, Some, None, Result, Ok, Err}
 use Rattle.nb_fields.specs.Places.{is_system_place}
 use Rattle.nb_host.specs.declared.faults.Fault.{Fault}
@@ -48,7 +48,7 @@ pub record AtPlace (old start : Image) (first place made fresh : ℕ) : Type 0 w
   pub made_is : IsMadeBehind old place made_before made
   pub fresh_is : IsFreshBehind old place fresh_before fresh
 
--- The same, with what is known of the page that is written behind it.
+-- The same, with what is known of the page that is written after it.
 pub record AtKnown (old start : Image) (first place made fresh : ℕ) (before after : Behind) : Type 0 where
   pub at : AtPlace old start first place made fresh
   pub known : IsKnown old start before → IsKnown old at.now after

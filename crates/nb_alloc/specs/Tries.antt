@@ -17,7 +17,7 @@ pub record Tries {T : Type 0} (result : Result T Fault) (old new : World) (befor
   pub makes : Makes result old new before after t (unless_by cause strokes)
   pub idle : (r : Refusal) → cause ≡ Some r → Quiet old new
 
--- The call has wanted memory: it has made a front of these strokes and no other, and the database is open behind it.
+-- The call has wanted memory: it has made a front of these strokes and no other, and the database is open after it.
 pub record StopsBehind (old new : World) (before after : Held) (t : Trail) (strokes : List Stroke) : Type 0 where
   pub made : List Stroke
   pub rest : List Stroke

@@ -1,4 +1,4 @@
-// A page that is written behind a search for new pages: the page of a slot, or the last of a chain. The search may make a system page where it
+// A page that is written after a search for new pages: the page of a slot, or the last of a chain. The search may make a system page where it
 // stands, or the SCN page with its entry, so whether it may be written is known once the search has ended.
 ghost use Rattle.std.specs.Prelude.{◌≡◌, ◌≢◌, ◌<◌, ◌++◌, ◌∷◌, ◌==◌, ◌||◌, ℕ, List, [], Bool, true, false, Some, None, IsTrue, IfErr, IfOk, OnOk, IfSome, Ok, length, nat_lt};
 ghost use Rattle.nb_host.specs.declared.faults.Fault.TheVariants.{Memory};
@@ -17,7 +17,7 @@ use crate::way::{Way, is_there};
 use nb_host::{Fault, Host, Refusal};
 use nb_state::Store;
 
-/// A page that is written behind a search for new pages, and what the search leaves of it.
+/// A page that is written after a search for new pages, and what the search leaves of it.
 #[derive(Drop)]
 pub(crate) struct Behind {
     /// The page, or 0 for none.
@@ -29,7 +29,7 @@ pub(crate) struct Behind {
 }
 
 impl Behind {
-    /// No page is written behind the search.
+    /// No page is written after the search.
     pub(crate) fn none() -> Behind
         ensures { result.page ≡ 0 }
     {
@@ -87,7 +87,7 @@ impl Behind {
         };
     }
 
-    /// What the search found, where the page may be written behind it. Else the refusal is `NotDatabase` of the lowest page that isn't of its
+    /// What the search found, where the page may be written after it. Else the refusal is `NotDatabase` of the lowest page that isn't of its
     /// kind: one that the search ended at, the page itself, or the SCN page with its entry.
     pub(crate) fn judge(&self, found: Result<u32, Fault>) -> Result<u32, Fault>
         ensures test { (pages : List ℕ) (full : Bool) → Tested found (judged pages full) → Tested result (judged (page_if self.now.lost self.now.page ++ (page_if (nat_lt 0 self.now.entry) self.now.entry ++ pages)) full) }

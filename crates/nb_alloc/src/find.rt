@@ -26,14 +26,14 @@ pub const FIRST_TO_GIVE: u32 = 5;
 /// As many pages as a database may have.
 pub(crate) const MOST_PAGES: u32 = 1048576;
 
-/// The first page behind those that have their bits in one inventory page with page `number`.
+/// The first page after those that have their bits in one inventory page with page `number`.
 fn behind_bits(page_size: u32, number: u32) -> u32
     requires size { IsTrue (is_page_size page_size) }
     requires number { number < 1048576 }
     ensures { result ≡ (number / bits_in page_size + 1) * bits_in page_size }
 {
     let (_, bit) = covers(page_size, number);
-    // Each byte behind the place of the bits has eight of them.
+    // Each byte after the place of the bits has eight of them.
     number - bit + 8 * (page_size - BITS_AT as u32)
 }
 
@@ -97,7 +97,7 @@ fn free_near<H: Host>(
 /// page that it read last is then in `map`: that of the page, or of the last page of the database.
 ///
 /// The refusal is `NotDatabase` of an inventory page that it had to read. It reads each at most once, none before that of `from`, and none
-/// behind that of the page.
+/// after that of the page.
 pub(crate) fn next_free<H: Host>(
     store: &mut Store,
     host: &mut H,

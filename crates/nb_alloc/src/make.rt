@@ -108,7 +108,7 @@ fn has_page<H: Host>(
 }
 
 /// Writes page `number`, below the length or at it, as a page of that kind, its SCN entry first. `page` has the head of the page as it stands, or
-/// zeros where it is added, and behind the head what shall stand there; the head is written with the generation raised and the current SCN. It
+/// zeros where it is added, and after the head what shall stand there; the head is written with the generation raised and the current SCN. It
 /// takes one read at most, and wants memory in the stalled state alone.
 ///
 /// The refusal is `NotDatabase` of its SCN page; nothing has changed then.
@@ -174,7 +174,7 @@ fn make_system<H: Host>(
     Ok(())
 }
 
-/// Makes these bytes what stands behind the head of a page, and zeros behind them.
+/// Makes these bytes what stands after the head of a page, and zeros after them.
 fn put_payload(page: &mut [u8], payload: &[u8])
     requires size { IsTrue (is_page_size (length page.old)) }
     requires short { length payload.now ≤ 1008 }
@@ -185,7 +185,7 @@ fn put_payload(page: &mut [u8], payload: &[u8])
     page[end..].fill(0);
 }
 
-/// Makes these bytes what stands behind the head of page `number`, and zeros behind them. Where it owns itself, its number is its owner.
+/// Makes these bytes what stands after the head of page `number`, and zeros after them. Where it owns itself, its number is its owner.
 fn put_content(page: &mut [u8], payload: &[u8], own: bool, number: u32)
     requires size { IsTrue (is_page_size (length page.old)) }
     requires short { length payload.now ≤ 1008 }

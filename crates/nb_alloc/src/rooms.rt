@@ -60,7 +60,7 @@ pub fn check_new<H: Host>(
     find_room(store, host, &mut way, &mut behind, map, scn_page)
 }
 
-/// Tests all that so many new pages change, one or two, one right behind the other. It answers the page at which the first is made at first.
+/// Tests all that so many new pages change, one or two, one right after the other. It answers the page at which the first is made at first.
 fn find_rooms<H: Host>(
     store: &mut Store,
     host: &mut H,
@@ -105,8 +105,8 @@ fn find_rooms<H: Host>(
     Ok(first)
 }
 
-/// Tests all that so many new pages change, one or two, one right behind the other, and that page `number`, a data page, may be written
-/// behind them. It answers the page at which the first is made at first. Where no system page stands there, and one page is made, the
+/// Tests all that so many new pages change, one or two, one right after the other, and that page `number`, a data page, may be written
+/// after them. It answers the page at which the first is made at first. Where no system page stands there, and one page is made, the
 /// inventory page of that page is then in `map`. It changes nothing but which pages are in memory, and wants no memory.
 ///
 /// The refusals are `NotDatabase` of the lowest page that isn't of its kind: one that the new pages need, the SCN page with the entry of page

@@ -341,8 +341,8 @@ fn visit<H: Host>(
     Ok(place)
 }
 
-/// Goes on behind `first`, a page that the search has come to, where a system page stands there: up to the page that the new one will be. What
-/// it goes past it tells the page that is written behind the search.
+/// Goes on after `first`, a page that the search has come to, where a system page stands there: up to the page that the new one will be. What
+/// it goes past it tells the page that is written after the search.
 ///
 /// The refusals are `NotDatabase` of the first page that isn't of its kind, and `Full`, where no page is left.
 fn go_on<H: Host>(
@@ -391,8 +391,8 @@ fn go_on<H: Host>(
     Ok(())
 }
 
-/// Tests that one new page more may be made, and all that is written for it, behind those that were tested before. It answers the page that
-/// the search for it comes to first, and goes past the page that it will be. What it goes past it tells the page that is written behind the
+/// Tests that one new page more may be made, and all that is written for it, after those that were tested before. It answers the page that
+/// the search for it comes to first, and goes past the page that it will be. What it goes past it tells the page that is written after the
 /// search.
 ///
 /// The refusals are those of the new page: `NotDatabase` of the lowest page that it needs and that isn't of its kind, and `Full`, where no

@@ -94,7 +94,7 @@ module _ (bytes : List ℕ) where
   pub start_is : not_database bytes ≡ None → state_of bytes ≢ 3 → start_cause bytes ≡ None
   start_is e other = first_next _ _ e ∙ first_next _ _ (rests _ _ (eq_no (state_of bytes) 3 other)) ∙ first_none
 
-  -- behind a form the state decides
+  -- after a form the state decides
   pub start_rest : (r : Refusal) → not_database bytes ≡ None → start_cause bytes ≡ Some r → (state_of bytes ≡ 3) × (r ≡ Unfinished)
   start_rest r none e = elim (eqb_tells (state_of bytes) 3) [
     | inl w ↦ (w.1, some_same (sym e ∙ start_unfinished none w.1))
@@ -117,7 +117,7 @@ module _ (bytes : List ℕ) where
           let none : length bytes / size ≡ 0 = div-eq_of_lt (omega (arith, wide, short)) in
           too_few (length bytes) size (omega (arith, none)) ∙ ap (λ (k : ℕ). Some (NotDatabase (min k 1048576))) none
 
--- a length that is refused behind a header
+-- a length that is refused after a header
 pub length_refused : (bytes : List ℕ) (size : ℕ) (fault : Fault) → is_header bytes ≡ true → size ≡ size_of bytes → Tested {T = ℕ} (Err fault) (length_cause (length bytes) size) → Tested {T = ℕ} (Err fault) (start_cause bytes)
 length_refused bytes size (Refused r) header same tested = start_broken bytes r (headed bytes header ∙ ap (length_cause (length bytes)) (sym same) ∙ tested)
 length_refused bytes size Device header same tested = tt
@@ -189,7 +189,7 @@ module _ (bytes : List ℕ) (none : not_database bytes ≡ None) (size : ℕ) (s
         absurd (true_false (sym zeros ∙ ap is_zeros (page_is ∙ last) ∙ last_other n image is_laid.whole all))
   ]
 
-  -- and another one is, where the pages behind it aren't counted
+  -- and another one is, where the pages after it aren't counted
   pub last_is : is_zeros (take size (drop (n * size) bytes)) ≡ false → length (image_in bytes) ≤ suc n → suc n ≡ length (image_in bytes)
   last_is other low = elim (leb_tells (suc n) (length image)) [
     | inl w ↦ omega (arith, w.1, low)

@@ -1,4 +1,4 @@
--- The control block of a main file is written: what a stop leaves, and what stands after.
+-- The control block of a main file is written: what a crash leaves, and what stands after.
 use Rattle.std.proofs.Common.{◌≡◌, ◌⊎◌, inl, inr, ⊎_elim, ℕ, zero, suc, ◌+◌, ◌*◌, ◌<◌, ◌≤◌, List, [], ◌∷◌, ◌++◌, length, take, drop, refl, sym, ap, subst, ◌∙◌, arith, mul-le-mul_right}
 use Rattle.std.specs.Prelude.{Bool, true, false, IsTrue, Option, Result, OnOk}
 use Rattle.std.proofs.lemmas.Bool.Decides.{leb_tells}
@@ -113,14 +113,14 @@ module _ (image : Image) (m : File) (h : HasImage image m) (state : ℕ) (guid :
   written : written_at (image_size image) (0, page) image ≡ after
   written = set_first image (some image m h) ∙ ap (λ (x : Page). x ∷ drop 1 image) is ∙ sym (control_first image (some image m h))
 
-  -- the page written whole, and what a stop leaves of it
+  -- the page written whole, and what a crash leaves of it
   pub block_put : (c : File) → c ≡ with_page_at m (0 * length page) page → HasImage (in_state state guid image) c
   block_put c put = of_main after c (subst (λ (x : Image). HasMain x c) written (main_put image m c 0 page (to_main image m h) may put))
 
   pub block_left : (c : File) → PageLeft (0 * length page) page m c → HasImage image c ⊎ HasImage (in_state state guid image) c
   block_left c left = ⊎_elim (λ was. inl (of_main image c was)) (λ put. inr (of_main after c (subst (λ (x : Image). HasMain x c) written put))) (main_written image m c 0 page (to_main image m h) may left)
 
--- The calls, one by one. Whatever a stop leaves of the file has this image.
+-- The calls, one by one. Whatever a crash leaves of the file has this image.
 module _ (name : List ℕ) (image : Image) (state : ℕ) (guid : Option (List ℕ)) where
   abbrev P : Files → Type 0
   P = ControlLeft name image (in_state state guid image)

@@ -133,7 +133,7 @@ module _ (state scn : ℕ) (guid : List ℕ) (sixteen : length guid ≡ 16) (p :
           all_four : (a b c d : Bool) → a ≡ true → b ≡ true → c ≡ true → d ≡ true → (a && b && c && d) ≡ true
           all_four a b c d e f g h = rw (e, f, g, h) refl
 
--- What stands behind the first 64 bytes has no part in it.
+-- What stands after the first 64 bytes has no part in it.
 pub controlled-front : (state scn : ℕ) (guid f r : List ℕ) → length guid ≡ 16 → length f ≡ 64 → controlled state scn guid (f ++ r) ≡ controlled state scn guid f ++ r
 unfolding controlled
 controlled-front state scn guid f r sixteen long =

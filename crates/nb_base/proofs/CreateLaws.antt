@@ -41,7 +41,7 @@ pub record HasRest (size raw number : ℕ) (file : File) : Type 0 where
 pub rest_begun : (size raw : ℕ) (file : File) → file ≡ Some [] → HasRest size raw 1 file
 rest_begun size raw file is = record { n = 0; next = refl; reads = is }
 
--- the first page behind the gap, and a page behind others
+-- the first page after the gap, and a page after others
 put-gap : (size : ℕ) (page : Page) → put_at [] (1 * size) page ≡ joined (replicate size 0 ∷ page ∷ [])
 unfolding put_at padded
 put-gap size page =
@@ -59,7 +59,7 @@ rest-sizes size raw from zero is = tt
 rest-sizes size raw from (suc n) is = (length-fresh_page size raw from is, rest-sizes size raw (from + 1) n is)
 
 module _ (size raw : ℕ) (is : IsTrue (is_page_size size)) where
-  -- a page that isn't the first stands behind the header
+  -- a page that isn't the first stands after the header
   pub far_behind : (number : ℕ) (page : Page) → page ≡ fresh_page size raw number → 1 ≤ number → 64 ≤ number * length page
   far_behind number page page_is some =
       let long : length page ≡ size = ap length page_is ∙ length-fresh_page size raw number is in
@@ -83,7 +83,7 @@ module _ (size raw : ℕ) (is : IsTrue (is_page_size size)) where
             ∙ ap (λ (ps : List Page). Some (joined (with_gap size ps))) (sym (map-range_with_len_more (fresh_page size raw) 1 n number last));
       }
 
-  -- the pages behind page 0
+  -- the pages after page 0
   rest-all : (n : ℕ) → fresh_count size raw ≡ suc n → drop 1 (fresh size raw) ≡ rest size raw n
   unfolding fresh
   rest-all n all = ap (λ k. drop 1 (map (fresh_page size raw) (range_with_len 0 k))) all

@@ -1,4 +1,4 @@
--- What creating a database answers, and what it leaves behind a test that changed nothing.
+-- What creating a database answers, and what it leaves after a test that changed nothing.
 use Rattle.std.proofs.Common.{◌≡◌, ◌≤◌, inr, inl, ⊎_elim, ℕ, List, [], sym, ◌∙◌, ap, subst, arith}
 use Rattle.std.specs.Prelude.{Bool, IsTrue, true, false, Result, Ok, Err}
 use Rattle.std.specs.Result.{IsErrAnd}
@@ -28,7 +28,7 @@ use Rattle.nb_base.specs.Beginnings.{CreateLeft, CreateReads, CreatesFile, Creat
 pub quiet_left : (old new : World) (name : List ℕ) (image : Image) → Quiet old new → Changes old new (Only name) (CreateLeft old name image)
 quiet_left old new name image quiet = rested old new (Only name) _ quiet.still quiet.said quiet.moments (λ files left. inl (left name))
 
--- and what comes behind it leaves what it would have left at once
+-- and what comes after it leaves what it would have left at once
 pub quiet_then : (old mid new : World) (name : List ℕ) (image : Image) → Quiet old mid → Changes mid new (Only name) (CreateLeft mid name image) → Changes old new (Only name) (CreateLeft old name image)
 quiet_then old mid new name image quiet so_far =
     composed old mid new (Only name) _ _ _ (quiet_left old mid name image quiet) so_far (λ files left. left)

@@ -1,4 +1,4 @@
--- The end of the stalled state and of the merge: what a stop leaves at each moment, and what is open after.
+-- The end of the stalled state and of the merge: what a crash leaves at each moment, and what is open after.
 use Rattle.std.proofs.Common.{◌≡◌, ◌≢◌, inr, ℕ, List, [], ◌∷◌, length, refl, sym, ap, subst, ◌∙◌, arith}
 use Rattle.std.specs.Prelude.{None, Ok}
 use Rattle.nb_host.specs.Files.{File, Files}
@@ -72,7 +72,7 @@ module _ (old : World) (held : Held) (t : Trail) (is : IsOpen old held t) (reads
     one : image_state g0.main ≡ 1
     one = state ∙ stalled
 
-    -- the main file is frozen, whatever a stop leaves
+    -- the main file is frozen, whatever a crash leaves
     frozen_main : (m d : File) → StandsFirmOn held.name t m d → HasImage g0.main m
     frozen_main m d o =
         let h : Holds o.base m d = holds held.name o.base m d o.opens in

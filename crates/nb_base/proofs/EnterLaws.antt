@@ -1,4 +1,4 @@
--- Drafted entries come into the table, once their slots are written: what a stop leaves meanwhile, and that the files hold what is seen then.
+-- Drafted entries come into the table, once their slots are written: what a crash leaves meanwhile, and that the files hold what is seen then.
 use Rattle.std.proofs.Common.{◌≡◌, inl, inr, ⊎_elim, ℕ, zero, suc, ◌<◌, ◌≤◌, List, [], ◌∷◌, ◌++◌, length, get_or, take, drop, refl, sym, ap, subst, ◌∙◌, arith, append_assoc, length-append}
 use Rattle.std.specs.Prelude.{Bool, false, Option, Some, None, Ok, max}
 use Rattle.std.proofs.lemmas.Bool.Decides.{eqb_tells, leb_tells}
@@ -45,7 +45,7 @@ page_past [] p past = refl
 page_past (x ∷ xs) zero past = absurd (omega (arith, past))
 page_past (x ∷ xs) (suc p) past = page_past xs p (omega (arith, past))
 
--- The number behind the greatest entry.
+-- The number after the greatest entry.
 entry_more : (p q : ℕ) (qs : List ℕ) (k : ℕ) → entry_for p qs ≡ Some k → (j : ℕ) × (entry_for p (q ∷ qs) ≡ Some j)
 entry_more p q qs k e = elim (eqb_tells p q) [
   | inl w ↦ (0, entry-first p q qs w.1)
@@ -109,7 +109,7 @@ module _ (w : World) (reads : (n : List ℕ) → Leaves w n (w.files n)) (held :
   pub its_table : HasTable held.page_size (w.files (delta_name held.name)) f.base.diverted
   its_table = subst (λ (x : List ℕ). HasTable held.page_size d x) is.diverted (subst (λ n. HasTable n d r.diverted) main_size (hr.entries.some (omega (arith, main_one))))
 
-  -- whatever a stop leaves of the main file is frozen
+  -- whatever a crash leaves of the main file is frozen
   frozen_main : (m : File) → Leaves w held.name m → Holds goes.reads.base m (w.files (delta_name held.name))
   frozen_main m left = same_main r (w.files name) d m hr (subst (λ (x : Image). HasMain x m) same h.has)
     where

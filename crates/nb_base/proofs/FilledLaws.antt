@@ -101,7 +101,7 @@ none_cut old held t is none = is.agrees.count ∙ all_filled t.base.image (lengt
     low : length (trimmed t.base.image) ≤ length t.base.image
     low = trimmed_length t.base.image
 
--- Calls that change nothing leave what is open and what is merged, and strokes behind them are as if they had not been made.
+-- Calls that change nothing leave what is open and what is merged, and strokes after them are as if they had not been made.
 pub open_still : (old new : World) (held : Held) (t : Trail) → IsStill old new → IsOpen old held t → IsOpen new held t
 open_still old new held t still is = seen_open new held t (seen_still old new held.name t still (open_seen old held t is)) is.agrees is.drafted
 

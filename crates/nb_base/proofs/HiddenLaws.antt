@@ -30,7 +30,7 @@ use Rattle.nb_base.proofs.StepLaws.{main_moved}
 use Rattle.nb_base.proofs.WrittenLaws.{HasMain, MayLay, main_overlaid}
 use Rattle.nb_base.proofs.WriteLaws.{delta_apart}
 
--- a page that may be written behind an entry that hides it
+-- a page that may be written after an entry that hides it
 pub record MayHide (t : Trail) (p : ℕ) (bytes : Page) : Type 0 where
   pub fits : Fits p bytes t.base.image
   pub long : length bytes ≡ image_size t.base.image

@@ -1,4 +1,4 @@
--- What a stop may leave goes on by a page write: by itself, and where the write is lost.
+-- What a crash may leave goes on by a page write: by itself, and where the write is lost.
 use Rattle.std.proofs.Common.{◌≡◌, ◌≢◌, ◌⊎◌, inl, inr, ⊎_elim, ℕ, zero, suc, ◌+◌, ◌<◌, List, [], ◌∷◌, ◌++◌, length, take, drop, refl, sym, ap, subst, ◌∙◌, arith, append_assoc, length-append}
 use Rattle.std.specs.Prelude.{Bool, true, false, ◌||◌, ◌==◌, nat_eq, nat_le, Option, Some, None, max}
 use Rattle.std.specs.List.{list_any}
@@ -182,7 +182,7 @@ module _ (t : Trail) (p : ℕ) (bytes : Page) (fits : Fits p bytes t.base.image)
     base_is : (on_base s t.base).image ≡ with_page p bytes now
     base_is = stroke-image t.base p bytes ∙ ap (λ (x : Page). with_page p x now) (merged_fits p bytes now fits.front)
 
-    -- the image behind the stroke, of what was seen and of the outcome
+    -- the image after the stroke, of what was seen and of the outcome
     stroke_size : image_size (on_base s t.base).image ≡ image_size now
     stroke_size = ap (λ (x : Base). image_size x.image) (sym (trail_base s t)) ∙ later_size
 

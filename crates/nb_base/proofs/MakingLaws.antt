@@ -1,4 +1,4 @@
--- The file of a new database while it is made: until page 0 is written it has no header, whatever a stop leaves of it.
+-- The file of a new database while it is made: until page 0 is written it has no header, whatever a crash leaves of it.
 use Rattle.std.proofs.Common.{◌≡◌, ◌≢◌, ◌⊎◌, inl, inr, ⊎_elim, ℕ, zero, suc, ◌+◌, ◌-◌, ◌*◌, ◌≤◌, List, [], ◌∷◌, ◌++◌, length, take, drop, replicate, refl, sym, ◌∙◌, ap, subst, arith, length-append}
 use Rattle.std.specs.Prelude.{Bool, true, IsTrue, ◌||◌, ◌==◌, Some, None, Result, Ok, Err, OnOk}
 use Rattle.std.proofs.lemmas.Bool.{and_parts, and_from}
@@ -38,7 +38,7 @@ blank-free (Some bytes) h = ap (λ (b : Bool). b || is_unfinished bytes) h
 blank-empty : (c : File) → c ≡ Some [] → IsBlank c
 blank-empty c is = ap (λ (x : File). is_zeros (take 64 (bytes_of x))) is
 
--- zeros behind leave it blank
+-- zeros after leave it blank
 zeros-take : (k n : ℕ) → is_zeros (take k (replicate n 0)) ≡ true
 zeros-take zero n = refl
 zeros-take (suc k) zero = refl
@@ -49,7 +49,7 @@ zeros-behind zero n bytes h = refl
 zeros-behind (suc k) n [] h = zeros-take (suc k) n
 zeros-behind (suc k) n (b ∷ bs) h = let both = and_parts (b == 0) (is_zeros (take k bs)) h in and_from (b == 0) (is_zeros (take k (bs ++ replicate n 0))) both.0 (zeros-behind k n bs both.1)
 
--- and so does a page behind it
+-- and so does a page after it
 blank-put : (at : ℕ) (page : List ℕ) (file : File) → 64 ≤ at → IsBlank file → IsBlank (with_page file at page)
 unfolding put_at padded
 blank-put at page file far h =
@@ -122,7 +122,7 @@ module _ (name : List ℕ) (image : Image) where
       blank_more old old new (not_begun old timely) time silent is.others (whole-other {T = T} {E = E} (Ok value) old.files new.files name (Some []) (is.files so)) is.back
       (λ c n. blank-empty c (is.done c n)) (blank-empty (new.files name) (named old.files new.files name (Some []) (is.files so)))
 
-  -- a page behind page 0 is written, also where that fails
+  -- a page after page 0 is written, also where that fails
   pub page_more : {T E : Type 0} (tells : Bool) (result : Result T E) (old mid new : World) (at : ℕ) (page : List ℕ) → IsTrue tells → 64 ≤ at → Making old mid name image → WritesPage tells result mid new name at page → IsSilent mid new
       → Passes mid new → Making old new name image
   page_more tells result old mid new at page so far making is silent time =

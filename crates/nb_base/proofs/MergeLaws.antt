@@ -98,7 +98,7 @@ module _ (held : Held) (files : Files) (b : Base) (h : Holds b (files held.name)
       by None e = owned-none (image_size h.main) h.main delta b.diverted 0 e ∙ main_here (image_size h.main) h.main 0 some
       by (Some k) e = owned-entry (image_size h.main) h.main delta b.diverted 0 k e ∙ slot_zero k e
 
-  -- each page of the image is the main file's, or zeros behind it
+  -- each page of the image is the main file's, or zeros after it
   page_alike : (p : ℕ) → main_page (image_size h.main) b.image p ≡ main_page (image_size h.main) h.main p
   page_alike p = elim (leb_tells (suc p) (length b.image)) [
     | inl w ↦ main_here (image_size h.main) b.image p w.1 ∙ base-page b (files held.name) (files (delta_name held.name)) h p w.1 ∙ by p

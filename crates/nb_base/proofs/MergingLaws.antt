@@ -1,4 +1,4 @@
--- The page of an entry is written into the main file: what a stop leaves, and that the entry is equal in both files then.
+-- The page of an entry is written into the main file: what a crash leaves, and that the entry is equal in both files then.
 use Rattle.std.proofs.Common.{◌≡◌, ◌≢◌, inl, inr, ℕ, zero, suc, ◌+◌, ◌*◌, ◌<◌, ◌≤◌, List, [], ◌∷◌, length, get_or, take, drop, refl, sym, ap, subst, ◌∙◌, arith}
 use Rattle.std.specs.Prelude.{false, nat_eq, Some, None, Result, Ok}
 use Rattle.std.specs.List.{IsDistinct}

@@ -158,7 +158,7 @@ module _ (name bytes : List ℕ) (start : Start) (is : IsStart bytes start) wher
           entries = entries;
         }
 
-    -- Once they are kept for good, each stop leaves them.
+    -- Once they are kept for good, each crash leaves them.
     pub read_attached : (held : Held) (old new : World) → old.files name ≡ Some bytes → old.files (delta_name name) ≡ d → new.files ≡ old.files → held.name ≡ name → held.page_size ≡ start.page_size → held.state ≡ start.state
         → held.count ≡ max (length (image_in bytes)) (behind_entries known.entries) → held.main_count ≡ length (image_in bytes) → held.entries ≡ known.entries → held.drafted ≡ 0
         → IsDurable new name (Some bytes) → (0 < start.state → IsDurable new (delta_name name) d) → IsAttached held old new name

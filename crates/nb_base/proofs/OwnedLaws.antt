@@ -96,7 +96,7 @@ none_some h = cc
 some_same : {j k : ℕ} → Some j ≡ Some k → j ≡ k
 some_same h = cc
 
--- behind the first entry
+-- after the first entry
 abbrev pub later : Option ℕ → Option ℕ
 later None = None
 later (Some k) = Some (suc k)
@@ -174,7 +174,7 @@ entry-front p (q ∷ qs) rest k e = elim (eqb_tells p q) [
     by so_far None is h = absurd (none_some (ap later (sym is) ∙ h))
     by so_far (Some j) is h = ap later (so_far j is ∙ sym is) ∙ h
 
--- and one that the front doesn't have stands behind it
+-- and one that the front doesn't have stands after it
 pub entry-behind : (p : ℕ) (front rest : List ℕ) (k : ℕ) → entry_for p front ≡ None → entry_for p (front ++ rest) ≡ Some k → length front ≤ k
 unfolding entry_for
 entry-behind p [] rest k none e = omega arith

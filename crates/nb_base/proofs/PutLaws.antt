@@ -1,4 +1,4 @@
--- A page that waited goes out: what one outcome holds then, what a stop leaves, and what reads.
+-- A page that waited goes out: what one outcome holds then, what a crash leaves, and what reads.
 use Rattle.std.proofs.Common.{◌≡◌, ◌≢◌, ◌⊎◌, inl, inr, ⊎_elim, ℕ, ◌*◌, List, length, refl, sym, ap, subst, ◌∙◌, arith}
 use Rattle.std.specs.Prelude.{Bool, IsTrue, None, Ok, Result}
 use Rattle.nb_host.specs.Files.{File, Files, with_file, with_page as with_page_at}

@@ -1,4 +1,4 @@
--- Pages go into their slots in the stalled state, before their entries are in the table: what a stop leaves, and what reads behind each.
+-- Pages go into their slots in the stalled state, before their entries are in the table: what a crash leaves, and what reads after each.
 use Rattle.std.proofs.Common.{◌≡◌, ◌≢◌, ◌⊎◌, inl, inr, ⊎_elim, ℕ, ◌+◌, ◌<◌, ◌≤◌, List, [], ◌++◌, length, refl, sym, ap, subst, ◌∙◌, arith, append_assoc}
 use Rattle.std.specs.Prelude.{Bool, true, false, Option, Some, None, Ok}
 use Rattle.std.proofs.lemmas.Bool.{true≢false, cases_eq}
@@ -181,7 +181,7 @@ module _ (w new : World) (held : Held) (f t : Trail) (waits : ℕ → Bool) (goe
         holds_slot (settled b) p bytes (write b long first) b (itself_firm (settled b)) m d h one k e c (subst (λ n. HasTable n c b.diverted) (size_of_base b first) table) (subst (λ n. slot_page n c k ≡ bytes) (size_of_base b first) slot)
         (λ j low ne. subst (λ n. slot_page n c j ≡ slot_page n d j) (size_of_base b first) (same j ne))
 
-  -- what a stop leaves of one outcome
+  -- what a crash leaves of one outcome
   module _ (b : Base) (is : IsOnTheWay f t b) where
     abbrev more : List ℕ
     more = is.diverted.0 ++ goes.behind.diverted.0

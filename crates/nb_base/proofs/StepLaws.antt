@@ -98,7 +98,7 @@ module _ (t : Trail) (p : ℕ) (bytes : Page) (is : IsWrite t p bytes) where
     same_main : image_state now ≢ 1 → (c : File) → HasMain h.main c → Holds b c d
     same_main other c has = main_moved b b m d c h h.main (λ e. other (sym main-state ∙ e)) has refl refl refl h.image
 
-    -- what a stop leaves of the write
+    -- what a crash leaves of the write
     pub left_main : image_state now ≢ 1 → entry_for p b.diverted ≡ None → (c : File) → PageLeft (p * length bytes) bytes m c → Holds b c d ⊎ Holds (on_base s b) c d
     left_main other none c step = ⊎_elim (λ has. inl (same_main other c has)) (λ has. inr (shows_main other none c has)) (main_written h.main m c p bytes h.has may step)
 

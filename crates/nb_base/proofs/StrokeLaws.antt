@@ -1,4 +1,4 @@
--- The control strokes: what a stop leaves at each moment, and what is open after.
+-- The control strokes: what a crash leaves at each moment, and what is open after.
 use Rattle.std.proofs.Common.{◌≡◌, ◌≢◌, inl, inr, ⊎_elim, ℕ, ◌<◌, List, [], ◌∷◌, length, refl, sym, ap, subst, ◌∙◌, arith}
 use Rattle.std.specs.Prelude.{true, Option, Some, Ok}
 use Rattle.nb_host.specs.Files.{File, Files}
@@ -54,7 +54,7 @@ waits old new held t is timely still silent time = still_alone old new (OfFiles 
 pub not_struck : (old new : World) (name : List ℕ) (t : Trail) (s : Stroke) → Changes old new (OfFiles name) (StandsFirm name t) → StrikesFirm old new name t (s ∷ [])
 not_struck old new name t s so_far = weaker_has old new (OfFiles name) (StandsFirm name t) _ so_far (λ files stands. inl stands)
 
--- A control block is written behind calls that changed no database.
+-- A control block is written after calls that changed no database.
 module _ (old mid new : World) (name : List ℕ) (t : Trail) (s : Stroke) (before after : Image) (so_far : Changes old mid (OfFiles name) (StandsFirm name t)) (block : Changes mid new (Only name) (ControlLeft name before after))
     (stay : (files : Files) → ((m : List ℕ) → m ≢ name → Leaves mid m (files m)) → HasImage before (files name) → StandsFirm name t files)
     (go : (files : Files) → ((m : List ℕ) → m ≢ name → Leaves mid m (files m)) → HasImage after (files name) → Holds (on_base s t.base) (files name) (files (delta_name name))) (settles : settles_at t s ≡ true) where

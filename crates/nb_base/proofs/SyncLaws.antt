@@ -1,4 +1,4 @@
--- What a stop leaves of two files that are kept for good.
+-- What a crash leaves of two files that are kept for good.
 use Rattle.std.proofs.Common.{◌≡◌, ◌≢◌, ℕ, zero, suc, List, refl, sym, ap, subst, ◌∙◌, arith}
 use Rattle.std.specs.Prelude.{Ok}
 use Rattle.nb_host.specs.Files.{File, Files, bytes_of}

@@ -1,4 +1,4 @@
--- A page is written: what a stop leaves at each moment, and what is seen once the call has answered Ok.
+-- A page is written: what a crash leaves at each moment, and what is seen once the call has answered Ok.
 use Rattle.std.proofs.Common.{◌≡◌, ◌≢◌, ◌⊎◌, inl, inr, ⊎_elim, ℕ, zero, suc, ◌*◌, ◌<◌, ◌≤◌, List, [], ◌∷◌, length, refl, sym, ap, subst, ◌∙◌, arith, length-append}
 use Rattle.std.specs.Prelude.{Bool, true, false, IsTrue, Some, None, Result, Ok, Err, IsErr, OnOk}
 use Rattle.nb_host.specs.Files.{File, Files, with_file, with_page as with_page_at}

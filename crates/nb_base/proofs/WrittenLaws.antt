@@ -1,4 +1,4 @@
--- A page written into a main file, in any backup state: what the file holds then, and what a stop leaves of it.
+-- A page written into a main file, in any backup state: what the file holds then, and what a crash leaves of it.
 use Rattle.std.proofs.Common.{◌≡◌, ◌⊎◌, inl, inr, ℕ, zero, suc, ◌+◌, ◌-◌, ◌*◌, ◌<◌, ◌≤◌, List, [], ◌∷◌, ◌++◌, length, take, drop, replicate, refl, sym, ap, subst, ◌∙◌, arith, length-append, append_assoc, add-mul, suc-mul, mul-le-mul_right, le_of_mul-le-mul_right, get_or-set_same}
 use Rattle.std.specs.Prelude.{true, false, ◌==◌, IsTrue, Some}
 use Rattle.std.proofs.lemmas.Bool.{true≢false, and_parts}
@@ -124,7 +124,7 @@ zeros_is (b ∷ bs) e =
     zero_byte : (b : ℕ) → (b == 0) ≡ true → b ≡ 0
     zero_byte b e = elim (eqb_tells b 0) [ inl w ↦ w.1 | inr w ↦ absurd (true≢false (sym e ∙ w.0)) ]
 
--- a front that ends in the second of two lists, and what stands behind it
+-- a front that ends in the second of two lists, and what stands after it
 take-past : (n k : ℕ) (xs ys : Image) → n ≡ length xs + k → take n (xs ++ ys) ≡ xs ++ take k ys
 take-past n k [] ys e = ap (λ i. take i ys) (let is : n ≡ k = omega (arith, e) in is)
 take-past zero k (x ∷ xs) ys e = absurd (omega (arith, e))
@@ -162,7 +162,7 @@ module _ (image : Image) (bytes : List ℕ) (l : IsLaid image bytes) (p : ℕ) (
         most = omega (arith, l.most, ap (λ (x : Image). length (x ++ l.rest)) is);
       }
 
-  -- a page past the image, in the zeros behind it
+  -- a page past the image, in the zeros after it
   laid_past : length image ≤ p → p ≤ length (image ++ l.rest) → IsLaidOut (image ++ (replicate (p - length image) (replicate (image_size image) 0) ++ page ∷ [])) (put_at bytes (p * image_size image) page)
   laid_past past within =
       let k : ℕ = p - length image in
@@ -295,7 +295,7 @@ main_over image file c p page h may put = record {
   laid = trimmed_laid (written_at (image_size image) (p, page) image) _ (laid_out image h.bytes h.laid p page may);
 }
 
--- what a stop leaves of a page write: the image as it was, or with the page
+-- what a crash leaves of a page write: the image as it was, or with the page
 page_left : (image after : Image) (file c : File) (p : ℕ) (page : Page) → HasMain image file → MayLay p page image → (c ≡ with_page_at file (p * length page) page → HasMain after c) → PageLeft (p * length page) page file c → HasMain image c ⊎ HasMain after c
 page_left image after file c p page h may done (inl same) = inl (subst (λ (x : File). HasMain image x) (sym same) h)
 page_left image after file c p page h may done (inr (inl put)) = inr (done put)

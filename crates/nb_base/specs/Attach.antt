@@ -17,7 +17,7 @@ Tested (Err (Refused refusal)) cause = cause ≡ Some refusal
 Tested (Err Device) cause = Unit {0}
 Tested (Err Memory) cause = Unit {0}
 
--- a file of so many bytes behind a header isn't 5 to 1,048,576 whole pages
+-- a file of so many bytes after a header isn't 5 to 1,048,576 whole pages
 abbrev pub length_cause : (len size : ℕ) → Cause
 length_cause len size = first_cause (
     when (not (len % size == 0) || nat_lt (len / size) 5) (NotDatabase (min (len / size) 1048576))

@@ -17,7 +17,7 @@ use Rattle.nb_model.specs.Owner.{delta_name, owner}
 use Rattle.nb_model.specs.Trail.{ShowsIn, settled}
 use Rattle.nb_base.specs.Open.{Held, IsOpen}
 
--- what is held is the database that the two files were as the call began, and each stop from now on leaves it
+-- what is held is the database that the two files were as the call began, and each crash from now on leaves it
 pub record IsAttached (held : Held) (old new : World) (name : List ℕ) : Type 0 where
   pub base : Base
   pub stands : ShowsIn name base old.files
@@ -54,7 +54,7 @@ pub record Creates (result : Result Held Fault) (old new : World) (name : List �
   -- where the name isn't free, nothing changes
   pub taken : is_free_name old.files name ≡ false → Quiet old new
 
--- whatever a stop now leaves of its two files, they are those of this database, and so they read
+-- whatever a crash now leaves of its two files, they are those of this database, and so they read
 pub record IsSettled (w : World) (name : List ℕ) (b : Base) : Type 0 where
   pub left : (files : Files) → LeavesAll w files → ShowsIn name b files
   pub shows : ShowsIn name b w.files

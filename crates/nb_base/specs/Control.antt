@@ -1,4 +1,4 @@
--- The control block of a main file, and what a stop leaves while it is written.
+-- The control block of a main file, and what a crash leaves while it is written.
 use Rattle.std.specs.Prelude.{◌≡◌, ◌⊎◌, ℕ, zero, suc, ◌+◌, ◌<◌, List, Option, Some, None}
 use Rattle.nb_host.specs.Files.{File, Files}
 use Rattle.nb_host.specs.World.{World}
@@ -33,7 +33,7 @@ pub record HasImage (image : Image) (file : File) : Type 0 where
   pub formed : not_database bytes ≡ None
   pub is : image_in bytes ≡ image
 
--- whatever a stop now leaves of the file has this image, and so has what reads
+-- whatever a crash now leaves of the file has this image, and so has what reads
 pub record IsImageOf (w : World) (name : List ℕ) (image : Image) : Type 0 where
   pub left : (m : File) → Leaves w name m → HasImage image m
   pub reads : HasImage image (w.files name)

@@ -1,4 +1,4 @@
--- Pages that waited go into their slots in the stalled state, and behind them the drafted entries into the table of the difference file.
+-- Pages that waited go into their slots in the stalled state, and after them the drafted entries into the table of the difference file.
 use Rattle.std.specs.Prelude.{◌≡◌, ◌≢◌, ◌⊎◌, ℕ, ◌+◌, ◌<◌, ◌≤◌, List, [], ◌∷◌, ◌++◌, length, Bool, false, Some, None}
 use Rattle.nb_fields.specs.Bytes.{is_zeros}
 use Rattle.nb_host.specs.Files.{File, Files}
@@ -12,7 +12,7 @@ use Rattle.nb_model.specs.Trail.{Trail, ShowsIn}
 use Rattle.nb_model.specs.Behind.{IsBehind, IsOnTheWay}
 use Rattle.nb_base.specs.Open.{Held, Agrees}
 
--- whatever a stop now leaves stands for a database of which P holds
+-- whatever a crash now leaves stands for a database of which P holds
 pub record StandsAs (name : List ℕ) (P : Base → Type 0) (files : Files) : Type 0 where
   pub base : Base
   pub opens : ShowsIn name base files

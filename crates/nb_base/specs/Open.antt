@@ -43,7 +43,7 @@ pub record Agrees (held : Held) (b : Base) : Type 0 where
   pub main_count : held.state ≡ 1 → held.main_count ≡ length b.frozen
   pub entries : held.entries ≡ b.diverted
 
--- Whatever a stop now leaves is what may be left of what was seen, what reads is what was seen last, and what is held agrees with it. No
+-- Whatever a crash now leaves is what may be left of what was seen, what reads is what was seen last, and what is held agrees with it. No
 -- entry is drafted.
 pub record IsOpen (w : World) (held : Held) (t : Trail) : Type 0 where
   pub left : (files : Files) → LeavesAll w files → StandsFirm held.name t files

@@ -22,7 +22,7 @@ pub record MayPut (b : Base) (p : ℕ) (bytes : Page) : Type 0 where
 abbrev pub IsPut : (name : List ℕ) (p : ℕ) (bytes : Page) (before after : Files) → Type 0
 IsPut name p bytes before after = (b : Base) → ShowsIn name b before → MayPut b p bytes → ShowsIn name b after ⊎ ShowsIn name (on_base (page p bytes) b) after
 
--- a stop leaves what it would have left before, or that with the page
+-- a crash leaves what it would have left before, or that with the page
 pub record PutLeft (old : World) (name : List ℕ) (p : ℕ) (bytes : Page) (files : Files) : Type 0 where
   pub before : Files
   pub was : LeavesAll old before

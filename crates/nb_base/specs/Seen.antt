@@ -10,7 +10,7 @@ use Rattle.nb_model.specs.Trail.{Trail, ShowsIn}
 use Rattle.nb_base.specs.Firm.{StandsFirm}
 use Rattle.nb_base.specs.Open.{Fits}
 
--- whatever a stop now leaves is what may be left of what was seen, and what reads is what was seen last
+-- whatever a crash now leaves is what may be left of what was seen, and what reads is what was seen last
 pub record IsSeen (w : World) (name : List ℕ) (t : Trail) : Type 0 where
   pub left : (files : Files) → LeavesAll w files → StandsFirm name t files
   pub shows : ShowsIn name t.base w.files

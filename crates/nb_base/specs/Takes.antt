@@ -9,11 +9,11 @@ use Rattle.nb_model.specs.Strokes.{Stroke}
 use Rattle.nb_base.specs.Firm.{StandsFirm}
 use Rattle.nb_base.specs.Open.{OfFiles}
 
--- Only the two files are touched. At each moment a stop leaves what may be left of what was seen behind a front of these strokes.
+-- Only the two files are touched. At each moment a crash leaves what may be left of what was seen after a front of these strokes.
 abbrev pub Strikes : (old new : World) (name : List ℕ) → Trail → List Stroke → Type 0
 Strikes old new name t strokes = Changes old new (OfFiles name) (Reached after_stroke (StandsIn name) t strokes)
 
--- what was seen behind strokes
+-- what was seen after strokes
 abbrev pub after_strokes : Trail → List Stroke → Trail
 after_strokes t strokes = after_all after_stroke t strokes
 

@@ -5,7 +5,7 @@ use Rattle.nb_change.specs.Changes.{Names, Only, Changes}
 use Rattle.nb_model.specs.Owner.{delta_name}
 use Rattle.nb_base.specs.Open.{OfFiles}
 
--- Files of these names alone are touched: of every other one a stop leaves what it would have left before, at each moment, and it reads
+-- Files of these names alone are touched: of every other one a crash leaves what it would have left before, at each moment, and it reads
 -- as before, byte for byte.
 abbrev pub Touches : (old new : World) → Names → Type 0
 Touches old new names = Changes old new names (λ files. Unit {0})

@@ -175,7 +175,7 @@ pub(crate) fn attach_delta<H: Host>(
     Delta::attach(alloc, host, name, start.page_size)
 }
 
-/// How many pages the database has: those of the main file's image, and those before the number behind the greatest entry.
+/// How many pages the database has: those of the main file's image, and those before the number after the greatest entry.
 pub(crate) fn count_with<H: Host>(
     host: &mut H,
     delta: &mut Delta,

@@ -1,4 +1,4 @@
-// A database is made, so that a stop leaves no half of one, and opened.
+// A database is made, so that a crash leaves no half of one, and opened.
 ghost use Rattle.std.specs.Prelude.{◌≡◌, ◌≢◌, ◌+◌, ◌≤◌, ◌<◌, IsTrue, OnOk, IfOk, IfErr, length};
 ghost use Rattle.nb_fields.specs.Places.{is_page_size};
 ghost use Rattle.nb_fields.specs.Fresh.{fresh, fresh_count};
@@ -71,7 +71,7 @@ fn create_file<H: Host>(host: &mut H, name: &Name, page: &mut [u8], raw: u32) ->
 
 impl TwoFiles {
     /// Opens the two files of a database, and takes room for one of its pages. It changes nothing: both files are kept for good before
-    /// it answers, so that no later stop takes back what was read of them. It reads the header, the allocation pages of the difference
+    /// it answers, so that no later crash takes back what was read of them. It reads the header, the allocation pages of the difference
     /// file, and from the end of the main file on its pages of zeros and the one before them.
     ///
     /// The refusals are `NoFile`, `NotDatabase`, `Unfinished`, `NoFile` of the difference file and `BadDelta`, in this order.

@@ -148,7 +148,7 @@ impl TwoFiles {
     }
 
     /// Ends the merge, once every entry is equal in both files: its state is 0 again, pages of zeros at its end are pages no longer, and the
-    /// difference file is removed. A stop may bring that back, which no opening in the normal state looks at.
+    /// difference file is removed. A crash may bring that back, which no opening in the normal state looks at.
     pub fn finish<H: Host>(&mut self, host: &mut H) -> Result<(), HostFault>
         requires merge { self.old.state ≡ 2 }
         ensures takes { (t : Trail) → IsTrue H.tells → IsOpen (H.world host.old) self.old t → AreMerged (H.world host.old) self.old (length self.old.entries)

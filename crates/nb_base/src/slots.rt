@@ -1,4 +1,4 @@
-// Pages that waited go into their slots in the stalled state, and behind them the drafted entries into the table.
+// Pages that waited go into their slots in the stalled state, and after them the drafted entries into the table.
 ghost use Rattle.std.specs.Prelude.{◌≡◌, ◌≢◌, ◌<◌, ℕ, Bool, false, length, IsTrue, IfErr, OnOk, OnErr};
 ghost use Rattle.nb_host.specs.Causes.{CountsFault};
 ghost use Rattle.nb_host.specs.declared.faults.Fault.TheVariants.{Memory};

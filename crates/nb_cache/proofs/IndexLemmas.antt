@@ -183,7 +183,7 @@ no-key key es apart page c =
     let a = around es page key c in
     eqb-false key key (all_at (λ e. nat_eq key e.0 ≡ false) es (key, a.frame) apart (subst (λ (l : Frames). Contains l (key, a.frame)) (sym a.parts) (Contains-middle a.before (key, a.frame) a.behind))) refl
 
--- where no two keys are equal, none behind a frame is its key
+-- where no two keys are equal, none after a frame is its key
 pub misses_behind : (es before : Frames) (key : ℕ) (frame : Frame) (behind : Frames) → es ≡ before ++ (key, frame) ∷ behind → IsDistinct nat_eq (keys_of es) → AllByRecursion (λ e. nat_eq key e.0 ≡ false) behind
 misses_behind es before key frame behind parts distinct = from before (subst (λ (l : Frames). IsDistinct nat_eq (keys_of l)) parts distinct) where
   each_of : (l : Frames) → AllByRecursion (λ k. nat_eq key k ≡ false) (keys_of l) → AllByRecursion (λ e. nat_eq key e.0 ≡ false) l

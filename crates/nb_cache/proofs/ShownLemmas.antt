@@ -135,7 +135,7 @@ module _ (es : Frames) (held page key : ℕ) (found : FoundAt es held page key) 
   abbrev n : ℕ
   n = held - suc (length split.before)
 
-  -- what the frames before and behind it show
+  -- what the frames before and after it show
   abbrev A : List (ℕ × Slot)
   A = map slot_in split.before
 

@@ -20,7 +20,7 @@ shown held es = map slot_in (take held es)
 abbrev pub NoneHolds : ℕ → Frames → Type 0
 NoneHolds page es = AllByRecursion (λ e. nat_eq page e.1.page ≡ false) es
 
--- the frame with this key, and the frames before and behind it
+-- the frame with this key, and the frames before and after it
 pub record Split (es : Frames) (key : ℕ) : Type 0 where
   pub before : Frames
   pub frame : Frame

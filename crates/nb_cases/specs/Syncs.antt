@@ -15,7 +15,7 @@ is_new state has_entry = state == 1 && not has_entry
 abbrev pub has_none : (state : ℕ) (has_entry : Bool) → Bool
 has_none state has_entry = not (state == 1) && not has_entry
 
--- Of a page that belongs to the difference file behind the write the last that was written there is synced: the table where it got its
+-- Of a page that belongs to the difference file after the write the last that was written there is synced: the table where it got its
 -- entry, and the slot where it had one. Of every other page the main file is.
 abbrev pub IsKept : Option ℕ → (is_new : Bool) → Syncs → Type 0
 IsKept (Some k) true syncs = syncs.table ≡ true

@@ -5,14 +5,14 @@ ghost use Rattle.nb_model.specs.Account.{Base};
 
 use nb_fields::{CaseTable, cases};
 
-/// The syncs of a page write, each behind what it keeps for good.
+/// The syncs of a page write, each after what it keeps for good.
 #[derive(Clone, Copy, Debug, PartialEq, Eq)]
 pub struct Syncs {
-    /// One of the difference file behind the slot.
+    /// One of the difference file after the slot.
     pub slot: bool,
-    /// One of the difference file behind the allocation page that names a new slot.
+    /// One of the difference file after the allocation page that names a new slot.
     pub table: bool,
-    /// One of the main file behind its page.
+    /// One of the main file after its page.
     pub main: bool,
 }
 
@@ -43,8 +43,8 @@ fn row(state: u16, has_entry: bool) -> usize
     }
 }
 
-/// The syncs of a write that is to be kept for good, and of every other. In a cell 1 stands for a sync of the difference file behind the
-/// slot, 2 for one of it behind the allocation page, and 4 for one of the main file behind its page.
+/// The syncs of a write that is to be kept for good, and of every other. In a cell 1 stands for a sync of the difference file after the
+/// slot, 2 for one of it after the allocation page, and 4 for one of the main file after its page.
 fn table() -> CaseTable<5, 2>
     ensures { AreTheSyncs result }
 {

@@ -18,7 +18,7 @@ use Rattle.nb_catalog.proofs.EntryLemmas.{entry_at, in_entries}
 use Rattle.nb_catalog.proofs.LineLemmas.{line_split, length-line}
 use Rattle.nb_catalog.proofs.ReadLaws.{IsRead, is_read, each_read, parent_level}
 
--- a file behind another in a chain
+-- a file after another in a chain
 next_there : (files : Files) (k : ℕ) (last l : Link) (name bytes : List ℕ) (names : List (List ℕ)) → files name ≡ Some bytes → next_link k last name bytes ≡ Ok l → next_links files k last (name ∷ names) ≡ linked l (next_links files (k + 1) l names)
 unfolding next_links
 next_there files k last l name bytes names there accepted = rw (there, next_links) (rw (accepted, next_links) refl)
@@ -34,13 +34,13 @@ goes_on files level before l name bytes behind ls there accepted next =
     let same : level + 1 + 1 ≡ suc level + 1 = omega arith in
     next_there files (level + 1) before l name bytes behind there accepted ∙ ap (λ (k : ℕ). linked l (next_links files k l behind)) same ∙ ap (linked l) next
 
--- the names of a line, and those behind
+-- the names of a line, and those after
 names_joined : (names : List (List ℕ)) (l front : List ℕ) (place : ℕ) (behind : List (List ℕ)) → l ≡ front ++ place ∷ [] → names_at names l ++ behind ≡ names_at names front ++ (slice_index_or names place [] ∷ behind)
 names_joined names l front place behind is =
     let f : ℕ → List ℕ = λ p. slice_index_or names p [] in
     ap (λ (ps : List ℕ). names_at names ps ++ behind) is ∙ ap (λ (ns : List (List ℕ)). ns ++ behind) (map-append f front (place ∷ [])) ∙ append_assoc (map f front) (f place ∷ []) behind
 
--- the first file, and those behind
+-- the first file, and those after
 begins_with : (files : Files) (names : List (List ℕ)) (l : List ℕ) (place : ℕ) (bytes : List ℕ) (link : Link) (behind : List (List ℕ)) (ls : List Link) → place ∷ [] ≡ l → files (slice_index_or names place []) ≡ Some bytes
     → first_link (slice_index_or names place []) bytes ≡ Ok link → next_links files 1 link behind ≡ Ok ls → verdict files (names_at names l ++ behind) ≡ Ok (link ∷ ls)
 begins_with files names l place bytes link behind ls same there accepted next =
@@ -67,7 +67,7 @@ module _ (files : Files) (names : List (List ℕ)) (heads : List LevelHead) (rea
       let parts = position-Some (is_parent (head place)) heads above (whole_head []) found in
       record { there = parts.0; parent = parts.1 }
 
-  -- The line of a file is a chain where what stands behind the file goes on from it.
+  -- The line of a file is a chain where what stands after the file goes on from it.
   chain_from : (level place : ℕ) (l : List ℕ) → line_at (parents_of heads) level place ≡ Some l → (within : place < length heads) → (head place).level ≡ level → (behind : List (List ℕ)) (ls : List Link)
       → next_links files (level + 1) (file_at place within).link behind ≡ Ok ls → (links : List Link) × (verdict files (names_at names l ++ behind) ≡ Ok links)
   unfolding line_at

@@ -4,7 +4,7 @@ use Rattle.std.specs.List.{slice_index_or, position, list_any}
 use Rattle.nb_host.specs.Names.{same_name}
 use Rattle.nb_level.specs.declared.head.LevelHead.{LevelHead}
 
--- a file goes on from this one: it is of the level behind, and has its GUID and SCN as the previous ones, and its page size
+-- a file goes on from this one: it is of the level after, and has its GUID and SCN as the previous ones, and its page size
 abbrev pub is_parent : (child head : LevelHead) → Bool
 is_parent child head = child.level == head.level + 1 && (same_name child.previous head.guid && (child.previous_scn == head.scn && child.page_size == head.page_size))
 

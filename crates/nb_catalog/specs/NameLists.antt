@@ -18,7 +18,7 @@ is_listed names name = list_any (λ m. same_name m name) names
 abbrev pub is_next : (before : List Bytes) (name : Bytes) → Bool
 is_next before name = is_file name && not (is_listed before name)
 
--- The names on these lines, behind these names, and so many more at most. The first line that is no name which a user may give, has a name that
+-- The names on these lines, after these names, and so many more at most. The first line that is no name which a user may give, has a name that
 -- stood before, or one name too many, is bad.
 unfoldable pub names_on : (most : ℕ) → (before : List Bytes) → List Numbered → Result (List Bytes) Refusal
 names_on most before [] = Ok []

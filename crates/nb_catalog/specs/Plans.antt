@@ -27,11 +27,11 @@ is_point heads e = is_some (line heads e)
 abbrev pub points : List LevelHead → List Entry
 points heads = filter (is_point heads) (entries_of heads)
 
--- the first comes behind the second: by SCN, and then by place
+-- the first comes after the second: by SCN, and then by place
 abbrev pub is_newer : Entry → Entry → Bool
 is_newer d e = nat_lt e.scn d.scn || (d.scn == e.scn && nat_lt e.place d.place)
 
--- so many of these, the newest: those that fewer come behind
+-- so many of these, the newest: those that fewer come after
 abbrev pub newest : (keep : ℕ) → List Entry → List Entry
 newest keep es = filter (λ e. nat_lt (count_by (λ d. is_newer d e) es) keep) es
 

@@ -63,14 +63,14 @@ fn without_line(
         .collect(alloc)
 }
 
-/// Whether a file comes behind the other: by SCN, and then by place.
+/// Whether a file comes after the other: by SCN, and then by place.
 fn is_newer(one: &Entry, other: &Entry) -> bool
     ensures { result ≡ is_newer one.now other.now }
 {
     other.scn < one.scn || one.scn == other.scn && other.place < one.place
 }
 
-/// How many of these come behind that one.
+/// How many of these come after that one.
 fn newer_count(entries: &[Entry], than: &Entry) -> usize
     ensures { result ≡ count_by (λ e. is_newer e than.now) entries.now }
 {

@@ -27,7 +27,7 @@ writes_all size n front (p ∷ ps) e =
     let here : written_at size (n, p) front ≡ front ++ p ∷ [] = ap (written_at size (n, p)) (sym (append-nil front)) ∙ written_end size n front p e ∙ append-nil (front ++ p ∷ []) in
     ap (overwritten size (numbered_from (n + 1) ps)) here ∙ writes_all size (n + 1) (front ++ p ∷ []) ps next ∙ append_assoc front (p ∷ []) ps
 
--- room behind a list is read as its end
+-- room after a list is read as its end
 same-grown : {X : Type 0} (xs : List X) (k p : ℕ) (d : X) → get_or (xs ++ replicate k d) p d ≡ get_or xs p d
 same-grown [] k p d = past k p
   where
@@ -76,7 +76,7 @@ pub written-past : (size : ℕ) (r : Numbered) (image : Image) → length image 
 unfolding written_at
 written-past size r image h = rw (lt_no r.0 (length image) h, written_at) refl
 
--- pages of zeros and one behind them
+-- pages of zeros and one after them
 length-gap : (k : ℕ) (z p : Page) → length (replicate k z ++ p ∷ []) ≡ k + 1
 length-gap k z p = omega (arith, length-append (replicate k z) (p ∷ []), length-replicate k z)
 
@@ -181,7 +181,7 @@ module _ (size n : ℕ) (bytes : List ℕ) (wide : 0 < size) (long : length byte
     ];
   }
 
--- Behind whole pages come the files of a chain.
+-- After whole pages come the files of a chain.
 module _ (bytes : List ℕ) (n : ℕ) (ls : List Link) (wide : 0 < size_of bytes) (long : length bytes ≡ n * size_of bytes) where
   pub over : all_over (whole_link bytes ∷ ls) [] ≡ all_over ls (cut (size_of bytes) n bytes)
   unfolding all_over

@@ -89,7 +89,7 @@ reads_more : (ls : List Link) (l : Link) → level_reads (ls ++ l ∷ []) ≡ le
 reads_more [] l = omega arith
 reads_more (m ∷ ls) l = let rest = reads_more ls l in omega (arith, rest)
 
--- So far these links were accepted behind the first, up to place k, and these names are left.
+-- So far these links were accepted after the first, up to place k, and these names are left.
 pub record Accepted (files : Files) (first : Tip) (all : List (List ℕ)) (k : ℕ) (last : Tip) (left : List (List ℕ)) (old new : List Mark) (before after : ℕ) : Type 0 where
   pub links : List Link
   pub so_far : next_links files 1 (tip_link first) all ≡ linked_all links (next_links files k (tip_link last) left)

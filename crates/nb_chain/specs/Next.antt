@@ -1,4 +1,4 @@
--- What is answered of a file behind another, and of all files behind the first.
+-- What is answered of a file after another, and of all files after the first.
 use Rattle.std.specs.Prelude.{◌≡◌, ℕ, ◌+◌, ◌-◌, ◌≤◌, List, [], ◌∷◌, length, Some, None, Result, Ok, Err}
 use Rattle.nb_host.specs.Files.{File, Files}
 use Rattle.nb_host.specs.declared.faults.Fault.{Fault}
@@ -40,12 +40,12 @@ NextSays file k last name old new before after (Err (Refused refusal)) = NextRef
 NextSays file k last name old new before after (Err Device) = Unit {0}
 NextSays file k last name old new before after (Err Memory) = Unit {0}
 
--- the last of these links, behind one
+-- the last of these links, after one
 abbrev pub last_of : Link → List Link → Link
 last_of l [] = l
 last_of l (m ∷ ls) = last_of m ls
 
--- the files behind the first go on from one another
+-- the files after the first go on from one another
 pub record AreNext (files : Files) (first : Tip) (names : List (List ℕ)) (old new : List Mark) (before after : ℕ) (tip : Tip) : Type 0 where
   pub links : List Link
   pub accepted : next_links files 1 (tip_link first) names ≡ Ok links

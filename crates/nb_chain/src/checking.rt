@@ -30,7 +30,7 @@ pub struct Chain {
     pub scn: u32,
 }
 
-/// What the file behind level 0 goes on from. The SCN of its backup is one below that of its header.
+/// What the file after level 0 goes on from. The SCN of its backup is one below that of its header.
 fn first_tip(header: &Header) -> Tip
     requires { HasForm header.now }
     ensures value { tip_link result ≡ header_link header.now }
@@ -49,7 +49,7 @@ fn first_tip(header: &Header) -> Tip
     }
 }
 
-/// Reads the files behind the first, each behind the one before it, and notes their pages.
+/// Reads the files after the first, each after the one before it, and notes their pages.
 fn read_levels<H: Host>(
     alloc: Global,
     host: &mut H,
@@ -74,7 +74,7 @@ fn read_levels<H: Host>(
 
 /// Checks a chain of 1 to 10 files, and answers what it gives, and what it read of the first. It changes nothing.
 ///
-/// The first file is whole pages of a database in state 1, 5 to 1,048,576 of them. The file in place k behind it is a level
+/// The first file is whole pages of a database in state 1, 5 to 1,048,576 of them. The file in place k after it is a level
 /// file of level k whose previous GUID, page size and previous SCN are those of the file before it.
 ///
 /// The refusals are `NoFile`; `BadLevel`, with the file's first broken place; `ChainLevel`; `ChainGuid`; `ChainSize` and

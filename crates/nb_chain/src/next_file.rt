@@ -87,7 +87,7 @@ pub fn goes_on(head: &LevelHead, last: &Tip, name: &Name, place: u32) -> Result<
     Err(Fault::Refused(refusal))
 }
 
-/// Reads the file in that place of a chain, behind the one before it, and notes its pages.
+/// Reads the file in that place of a chain, after the one before it, and notes its pages.
 ///
 /// The refusals are `NoFile`, `BadLevel` and those of `goes_on`, in this order. Whole pages of a database are refused with
 /// `ChainLevel`, as level 0.

@@ -1,4 +1,4 @@
--- What one call of a host changes: by itself, and behind a run of calls.
+-- What one call of a host changes: by itself, and after a run of calls.
 use Rattle.std.proofs.Common.{◌≡◌, ◌≢◌, ◌⊎◌, inl, inr, ⊎_elim, ℕ, Bool, List, refl, sym, ◌∙◌, ap, subst, length}
 use Rattle.std.specs.Prelude.{Result, Ok, Err, IsTrue}
 use Rattle.nb_host.specs.Files.{File, Files, bytes_of, with_file}
@@ -46,7 +46,7 @@ step_since old mid new names P Q name step so_far touched time steps read silent
     apart : (m : List ℕ) → Other names m → m ≢ name
     apart m other is = other (subst names (sym is) touched)
 
--- the same, of whatever a stop would have left
+-- the same, of whatever a crash would have left
 pub step_more : (old mid new : World) (names : Names) (P Q : Files → Type 0) (name : List ℕ) (step : File → File → Type 0) → Changes old mid names P → names name → Passes mid new → Steps mid new name step
     → ((m : List ℕ) → m ≢ name → new.files m ≡ mid.files m) → new.said ≡ mid.said
     → ((files : Files) → P files → Q files)
@@ -66,7 +66,7 @@ page_more tells result old mid new names P Q name at page told so_far touched wr
 pub still_alone : (old new : World) (names : Names) (P : Files → Type 0) → IsTimely old → IsStill old new → new.said ≡ old.said → Passes old new → ((files : Files) → LeavesAll old files → P files) → Changes old new names P
 still_alone old new names P timely still silent time here = still_more old old new names P (begun old names P timely here) time still silent
 
--- A call by itself by which a file goes on by a step: what a stop leaves of it comes by `all`, which allows for no step too.
+-- A call by itself by which a file goes on by a step: what a crash leaves of it comes by `all`, which allows for no step too.
 pub step_alone : (old new : World) (name : List ℕ) (step all : File → File → Type 0) → IsTimely old → Steps old new name step → ((m : List ℕ) → m ≢ name → new.files m ≡ old.files m) → new.said ≡ old.said → Passes old new
     → ((b : File) → Leaves old name b → all b b) → ((b c : File) → Leaves old name b → step b c → all b c) → Changes old new (Only name) (Moved old name all)
 step_alone old new name step all timely steps read silent time none by =
@@ -96,7 +96,7 @@ remade_alone tells result old new name file made told timely remakes silent time
     (λ files has. has)
     (λ files left. ⊎_elim (λ back. inl (remakes.back (files name) back)) (λ now. ⊎_elim inl (λ e. inr (subst made (sym e) is)) (remakes.now (files name) now)) (left name))
 
--- one call more behind a file that was made anew, where all that was made since is known
+-- one call more after a file that was made anew, where all that was made since is known
 pub remade_step : (old mid new : World) (name : List ℕ) (first made all : File → Type 0) (step : File → File → Type 0) → Changes old mid (Only name) (Remade old name first) → Passes mid new → Steps mid new name step
     → ((m : List ℕ) → m ≢ name → new.files m ≡ mid.files m) → new.said ≡ mid.said
     → ((c : File) → mid.now name c → made c) → ((c : File) → first c → all c) → ((c d : File) → made c → step c d → all d) → Changes old new (Only name) (Remade old name all)

@@ -9,7 +9,7 @@ use Rattle.nb_change.specs.Changes.{Names, Other, Only, NoNames, Changes, Moved,
 use Rattle.nb_change.proofs.MomentLaws.{started, goes_on, joined, weaker, left_before, untouched_joined, untouched_fewer, untouched_begun}
 use Rattle.nb_change.proofs.NameLaws.{decide, with_file-same, with_file-other}
 
--- of every file a stop leaves what it would have left before
+-- of every file a crash leaves what it would have left before
 pub all_before : (old new : World) → Untouched old new (λ _. Unit {0}) → (files : Files) → LeavesAll new files → LeavesAll old files
 all_before old new same files left m = left_before old new _ same m (files m) tt (left m)
 
@@ -33,7 +33,7 @@ rested old new names P still silent moments here = record {
   said = silent;
 }
 
--- More names, and less is said of the files. What a stop leaves of a name that wasn't touched it would have left before.
+-- More names, and less is said of the files. What a crash leaves of a name that wasn't touched it would have left before.
 pub weakened : (old new : World) (few many : Names) (P Q : Files → Type 0) → Changes old new few P → ((m : List ℕ) → few m → many m)
     → ((files : Files) → ((m : List ℕ) → Other few m → Leaves old m (files m)) → P files → Q files) → Changes old new many Q
 weakened old new few many P Q is are pq = record {
@@ -105,7 +105,7 @@ still_more old mid new names P so_far time still silent =
     one_more old mid new names P P so_far time (untouched_fewer mid new _ _ still.left (λ m other. tt)) (λ m other. ap (λ (f : Files). f m) still.files) silent (λ files p. p)
     (λ files left. so_far.now files (all_before mid new still.left files left))
 
--- What a stop leaves of all files but one, with that one as it would have been left.
+-- What a crash leaves of all files but one, with that one as it would have been left.
 pub left_with : (w : World) (name : List ℕ) (files : Files) (file : File) → ((m : List ℕ) → m ≢ name → Leaves w m (files m)) → Leaves w name file → LeavesAll w (with_file files name file)
 left_with w name files file others was m =
     ⊎_elim
@@ -126,7 +126,7 @@ moved_on old mid new names P Q name step first second touched weak by =
     by before files left (first.now before left) (subst (λ (f : File). step f (files name)) (sym (with_file-same files name moved.before)) moved.by)
     (λ m other. sym (with_file-other files name moved.before m other)))
 
--- After a run of calls one file is made anew or removed. Of it a stop would have left `there`.
+-- After a run of calls one file is made anew or removed. Of it a crash would have left `there`.
 pub remade_on : (old mid new : World) (names : Names) (P Q : Files → Type 0) (name : List ℕ) (made : File → Type 0) (there : File) → Changes old mid names P → Changes mid new (Only name) (Remade mid name made) → names name
     → Leaves mid name there → ((files : Files) → P files → Q files)
     → ((before files : Files) → LeavesAll mid before → P before → before name ≡ there → made (files name) → ((m : List ℕ) → m ≢ name → files m ≡ before m) → Q files) → Changes old new names Q

@@ -45,7 +45,7 @@ weaker old new P Q is pq = record {
   earlier = λ t files said le left. ⊎_elim inl (λ p. inr (pq files said p)) (is.earlier t files said le left);
 }
 
--- what a stop leaves later it would have left before
+-- what a crash leaves later it would have left before
 pub left_before : (old new : World) (names : List ℕ → Type 0) → Untouched old new names → (name : List ℕ) (file : File) → names name → Leaves new name file → Leaves old name file
 left_before old new names same name file is = ⊎_elim (λ b. inl (same.back name file is b)) (λ n. inr (same.now name file is n))
 

@@ -21,7 +21,7 @@ module _ {B S : Type 0} (apply : S → B → B) (stands : B → Files → Type 0
   reached_front base [] ys files is = reached_first base ys files is
   reached_front base (x ∷ xs) ys files is = ⊎_elim inl (λ r. inr (reached_front (apply x base) xs ys files r)) is
 
-  -- and so are the first strokes with a front of those behind
+  -- and so are the first strokes with a front of those after
   pub reached_back : (base : B) (xs ys : List S) (files : Files) → Reached apply stands (after_all apply base xs) ys files → Reached apply stands base (xs ++ ys) files
   reached_back base [] ys files is = is
   reached_back base (x ∷ xs) ys files is = inr (reached_back (apply x base) xs ys files is)

@@ -1,4 +1,4 @@
--- What a run of calls changed: which files it touched, and what a stop leaves at each moment.
+-- What a run of calls changed: which files it touched, and what a crash leaves at each moment.
 use Rattle.std.specs.Prelude.{◌≡◌, ◌⊎◌, ℕ, List, [], ◌∷◌}
 use Rattle.nb_host.specs.Files.{File, Files}
 use Rattle.nb_host.specs.World.{World}
@@ -21,13 +21,13 @@ Only name m = m ≡ name
 abbrev pub NoNames : Names
 NoNames m = ⊥
 
--- At one moment: the files have P, of each name that isn't touched a stop leaves what it would have left before, and nothing was said.
+-- At one moment: the files have P, of each name that isn't touched a crash leaves what it would have left before, and nothing was said.
 pub record ChangedLeft (old : World) (names : Names) (P : Files → Type 0) (files : Files) (said : List ℕ) : Type 0 where
   pub has : P files
   pub others : (m : List ℕ) → Other names m → Leaves old m (files m)
   pub output : said ≡ old.said
 
--- At each moment since `old`, and now, what a stop leaves has P. Only these names are touched, and nothing is said.
+-- At each moment since `old`, and now, what a crash leaves has P. Only these names are touched, and nothing is said.
 pub record Changes (old new : World) (names : Names) (P : Files → Type 0) : Type 0 where
   pub moments : AtEachMoment old new (ChangedLeft old names P)
   pub now : (files : Files) → LeavesAll new files → P files
@@ -45,12 +45,12 @@ abbrev pub Reached : {B S : Type 0} → (S → B → B) → (B → Files → Typ
 Reached apply stands base [] files = stands base files
 Reached apply stands base (s ∷ ss) files = stands base files ⊎ Reached apply stands (apply s base) ss files
 
--- of the file a stop leaves what comes by a step from what it would have left before
+-- of the file a crash leaves what comes by a step from what it would have left before
 pub record Moved (old : World) (name : List ℕ) (step : File → File → Type 0) (files : Files) : Type 0 where
   pub before : File
   pub was : Leaves old name before
   pub by : step before (files name)
 
--- of the file a stop leaves what it would have left before, or such a file as was made
+-- of the file a crash leaves what it would have left before, or such a file as was made
 abbrev pub Remade : (old : World) (name : List ℕ) (made : File → Type 0) → Files → Type 0
 Remade old name made files = Leaves old name (files name) ⊎ made (files name)

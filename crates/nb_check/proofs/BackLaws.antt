@@ -68,7 +68,7 @@ without test ps q = test q && not (is_among q ps)
 abbrev first_by : (test : ℕ → Bool) (n a : ℕ) → Bool → List ℕ
 first_by test n a t = cond t (a ∷ filter test (range_with_len (a + 1) n)) (filter test (range_with_len (a + 1) n))
 
--- what is left behind a front
+-- what is left after a front
 filter_rest : (test : ℕ → Bool) (n a : ℕ) (ps qs : List ℕ) → filter test (range_with_len a n) ≡ ps ++ qs → filter (without test ps) (range_with_len a n) ≡ qs
 filter_rest test n a [] qs e = filter_same (without test []) test n a (λ q low high. and_true (test q)) ∙ e
 filter_rest test zero a (p ∷ ps) qs e = absurd (none_more p (ps ++ qs) e)
@@ -261,7 +261,7 @@ module _ (x : Image) (header : HasHeader x) (sound : IsSoundImage x) where
       (record { front = ps; rest = p ∷ qs; are = e; back = back }) (record { front = ps; rest = p ∷ qs; are = e; back = back_between x header sound ps p b.image back at.0 at.1 }) (record { front = ps ++ p ∷ []; rest = qs; are = more; back = now }))
       (subst (λ (z : Image). Along (IsOnWay x) then (all_given qs (drafted z)).strokes) same (given_along qs (ps ++ p ∷ []) then more (subst (IsBack x (ps ++ p ∷ [])) (sym same) now))))
 
-  -- and behind all of them
+  -- and after all of them
   pub given_end : (qs ps : List ℕ) (b : Base) → leaked x ≡ ps ++ qs → IsBack x ps b.image → IsBack x (leaked x) (base_after b (all_given qs (drafted b.image)).strokes).image
   unfolding base_after
   given_end [] ps b e back = subst (λ (ss : List Stroke). IsBack x (leaked x) (base_after b ss).image) (sym (given_none b.image)) (subst (λ (fs : List ℕ). IsBack x fs b.image) (sym (e ∙ append-nil ps)) back)

@@ -124,7 +124,7 @@ module _ (image : Image) (broken : Broken) (first : IsFirstBelow image (covered 
 pub unsound_not : (image : Image) → IsFirstBelow image (covered image) None → unsound image ≡ None
 unsound_not image first = unsound_none image (λ f p below. first f p below)
 
--- A page has its bit and its entry in inventory pages that stand before it, or less than so many pages behind.
+-- A page has its bit and its entry in inventory pages that stand before it, or less than so many pages after.
 inventory_covers : (size p n : ℕ) → IsTrue (is_page_size size) → inventory_place size (p / bits_in size) < n → p < n + bits_in size
 inventory_covers size p n valid below = by (p / bits_in size) refl
   where

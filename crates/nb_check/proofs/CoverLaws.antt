@@ -1,4 +1,4 @@
--- No page far behind the end breaks a fact: its bit and its entry stand behind the end too.
+-- No page far after the end breaks a fact: its bit and its entry stand after the end too.
 use Rattle.std.proofs.Common.{◌≡◌, inl, inr, ℕ, zero, suc, ◌+◌, ◌-◌, ◌*◌, ◌/◌, ◌%◌, ◌<◌, ◌≤◌, length, refl, sym, ap, subst, ◌∙◌, arith, add-mul, mul-le-mul_right, suc-mul}
 use Rattle.std.specs.Prelude.{IsTrue, Bool, true, false, Option, Some, None, ◌&&◌, nat_le}
 use Rattle.std.proofs.Math.Nat.{mod-lt, mul_assoc}
@@ -69,7 +69,7 @@ module _ (image : Image) (valid : IsTrue (is_page_size (image_size image))) wher
   pub group_within : group_end ≤ covered image
   group_within = (let is = length_parts in let end = group_is in omega (arith, is, end))
 
-  -- a page in it has its bit where the page behind the last one has it
+  -- a page in it has its bit where the page after the last one has it
   same_bits : (p : ℕ) → n ≤ p → p < group_end → p / bits ≡ n / bits
   same_bits p past near =
       let is = length_parts in
@@ -87,7 +87,7 @@ module _ (image : Image) (valid : IsTrue (is_page_size (image_size image))) wher
       by zero is = more
       by (suc k) is = omega (arith, is, more)
 
-  -- its inventory page stands behind the end
+  -- its inventory page stands after the end
   map_far : (p : ℕ) → group_end ≤ p → n ≤ inventory_of image p
   map_far p high = by (p / bits) (div-add-mod' p bits) (mod-lt p {m = bits} (let some = some_bits in omega (arith, some)))
     where
@@ -115,7 +115,7 @@ module _ (image : Image) (valid : IsTrue (is_page_size (image_size image))) wher
     ]
   ]
     where
-      -- no group of entries begins before the end of a group of bits and ends behind it
+      -- no group of entries begins before the end of a group of bits and ends after it
       no_group : (q : ℕ) → q * each < group_end → group_end < q * each + each → ⊥
       no_group q begins over =
           let whole : group_end ≡ ((n / bits + 1) * 32) * each = sym (mul_assoc (n / bits + 1) 32 each) in
@@ -132,7 +132,7 @@ module _ (image : Image) (valid : IsTrue (is_page_size (image_size image))) wher
       none true e = e
       none false e = refl
 
-  -- a page behind the group breaks nothing
+  -- a page after the group breaks nothing
   pub none_far : 0 < n → (f : Fact) (p : ℕ) → group_end ≤ p → breaks image f p ≡ false
   none_far some BlankPage p high = blank_past image p some (let within = length_within in omega (arith, within, high))
   none_far some SystemPlace p high = place_past image p some (let within = length_within in omega (arith, within, high))

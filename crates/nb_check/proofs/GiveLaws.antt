@@ -1,4 +1,4 @@
--- A page of a sound image is given back: its bit says free then, and every other bit is as it was, before and behind the entry of its inventory page.
+-- A page of a sound image is given back: its bit says free then, and every other bit is as it was, before and after the entry of its inventory page.
 use Rattle.std.proofs.Common.{◌≡◌, ◌≢◌, inl, inr, ℕ, ◌+◌, ◌/◌, ◌%◌, ◌<◌, ◌≤◌, length, drop, sym, ap, subst, ◌∙◌, arith}
 use Rattle.std.specs.Prelude.{true, false, ◌==◌}
 use Rattle.std.proofs.lemmas.Bool.Decides.{eqb_tells}
@@ -118,7 +118,7 @@ module _ (x : Image) (h : IsWhole x) (p : ℕ) (two : 2 ≤ p) (low : p < length
       places_apart (image_size x) (inventory_of x q) h.fields.size (inventory_there (image_size x) (q / bits_in (image_size x)) h.fields.size)
       (subst (λ (n : ℕ). is_scn_place (image_size x) n ≡ true) (sym e) (scn_page_there (image_size x) (i / entries_in (image_size x)) h.fields.size))))
 
-  -- What holds before, between and behind holds along its strokes.
+  -- What holds before, between and after holds along its strokes.
   pub give_along : (Q : Image → Type 0) (b : Base) → b.image ≡ x → Q x → Q between → Q given → Along Q b (give_page p (drafted x)).strokes
   give_along Q b e before mid after =
       subst (λ (d : Draft). Along Q b d.strokes) (sym give_is) (put_along Q b x i 2 (drop 16 row) e before mid (subst (λ (d : Draft). Q d.image) give_is after))

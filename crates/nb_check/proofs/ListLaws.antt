@@ -73,7 +73,7 @@ unfolding pages_of_all
 pages_append image [] ds = refl
 pages_append image (c ∷ cs) ds = ap (λ (ps : List ℕ). found_pages c image ++ ps) (pages_append image cs ds) ∙ sym (append_assoc (found_pages c image) (pages_of_all image cs) (pages_of_all image ds))
 
--- the first cause of a list, behind one
+-- the first cause of a list, after one
 abbrev or_else : Cause → Cause → Cause
 or_else c d = elim c as (λ z. Cause) [ None ↦ d | Some r ↦ Some r ]
 

@@ -26,7 +26,7 @@ first_still image n (Some b) first none = (
   λ f p low before. elim (below_more p n low) [ inl less ↦ first.2 f p less before | inr same ↦ ap (breaks image f) same ∙ none f ],
 )
 
--- what it breaks comes behind
+-- what it breaks comes after
 pub first_kept : (image : Image) (n : ℕ) (b : Broken) (fact : Fact) → IsFirstBelow image n (Some b) → IsLowestAt image n (Some fact) → number_of b.fact ≤ number_of fact → IsFirstBelow image (n + 1) (Some b)
 first_kept image n b fact first lowest least = (
   first.0,

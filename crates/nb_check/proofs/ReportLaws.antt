@@ -62,7 +62,7 @@ module _ (test : ℕ → Bool) where
   front_get [] rs x = refl
   front_get (f ∷ fs) rs x = front_get fs rs x
 
-  -- a number that passes stands behind those that are lower
+  -- a number that passes stands after those that are lower
   pub listed : (room n : ℕ) → n < room → test n ≡ true → get_or (up_to room) (length (up_to n)) 0 ≡ n
   listed room n low holds =
       let parts : room ≡ n + suc (room - n - 1) = omega (arith, low) in

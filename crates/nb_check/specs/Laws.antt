@@ -22,7 +22,7 @@ pub record KeepsPages (before image : Image) : Type 0 where
   pub history : spots History image ≡ spots History before
   pub bits : (p : ℕ) → p < length before → is_among p (leaked before) ≡ false → is_free_page image p ≡ is_free_page before p
 
--- Behind the strokes no page is leaked. At each front of them, where a stop may leave the database, the pages that are leaked are the
+-- After the strokes no page is leaked. At each front of them, where a crash may leave the database, the pages that are leaked are the
 -- last of those that were.
 pub record Reclaims (b : Base) (strokes : List Stroke) : Type 0 where
   pub keeps : (k : ℕ) → KeepsPages b.image (base_after b (take k strokes)).image

@@ -129,7 +129,7 @@ fn give_back<H: Host>(host: &mut H, engine: &mut Engine, report: &Report) -> Res
 /// Each page that is given back takes two reads more than a check.
 ///
 /// The refusals are `Access`, and those of `check`. A refused call changes nothing, and so does one that ends before the first page is
-/// given back. Want of memory ends it later in the stalled state alone, where the difference file grows by a page: then, as behind a stop or
+/// given back. Want of memory ends it later in the stalled state alone, where the difference file grows by a page: then, as after a crash or
 /// a fault, the last of the leaked pages are still leaked, and nothing else has changed.
 pub fn reclaim<H: Host>(alloc: Global, host: &mut H, engine: &mut Engine) -> Result<u32, Fault>
     ensures turn { (s : Seen) (t : Trail) → IsTrue H.tells → t.base ≡ s.base → IsOpen (H.world host.old) engine.old t

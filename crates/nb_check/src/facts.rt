@@ -36,7 +36,7 @@ pub(crate) fn first_of(broken: Option<Broken>, fact: Option<Fact>, page: u32) ->
     }
 }
 
-/// The first that is broken, where one more is, at a page behind all those of `broken`.
+/// The first that is broken, where one more is, at a page after all those of `broken`.
 fn first_with(broken: Option<Broken>, here: Broken) -> Broken
     ensures { (image : Image) → IsFirstBelow image here.page broken → IsLowestAt image here.page (Some here.fact) → IsFirstBelow image (here.page + 1) (Some result) }
 {

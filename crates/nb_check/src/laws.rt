@@ -21,8 +21,8 @@ pub fn a_sound_image_breaks_no_fact()
     ensures whole { (image : Image) → IsTrue (is_page_size (image_size image)) → check_cause image ≡ None → IsOfSize (image_size image) image → length image ≤ 1048576 → IsSoundImage image }
 {}
 
-/// The leaked pages are just those that are taken data pages which nothing reaches, and a reclaim gives them back: none is leaked behind it,
-/// and at each front of its strokes, where a stop may leave the database, the last of them are. All else stays, and so a neat database
+/// The leaked pages are just those that are taken data pages which nothing reaches, and a reclaim gives them back: none is leaked after it,
+/// and at each front of its strokes, where a crash may leave the database, the last of them are. All else stays, and so a neat database
 /// stays neat, with the rows of every table.
 pub fn leaked_pages_are_given_back()
     ensures each { (image : Image) (p : ℕ) → p < length image → is_among p (leaked image) ≡ is_leaked image p }

@@ -5,7 +5,7 @@
 //! changes nothing but which pages are in memory, and that a data page is given back by the short form of that name. A layer above may rely
 //! on this: a check is refused exactly where the inventories aren't sound, by the lowest fact that fails and the lowest page at which it
 //! does, or where a chain isn't of the form; otherwise it answers the leaked pages of the database as it is seen, in every backup state. A
-//! reclaim gives those back, one after the other, and at each moment a stop leaves the last of them leaked and everything else as it was.
+//! reclaim gives those back, one after the other, and at each moment a crash leaves the last of them leaked and everything else as it was.
 //! The memory for both, one bit a page, is taken before the first page is read.
 //!
 //! Pages are leaked where the program was stopped: in an insert or a create, between the new page and the link to it, and in a drop,

@@ -53,7 +53,7 @@ fn look_at(found: &mut Found, extent: Extent, number: u32, page: &[u8], map: &[u
     found.taken.insert(number);
 }
 
-/// Reads page `number`, one behind page 0, where the database has it.
+/// Reads page `number`, one after page 0, where the database has it.
 fn read_there<H: Host>(
     host: &mut H,
     engine: &mut Engine,
@@ -111,8 +111,8 @@ fn keep_wanted(wanted: bool, page: &[u8], kept: &mut [u8])
     }
 }
 
-/// Reads and looks at page `number`. `map` is the page inventory page with its bit, and behind the call with that of the next page.
-/// `entries` is the SCN page with the entry of the page before, and behind the call with that of this one: a system page comes before
+/// Reads and looks at page `number`. `map` is the page inventory page with its bit, and after the call with that of the next page.
+/// `entries` is the SCN page with the entry of the page before, and after the call with that of this one: a system page comes before
 /// the pages that it speaks of, or is the first of them.
 fn pass_page<H: Host>(
     host: &mut H,

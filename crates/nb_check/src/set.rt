@@ -7,7 +7,7 @@ use nb_host::Fault;
 use std::alloc::Global;
 use std::marker::Model;
 
-/// Whether the bit of a page is 1. Behind the last byte none is.
+/// Whether the bit of a page is 1. After the last byte none is.
 fn has_bit(bytes: &[u8], page: u32) -> bool
     ensures { result ≡ has bytes.now page }
 {

@@ -7,7 +7,7 @@ use Rattle.nb_top.specs.Goes.{IsRun}
 use Rattle.nb_top.specs.Requests.{Asked}
 use Rattle.nb_cli.specs.Ended.{EndsRun}
 
--- nothing is written behind the run
+-- nothing is written after the run
 pub ends_at_once : {H : Type 0} (tells : Bool) (world : H → World) (status : Status) (old new : H) (asked : Asked) → IsRun world tells status old new asked → EndsRun tells world status old new asked
 ends_at_once tells world status old new asked run = record {
   ran = status;

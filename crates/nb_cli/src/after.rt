@@ -1,4 +1,4 @@
-// What the standard error says behind a run.
+// What the standard error says after a run.
 use crate::beside::End;
 use crate::changed::script_in;
 use crate::look::look_at;
@@ -123,7 +123,7 @@ fn show_shortage<R: Eprint>(rt: &R, asked: Option<String>) {
     }
 }
 
-/// What is to be said behind a run: why its words name no job, why a script or a list wasn't read, what to do about a refusal, what stands where it ended
+/// What is to be said after a run: why its words name no job, why a script or a list wasn't read, what to do about a refusal, what stands where it ended
 /// early.
 pub fn explain<R: Files + Print + Eprint + Clock + Drop>(
     alloc: Global,

@@ -55,7 +55,7 @@ impl<F: FileExt + Drop> Look<F> {
         self.file.read_exact_at(into, at).is_ok()
     }
 
-    /// The first 64 bytes, with zeros behind the end of the file.
+    /// The first 64 bytes, with zeros after the end of the file.
     fn first(&self) -> Option<[u8; 64]> {
         let mut first = [0; 64];
         let count = self.length.min(64) as usize;

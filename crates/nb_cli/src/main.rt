@@ -2,7 +2,7 @@
 //!
 //! It rests on `nb_top`, whose `run_read` does what words ask, on `nb_file` for the outside, and on `nb_advice` for what the standard error says.
 //! On the standard output it says nothing itself. `serve` is the whole way from the words to the exit status, over any outside. Before a run it tells
-//! the host which database the run changes and how long locks are waited for; behind it the standard error has which word is wrong, which
+//! the host which database the run changes and how long locks are waited for; after it the standard error has which word is wrong, which
 //! line of a script, what to do about a refusal, or what stands where the run ended early (`beside`). For that it looks at files by itself
 //! (`look`), without a lock, and changes nothing.
 #![tactic(auto)]
@@ -63,7 +63,7 @@ fn job_named(alloc: Global, words: &io::Result<Vec<String>>) -> Result<Job, Faul
 }
 
 /// Does the job, and then gives the system what still waits to be written. Where that can't be written the answer is Device. A line of a script
-/// that breaks its form is `broken` behind it.
+/// that breaks its form is `broken` after it.
 fn run_out<H: Beside>(
     alloc: Global,
     job: &Result<Job, Fault>,
@@ -97,7 +97,7 @@ fn exit_code(status: Status) -> ExitCode
 }
 
 /// Does what the words ask, and says on the standard error what there is to say of it. Answers the exit status: the number of the run's status, or
-/// 3 where what still waited behind the run couldn't be written.
+/// 3 where what still waited after the run couldn't be written.
 fn serve<H: Beside>(
     alloc: Global,
     words: &io::Result<Vec<String>>,

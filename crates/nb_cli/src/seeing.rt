@@ -1,4 +1,4 @@
-// What is looked up for what is said behind a run.
+// What is looked up for what is said after a run.
 use crate::look::look_at;
 use nb_advice::{Levels, Refused, Seen};
 use nb_host::{MOST_BASE_NAME, Name};

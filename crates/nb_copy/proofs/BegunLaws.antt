@@ -1,4 +1,4 @@
--- A database behind the begin of a backup.
+-- A database after the begin of a backup.
 use Rattle.std.proofs.Common.{◌≡◌, ℕ, ◌+◌, List, [], ◌∷◌, length, refl, sym, ap, ◌∙◌, arith}
 use Rattle.std.specs.Prelude.{true, Option, Err}
 use Rattle.nb_fields.specs.Header.{is_header, guid_of, state_of, size_of}

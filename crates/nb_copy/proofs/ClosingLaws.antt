@@ -112,7 +112,7 @@ module _ (old mid : World) (a : Held) (t : Trail) (is : IsOpen old a t) (timely 
 
 -- The file of a backup of a database that is open.
 module _ (old : World) (a : Held) (t : Trail) (is : IsOpen old a t) (name whole : List ℕ) (apart : OfFiles (name_of a) name → ⊥) (reads : Leaves old name (old.files name)) where
-  -- what a stop leaves of the two files while the file alone is touched
+  -- what a crash leaves of the two files while the file alone is touched
   own : (P : File → File → Type 0) → ((files : Files) → LeavesAll old files → P (files (name_of a)) (files (delta_name (name_of a)))) → (files : Files) → ((m : List ℕ) → m ≢ name → Leaves old m (files m))
       → P (files (name_of a)) (files (delta_name (name_of a)))
   own P left files others =
@@ -160,7 +160,7 @@ pub kept_named : (w : World) (f g : FileCopy) (name : List ℕ) (frozen : Image)
 kept_named w f g name frozen same named kept =
     subst (λ (n : List ℕ). IsKept w n (whole_file g frozen)) named (subst (λ (x : FileCopy). IsKept w (file_name x) (whole_file x frozen)) same kept)
 
--- the time is asked for behind the turn of the file
+-- the time is asked for after the turn of the file
 pub asked_behind : (old mid new : World) (time : ℕ) → GaveNothing old mid → GaveTimeAtMost old new time → GaveTimeAtMost mid new time
 asked_behind old mid new time gave given = subst (λ (ts : List ℕ). (new.times ≡ ts) ⊎ (new.times ≡ ts ++ time ∷ [])) (sym gave.times) given
 
@@ -185,7 +185,7 @@ goes_further w copier later frozen before filed backed same name whole count goe
   goes = goes;
 }
 
--- A turn, behind that of its file.
+-- A turn, after that of its file.
 module _ (old mid : World) (a b : Held) (copier : Backed) (t : Trail) (is : IsOpen old a t) (stalled : a.files.state ≡ 1) (apart : OfFiles (name_of a) copier.backing.name → ⊥) (reads : Leaves old copier.backing.name (old.files copier.backing.name)) (same : b ≡ a)
     (file : Changes old mid (Only copier.backing.name) (Remade old copier.backing.name (IsUnfinishedOr (whole_file copier.file t.base.frozen)))) (gave : GaveNothing old mid) where
   abbrev whole : List ℕ

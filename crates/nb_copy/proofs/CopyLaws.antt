@@ -26,7 +26,7 @@ quiet_keeps old new copy frozen quiet begun = record {
   blank = λ c now. begun.blank c (quiet.still.left.now copy.name c tt now);
 }
 
--- a page behind page 0 lies behind the first 64 bytes
+-- a page after page 0 lies after the first 64 bytes
 far_behind : (n size : ℕ) → 1 ≤ n → 1024 ≤ size → 64 ≤ n * size
 far_behind n size some wide = let low : 1 * size ≤ n * size = mul-le-mul_right size some in omega (arith, low, wide)
 
@@ -44,7 +44,7 @@ module _ (name : List ℕ) where
       (remade_step mid mid new name IsBlank IsBlank IsBlank (PageLeft (k * length page) page) (remade_begun mid (Only name) name IsBlank timely) time writes.left (page_others tells result mid new name (k * length page) page told writes) silent
       (λ c now. blank c (quiet.still.left.now name c tt now)) (λ c is. is) (λ c d is left. blank_left (k * length page) page c d (far_behind k (length page) some wide) is left))
 
-  -- page 0 is written behind the sync of the others, also where that fails
+  -- page 0 is written after the sync of the others, also where that fails
   pub first_written : {T E : Type 0} (tells : Bool) (result : Result T E) (old mid new : World) (file whole : List ℕ) (page : Page) → IsTrue tells → Changes old mid (Only name) (Remade old name (IsFreeOr whole)) → IsDurable mid name (Some file) → IsBlank (Some file)
       → with_page (Some file) (0 * length page) page ≡ Some whole → ((c : File) → PageLeft (0 * length page) page (Some file) c → IsFreeOr whole c)
       → WritesPage tells result mid new name (0 * length page) page → new.said ≡ mid.said → Passes mid new → Changes old new (Only name) (Remade old name (IsFreeOr whole))
@@ -98,7 +98,7 @@ module _ (w : World) (copy : Copying) (frozen : Image) (of : IsOf copy frozen) (
     pub before_blank : IsBlank (Some before_whole)
     before_blank = front_blank copy.size copy.next frozen wide
 
-    -- whatever a stop leaves of that write
+    -- whatever a crash leaves of that write
     pub whole_left : (c : File) → PageLeft (0 * length copy.first) copy.first (Some before_whole) c → IsFreeOr (joined frozen) c
     whole_left c (inl same) = inl (blank_free c (subst IsBlank (sym same) before_blank))
     whole_left c (inr (inl put)) = inr (put ∙ whole_put)

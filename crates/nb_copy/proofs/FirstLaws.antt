@@ -9,7 +9,7 @@ use Rattle.nb_model.proofs.DraftLaws.{either}
 use Rattle.nb_model.proofs.PutSound.{needs_image}
 use Rattle.nb_model.proofs.SoundLaws.{scn_place_some, inventory_place_some}
 
--- the search begins behind page 0
+-- the search begins after page 0
 free_least : (left p : ℕ) (image : Image) → p ≤ free_from left p image
 unfolding free_from
 free_least zero p image = omega arith
@@ -43,7 +43,7 @@ starts_itself (p ∷ ps) some = record { rest = ps; is = refl }
 pub first_is : (f : Page) (image : Image) → Starts f image → first_page image ≡ f
 first_is f image h = ap first_page h.is
 
--- Only pages behind page 0 are written.
+-- Only pages after page 0 are written.
 module _ (f : Page) (size : IsTrue (is_page_size (size_of f))) where
   chosen : (q : ℕ) (bytes : Page) (rest : Image) (t : Bool) → Starts f (elim t as (λ z. Image) [ true ↦ slice_set (f ∷ rest) (suc q) bytes | false ↦ (f ∷ rest) ++ bytes ∷ [] ])
   chosen q bytes rest true = record { rest = slice_set rest q bytes; is = refl }

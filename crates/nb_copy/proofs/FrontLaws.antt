@@ -20,7 +20,7 @@ take-more zero (p ∷ ps) low = refl
 take-more (suc k) (p ∷ ps) low = ap (λ (x : List Page). p ∷ x) (take-more k ps (let l : k < length ps = omega (arith, low) in l))
 
 module _ (size : ℕ) where
-  -- a page goes behind those that stand there
+  -- a page goes after those that stand there
   next_page : (k : ℕ) (p : Page) (ps : List Page) (page : Page) → IsOfSize size (p ∷ ps) → k < length ps → page ≡ page_at ps k → length page ≡ size
       → put_at (joined (front_pages size (suc k) (p ∷ ps))) (suc k * size) page ≡ joined (front_pages size (suc (suc k)) (p ∷ ps))
   unfolding front_pages

@@ -75,7 +75,7 @@ module _ (copy : LevelCopying) (frozen : Image) (of : IsLevelOf copy frozen) whe
   unfolding changed_from
   below_none = refl
 
-  -- behind the last there are all
+  -- after the last there are all
   pub below_all : (k : ℕ) → length frozen ≤ k → taken_below k copy frozen ≡ changed scn frozen
   below_all k all = ap (changed_from may 0 scn) (take_all k frozen all)
 

@@ -23,7 +23,7 @@ pub loads_seen : (size p bytes at index : ℕ) → bytes ≡ size → at ≡ p �
 loads_seen size p bytes at index same is number either =
     ap (λ n. one_if (loads_entries n p)) (sym same) ∙ ap (λ m. one_if (loads_entries bytes m)) (sym is) ∙ loads_true bytes at index number either
 
--- what the turn of page 0 reads, and that of a page behind it
+-- what the turn of page 0 reads, and that of a page after it
 pub reads_first : (image : Image) (scn p : ℕ) → p ≡ 0 → reads_at image scn p ≡ 1
 unfolding reads_at
 reads_first image scn p is = ap (reads_at image scn) is
@@ -87,7 +87,7 @@ module _ (image : Image) (scn : ℕ) (is : IsTrue (is_page_size (image_size imag
   no_multiple : (p : ℕ) → 1 ≤ p → p < entries_in size → (p % entries_in size == 0) ≡ false
   no_multiple p some low = ne_eqb (p % entries_in size) 0 (λ e. absurd (omega (arith, some, e, mod-eq_of_lt low)))
 
-  -- behind page 2 an SCN page is read where one stands
+  -- after page 2 an SCN page is read where one stands
   at_place : (p : ℕ) → 3 ≤ p → C p ≡ B p
   unfolding loads_entries is_scn_place
   at_place p far =

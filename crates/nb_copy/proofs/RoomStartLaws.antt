@@ -1,4 +1,4 @@
--- The start of a backup behind its tests: room in the history, the file, and the begin.
+-- The start of a backup after its tests: room in the history, the file, and the begin.
 use Rattle.std.proofs.Common.{◌≡◌, ◌≢◌, inl, inr, ℕ, ◌<◌, ◌≤◌, List, [], ◌∷◌, ◌++◌, length, replicate, refl, sym, ap, subst, ◌∙◌, arith, true≢false}
 use Rattle.std.specs.Prelude.{not, ◌==◌, nat_lt, IsTrue, Some, None, Result, Ok, Err}
 use Rattle.nb_fields.specs.Bytes.{number_in}
@@ -56,7 +56,7 @@ abbrev starting_of : Page → Cause
 starting_of p =
     first_cause (when (not (number_in 65 1 p == 0)) (Access 1) ∷ when (not (state_of p == 0)) (WrongState (state_of p)) ∷ when (nat_lt 4294967293 (scn_of p)) (ScnExhausted (scn_of p)) ∷ [])
 
--- Behind the tests.
+-- After the tests.
 module _ (old mid : World) (a b : Held) (t : Trail) (s : Seen) (session : ℕ) (since : Since) (name : List ℕ) (runs : a.running ≡ s.running) (at : t.base ≡ s.base) (is : IsOpen old a t) (apart : OfFiles (name_of a) name → ⊥)
     (none : early s session since name ≡ None) where
   abbrev image : Image

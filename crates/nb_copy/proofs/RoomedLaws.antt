@@ -1,4 +1,4 @@
--- A database behind the strokes that make room in the history.
+-- A database after the strokes that make room in the history.
 use Rattle.std.proofs.Common.{◌≡◌, ℕ, zero, suc, ◌+◌, ◌≤◌, List, [], length, refl, sym, ap, subst, ◌∙◌, arith}
 use Rattle.std.specs.Prelude.{Option, Some, None}
 use Rattle.nb_fields.specs.Page.{kind_of}
@@ -54,7 +54,7 @@ room_keeps : (b : Base) (o : Option Spot) → IsOf b (room_by b.image o).draft
 room_keeps b (Some s) = taken_keeps (IsOf b) (drafts_are b) s.page _ (needs_keeps (IsOf b) (drafts_are b) 10 _ _ (needs_keeps (IsOf b) (drafts_are b) 2 _ _ (drafted_is b)))
 room_keeps b None = grown_keeps (IsOf b) (drafts_are b) History (found_pages History b.image) [] (drafted b.image) (drafted_is b)
 
--- so its image is that behind its strokes
+-- so its image is that after its strokes
 pub roomed_is : (t : Trail) → (after_strokes t (room_in t.base.image).draft.strokes).base.image ≡ (room_in t.base.image).draft.image
 roomed_is t =
     ap (λ (b : Base). b.image) (after_base t (room_in t.base.image).draft.strokes)

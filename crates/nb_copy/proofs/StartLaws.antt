@@ -200,7 +200,7 @@ module _ (old mid : World) (a b : Held) (t : Trail) (s : Seen) (session : ℕ) (
     started = tt;
   }
 
--- the GUID is asked for behind the room
+-- the GUID is asked for after the room
 pub given_later : (old mid new : World) (id : List ℕ) → GaveNothing old mid → GaveAtMost old new id → GaveAtMost mid new id
 given_later old mid new id gave given = subst (λ (gs : List (List ℕ)). (new.guids ≡ gs) ⊎ (new.guids ≡ gs ++ id ∷ [])) (sym gave.guids) given
 

@@ -26,8 +26,8 @@ OfBackup name db m = (m ≡ name) ⊎ OfFiles db m
 abbrev pub GaveTimeAtMost : (old new : World) (time : ℕ) → Type 0
 GaveTimeAtMost old new time = (new.times ≡ old.times) ⊎ (new.times ≡ old.times ++ time ∷ [])
 
--- What a stop leaves: while the file isn't kept for good, it is as it was, or unfinished, or whole, and the database stands as it was
--- seen; then the file is whole, and the database stands behind a front of the strokes.
+-- What a crash leaves: while the file isn't kept for good, it is as it was, or unfinished, or whole, and the database stands as it was
+-- seen; then the file is whole, and the database stands after a front of the strokes.
 abbrev pub CloseLeft : (old : World) (name whole db : List ℕ) → Trail → List Stroke → Files → Type 0
 CloseLeft old name whole db t strokes files =
     (Remade old name (IsUnfinishedOr whole) files × StandsIn db t files)

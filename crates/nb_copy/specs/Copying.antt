@@ -17,7 +17,7 @@ pub record Copying : Type 0 where
   pub next : ℕ
   pub first : Page
 
--- The pages of the file before its page 0 is written, behind so many turns: none, and from page 1 on zeros in the place of page 0.
+-- The pages of the file before its page 0 is written, after so many turns: none, and from page 1 on zeros in the place of page 0.
 unfoldable pub front_pages : (size turns : ℕ) → Image → List Page
 front_pages size zero image = []
 front_pages size (suc zero) image = []

@@ -57,7 +57,7 @@ pub record IsStarted (w : World) (held : Held) (t : Trail) (copier : Backed) (tu
 abbrev pub OfStart : (name db : List ℕ) → Outcome → Names
 OfStart name db turn m = OfFiles db m ⊎ ((m ≡ name) × (turn.reply ≡ None))
 
--- What a stop leaves: the database behind a front of these strokes, and the file of the backup as it was, or empty.
+-- What a crash leaves: the database after a front of these strokes, and the file of the backup as it was, or empty.
 pub record StartLeft (old : World) (name db : List ℕ) (t : Trail) (strokes : List Stroke) (files : Files) : Type 0 where
   pub database : Reached after_stroke (StandsIn db) t strokes files
   pub file : Remade old name IsEmpty files

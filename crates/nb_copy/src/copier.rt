@@ -214,7 +214,7 @@ impl Copier {
         ensures asks { (t : Trail) → IsTrue H.tells → IsOpen (H.world host.old) engine.old t → (guid : List ℕ) × (length guid ≡ 16) × GaveAtMost (H.world host.old) (H.world host.new) guid }
         ensures stays { engine.old.files.state ≡ 2 → engine.new ≡ engine.old }
 
-        // Whatever stands in the database: only its two files and that of the backup are touched, and it is open behind that.
+        // Whatever stands in the database: only its two files and that of the backup are touched, and it is open after that.
         ensures stays_open { (t : Trail) → IsTrue H.tells → IsOpen (H.world host.old) engine.old t → (name.now ≡ delta_name engine.old.files.name → ⊥)
             → StaysOpen result (H.world host.old) (H.world host.new) engine.old engine.new t (Only name.now) }
 
@@ -249,7 +249,7 @@ impl Copier {
         ensures asks { (t : Trail) → IsTrue H.tells → IsOpen (H.world host.old) engine.old t → (guid : List ℕ) × (length guid ≡ 16) × GaveAtMost (H.world host.old) (H.world host.new) guid }
         ensures stays { engine.old.files.state ≡ 2 → engine.new ≡ engine.old }
 
-        // Whatever stands in the database: only its two files and that of the backup are touched, and it is open behind that.
+        // Whatever stands in the database: only its two files and that of the backup are touched, and it is open after that.
         ensures stays_open { (t : Trail) → IsTrue H.tells → IsOpen (H.world host.old) engine.old t → (name.now ≡ delta_name engine.old.files.name → ⊥)
             → StaysOpen result (H.world host.old) (H.world host.new) engine.old engine.new t (Only name.now) }
 
@@ -329,7 +329,7 @@ impl Copier {
     /// Deals with one page of the frozen image, and answers `More`; or, where all were dealt with before, makes the file whole and keeps it
     /// for good, asks the clock, writes the row of the history, and answers `Finished`.
     ///
-    /// A stop leaves the file as it was before the backup, or unfinished, or whole; the row stands only where the file is whole.
+    /// A crash leaves the file as it was before the backup, or unfinished, or whole; the row stands only where the file is whole.
     /// A copier that has answered `Finished` or a fault isn't used again.
     pub fn turn<H: Host>(&mut self, host: &mut H, engine: &mut Engine) -> Result<Progress, Fault>
         requires size { self.old.page_size ≡ engine.old.files.page_size }
@@ -345,7 +345,7 @@ impl Copier {
         ensures reads { (t : Trail) → IsTrue H.tells → IsOpen (H.world host.old) engine.old t → engine.old.files.state ≡ 1 → IsBackingUp (H.world host.old) self.old t.base.frozen → file_next self.old.file < file_count self.old.file
             → (H.world host.new).reads ≤ (H.world host.old).reads + page_reads (asked_scn self.old.backing.ask) t.base.frozen (file_next self.old.file) }
 
-        // Whatever stands in the database and in the file: only they are touched, and the database is open behind that.
+        // Whatever stands in the database and in the file: only they are touched, and the database is open after that.
         ensures stays_open { (t : Trail) → IsTrue H.tells → IsOpen (H.world host.old) engine.old t → (OfFiles engine.old.files.name self.old.backing.name → ⊥)
             → StaysOpen result (H.world host.old) (H.world host.new) engine.old engine.new t (Only self.old.backing.name) }
         ensures same { self.new ≡ record self.old { file = self.new.file } }

@@ -136,7 +136,7 @@ impl FileCopier {
     /// Deals with one page of the frozen image, and answers `More`; or, where all were dealt with before, makes the file whole, keeps it for
     /// good, and answers `Finished`. The first turn makes the file.
     ///
-    /// A stop leaves the file as it was before the first turn, or free, or whole. A copier that has answered `Finished` or a fault isn't used
+    /// A crash leaves the file as it was before the first turn, or free, or whole. A copier that has answered `Finished` or a fault isn't used
     /// again.
     pub fn turn<H: Host>(
         &mut self,

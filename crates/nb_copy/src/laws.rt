@@ -7,7 +7,7 @@ ghost use Rattle.nb_copy.specs.Reading.{reads_at, pages_above, scn_pages, sum_be
 /// What the turns of all pages may read is one page for each page whose SCN entry is above the SCN of the earlier backup, one for each SCN
 /// page, and page 0.
 ///
-/// So the turns of one level together read no more. Let the host count `before p` reads before the turn of page p and `after p` behind it,
+/// So the turns of one level together read no more. Let the host count `before p` reads before the turn of page p and `after p` after it,
 /// whatever is read between two turns: as each turn reads at most `reads_at`, which `LevelCopy::turn` and `Copier::turn` promise, their sum
 /// is bounded.
 pub fn a_level_reads_what_changed()

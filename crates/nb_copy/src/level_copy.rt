@@ -178,7 +178,7 @@ impl LevelCopy {
         self.file.take(host, 0, &self.page)
     }
 
-    /// Deals with a page behind page 0.
+    /// Deals with a page after page 0.
     fn copy_page<H: Host>(&mut self, host: &mut H, engine: &mut Engine) -> Result<(), HostFault>
         requires size { self.old.file.head.page_size ≡ engine.old.files.page_size }
         requires some { 1 ≤ self.old.next }

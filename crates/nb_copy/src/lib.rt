@@ -3,9 +3,9 @@
 //!
 //! It rests on `nb_engine`, which reads the frozen main file, makes room in the history and begins the backup, and on `nb_gather`,
 //! which writes a level file page by page. A layer above may rely on this: each turn deals with one page of the frozen image and
-//! touches no file but the one that is made; a stop leaves that file as it was before it was made, or unfinished, so that nothing
+//! touches no file but the one that is made; a crash leaves that file as it was before it was made, or unfinished, so that nothing
 //! takes it for a backup, or whole; and once a copier has answered that it is finished, the file has exactly the bytes of its backup
-//! and is kept for good. `Copier` is the backup from its begin to its row in the history, which is written only behind that; what
+//! and is kept for good. `Copier` is the backup from its begin to its row in the history, which is written only after that; what
 //! it is refused is tested before anything is written, and its file is made before it begins, so that a file that can't be made leaves the
 //! database in the normal state. `FileCopier` is a copy that the history doesn't note, which makes its file in its first turn. Whatever
 //! stands in the database and in the file, a copier touches them alone, and leaves the database open.

@@ -121,7 +121,7 @@ impl PageCopy {
         Ok(())
     }
 
-    /// Copies a page behind page 0.
+    /// Copies a page after page 0.
     fn copy_page<H: Host>(&mut self, host: &mut H, engine: &mut Engine) -> Result<(), HostFault>
         requires size { self.old.size ≡ engine.old.files.page_size }
         requires some { 1 ≤ self.old.next }
@@ -144,7 +144,7 @@ impl PageCopy {
         Ok(())
     }
 
-    /// Keeps the pages behind page 0 for good, and then page 0.
+    /// Keeps the pages after page 0 for good, and then page 0.
     fn close<H: Host>(&mut self, host: &mut H) -> Result<(), HostFault>
         ensures left { (frozen : Image) → IsTrue H.tells → IsOf self.old frozen → IsBegun (H.world host.old) self.old frozen → self.old.next ≡ self.old.count
             → Changes (H.world host.old) (H.world host.new) (Only self.old.name) (Remade (H.world host.old) self.old.name (IsFreeOr (joined frozen))) }

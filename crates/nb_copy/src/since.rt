@@ -22,7 +22,7 @@ pub(crate) enum Since {
     Guid([u8; 16]),
 }
 
-/// The head of a backup of that level behind the one of that GUID and SCN, without a GUID and an SCN of its own.
+/// The head of a backup of that level after the one of that GUID and SCN, without a GUID and an SCN of its own.
 fn bare_head(engine: &Engine, level: u8, previous: [u8; 16], previous_scn: u32) -> LevelHead
     ensures asks { ask_by result ≡ record { level = level; previous = previous; previous_scn = previous_scn } }
     ensures size { result.page_size ≡ engine.now.files.page_size }

@@ -69,7 +69,7 @@ module _ (size : ℕ) (is_size : IsTrue (is_page_size size)) where
       let none : 0 * length page ≡ 0 = omega arith in
       put ∙ ap (λ (f : File). with_page f (0 * length page) page) is ∙ ap (λ (n : ℕ). Some (put_at [] n page)) none ∙ ap (λ (xs : List ℕ). Some xs) (put_first page ∙ empty)
 
-  -- what a stop leaves while a page of zeros is put into an empty file
+  -- what a crash leaves while a page of zeros is put into an empty file
   pub blank_left : (page : List ℕ) → page ≡ replicate size 0 → (d c : File) → d ≡ Some [] → PageLeft (0 * length page) page d c → IsBlank size c
   blank_left page empty d c is (inl same) = inl (same ∙ is)
   blank_left page empty d c is (inr (inl put)) = inr (blank_put page empty d c is put)

@@ -1,4 +1,4 @@
--- What a write of an allocation page leaves, and what stands once all behind a group are empty.
+-- What a write of an allocation page leaves, and what stands once all after a group are empty.
 use Rattle.std.proofs.Common.{◌≡◌, ◌≢◌, inl, inr, ⊎_elim, ℕ, ◌+◌, ◌*◌, ◌<◌, ◌≤◌, List, length, replicate, refl, sym, ap, ◌∙◌, subst, arith, IsTrue}
 use Rattle.std.specs.Prelude.{Some}
 use Rattle.std.proofs.lemmas.Bool.{cases_eq}
@@ -52,7 +52,7 @@ module _ (size : ℕ) (is_size : IsTrue (is_page_size size)) where
     no_shorter = let a = first.no_shorter in let b = second.no_shorter in omega arith;
   }
 
-  -- a table stays where an allocation page behind its last is written
+  -- a table stays where an allocation page after its last is written
   pub stays_step : (n g : ℕ) (page : List ℕ) (before after : File) → n < g * slots_in size → GroupStep size g page before after → Stays size n before after
   stays_step n g page before after low step = record {
     tables = λ entries few has.
@@ -63,7 +63,7 @@ module _ (size : ℕ) (is_size : IsTrue (is_page_size size)) where
     no_shorter = step.pages.longer;
   }
 
-  -- the group behind `g` is one of those behind `first`
+  -- the group after `g` is one of those after `first`
   pub behind_first : (n first g : ℕ) → first ≤ g → n < (first + 1) * slots_in size → n < (g + 1) * slots_in size
   behind_first n first g order low = let more : (first + 1) * slots_in size ≤ (g + 1) * slots_in size = mul-le-mul_right (slots_in size) (omega arith) in omega (arith, more)
 

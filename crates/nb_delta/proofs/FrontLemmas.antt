@@ -196,7 +196,7 @@ module _ (size : ℕ) (is_size : IsTrue (is_page_size size)) (entries table wait
         ]
       ]
 
-  -- behind the entries a full group ends with, there is an empty allocation page
+  -- after the entries a full group ends with, there is an empty allocation page
   empty_behind : (g : ℕ) → first < g → g * slots_in size ≤ length entries → g ≤ last
   empty_behind g more inside = elim (cases_lt last g) [
     | inl l ↦ let high : (last + 1) * slots_in size ≤ g * slots_in size = mul-le-mul_right (slots_in size) (omega arith) in let behind = places.behind in absurd (omega (arith, high, inside, behind))
@@ -279,7 +279,7 @@ module _ (size : ℕ) (is_size : IsTrue (is_page_size size)) (entries table wait
         | inr ne ↦ all_front end order (named_below end named) entries [] split refl (let high = places.ends in omega arith) places.inside
       ])
 
-  -- zeros stand behind the last of the numbers, or in the empty allocation page behind a full group
+  -- zeros stand after the last of the numbers, or in the empty allocation page after a full group
   pub zeros : ((h : ℕ) → first ≤ h → h < end → IsOfGroup size entries h (page_in size (bytes_of new) (alloc_place size h))) → HasZeros size new (length entries)
   zeros named h j low at = elim (cases_lt h end) [
     | inl l ↦

@@ -78,7 +78,7 @@ part_misshapen size at bytes n some short =
     or_left (nat_lt (at * size) (length bytes) && nat_lt (length bytes) ((at + 1) * size)) (nat_lt (slots_in size) n)
     (and_from (nat_lt (at * size) (length bytes)) (nat_lt (length bytes) ((at + 1) * size)) (lt-ltb (at * size) (length bytes) some) (lt-ltb (length bytes) ((at + 1) * size) short))
 
--- behind the end of the file there are zeros
+-- after the end of the file there are zeros
 pub page_past : (size i : ℕ) (bytes : List ℕ) → length bytes ≤ i * size → page_in size bytes i ≡ replicate size 0
 unfolding page_in
 page_past size i bytes past =
@@ -127,12 +127,12 @@ groups_begun size bytes =
     let most : length bytes / size + 1 ≡ length bytes / size + 1 - 0 = omega arith in
     ap (λ (n : ℕ). groups_from n size 0 bytes []) most ∙ ap (λ (n : ℕ). groups_from (length bytes / size + 1 - 0) size n bytes []) at
 
--- the group behind
+-- the group after
 pub next_group : (size group : ℕ) → alloc_place size group + slots_in size + 1 ≡ alloc_place size (group + 1)
 unfolding alloc_place
 next_group size group = omega arith
 
--- a group's pages stand behind the groups before it
+-- a group's pages stand after the groups before it
 pub first_group : (size group : ℕ) → group ≤ alloc_place size group
 unfolding alloc_place
 first_group size group = omega arith

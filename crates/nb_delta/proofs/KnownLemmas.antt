@@ -18,7 +18,7 @@ use Rattle.nb_delta.specs.Noting.{IsNewest}
 use Rattle.nb_delta.specs.Waiting.{Waits, FrontStep, HasAll}
 use Rattle.nb_delta.proofs.StepLemmas.{keeps_none}
 
--- what a stop leaves while an entry is added
+-- what a crash leaves while an entry is added
 abbrev pub AddChanges : World → World → (number : ℕ) → (page : List ℕ) → Known → Type 0
 AddChanges old new number page k =
     HasTable k.page_size (old.files k.name) k.entries → Changes old new (Only k.name) (Moved old k.name (AddStep k.page_size k.entries number page (old.files k.name)))
@@ -81,7 +81,7 @@ pub clear_changes : (old new : World) (inside forgot k : Known) → inside ≡ f
 clear_changes old new inside forgot k same is changes =
     subst (λ (name : List ℕ). Changes old new (Only name) (Remade old name (λ file. file ≡ None))) (forgot_name inside forgot k same is) changes
 
--- bytes with zeros behind them, `k` of which are taken
+-- bytes with zeros after them, `k` of which are taken
 padded_to : (size k : ℕ) (rest : List ℕ) → size ≡ k + length rest → take size (rest ++ replicate size 0) ≡ rest ++ replicate k 0
 padded_to size k rest sum =
     let long : length (rest ++ replicate k 0) ≡ size = omega (arith, sum, length-append rest (replicate k 0), length-replicate {A = ℕ} k 0) in
@@ -153,7 +153,7 @@ wait_writes before after size inside k same is writes =
     subst (λ (x : Known). WaitWrites before after x) same
     (subst (λ (n : ℕ). (table waiting : List ℕ) → Waits n inside.entries inside.drafted table waiting (before inside.name) → HasAll n inside.entries (before inside.name) (after inside.name)) is writes)
 
--- and behind its last numbers
+-- and after its last numbers
 abbrev pub WaitZeros : (before after : Files) → Known → Type 0
 WaitZeros before after k = (table waiting : List ℕ) → Waits k.page_size k.entries k.drafted table waiting (before k.name) → HasZeros k.page_size (after k.name) (length k.entries)
 

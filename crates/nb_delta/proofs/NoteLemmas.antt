@@ -1,4 +1,4 @@
--- What a stop leaves while an entry is added: its slot is written, room is made, and then the table names it.
+-- What a crash leaves while an entry is added: its slot is written, room is made, and then the table names it.
 use Rattle.std.proofs.Common.{◌≡◌, ℕ, ◌-◌, ◌*◌, Bool, List, length, refl, sym, subst, IsTrue}
 use Rattle.std.specs.Prelude.{Result}
 use Rattle.nb_host.specs.Files.{File}

@@ -10,7 +10,7 @@ pub length-padded : (bytes : List ℕ) (n : ℕ) → length (padded bytes n) ≡
 unfolding padded
 length-padded bytes n = length-append bytes (replicate (n - length bytes) 0) ∙ ap (λ (k : ℕ). length bytes + k) (length-replicate {A = ℕ} (n - length bytes) 0)
 
--- zeros behind are read as what stands behind the end
+-- zeros after are read as what stands after the end
 pub zeros_behind : (bytes : List ℕ) (n i : ℕ) → get_or (bytes ++ replicate n 0) i 0 ≡ get_or bytes i 0
 zeros_behind bytes n i = elim (cases_lt i (length bytes)) [
   | inl l ↦ get_or_append_left bytes (replicate n 0) 0 i l

@@ -25,7 +25,7 @@ group_is room k g i low is = elim (cases_lt (k / room) g) [
 ]
 
 module _ (size : ℕ) where
-  -- the slot behind the allocation page of its group
+  -- the slot after the allocation page of its group
   pub slot_at : (g i : ℕ) → i < slots_in size → slot_place size (g * slots_in size + i) ≡ alloc_place size g + 1 + i
   unfolding slot_place alloc_place
   slot_at g i low =

@@ -84,7 +84,7 @@ module _ (size : ℕ) where
       same g low = ⊎_elim (λ all. all (alloc_place size g)) (λ put. put.others (alloc_place size g) (other g low)) step.pages
 
   module _ (some : 0 < slots_in size) where
-    -- a write of a slot, of the table or behind it
+    -- a write of a slot, of the table or after it
     pub spells_slot : (k : ℕ) (page b c table : List ℕ) → Spells size b table → PageStep size (slot_place size k) page b c → Spells size c table
     spells_slot k page b c table spells step =
         let at = in_group (slots_in size) k some in
@@ -101,7 +101,7 @@ module _ (size : ℕ) where
           ])
         ])
 
-    -- a write of an allocation page behind the table's last
+    -- a write of an allocation page after the table's last
     pub spells_behind : (h : ℕ) (page b c table : List ℕ) → Spells size b table → length table < h * slots_in size → PageStep size (alloc_place size h) page b c → Spells size c table
     spells_behind h page b c table spells low step =
         spells_apart (alloc_place size h) page b c table spells step

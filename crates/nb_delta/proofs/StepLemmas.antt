@@ -96,7 +96,7 @@ module _ (size : ℕ) (is_size : IsTrue (is_page_size size)) where
   pub keeps_joined : (n : ℕ) (b d c : File) → Keeps size n b d → Keeps size n d c → Keeps size n b c
   keeps_joined n b d c first second = record { table = λ table few has. second.table table few (first.table table few has); slots = λ k low. second.slots k low ∙ first.slots k low; zeros = λ m few has. second.zeros m few (first.zeros m few has) }
 
-  -- the next allocation page is written, behind entry n
+  -- the next allocation page is written, after entry n
   module _ (n h : ℕ) (low : n < h * slots_in size) (page : List ℕ) (long : length page ≡ size) where
     pub next_left : (before after : File) → PageLeft (alloc_place size h * size) page before after → Keeps size n before after
     next_left before after left =
@@ -132,7 +132,7 @@ module _ (size : ℕ) (is_size : IsTrue (is_page_size size)) where
     page_whole : alloc_place size g * size + size ≤ length (bytes_of before)
     page_whole = let m : (alloc_place size g + 1) * size ≤ (alloc_place size g + 2 + i) * size = mul-le-mul_right size (omega arith) in let w = slot_whole in omega (arith, m)
 
-    -- zeros stand behind the numbers, or the entry is the last of its group and the next allocation page is one of zeros
+    -- zeros stand after the numbers, or the entry is the last of its group and the next allocation page is one of zeros
     zeros_then : (after : File) → WithPage size (alloc_place size g) page (bytes_of before) (bytes_of after) → HasZeros size after (length table + 1)
     zeros_then after put h j low_j at = elim (cases_eq (i + 1) (slots_in size)) [
       | inl e ↦
@@ -182,7 +182,7 @@ module _ (size : ℕ) (is_size : IsTrue (is_page_size size)) where
     room = room.room;
   }
 
-  -- there is room behind an entry that isn't the last of its group
+  -- there is room after an entry that isn't the last of its group
   pub room_inner : (n h : ℕ) (file : File) → (n + 1) / slots_in size ≡ h → h * slots_in size ≢ n + 1 → MakesRoom size n file file
   room_inner n h file group inner = record {
     keeps = keeps_none n file;
@@ -191,7 +191,7 @@ module _ (size : ℕ) (is_size : IsTrue (is_page_size size)) where
     room = λ g last. absurd (inner (let same = group_is (slots_in size) (n + 1) g 0 (some_slots size is_size) (omega arith) in let e = ap (λ (k : ℕ). k * slots_in size) (sym group ∙ same) in omega arith));
   }
 
-  -- and behind the last of a group where the next allocation page was emptied
+  -- and after the last of a group where the next allocation page was emptied
   pub room_last : (n h : ℕ) (page : List ℕ) (before after : File) → n + 1 ≡ h * slots_in size → page ≡ replicate size 0 → after ≡ with_page before (alloc_place size h * size) page → MakesRoom size n before after
   room_last n h page before after last empty is =
       let low : n < h * slots_in size = omega arith in
@@ -217,7 +217,7 @@ module _ (size : ℕ) (is_size : IsTrue (is_page_size size)) where
     zeros = notes.zeros;
   }
 
-  -- the table names it, or what a stop would have left before the call is kept
+  -- the table names it, or what a crash would have left before the call is kept
   pub add_step : (table : List ℕ) (number : ℕ) (page : List ℕ) (reads mid before after : File) → Prepared size (length table) page reads mid → Keeps size (length table) before mid → NoteStep size table number mid after → AddStep size table number page reads before after
   add_step table number page reads mid before after ready kept (inr notes) = inr (added table number page reads mid after ready notes)
   add_step table number page reads mid before after ready kept (inl keeps) = inl (record {

@@ -109,7 +109,7 @@ module _ (size : ℕ) (bytes : List ℕ) where
   ]
 
   module _ (some : 0 < slots_in size) (large : 0 < size) where
-    -- behind a full group
+    -- after a full group
     behind_full : (g : ℕ) (entries : List ℕ) → Holds size bytes entries → length entries ≡ (g + 1) * slots_in size → alloc_place size (g + 1) * size ≤ length bytes
     behind_full g entries holds many =
         let last = holds.slots g (slots_in size - 1) (omega arith) (omega arith) in

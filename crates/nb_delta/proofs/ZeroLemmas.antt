@@ -1,4 +1,4 @@
--- Zeros behind the numbers of an allocation page.
+-- Zeros after the numbers of an allocation page.
 use Rattle.std.proofs.Common.{◌≡◌, inl, ℕ, ◌+◌, ◌-◌, ◌*◌, ◌≤◌, List, length, drop, replicate, sym, ap, ◌∙◌, arith, length-drop}
 use Rattle.std.proofs.lemmas.List.{drop-drop, drop-replicate, drop_all, take_all}
 use Rattle.nb_host.specs.Files.{File, bytes_of}
@@ -11,7 +11,7 @@ use Rattle.nb_delta.specs.Slots.{HasZeros}
 pub zeros_all : (size k : ℕ) (page : List ℕ) → page ≡ replicate size 0 → drop k page ≡ replicate (size - k) 0
 zeros_all size k page is = ap (λ (p : List ℕ). drop k p) is ∙ drop-replicate k size 0
 
--- behind a full page there is nothing
+-- after a full page there is nothing
 pub zeros_none : (size k : ℕ) (page : List ℕ) → length page ≡ size → size ≤ k → drop k page ≡ replicate (size - k) 0
 zeros_none size k page long past =
     drop_all k page (omega arith) ∙ sym (ap (λ (n : ℕ). replicate n 0) (let none : size - k ≡ 0 = omega arith in none))

@@ -18,7 +18,7 @@ pub record GroupPut (size g : ℕ) (page : List ℕ) (before after : File) : Typ
   pub pages : Put size (alloc_place size g) page (bytes_of before) (bytes_of after)
   pub there : after ≡ Some (bytes_of after)
 
--- the allocation pages behind group `first`, up to that of group `last`, are pages of zeros
+-- the allocation pages after group `first`, up to that of group `last`, are pages of zeros
 pub record Empties (size first last : ℕ) (before after : File) : Type 0 where
   pub stays : (n : ℕ) → n < (first + 1) * slots_in size → Stays size n before after
   pub empty : (g : ℕ) → first < g → g ≤ last → page_in size (bytes_of after) (alloc_place size g) ≡ replicate size 0

@@ -7,7 +7,7 @@ use Rattle.nb_fields.specs.Table.{page_in, alloc_place}
 use Rattle.nb_delta.specs.Entries.{place_of}
 use Rattle.nb_delta.specs.Slots.{HasTable, HasSlot, HasZeros, slot_page, Keeps}
 
--- the page is the allocation page of group g, with the first n entries of the group and zeros behind their numbers
+-- the page is the allocation page of group g, with the first n entries of the group and zeros after their numbers
 pub record IsAllocation (size : ℕ) (page entries : List ℕ) (g n : ℕ) : Type 0 where
   pub count : number_in 0 4 page ≡ n
   pub numbers : (i : ℕ) → i < n → number_in (4 + 4 * i) 4 page ≡ slice_index entries (g * slots_in size + i)
@@ -18,14 +18,14 @@ abbrev pub HasRoom : (size : ℕ) → File → (n : ℕ) → Type 0
 HasRoom size file n = (g : ℕ) → n + 1 ≡ g * slots_in size
     → (page_in size (bytes_of file) (alloc_place size g) ≡ replicate size 0) × ((alloc_place size g + 1) * size ≤ length (bytes_of file))
 
--- there is room behind entry n, and nothing of the table and the slots up to it has changed
+-- there is room after entry n, and nothing of the table and the slots up to it has changed
 pub record MakesRoom (size n : ℕ) (before after : File) : Type 0 where
   pub keeps : Keeps size n before after
   pub slot : slot_page size after n ≡ slot_page size before n
   pub no_shorter : length (bytes_of before) ≤ length (bytes_of after)
   pub room : HasRoom size after n
 
--- the slot of entry n is written and there is room behind it; a table of at most n entries stays, and the slots before
+-- the slot of entry n is written and there is room after it; a table of at most n entries stays, and the slots before
 pub record Prepared (size n : ℕ) (page : List ℕ) (before after : File) : Type 0 where
   pub keeps : Keeps size n before after
   pub slot : slot_page size after n ≡ page

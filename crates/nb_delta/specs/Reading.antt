@@ -30,7 +30,7 @@ ReadsOn form (Err (Refused refusal)) rest = NamesBroken form refusal
 ReadsOn form (Err Device) rest = Unit {0}
 ReadsOn form (Err Memory) rest = Unit {0}
 
--- a group was read: behind a full one `rest` is left, and any other is the last
+-- a group was read: after a full one `rest` is left, and any other is the last
 abbrev pub ReadsGroup : (form : Result (List ℕ) ℕ) → Result Bool Fault → (rest : Result (List ℕ) ℕ) → (entries : List ℕ) → Type 0
 ReadsGroup form (Ok true) rest entries = form ≡ rest
 ReadsGroup form (Ok false) rest entries = form ≡ Ok entries

@@ -17,18 +17,18 @@ slot_page size file k = page_in size (bytes_of file) (slot_place size k)
 abbrev pub HasSlot : (size : ℕ) → File → (k : ℕ) → Type 0
 HasSlot size file k = (slot_place size k + 1) * size ≤ length (bytes_of file)
 
--- where there are n entries, zeros stand behind the numbers of the allocation page that isn't full
+-- where there are n entries, zeros stand after the numbers of the allocation page that isn't full
 abbrev pub HasZeros : (size : ℕ) → File → (n : ℕ) → Type 0
 HasZeros size file n = (g i : ℕ) → i < slots_in size → n ≡ g * slots_in size + i
     → drop (4 + 4 * i) (page_in size (bytes_of file) (alloc_place size g)) ≡ replicate (size - (4 + 4 * i)) 0
 
--- a table of at most n entries stays with the zeros behind its numbers, and the first n slots hold what they held
+-- a table of at most n entries stays with the zeros after its numbers, and the first n slots hold what they held
 pub record Keeps (size n : ℕ) (before after : File) : Type 0 where
   pub table : (entries : List ℕ) → length entries ≤ n → HasTable size before entries → HasTable size after entries
   pub slots : (k : ℕ) → k < n → slot_page size after k ≡ slot_page size before k
   pub zeros : (m : ℕ) → m ≤ n → HasZeros size before m → HasZeros size after m
 
--- the slot of entry k holds what it held or this page; the table stays with the zeros behind its numbers, and the other slots
+-- the slot of entry k holds what it held or this page; the table stays with the zeros after its numbers, and the other slots
 pub record SlotStep (size k : ℕ) (page : List ℕ) (before after : File) : Type 0 where
   pub table : (entries : List ℕ) → HasTable size before entries → HasTable size after entries
   pub slot : (slot_page size after k ≡ slot_page size before k) ⊎ (slot_page size after k ≡ page)
@@ -36,7 +36,7 @@ pub record SlotStep (size k : ℕ) (page : List ℕ) (before after : File) : Typ
   pub zeros : (m : ℕ) → HasZeros size before m → HasZeros size after m
   pub no_shorter : length (bytes_of before) ≤ length (bytes_of after)
 
--- the slot of entry k holds this page; the table stays with the zeros behind its numbers, and the other slots
+-- the slot of entry k holds this page; the table stays with the zeros after its numbers, and the other slots
 pub record SlotPut (size k : ℕ) (page : List ℕ) (before after : File) : Type 0 where
   pub table : (entries : List ℕ) → HasTable size before entries → HasTable size after entries
   pub slot : slot_page size after k ≡ page

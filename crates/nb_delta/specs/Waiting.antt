@@ -10,14 +10,14 @@ pub record Waits (size : ℕ) (entries : List ℕ) (drafted : ℕ) (table waitin
   pub has : HasTable size file table
   pub slots : (k : ℕ) → length table ≤ k → k < length entries → HasSlot size file k
 
--- a table of at most n entries stays with the zeros behind its numbers, and every slot holds what it held
+-- a table of at most n entries stays with the zeros after its numbers, and every slot holds what it held
 pub record Stays (size n : ℕ) (before after : File) : Type 0 where
   pub tables : (entries : List ℕ) → length entries ≤ n → HasTable size before entries → HasTable size after entries
   pub zeros : (m : ℕ) → m ≤ n → HasZeros size before m → HasZeros size after m
   pub slots : (k : ℕ) → slot_page size after k ≡ slot_page size before k
   pub no_shorter : length (bytes_of before) ≤ length (bytes_of after)
 
--- the table has the first of the waiting entries too, as many as there are of them in `front`, and the zeros behind its numbers stay
+-- the table has the first of the waiting entries too, as many as there are of them in `front`, and the zeros after its numbers stay
 pub record HasFront (size : ℕ) (table waiting : List ℕ) (before after : File) : Type 0 where
   pub front : List ℕ
   pub rest : List ℕ

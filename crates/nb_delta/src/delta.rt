@@ -155,7 +155,7 @@ impl Delta {
         ensures added { IsTrue H.tells → HasTable self.old.page_size ((H.world host.old).files self.old.name) self.old.entries
             → OnOk result (Adds self.old.page_size self.old.entries page bytes.now ((H.world host.old).files self.old.name) ((H.world host.new).files self.old.name)) }
 
-        // At each moment a stop leaves the entry with its page and the slots before it as they read, or the table and its slots as
+        // At each moment a crash leaves the entry with its page and the slots before it as they read, or the table and its slots as
         // it would have left them before.
         ensures changes { IsTrue H.tells → HasTable self.old.page_size ((H.world host.old).files self.old.name) self.old.entries
             → Changes (H.world host.old) (H.world host.new) (Only self.old.name) (Moved (H.world host.old) self.old.name (AddStep self.old.page_size self.old.entries page bytes.now ((H.world host.old).files self.old.name))) }
@@ -191,7 +191,7 @@ impl Delta {
         ensures put { IsTrue H.tells → (k : ℕ) → slot ≡ slot_place self.old.page_size k
             → OnOk result (SlotPut self.old.page_size k bytes.now ((H.world host.old).files self.old.name) ((H.world host.new).files self.old.name)) }
 
-        // At each moment a stop leaves the slot with this page or as it was, and the table and every other slot as they were.
+        // At each moment a crash leaves the slot with this page or as it was, and the table and every other slot as they were.
         ensures changes { IsTrue H.tells → (k : ℕ) → slot ≡ slot_place self.old.page_size k
             → Changes (H.world host.old) (H.world host.new) (Only self.old.name) (Moved (H.world host.old) self.old.name (SlotStep self.old.page_size k bytes.now)) }
         ensures durable { IsTrue H.tells → IsTrue forced → OnOk result (IsDurable (H.world host.new) self.old.name ((H.world host.new).files self.old.name)) }
@@ -288,7 +288,7 @@ impl Delta {
         ensures zeros { IsTrue H.tells → 0 < self.old.drafted → (table : List ℕ) → (waiting : List ℕ) → Waits self.old.page_size self.old.entries self.old.drafted table waiting ((H.world host.old).files self.old.name)
             → OnOk result (HasZeros self.old.page_size ((H.world host.new).files self.old.name) (length self.old.entries)) }
 
-        // At each moment a stop leaves the table with the first of the drafted entries too and every slot as it reads, or the table
+        // At each moment a crash leaves the table with the first of the drafted entries too and every slot as it reads, or the table
         // and every slot as it would have left them before.
         ensures changes { IsTrue H.tells → (table : List ℕ) → (waiting : List ℕ) → Waits self.old.page_size self.old.entries self.old.drafted table waiting ((H.world host.old).files self.old.name)
             → Changes (H.world host.old) (H.world host.new) (Only self.old.name) (Moved (H.world host.old) self.old.name (FrontStep self.old.page_size table waiting ((H.world host.old).files self.old.name))) }

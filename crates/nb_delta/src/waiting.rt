@@ -1,4 +1,4 @@
-// The entries that wait come into the table together. First there is room behind all of their groups, and what stands in
+// The entries that wait come into the table together. First there is room after all of their groups, and what stands in
 // their slots is kept for good. Only then the allocation pages name them.
 ghost use Rattle.std.specs.Prelude.{◌≡◌, ℕ, ◌+◌, ◌-◌, ◌*◌, ◌/◌, ◌<◌, ◌≤◌, IsTrue, List, length, replicate, OnOk};
 ghost use Rattle.nb_host.specs.Crash.{IsDurable};
@@ -29,7 +29,7 @@ fn write_group<H: Host>(host: &mut H, name: &Name, group: u32, page: &[u8]) -> R
     Ok(())
 }
 
-/// Writes pages of zeros in the places of the allocation pages behind group `first`, up to that of group `last`.
+/// Writes pages of zeros in the places of the allocation pages after group `first`, up to that of group `last`.
 fn empty_groups<H: Host>(
     host: &mut H,
     name: &Name,
@@ -53,7 +53,7 @@ fn empty_groups<H: Host>(
     Ok(())
 }
 
-/// Makes room behind group `first` and those after it, up to the allocation page of group `last`, and keeps the file for
+/// Makes room after group `first` and those after it, up to the allocation page of group `last`, and keeps the file for
 /// good, with what stands in its slots.
 fn make_ready<H: Host>(
     host: &mut H,

@@ -1,4 +1,4 @@
-// Pages are written in an order that a stop can't harm: a slot is kept for good before the table names it.
+// Pages are written in an order that a crash can't harm: a slot is kept for good before the table names it.
 ghost use Rattle.std.specs.Prelude.{◌≡◌, ℕ, ◌+◌, ◌*◌, ◌-◌, ◌<◌, ◌≤◌, IsTrue, List, [], ◌∷◌, ◌++◌, length, replicate, min, Some, None, OnOk};
 ghost use Rattle.nb_host.specs.Crash.{LeavesAll, IsDurable};
 ghost use Rattle.nb_host.specs.Calls.{IsStill, IsSilent, CountsRead};
@@ -49,7 +49,7 @@ pub fn sync_if<H: Host>(host: &mut H, name: &Name, wanted: bool) -> Result<(), H
     Ok(())
 }
 
-/// Where the entry behind `place` others is the last of its group, empties the next allocation page.
+/// Where the entry after `place` others is the last of its group, empties the next allocation page.
 fn make_room<H: Host>(
     host: &mut H,
     name: &Name,
@@ -74,7 +74,7 @@ fn make_room<H: Host>(
     Ok(())
 }
 
-/// Writes the page of the entry behind `place` others into its slot, and keeps it for good.
+/// Writes the page of the entry after `place` others into its slot, and keeps it for good.
 fn put_slot<H: Host>(
     host: &mut H,
     name: &Name,

@@ -18,7 +18,7 @@ use Rattle.nb_alloc.specs.Put.{entry_cause}
 use Rattle.nb_alloc.proofs.CauseLaws.{first_next, first_here, one_cause}
 use Rattle.nb_alloc.proofs.PutLaws.{is_kind-parts, none_of}
 
--- tests of the owner behind tests of the kind
+-- tests of the owner after tests of the kind
 by_kind : (kind owner : Bool) (r s : Refusal) → when (not kind) r ≡ Some s → when (not (kind && owner)) r ≡ Some s
 by_kind false owner r s e = e
 by_kind true owner r s e = cc
@@ -64,12 +64,12 @@ none_there image p r e = first_here (not_kind image 5 p) (entry_cause image p �
 pub by_entry : (image : Image) (p : ℕ) → not_kind image 5 p ≡ None → entry_cause image p ≡ data_cause image p
 by_entry image p kind = sym (first_next (not_kind image 5 p) (entry_cause image p ∷ []) kind ∙ one_cause (entry_cause image p))
 
--- the bytes behind the head are the payload
+-- the bytes after the head are the payload
 pub behind_payload : (old bytes : List ℕ) → length bytes ≡ length old → take 16 old ++ drop 16 bytes ≡ with_payload old (drop 16 bytes)
 unfolding with_payload
 behind_payload old bytes same = ap (λ (xs : List ℕ). take 16 old ++ xs) (sym (padded_whole (length old - 16) (drop 16 bytes) (length-drop 16 bytes ∙ ap (λ (n : ℕ). n - 16) same)))
 
--- nothing is left behind the rest of a page
+-- nothing is left after the rest of a page
 pub put_rest : (page rest : List ℕ) → take 16 page ++ (rest ++ drop (length page - 16) (drop 16 page)) ≡ take 16 page ++ rest
 put_rest page rest =
     ap (λ (xs : List ℕ). take 16 page ++ (rest ++ xs)) (drop_all (length page - 16) (drop 16 page) (omega (arith, length-drop 16 page))) ∙ ap (λ (xs : List ℕ). take 16 page ++ xs) (append-nil rest)

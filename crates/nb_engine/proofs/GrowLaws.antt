@@ -99,7 +99,7 @@ module _ (chain : Chain) (slots : List ℕ) where
       tries_made {T = ℕ} (Err fault) old new a b t None all refl sure
       (subst (λ (ss : List Stroke). Makes {T = ℕ} (Err fault) old new a b t ss) (sym (grown_strokes t.base.image pages)) (makes_front ℕ ℕ fault old new a b t (made_behind t.base.image).0.strokes _ sure first))
 
-  -- The link behind the new page.
+  -- The link after the new page.
   module _ (t : Trail) (pages : List ℕ) (last : ℕ) (free : IsFreeBehind (made_behind t.base.image).0 last) (size : IsTrue (is_page_size (image_size (after_strokes t (made_behind t.base.image).0.strokes).base.image))) (last_is : last ≡ last_of pages) where
     abbrev image : Image
     image = t.base.image

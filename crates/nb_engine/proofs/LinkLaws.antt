@@ -25,7 +25,7 @@ use Rattle.nb_alloc.proofs.TestLaws.{applies, rests, le_yes}
 use Rattle.nb_alloc.proofs.PutLaws.{Keeps, put_stroke-after, draft_raised, not_raised, raised_not, scn_page-without}
 use Rattle.nb_alloc.proofs.MakeLaws.{RaisesAlone, raise_alone, old_below}
 
--- bytes behind the head of a page were written
+-- bytes after the head of a page were written
 module _ (at : ℕ) (bytes old : List ℕ) (low : 16 ≤ at) (before : at ≤ length old) (long : length (with_part at bytes old) ≡ length old) where
   abbrev now : List ℕ
   now = with_part at bytes old

@@ -259,7 +259,7 @@ module _ (x : Image) (p : ℕ) (inside : scn_page_of x p < length x) where
           subst (λ (qs : List ℕ). Notes x (raised p d) (qs ++ ps)) (sym (ap (λ (t : Bool). elim t as (λ z. List ℕ) [ true ↦ other_kind x 10 s | false ↦ [] ]) f))
           (subst (λ (t : Bool). Notes x (elim t as (λ z. Draft) [ true ↦ entry_raised p e | false ↦ d ]) ps) (sym (same_entry ∙ f)) h)
 
-  -- and page p is written behind it
+  -- and page p is written after it
   pub notes_put : (d : Draft) (ps : List ℕ) (kind : ℕ) (payload : List ℕ) → Notes x d ps → 1 ≤ p → p < length x → 16 + length payload ≤ image_size x → (is_kind (raised p d).image kind p ≡ true) ⊎ In p (raised p d).broken
       → Notes x (put p kind payload d) (entry_broken x p ++ ps)
   unfolding put

@@ -51,7 +51,7 @@ module _ (slot : Slot) where
   slot_other no_zero no_one =
       ap (λ (t : Bool). t || (is_used slot && is_filled History slot)) (eq_no first 0 no_zero) ∙ ap (λ (t : Bool). t && is_filled History slot) (eq_no first 1 no_one)
 
--- one more behind a list
+-- one more after a list
 module _ {X : Type 0} (test : X → Bool) (x : X) where
   pub last_hit : (xs : List X) → test x ≡ true → last_such test (xs ++ x ∷ []) ≡ Some x
   unfolding last_such

@@ -42,7 +42,7 @@ use Rattle.nb_alloc.proofs.DoesLaws.{tries_passed}
 abbrev GoesOpen : (w : World) (held : Held) → Type 0
 GoesOpen w held = (u : Trail) × IsOpen w held u
 
--- What a stop leaves of an open database can be opened, and so can what it leaves behind a front of strokes.
+-- What a crash leaves of an open database can be opened, and so can what it leaves after a front of strokes.
 pub opens_left : (w : World) (held : Held) (t : Trail) → IsOpen w held t → (files : Files) → LeavesAll w files → CanBeOpened (name_of held) files
 opens_left w held t is files left = let stands = is.files.left files left in (stands.base, stands.opens)
 
@@ -151,7 +151,7 @@ module _ (old new : World) (a b : Held) where
     pub stays_passed : {t : Trail} (S T : Type 0) (result : Result T Fault) (fault : Fault) → IsErr result × IsErrAnd result (λ f. f ≡ fault) → StaysOpen {T = S} (Err fault) old new a b t others → StaysOpen result old new a b t others
     stays_passed {t} S T result fault passed stays = tries_passed result fault (λ r. StaysOpen r old new a b t others) passed (stays_failed S T fault stays)
 
--- one call behind another
+-- one call after another
 pub stays_then : {S T : Type 0} {t : Trail} (value : S) (result : Result T Fault) (old mid new : World) (a b c : Held) (others : Names) → StaysOpen (Ok value) old mid a b t others → ((u : Trail) → IsOpen mid b u → StaysOpen result mid new b c u others)
     → StaysOpen result old new a c t others
 stays_then {t = t} value result old mid new a b c others first second =
@@ -184,7 +184,7 @@ module _ (old new : World) (a : Held) (t : Trail) (is : IsOpen old a t) (reads :
   abbrev delta : List ℕ
   delta = delta_name (name_of a)
 
-  -- what a stop leaves of the two files it would have left beside the others as they read
+  -- what a crash leaves of the two files it would have left beside the others as they read
   own_left : (Q : File → File → Type 0) → ((files : Files) → LeavesAll old files → Q (files (name_of a)) (files (delta_name (name_of a)))) → (files : Files) → ((m : List ℕ) → Other others m → Leaves old m (files m))
       → Q (files (name_of a)) (files (delta_name (name_of a)))
   own_left Q left files same =

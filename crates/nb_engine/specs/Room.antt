@@ -24,11 +24,11 @@ pub record IsRoomIn (image : Image) (room : Room) : Type 0 where
 abbrev pub taken_draft : Image → ℕ → Draft
 taken_draft image p = needs_taken p (needs 10 (scn_page_of image p) (needs 2 (inventory_of image p) (drafted image)))
 
--- what stands behind the head of a page of the history without a row
+-- what stands after the head of a page of the history without a row
 abbrev pub no_rows : List ℕ
 no_rows = data_payload 0 1 []
 
--- what stands behind the head of page p when that is linked to the next
+-- what stands after the head of page p when that is linked to the next
 abbrev pub linked_payload : Image → (p next : ℕ) → List ℕ
 linked_payload image p next = drop 16 (with_part 16 (bytes_of 4 next) (page_at image p))
 

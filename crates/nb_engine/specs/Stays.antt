@@ -18,7 +18,7 @@ CanBeOpened name files = (b : Base) × ShowsIn name b files
 abbrev pub OfFilesOr : (name : List ℕ) → Names → Names
 OfFilesOr name others m = OfFiles name m ⊎ others m
 
--- Only the two files of the database are touched, and those others. At each moment the two files that a stop leaves can be opened, and once
+-- Only the two files of the database are touched, and those others. At each moment the two files that a crash leaves can be opened, and once
 -- the call has ended with a value or a refusal the database is open under its name. Nothing is asked of what it holds.
 pub record StaysOpen {T : Type 0} (result : Result T Fault) (old new : World) (before after : Held) (t : Trail) (others : Names) : Type 0 where
   pub touched : Changes old new (OfFilesOr (name_of before) others) (CanBeOpened (name_of before))

@@ -29,7 +29,7 @@ use nb_state::Store;
 /// Where the payload of a page begins.
 const HEAD: usize = 16;
 
-/// Takes over what these bytes have behind the head of a page.
+/// Takes over what these bytes have after the head of a page.
 fn put_behind(page: &mut [u8], bytes: &[u8])
     requires head { 16 ≤ length page.old }
     requires same { length bytes.now ≡ length page.old }
@@ -38,7 +38,7 @@ fn put_behind(page: &mut [u8], bytes: &[u8])
     page[HEAD..].copy_from_slice(&bytes[HEAD..]);
 }
 
-/// Writes page `number`, a data page, with what these bytes have behind the head. The refusals are `NotDatabase` of the page, where it is
+/// Writes page `number`, a data page, with what these bytes have after the head. The refusals are `NotDatabase` of the page, where it is
 /// none, and of its SCN page, in this order.
 fn write_data<H: Host>(
     store: &mut Store,
@@ -103,7 +103,7 @@ impl Engine {
         Ok(())
     }
 
-    /// Writes page `number`, a data page. Of the bytes that are given those behind the head count: the next page, the owner and the slots.
+    /// Writes page `number`, a data page. Of the bytes that are given those after the head count: the next page, the owner and the slots.
     /// The head is that of the page as it stands, with its generation raised and the current SCN. The SCN entry of the page is raised before,
     /// where that is below the current SCN. It wants memory in the stalled state alone.
     ///

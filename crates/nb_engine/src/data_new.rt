@@ -1,4 +1,4 @@
-// New data pages: the first of a chain, and one behind its last.
+// New data pages: the first of a chain, and one after its last.
 ghost use Rattle.std.specs.Prelude.{◌≡◌, ◌≢◌, ◌+◌, ◌<◌, ◌≤◌, ℕ, List, true, IsTrue, IfErr, IfOk, OnOk, length};
 ghost use Rattle.nb_fields.specs.Payloads.{data_payload};
 ghost use Rattle.nb_host.specs.declared.faults.Fault.TheVariants.{Memory};
@@ -22,16 +22,16 @@ use nb_alloc::{FIRST_TO_GIVE, check_new, check_rooms, make_new};
 use nb_fields::{Field, PageKind};
 use nb_host::{Fault, Host, Refusal};
 
-/// Where the slots begin behind the head of a page.
+/// Where the slots begin after the head of a page.
 const SLOTS: usize = 16;
 
-/// As many bytes as any page has behind its head.
+/// As many bytes as any page has after its head.
 const MOST_PAYLOAD: usize = 1008;
 
-/// The owner behind the head of a page.
+/// The owner after the head of a page.
 type Owner = Field<4, 4>;
 
-/// Makes of these bytes what a data page has behind its head: no next page, the owner and the slots.
+/// Makes of these bytes what a data page has after its head: no next page, the owner and the slots.
 fn fill_payload(into: &mut [u8], owner: u32, slots: &[u8])
     requires room { length into.old ≡ 16 + length slots.now }
     ensures { into.new ≡ data_payload 0 owner slots.now }
@@ -62,7 +62,7 @@ impl Engine {
 
         ensures sizes { (t : Trail) → IsTrue H.tells → IsOpen (H.world host.old) self.old t → IsOfSize (image_size t.base.image) t.base.image → OnOk result (IsOfSize (image_size (new_data owner slots.now t.base.image).0.image) (new_data owner slots.now t.base.image).0.image) }
 
-        // Whatever is in the database: it makes some strokes and is open behind them, so only its two files are touched.
+        // Whatever is in the database: it makes some strokes and is open after them, so only its two files are touched.
         ensures some { (t : Trail) → IsTrue H.tells → IsOpen (H.world host.old) self.old t → MakesSome result (H.world host.old) (H.world host.new) self.old self.new t }
         ensures least { IfOk result (λ number. 5 ≤ number) }
         ensures most { IfOk result (λ number. number < 1048576) }
@@ -92,7 +92,7 @@ impl Engine {
         Ok(number)
     }
 
-    /// Makes a data page with these slots behind `last`, the last page of a chain of that owner, which is linked to it once it stands. It
+    /// Makes a data page with these slots after `last`, the last page of a chain of that owner, which is linked to it once it stands. It
     /// answers the number of the new page. It wants memory in the stalled state alone.
     ///
     /// The refusals are `NotDatabase` of a database of fewer than five pages, by its length, or of the lowest page that isn't of its kind: one
@@ -147,8 +147,8 @@ impl Engine {
         Ok(number)
     }
 
-    /// Tests that `pages` new data pages, one or two, may be made, one right behind the other, and that page `behind`, a data page, may be
-    /// written behind them. It changes nothing but which pages are in memory, and wants no memory.
+    /// Tests that `pages` new data pages, one or two, may be made, one right after the other, and that page `behind`, a data page, may be
+    /// written after them. It changes nothing but which pages are in memory, and wants no memory.
     ///
     /// The refusals are `NotDatabase` of a database of fewer than five pages, by its length, or of the lowest page that isn't of its kind: one
     /// that the new pages need, the SCN page of page `behind`, or that page itself, where the search for the new pages makes a system page of

@@ -44,7 +44,7 @@ fn read_first<H: Host>(store: &mut Store, host: &mut H, page: &mut [u8]) -> Resu
     Ok(())
 }
 
-/// Writes a flag into page 0, at a place behind the control block.
+/// Writes a flag into page 0, at a place after the control block.
 fn put_flag<H: Host>(
     store: &mut Store,
     host: &mut H,

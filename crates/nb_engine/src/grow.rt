@@ -1,4 +1,4 @@
-// A chain of data pages grows by a page, which is made behind its last one and then linked.
+// A chain of data pages grows by a page, which is made after its last one and then linked.
 ghost use Rattle.std.specs.Prelude.{◌≡◌, ◌≢◌, ◌<◌, ◌≤◌, ℕ, List, None, IsTrue, IfErr, IfOk, length};
 ghost use Rattle.nb_fields.specs.Payloads.{data_payload};
 ghost use Rattle.nb_fields.specs.Places.{is_page_size};
@@ -53,7 +53,7 @@ fn link<H: Host>(
     Ok(())
 }
 
-/// Makes a new data page with these bytes behind its head, and links page `last` to it once it stands. It answers its number. The search
+/// Makes a new data page with these bytes after its head, and links page `last` to it once it stands. It answers its number. The search
 /// for its place comes to `first` at first, as `check_rooms` has found.
 pub(crate) fn grow_from<H: Host>(
     store: &mut Store,

@@ -74,7 +74,7 @@ impl Engine {
     }
 
     /// Makes sure that the history has a free slot, and answers the first. Where there is none a new page is made, and the last page of the
-    /// history is linked to it behind that. It wants memory in the stalled state alone.
+    /// history is linked to it after that. It wants memory in the stalled state alone.
     ///
     /// The refusals are `NotDatabase` of the first page of the history that breaks the form, `NotDatabase` of the lowest page that isn't of its
     /// kind, `Full` and `ScnExhausted`, in this order. For a free slot these pages are the inventory page and the SCN page of its page, and that
@@ -86,7 +86,7 @@ impl Engine {
         ensures room { (t : Trail) → IsTrue H.tells → IsOpen (H.world host.old) self.old t → IsOfSize (image_size t.base.image) t.base.image → IfOk result (IsRoomIn t.base.image) }
         ensures below { (t : Trail) → IsTrue H.tells → IsOpen (H.world host.old) self.old t → IsOfSize (image_size t.base.image) t.base.image → IfOk result (λ room. room.page < length (room_in t.base.image).draft.image) }
 
-        // Whatever is in the database: it makes some strokes and is open behind them, so only its two files are touched.
+        // Whatever is in the database: it makes some strokes and is open after them, so only its two files are touched.
         ensures some { (t : Trail) → IsTrue H.tells → IsOpen (H.world host.old) self.old t → MakesSome result (H.world host.old) (H.world host.new) self.old self.new t }
         ensures placed { IfOk result (IsPlaced self.old.files.page_size) }
         ensures goes { Goes self.old self.new }
@@ -141,7 +141,7 @@ impl Engine {
             (put_slot room.now.page room.now.slot (backup_slot row.now.level row.now.scn row.now.time row.now.guid row.now.name) (drafted t.base.image)).strokes }
         ensures sure { (t : Trail) → IsTrue H.tells → IsOpen (H.world host.old) self.old t → room.now.page < length t.base.image → IsSoundImage t.base.image → IfErr result IsNoRefusal }
 
-        // Whatever is in the database: it makes some strokes and is open behind them, so only its two files are touched.
+        // Whatever is in the database: it makes some strokes and is open after them, so only its two files are touched.
         ensures some { (t : Trail) → IsTrue H.tells → IsOpen (H.world host.old) self.old t → MakesSome result (H.world host.old) (H.world host.new) self.old self.new t }
         ensures goes { Goes self.old self.new }
         ensures cause { CountsDevice result (H.faults host.old) (H.faults host.new) }

@@ -20,12 +20,12 @@ use nb_alloc::{FIRST_TO_GIVE, check_new, make_new};
 use nb_fields::PageKind;
 use nb_host::{Fault, Host, Refusal};
 
-/// What stands behind the head of a raw page with the empty text.
+/// What stands after the head of a raw page with the empty text.
 const EMPTY_TEXT: [u8; 2] = [0; 2];
 
 impl Engine {
     /// Makes a raw page with the empty text, and answers its number: the lowest free page, or a page at the end where none is free. Where
-    /// the search for it comes to the place of a system page, that page is made, is taken, and the search goes on behind it. Each page is
+    /// the search for it comes to the place of a system page, that page is made, is taken, and the search goes on after it. Each page is
     /// written before it is taken, and its SCN entry is raised before, where that is below the current SCN. It reads each inventory page up
     /// to that of the lowest free page once, and few pages more for each page that the search went on. It wants memory in the stalled state
     /// alone.
@@ -37,7 +37,7 @@ impl Engine {
         ensures turn { (s : Seen) (t : Trail) → IsTrue H.tells → t.base ≡ s.base → IsOpen (H.world host.old) self.old t → IsOfSize (image_size s.base.image) s.base.image
             → Does page_made result (H.world host.old) (H.world host.new) self.old self.new t (new_turn s) }
 
-        // Whatever is in the database: it makes some strokes and is open behind them, so only its two files are touched.
+        // Whatever is in the database: it makes some strokes and is open after them, so only its two files are touched.
         ensures some { (t : Trail) → IsTrue H.tells → IsOpen (H.world host.old) self.old t → MakesSome result (H.world host.old) (H.world host.new) self.old self.new t }
         ensures closed { self.old.read_only ≡ true → (result ≡ Err (Refused (Access 1))) × Quiet (H.world host.old) (H.world host.new) }
         ensures short { self.old.read_only ≡ false → self.old.files.count < 5 → (result ≡ Err (Refused (NotDatabase self.old.files.count))) × Quiet (H.world host.old) (H.world host.new) }

@@ -1,4 +1,4 @@
-// Room for a row of the history: a free slot whose page is taken, or a new page behind the last.
+// Room for a row of the history: a free slot whose page is taken, or a new page after the last.
 ghost use Rattle.std.specs.Prelude.{◌≡◌, ◌≢◌, ◌<◌, ◌≤◌, ℕ, List, [], ◌∷◌, true, IsTrue, IfErr, IfOk, length};
 ghost use Rattle.nb_fields.specs.Places.{is_page_size};
 ghost use Rattle.nb_host.specs.declared.faults.Fault.TheVariants.{Memory};
@@ -31,7 +31,7 @@ use nb_state::Store;
 /// A backup and its end need two SCNs more.
 const LAST_SCN: u32 = u32::MAX - 2;
 
-/// What stands behind the head of a page of the history without a row: no next page, and the history as its owner.
+/// What stands after the head of a page of the history without a row: no next page, and the history as its owner.
 const NO_ROWS: [u8; 16] = [0, 0, 0, 0, 1, 0, 0, 0, 0, 0, 0, 0, 0, 0, 0, 0];
 
 /// Tests that a backup that begins at this SCN may end. The refusal is `ScnExhausted`.
@@ -132,7 +132,7 @@ pub(crate) fn check_room<H: Host>(
     Ok(())
 }
 
-/// Makes a new page behind `last`, the last page of the history, which is linked to it once it stands. It answers its number.
+/// Makes a new page after `last`, the last page of the history, which is linked to it once it stands. It answers its number.
 ///
 /// The refusals are `NotDatabase` of the lowest page that isn't of its kind, `Full` and `ScnExhausted`, in this order, before the first
 /// write.

@@ -1,4 +1,4 @@
-// Pages in memory: which reads ask the host, and what is in memory in each backup state and behind a read that failed.
+// Pages in memory: which reads ask the host, and what is in memory in each backup state and after a read that failed.
 ghost use Rattle.std.specs.Prelude.{◌<◌, ◌≤◌};
 
 use crate::sample::base_name;

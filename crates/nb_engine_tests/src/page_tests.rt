@@ -42,7 +42,7 @@ fn a_second_read_asks_nothing(rt: HostRuntime) -> Result<(), Fail> {
     Ok(())
 }
 
-/// The kind of page 3, and a byte of it, once it was written with another kind in its head and another byte behind.
+/// The kind of page 3, and a byte of it, once it was written with another kind in its head and another byte after.
 fn written(host: &mut MemHost, engine: &mut Engine) -> Result<(u8, u8), Fault> {
     let mut page = [0; 1024];
     if engine.page_size() != 1024 {
@@ -89,7 +89,7 @@ fn a_raw_page_is_no_data_page(rt: HostRuntime) -> Result<(), Fail> {
     Ok(())
 }
 
-/// The number of a new page behind one that was given back.
+/// The number of a new page after one that was given back.
 fn number_again(host: &mut MemHost, engine: &mut Engine) -> Result<u32, Fault> {
     engine.data_new(host, None, &[])?;
     engine.data_free(host, 13)?;

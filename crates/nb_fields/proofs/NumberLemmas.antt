@@ -45,7 +45,7 @@ to_eight_bytes v =
     let by_7 : v / 256 / 256 / 256 / 256 / 256 / 256 / 256 ≡ v / 72057594037927936 = ap (λ n. n / 256) by_6 ∙ twice 281474976710656 256 in
     cc
 
--- bytes of zeros behind change nothing
+-- bytes of zeros after change nothing
 pub number_of-append : (xs ys : List ℕ) → number_of ys ≡ 0 → number_of (xs ++ ys) ≡ number_of xs
 unfolding number_of
 number_of-append [] ys none = none

@@ -23,7 +23,7 @@ padded-append-zeros size n bytes h =
     let len : length (bytes ++ replicate n 0) ≡ length bytes + n = omega (arith, length-append bytes (replicate n 0), length-replicate {A = ℕ} n 0) in
     append_assoc bytes (replicate n 0) _ ∙ ap (λ zs. bytes ++ zs) (replicate-append-replicate n (size - length (bytes ++ replicate n 0)) 0 ∙ ap (λ m. replicate m 0) (let e : n + (size - length (bytes ++ replicate n 0)) ≡ size - length bytes = omega arith in e))
 
--- the zeros stand behind what follows
+-- the zeros stand after what follows
 pub padded-append : (size : ℕ) (front bytes : List ℕ) → padded size (front ++ bytes) ≡ front ++ padded (size - length front) bytes
 unfolding padded
 padded-append size front bytes =
@@ -37,7 +37,7 @@ take-padded n size bytes h k =
     let len : length front ≡ n = omega (arith, length-append bytes (replicate (n - length bytes) 0), length-replicate {A = ℕ} (n - length bytes) 0) in
     ap (λ zs. take n (bytes ++ zs)) zeros ∙ ap (take n) (sym (append_assoc bytes (replicate (n - length bytes) 0) (replicate (size - n) 0))) ∙ take_at front (replicate (size - n) 0) n len
 
--- bytes written behind what stands, where zeros stand
+-- bytes written after what stands, where zeros stand
 pub with_part-padded : (size at : ℕ) (bytes front : List ℕ) → length front ≤ at → at + length bytes ≤ size
     → with_part at bytes (padded size front) ≡ padded size (front ++ (replicate (at - length front) 0 ++ bytes))
 unfolding padded
@@ -92,7 +92,7 @@ unfolding page_of
 length-page_of size kind generation scn number payload h =
     omega (arith, length-append (head_of kind generation scn number) (padded (size - 16) payload), length-head_of kind generation scn number, length-padded (size - 16) payload (omega arith))
 
--- another payload behind the same head
+-- another payload after the same head
 pub with_payload-page_of : (size kind generation scn number : ℕ) (old payload : List ℕ) → 16 + length old ≤ size
     → with_payload (page_of size kind generation scn number old) payload ≡ page_of size kind generation scn number payload
 unfolding with_payload page_of
@@ -162,7 +162,7 @@ pub text_of-with_payload : (page text : List ℕ) → 16 ≤ length page → len
 unfolding with_payload
 text_of-with_payload page text long short = text_of-payload (length page - 16) (take 16 page) text (length-take-le 16 page long) short
 
--- what is left of a page behind its head, stamped
+-- what is left of a page after its head, stamped
 pub stamped-rest : (old : List ℕ) (kind scn number : ℕ) → 16 ≤ length old
     → stamped old kind (drop 16 old) scn number ≡ head_of kind ((generation_of old + 1) % 2 ^ 32) scn number ++ drop 16 old
 unfolding stamped page_of
@@ -188,7 +188,7 @@ head_written p0 p1 p2 p3 p4 p5 p6 kind generation scn number small room one two 
     let to_d : p5 ≡ with_part 0 d p0 = written_next 0 8 c (bytes_of 4 scn) p0 p4 p5 to_c five refl (omega arith) in
     written_next 0 12 d (bytes_of 4 number) p0 p5 p6 to_d six refl (omega arith)
 
--- the same where the bytes stand right behind
+-- the same where the bytes stand right after
 pub with_part-padded_next : (size at : ℕ) (bytes front : List ℕ) → length front ≡ at → at + length bytes ≤ size → with_part at bytes (padded size front) ≡ padded size (front ++ bytes)
 with_part-padded_next size at bytes front place room =
     with_part-padded size at bytes front (omega arith) room ∙ ap (λ n. padded size (front ++ (replicate n 0 ++ bytes))) (let e : at - length front ≡ 0 = omega arith in e)
@@ -207,17 +207,17 @@ stamped-zeros size kind scn number long =
     padded_whole (length zeros - 16) (drop 16 zeros) (length-drop 16 zeros) ∙ rest ∙ ap (λ n. replicate n 0) (let e : size - 16 ≡ size - 16 - 0 = omega arith in e) in
     ap (λ xs. head_of kind ((generation_of zeros + 1) % 2 ^ 32) scn number ++ xs) whole ∙ ap (λ g. head_of kind g scn number ++ replicate (size - 16 - 0) 0) once
 
--- what stands behind the head of a page without a payload
+-- what stands after the head of a page without a payload
 pub drop-page_of-none : (size kind generation scn number : ℕ) → drop 16 (page_of size kind generation scn number []) ≡ replicate (size - 16) 0
 unfolding page_of padded
 drop-page_of-none size kind generation scn number =
     drop_at (head_of kind generation scn number) (replicate (size - 16 - 0) 0) 16 (length-head_of kind generation scn number) ∙ ap (λ n. replicate n 0) (let e : size - 16 - 0 ≡ size - 16 = omega arith in e)
 
--- parts behind a front of the page
+-- parts after a front of the page
 pub part-append : (n at w : ℕ) (front rest : List ℕ) → length front ≡ n → part (n + at) w (front ++ rest) ≡ part at w rest
 part-append n at w front rest len = ap (take w) (sym (drop-drop at n (front ++ rest)) ∙ ap (drop at) (drop_at front rest n len))
 
--- what stands behind the head of a page, whole again
+-- what stands after the head of a page, whole again
 pub drop-page_of : (size kind generation scn number : ℕ) (payload : List ℕ) → drop 16 (page_of size kind generation scn number payload) ≡ padded (size - 16) payload
 unfolding page_of
 drop-page_of size kind generation scn number payload = drop_at (head_of kind generation scn number) (padded (size - 16) payload) 16 (length-head_of kind generation scn number)

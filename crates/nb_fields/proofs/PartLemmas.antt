@@ -60,7 +60,7 @@ part-with_part_before at by v bytes page h before =
     ∙ ap (take v) (ap (λ n. drop by (take n page)) (sym same) ∙ whole)
     ∙ take-take v (at - by) (drop by page) (omega arith)
 
--- what lies behind it stays
+-- what lies after it stays
 pub drop-with_part : (at by : ℕ) (bytes page : List ℕ) → at ≤ length page → at + length bytes ≤ by → drop by (with_part at bytes page) ≡ drop by page
 drop-with_part at by bytes page h after =
     let w : ℕ = length bytes in

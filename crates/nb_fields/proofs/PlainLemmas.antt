@@ -8,7 +8,7 @@ use Rattle.nb_fields.specs.Places.{is_page_size, entries_in, bits_in, is_invento
 use Rattle.nb_fields.specs.Fresh.{next_plain, length_after, fresh_count}
 use Rattle.nb_fields.proofs.PlaceLemmas.{entries-least}
 
--- a number behind a multiple
+-- a number after a multiple
 mod-next : (x k s : ℕ) → x % s ≡ 0 → k < s → (x + k) % s ≡ k
 mod-next x k s whole small =
     let same : x + k ≡ x / s * s + k = omega arith in

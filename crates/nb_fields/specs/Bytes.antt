@@ -32,7 +32,7 @@ AreApart at w by v = (at + w ≤ by) ⊎ (by + v ≤ at)
 abbrev pub IsWidth : ℕ → Type 0
 IsWidth w = (w ≡ 1) ⊎ (w ≡ 2) ⊎ (w ≡ 4) ⊎ (w ≡ 8)
 
--- the bytes with zeros behind, up to this length
+-- the bytes with zeros after, up to this length
 unfoldable pub padded : ℕ → List ℕ → List ℕ
 padded size bytes = bytes ++ replicate (size - length bytes) 0
 

@@ -31,7 +31,7 @@ fresh_kind size p =
     else (if is_scn_place size p then ScnInventory
     else (if nat_lt p 5 then Data else Raw)))
 
--- what stands there behind the head
+-- what stands there after the head
 unfoldable pub fresh_payload : (size raw p : ℕ) → PageKind → List ℕ
 fresh_payload size raw p Header = header_payload size 0 1 (replicate 16 0) (replicate 16 0)
 fresh_payload size raw p Inventory =

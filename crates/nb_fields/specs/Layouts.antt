@@ -33,20 +33,20 @@ slot_length = 256
 abbrev pub head_layout : List (ℕ × ℕ)
 head_layout = (0, 1) ∷ (1, 1) ∷ (2, 2) ∷ (4, 4) ∷ (8, 4) ∷ (12, 4) ∷ []
 
--- a header page behind its head: signature, version, state, page size, SCN, GUID, pending GUID, forced writes,
+-- a header page after its head: signature, version, state, page size, SCN, GUID, pending GUID, forced writes,
 -- access, catalogue, history
 abbrev pub header_layout : List (ℕ × ℕ)
 header_layout = (16, 4) ∷ (20, 2) ∷ (22, 2) ∷ (24, 4) ∷ (28, 4) ∷ (32, 16) ∷ (48, 16) ∷ (64, 1) ∷ (65, 1) ∷ (72, 4) ∷ (76, 4) ∷ []
 
--- an inventory page of either kind behind its head: its number
+-- an inventory page of either kind after its head: its number
 abbrev pub numbered_layout : List (ℕ × ℕ)
 numbered_layout = (16, 4) ∷ []
 
--- a raw page behind its head: the text's length, the text
+-- a raw page after its head: the text's length, the text
 abbrev pub raw_layout : List (ℕ × ℕ)
 raw_layout = (16, 2) ∷ (18, 200) ∷ []
 
--- a data page behind its head: the next page, the owner
+-- a data page after its head: the next page, the owner
 abbrev pub data_layout : List (ℕ × ℕ)
 data_layout = (16, 4) ∷ (20, 4) ∷ []
 

@@ -1,4 +1,4 @@
--- One page: its head, and what stands behind it.
+-- One page: its head, and what stands after it.
 use Rattle.std.specs.Prelude.{ℕ, ◌+◌, ◌-◌, ◌%◌, ◌^◌, List, ◌∷◌, ◌++◌, length, take}
 use Rattle.nb_fields.specs.Bytes.{bytes_of, number_in, padded}
 
@@ -19,7 +19,7 @@ number_of_page page = number_in 12 4 page
 unfoldable pub head_of : (kind generation scn number : ℕ) → List ℕ
 head_of kind generation scn number = kind ∷ 0 ∷ 0 ∷ 0 ∷ (bytes_of 4 generation ++ (bytes_of 4 scn ++ bytes_of 4 number))
 
--- the page with that head and that payload, and zeros behind
+-- the page with that head and that payload, and zeros after
 unfoldable pub page_of : (size kind generation scn number : ℕ) (payload : List ℕ) → List ℕ
 page_of size kind generation scn number payload = head_of kind generation scn number ++ padded (size - 16) payload
 

@@ -1,4 +1,4 @@
--- What stands behind the head of a page, by its kind.
+-- What stands after the head of a page, by its kind.
 use Rattle.std.specs.Prelude.{ℕ, zero, suc, ◌+◌, ◌-◌, ◌*◌, ◌/◌, ◌%◌, ◌^◌, List, [], ◌∷◌, ◌++◌, length, take, replicate, slice_index}
 use Rattle.std.specs.Int.{bit_at}
 use Rattle.nb_fields.specs.Bytes.{bytes_of, number_in, part}

@@ -20,7 +20,7 @@ slot_place size i = i + i / slots_in size + 1
 unfoldable pub alloc_place : (size g : ℕ) → ℕ
 alloc_place size g = g * (slots_in size + 1)
 
--- The entries behind those read so far, of which a group has `left` more from entry i on: the entries so far,
+-- The entries after those read so far, of which a group has `left` more from entry i on: the entries so far,
 -- or the first page that breaks the form. A number too large, or named before, breaks the allocation page, and
 -- a slot that the file doesn't hold whole breaks itself.
 unfoldable pub entries_from : (size at i left : ℕ) (bytes found : List ℕ) → Result (List ℕ) ℕ

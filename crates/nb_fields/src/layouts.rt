@@ -40,7 +40,7 @@ pub mod head {
     }
 }
 
-/// The header page, behind its head. Its first 64 bytes are the head and the control block.
+/// The header page, after its head. Its first 64 bytes are the head and the control block.
 pub mod header {
     use crate::{Bytes16, Field};
 
@@ -108,7 +108,7 @@ pub mod header {
     }
 }
 
-/// A page inventory page, behind its head: one bit for each page, 1 where the page is free.
+/// A page inventory page, after its head: one bit for each page, 1 where the page is free.
 pub mod inventory {
     use crate::Field;
 
@@ -129,7 +129,7 @@ pub mod inventory {
     }
 }
 
-/// An SCN inventory page, behind its head: one entry of 4 bytes for each page.
+/// An SCN inventory page, after its head: one entry of 4 bytes for each page.
 pub mod scn_inventory {
     use crate::Field;
 
@@ -150,7 +150,7 @@ pub mod scn_inventory {
     }
 }
 
-/// A raw page, behind its head: a text.
+/// A raw page, after its head: a text.
 pub mod raw {
     use crate::Field;
 
@@ -171,7 +171,7 @@ pub mod raw {
     }
 }
 
-/// A data page, behind its head: a link of a chain, with slots.
+/// A data page, after its head: a link of a chain, with slots.
 pub mod data {
     use crate::Field;
 

@@ -15,7 +15,7 @@ pub owns : (own : Option (List ℕ)) (name : List ℕ) → is_none own ≡ false
 owns None name some free = cc
 owns (Some own) name some free = grind (arith, free)
 
--- more waits right behind
+-- more waits right after
 pub seen-more : (own : Option (List ℕ)) (at : ℕ) (old new name : List ℕ) (next : ℕ) → is_none own ≡ false → IsNext own at (length old) next → IsFreeFor own name → (file : List ℕ)
     → seen own at (old ++ new) name file ≡ put_at (seen own at old name file) next new
 seen-more None at old new name next some is free file = cc

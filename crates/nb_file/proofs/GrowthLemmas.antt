@@ -16,7 +16,7 @@ length-resized bytes len = length-front bytes len
 pub resized-short : (bytes : List ℕ) (len : ℕ) → len ≤ length bytes → resized bytes len ≡ take len bytes
 resized-short bytes len short = ap (take len) (padded-short bytes len short)
 
--- more zeros behind a place change nothing before it
+-- more zeros after a place change nothing before it
 padded-more : (bytes : List ℕ) (at end : ℕ) → length bytes ≤ end → at ≤ end → take at (padded bytes end) ≡ take at (padded bytes at)
 unfolding padded
 padded-more bytes at end behind within =
@@ -64,7 +64,7 @@ module _ (old : List ℕ) (at : ℕ) (new : List ℕ) (end : ℕ) (after : List 
   pub grown : length after ≡ end
   grown = length-begun (resized old end) at new after begun (omega (arith, ends, length-resized old end)) ∙ length-resized old end
 
-  -- and where the old length is set back, nothing is left of it behind the old end
+  -- and where the old length is set back, nothing is left of it after the old end
   pub set_back : IsSameUpTo at old (resized after (length old))
   set_back = record {
     len = length-resized after (length old);

@@ -1,4 +1,4 @@
--- Bytes put at a place, one behind the other, and behind the end.
+-- Bytes put at a place, one after the other, and after the end.
 use Rattle.std.proofs.Common.{◌≡◌, ℕ, ◌+◌, ◌-◌, ◌≤◌, max, List, ◌++◌, length, take, drop, sym, ◌∙◌, ap, arith, length-append, length-take, length-drop, append_assoc}
 use Rattle.std.specs.Prelude.{replicate}
 use Rattle.std.proofs.lemmas.List.{take_at, drop_at, drop-drop, drop_all, take_all, length-replicate, append-nil}
@@ -17,7 +17,7 @@ unfolding put_at
 length-put_at bytes at new =
     omega (arith, length-front bytes at, length-append (take at (padded bytes at)) (new ++ drop (at + length new) bytes), length-append new (drop (at + length new) bytes), length-drop (at + length new) bytes)
 
--- right behind a middle piece
+-- right after a middle piece
 onto : (front old rest new : List ℕ) (n : ℕ) → n ≡ length front + length old → put_at (front ++ (old ++ rest)) n new ≡ front ++ ((old ++ new) ++ drop (length new) rest)
 unfolding put_at
 onto front old rest new n is =
@@ -37,7 +37,7 @@ onto front old rest new n is =
     left : drop (n + length new) (front ++ (old ++ rest)) ≡ drop (length new) rest
     left = sym (drop-drop (length new) n (front ++ (old ++ rest))) ∙ ap (λ (l : List ℕ). drop (length new) (drop n l)) (sym whole) ∙ ap (drop (length new)) (drop_at (front ++ old) rest n both)
 
--- what is put right behind what was put is as if both were put together
+-- what is put right after what was put is as if both were put together
 pub put_at-next : (file : List ℕ) (at : ℕ) (old new : List ℕ) (next : ℕ) → next ≡ at + length old → put_at file at (old ++ new) ≡ put_at (put_at file at old) next new
 unfolding put_at
 put_at-next file at old new next is = sym (

@@ -5,7 +5,7 @@ use mathlib.Core.Logic.{inl, inr}
 use Rattle.nb_host.specs.World.{World}
 use Rattle.nb_host.specs.Moments.{IsTimely}
 
--- no file, no output, and nothing that a stop may leave
+-- no file, no output, and nothing that a crash may leave
 abbrev pub silence : World
 silence = record { own = []; files = λ _. None; said = []; reads = 0; guids = []; times = []; back = λ _ _. ⊥; now = λ _ _. ⊥; moment = 0; left_since = λ _ _ _. ⊥ }
 

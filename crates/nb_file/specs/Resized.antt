@@ -2,7 +2,7 @@
 use Rattle.std.specs.Prelude.{◌≡◌, ◌⊎◌, ℕ, List, length, take}
 use Rattle.nb_host.specs.Files.{padded, put_at}
 
--- the bytes up to this length, with zeros behind where they ended before it
+-- the bytes up to this length, with zeros after where they ended before it
 abbrev pub resized : List ℕ → ℕ → List ℕ
 resized bytes len = take len (padded bytes len)
 

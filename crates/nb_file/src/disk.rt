@@ -27,7 +27,7 @@ pub trait Disk {
     /// Its bytes as they read.
     ghost bytes: { Self → List ℕ };
 
-    /// Whether a stop leaves these bytes.
+    /// Whether a crash leaves these bytes.
     ghost is_durable: { Self → Bool };
 
     /// How many of the calls that change it have failed.

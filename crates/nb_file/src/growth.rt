@@ -9,9 +9,9 @@ use std::io;
 
 /// Puts the bytes into a file of `len` bytes, in pieces of that length: pages, or single bytes.
 ///
-/// Where pages end behind the file, it is made longer first, by a call of the system that does all or nothing, so that no part of a page
-/// is ever its end: not where the disk fills up or a limit is met within the bytes, nor where a stop cuts them off. Where they can't be put, the
-/// file gets its length back; where that fails too, whole pages stand behind it, of zeros from where the write stopped.
+/// Where pages end after the file, it is made longer first, by a call of the system that does all or nothing, so that no part of a page
+/// is ever its end: not where the disk fills up or a limit is met within the bytes, nor where a crash cuts them off. Where they can't be put, the
+/// file gets its length back; where that fails too, whole pages stand after it, of zeros from where the write stopped.
 pub fn put_whole<F: Disk>(
     file: &mut F,
     len: u64,

@@ -149,7 +149,7 @@ where
         self.faults
     }
 
-    /// Gives the system the bytes that wait to be written. A reply does so too; the end of the program doesn't. None wait behind it, also
+    /// Gives the system the bytes that wait to be written. A reply does so too; the end of the program doesn't. None wait after it, also
     /// where it fails.
     pub fn flush(&mut self) -> Result<(), HostFault>
         ensures none { self.new.waiting ≡ None }

@@ -12,7 +12,7 @@ const MIB: u64 = 1_048_576;
 pub struct Progress {
     /// What the run does, as `backing up`.
     pub job: &'static str,
-    /// The database or the script that it does it with, which is shown behind it.
+    /// The database or the script that it does it with, which is shown after it.
     pub name: Name,
     pub counted: Counted,
     /// The files whose sizes make up what is counted in all. Where there is none, or one is missing, it is not known how much that is, and

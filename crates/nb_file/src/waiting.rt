@@ -70,7 +70,7 @@ impl Waiting {
         piece == self.piece && at / PART as u64 == self.at / PART as u64 && self.end() == Some(at)
     }
 
-    /// Lets them wait, behind what waits already. Where memory runs out nothing changes.
+    /// Lets them wait, after what waits already. Where memory runs out nothing changes.
     pub fn add(&mut self, name: &Name, at: u64, bytes: &[u8], piece: u64) -> Result<(), AllocError>
         requires next { IsNext self.old.name self.old.at (length self.old.bytes.items) at }
         requires mine { IsFreeFor self.old.name name.now }

@@ -29,7 +29,7 @@ pub unheaded : (bytes : List ℕ) → is_header bytes ≡ false → not_database
 unfolding not_database
 unheaded bytes e = rw (e, not_database) refl
 
--- the tests of the length behind a header
+-- the tests of the length after a header
 abbrev tests : (a b : Bool) (pages : ℕ) → Cause
 tests a b pages = first_cause (when a (NotDatabase (min pages 1048576)) ∷ when b (NotDatabase 1048576) ∷ [])
 

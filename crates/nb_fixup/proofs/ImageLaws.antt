@@ -42,7 +42,7 @@ part_put size at part bytes fits long =
     ∙ ap (λ (x : List ℕ). take at first ++ (part ++ x)) joined
     ∙ ap (λ (x : List ℕ). x ++ (part ++ drop w bytes)) front
 
--- an image and pages of zeros behind it, with page 0 in the normal state over its page 0
+-- an image and pages of zeros after it, with page 0 in the normal state over its page 0
 laid_fixed : (image : Image) (bytes : List ℕ) (page : Page) → (l : IsLaid image bytes) → page ≡ normal_page (take (image_size image) bytes) → HoldsMain (fixed image) (with_page (Some bytes) (0 * length page) page)
 laid_fixed [] bytes page l e = absurd (none (some_page [] l.header))
   where
@@ -87,7 +87,7 @@ module _ (bytes : List ℕ) (none : not_database bytes ≡ None) (page : Page) (
       let same : size_of bytes ≡ image_size (image_in bytes) = same-number bytes (first_page (image_in bytes)) (laid-front (image_in bytes) bytes l) 24 4 (omega arith) in
       subst (λ (f : File). HoldsMain (fixed (image_in bytes)) f) first_put (laid_fixed (image_in bytes) bytes page l (is ∙ ap (λ (k : ℕ). normal_page (take k bytes)) same))
 
-  -- Whatever a stop leaves of that write: the file isn't longer than it was, so it is as it was, or fixed.
+  -- Whatever a crash leaves of that write: the file isn't longer than it was, so it is as it was, or fixed.
   pub first_left : (file : File) → PageLeft (0 * length page) page (Some bytes) file → (file ≡ Some bytes) ⊎ (file ≡ Some (fixed_bytes bytes))
   first_left file (inl same) = inl same
   first_left file (inr (inl put)) = inr (put ∙ first_put)

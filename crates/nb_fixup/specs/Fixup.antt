@@ -39,7 +39,7 @@ pub record IsFixed (name bytes : List ℕ) (files : Files) : Type 0 where
 abbrev pub FixLeft : (was : File → Type 0) (old : World) (name : List ℕ) → Files → Type 0
 FixLeft was old name files = was (files name) ⊎ ((bytes : List ℕ) × IsFixable old.files name bytes × IsFixed name bytes files)
 
--- the file is fixed, as it reads and whatever a stop leaves of it
+-- the file is fixed, as it reads and whatever a crash leaves of it
 pub record IsKeptFixed (old new : World) (name : List ℕ) : Type 0 where
   pub bytes : List ℕ
   pub copy : IsFixable old.files name bytes

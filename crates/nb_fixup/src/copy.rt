@@ -26,7 +26,7 @@ fn no_database(page: u32) -> Fault
     Fault::Refused(Refusal::NotDatabase { page })
 }
 
-/// The page that a file of `len` bytes behind a header is refused by, where they aren't 5 to 1,048,576 whole pages.
+/// The page that a file of `len` bytes after a header is refused by, where they aren't 5 to 1,048,576 whole pages.
 fn broken_page(len: u64, page_size: u32) -> Option<u32>
     requires { IsTrue (is_page_size page_size) }
     ensures { (bytes : List ℕ) → is_header bytes ≡ true → size_of bytes ≡ page_size → length bytes ≡ len → MatchOption result (not_database bytes ≡ None) (λ page. not_database bytes ≡ Some (NotDatabase page)) }

@@ -21,7 +21,7 @@ const MOST_PAGE_SIZE: usize = 32_768;
 /// state isn't 1; and `DeltaPresent`, where a difference file stands beside it, as it does beside the stalled database itself.
 /// A refused call changes nothing. No call wants memory.
 ///
-/// A stop, and an answer of `Device`, leave the file as it was, or fixed.
+/// A crash, and an answer of `Device`, leave the file as it was, or fixed.
 pub fn fix_up<H: Host>(host: &mut H, name: &Name) -> Result<(), Fault>
     requires { length name.now ≤ 94 }
     ensures fixes { IsTrue H.tells → Fixes result (H.world host.old) (H.world host.new) name.now }

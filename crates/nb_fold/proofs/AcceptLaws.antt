@@ -85,7 +85,7 @@ last_zero c (d ∷ ds) have =
     let more = last_zero d ds have.1 in
     record { page = more.page; is = ap (λ (o : Option Page). or_before o (page_of 0 c.pages)) more.is; first = more.first }
 
--- the SCN behind the head's isn't the last one
+-- the SCN after the head's isn't the last one
 scn_room : (h : Head) (page : Page) → is_first_page h page ≡ true → h.scn < 2 ^ 32
 unfolding is_first_page
 scn_room h page is =

@@ -1,4 +1,4 @@
--- A file that is added behind others that go on from one another.
+-- A file that is added after others that go on from one another.
 use Rattle.std.proofs.Common.{◌≡◌, ℕ, suc, ◌+◌, ◌-◌, ◌<◌, ◌≤◌, List, [], ◌∷◌, ◌++◌, length, get_or, drop, refl, sym, ap, subst, ◌∙◌, arith, append_assoc, drop-cons}
 use Rattle.std.specs.Prelude.{Some, None, Option, Result, Ok, Err, false, ◌==◌}
 use Rattle.std.proofs.lemmas.Bool.{true≢false}

@@ -20,7 +20,7 @@ pub none_below : (n least : ℕ) (rs : List Numbered) → AreRising least rs →
 none_below n least [] rise low = refl
 none_below n least (r ∷ rs) rise low = rw (eq_no r.0 n (λ e. absurd (omega (arith, e, rise.0, low))), page_of) (none_below n (r.0 + 1) rs rise.2 (omega (arith, rise.0, low)))
 
--- nor behind the last number
+-- nor after the last number
 pub none_above : (n least : ℕ) (rs : List Numbered) → AreRising least rs → 1048576 ≤ n → page_of n rs ≡ None
 none_above n least [] rise high = refl
 none_above n least (r ∷ rs) rise high = rw (eq_no r.0 n (λ e. absurd (omega (arith, e, rise.1, high))), page_of) (none_above n (r.0 + 1) rs rise.2 high)
@@ -85,14 +85,14 @@ folded_same zero k rss qss same = refl
 folded_same (suc left) k rss qss same =
     ap (λ o. with_number k o (folded_from left (k + 1) rss)) (same k (omega arith)) ∙ ap (with_number k (last_page k qss)) (folded_same left (k + 1) rss qss (λ m low. same m (omega (arith, low))))
 
--- behind the numbers below the least
+-- after the numbers below the least
 behind_least : (n : ℕ) (rss : List (List Numbered)) (left : ℕ) → AllRise n rss → 1048576 ≡ n + suc left → folded_pages rss ≡ with_number n (last_page n rss) (folded_from left (n + 1) rss)
 unfolding folded_from
 behind_least n rss left rise is =
     folded_split n (suc left) 1048576 0 rss is ∙ ap (λ (xs : List Numbered). xs ++ folded_from (suc left) (0 + n) rss) (folded_none n 0 rss (λ m low high. last_none m n rss rise (omega (arith, high))))
     ∙ ap (λ k. folded_from (suc left) k rss) (let e : 0 + n ≡ n = omega arith in e)
 
--- The page of the least number comes first, and then what the files have behind it.
+-- The page of the least number comes first, and then what the files have after it.
 pub folded_least : (n : ℕ) (page : Page) (rss : List (List Numbered)) → n < 1048576 → AllRise n rss → last_page n rss ≡ Some page → folded_pages rss ≡ (n, page) ∷ folded_pages (rests n rss)
 folded_least n page rss low rise is =
     behind_least n rss left rise all ∙ ap (λ o. with_number n o (folded_from left (n + 1) rss)) is
@@ -200,7 +200,7 @@ module _ (files : Files) where
   all_end (s ∷ ss) [] waits ends = absurd waits
   all_end (s ∷ ss) (rs ∷ rss) waits ends = (none_waits s rs ends.0 waits.0, all_end ss rss waits.1 ends.1)
 
-  -- how many pages are left behind it
+  -- how many pages are left after it
   left_one : (n : ℕ) (s : Held) (rs : List Numbered) (waiting : Option ℕ) → s.waiting ≡ waiting → Waits files s rs → length rs ≡ count_at n s.waiting + length (rest_after n rs)
   left_one n s rs None is waits =
       let none = subst (λ w. WaitsBy (bytes_of (files s.reader.name)) s.reader s.page w rs) is waits in

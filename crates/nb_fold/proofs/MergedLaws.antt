@@ -62,7 +62,7 @@ header_of h page is =
     let two = and_parts (state_of page == 1) _ one.1 in
     let three = and_parts (size_of page == h.size) _ two.1 in record { header = one.0; size = eqb-true (size_of page) h.size three.0 }
 
--- the image behind one merge
+-- the image after one merge
 record IsOne (size : ℕ) (c : Contents) (image : Image) : Type 0 where
   pub size_is : image_size (merged c.pages image) ≡ size
   pub sizes : IsOfSize size (merged c.pages image)

@@ -160,7 +160,7 @@ next_file files last name c e = by (files name) refl e
     by None is h = absurd (err_ok (NoFile name) c (Err (NoFile name)) refl h)
     by (Some bytes) is h = whole bytes is (read_level bytes) refl h
 
--- and those behind it
+-- and those after it
 pub record AreNextFiles (files : Files) (last : Option Contents) (name : List ℕ) (names : List (List ℕ)) (cs : List Contents) : Type 0 where
   pub first : Contents
   pub next : IsNextFile files last name first

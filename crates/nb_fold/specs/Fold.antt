@@ -45,9 +45,9 @@ FoldAnswers (Err Memory) old new out names = Quiet old new
 
 pub record Folds (result : Result Folded Fault) (old new : World) (out : List ℕ) (names : List (List ℕ)) : Type 0 where
   pub answer : FoldAnswers result old new out names
-  -- At each moment a stop leaves the file so. No other file is touched, and nothing is said.
+  -- At each moment a crash leaves the file so. No other file is touched, and nothing is said.
   pub left : Changes old new (Only out) (FoldLeft (Leaves old out) old.files out names)
-  -- so it reads behind the call, whatever is answered
+  -- so it reads after the call, whatever is answered
   pub reads : FoldLeft (λ file. file ≡ old.files out) old.files out names new.files
   pub gave : GaveNothing old new
   -- where the fold is refused nothing changes, also where the device fails

@@ -66,7 +66,7 @@ abbrev pub FallsOn : (more : Bool) → (before after : LevelWriting) → (old ne
 FallsOn true before after old new = (due new < due old) × (after.written + due new ≤ before.written + due old)
 FallsOn false before after old new = Unit {0}
 
--- Of the file a stop leaves what it would have left before, or such a file as was made, and so it reads. No other file is touched.
+-- Of the file a crash leaves what it would have left before, or such a file as was made, and so it reads. No other file is touched.
 pub record Makes (old new : World) (name : List ℕ) (made : File → Type 0) : Type 0 where
   pub left : Changes old new (Only name) (Remade old name made)
   pub reads : made (new.files name)

@@ -18,7 +18,7 @@ abbrev pub not_after : (last : Option Contents) (name : List ℕ) → Contents �
 not_after None name c = None
 not_after (Some last) name c = not_behind (last.head.level + 1) (level_link last) name c
 
--- what the next file holds, behind the last, or its refusal
+-- what the next file holds, after the last, or its refusal
 unfoldable pub file_after : Files → (last : Option Contents) → (name : List ℕ) → Result Contents Refusal
 file_after files last name = elim (files name) [
   | None ↦ Err (NoFile name)
@@ -33,7 +33,7 @@ abbrev pub with_files : List Contents → Result (List Contents) Refusal → Res
 with_files cs (Ok more) = Ok (cs ++ more)
 with_files cs (Err refusal) = Err refusal
 
--- what the files hold from here on, behind the last, or the first refusal
+-- what the files hold from here on, after the last, or the first refusal
 unfoldable pub files_after : Files → (last : Option Contents) → (names : List (List ℕ)) → Result (List Contents) Refusal
 files_after files last [] = Ok []
 files_after files last (name ∷ names) = elim (file_after files last name) [ Err refusal ↦ Err refusal | Ok c ↦ with_files (c ∷ []) (files_after files (Some c) names) ]

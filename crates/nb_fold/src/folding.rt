@@ -102,7 +102,7 @@ fn prepare<H: Host>(
 /// `ChainScn`, where it doesn't go on from the one before it: its level has to be one more. A refused call changes nothing. Neither does one
 /// that answers `Memory`: all memory is taken before the file is made.
 ///
-/// A stop, and an answer of `Device`, leave the file as it was, or such that nothing takes it for a backup, or whole. No other file is
+/// A crash, and an answer of `Device`, leave the file as it was, or such that nothing takes it for a backup, or whole. No other file is
 /// touched. Each file is read twice, once to its end to check it and once beside the others. It takes the memory for two pages a file, and
 /// for a run of 16.
 pub fn fold<H: Host>(

@@ -9,7 +9,7 @@ ghost use Rattle.nb_fold.specs.Folding.{bytes_for, folded};
 ghost use Rattle.nb_fold.specs.Same.{GiveTheSame, IsFoldOf, IsMergedInto, links_of, merged_each};
 ghost use Rattle.nb_fold.specs.Verdict.{chained};
 
-/// Behind whatever files, the files that go on from one another give in a restore the image that the one file gives which they were folded
+/// After whatever files, the files that go on from one another give in a restore the image that the one file gives which they were folded
 /// into.
 pub fn a_fold_gives_the_same_image()
     ensures { (files : Files) (names : List (List ℕ)) (cs : List Contents) (before : List Link) → chained files names ≡ Ok cs → applied (before ++ links_of cs) ≡ applied (before ++ level_link (folded cs) ∷ []) }

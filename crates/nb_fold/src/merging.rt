@@ -50,7 +50,7 @@ fn pass_all<H: Host>(host: &mut H, sources: &mut [Source], number: u32) -> Resul
     Ok(())
 }
 
-/// Folds the page of the least number that waits, reads on behind it, and answers true; or answers false, where no page waits.
+/// Folds the page of the least number that waits, reads on after it, and answers true; or answers false, where no page waits.
 fn fold_page<H: Host>(
     host: &mut H,
     sources: &mut [Source],

@@ -30,7 +30,7 @@ append_torn bs as_ n b c long is (inr (torn, more, whole, grown)) = record {
   is = torn_is (bs ++ as_) (is.torn ++ torn) (torn_more bs as_ is.torn torn (sym (ap (λ (f : File). length (bytes_of f)) is.there) ∙ whole ∙ long) (torn_of bs is.torn is.is) (torn_of as_ torn more));
 }
 
--- What reads behind bytes that were appended, also where that fails, is what a stop may leave of them.
+-- What reads after bytes that were appended, also where that fails, is what a crash may leave of them.
 pub appended : {T E : Type 0} (result : Result T E) (old new : Files) (name bytes : List ℕ)
     → MatchResult result (λ x. new ≡ with_file old name (with_bytes (old name) bytes)) (λ e. (new ≡ old) ⊎ ((k : ℕ) × (new ≡ with_file old name (with_bytes (old name) (take k bytes)))))
     → AppendLeft (length (bytes_of (old name))) bytes (old name) (new name)

@@ -15,7 +15,7 @@ zeros-take zero n = refl
 zeros-take (suc k) zero = refl
 zeros-take (suc k) (suc n) = zeros-take k n
 
--- zeros behind
+-- zeros after
 pub zeros-grown : (k n : ℕ) (bytes : List ℕ) → is_zeros (take k bytes) ≡ true → is_zeros (take k (bytes ++ replicate n 0)) ≡ true
 zeros-grown zero n bytes is = refl
 zeros-grown (suc k) n [] is = zeros-take (suc k) n
@@ -31,7 +31,7 @@ unfolding is_free_file
 blank_free None is = refl
 blank_free (Some bytes) is = or_left (is_zeros (take 64 bytes)) (is_unfinished bytes) is
 
--- a page behind page 0
+-- a page after page 0
 blank_put : (at : ℕ) (page : List ℕ) (b : File) → 64 ≤ at → IsBlank b → IsBlank (with_page b at page)
 unfolding put_at padded
 blank_put at page b far is =
@@ -43,7 +43,7 @@ blank_put at page b far is =
     take-append-le 64 (take at wide) (page ++ drop (at + length page) bytes) (omega (arith, far, part)) ∙ take-take 64 at wide far in
     ap is_zeros front ∙ zeros-grown 64 (at - length bytes) bytes is
 
--- whatever a stop leaves of the write of a page behind page 0
+-- whatever a crash leaves of the write of a page after page 0
 pub blank_left : (at : ℕ) (page : List ℕ) (b c : File) → 64 ≤ at → IsBlank b → PageLeft at page b c → IsBlank c
 blank_left at page b c far is (inl same) = subst IsBlank (sym same) is
 blank_left at page b c far is (inr (inl put)) = subst IsBlank (sym put) (blank_put at page b far is)

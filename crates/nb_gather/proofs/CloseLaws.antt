@@ -1,4 +1,4 @@
--- A level file is closed: its last run, and the end behind a sync.
+-- A level file is closed: its last run, and the end after a sync.
 use Rattle.std.proofs.Common.{◌≡◌, ◌≢◌, inl, inr, ℕ, suc, ◌<◌, ◌≤◌, List, [], ◌∷◌, ◌++◌, length, refl, sym, ap, subst, ◌∙◌, arith}
 use Rattle.std.specs.Prelude.{Bool, IsTrue, Some, Result, Ok, Err, OnOk}
 use Rattle.std.proofs.lemmas.Bool.Decides.{leb_tells}
@@ -78,7 +78,7 @@ module _ (old : World) (file : LevelWriting) (rs : List Numbered) (has : HasTake
     last_read (Ok x) new adds = subst (λ (ss : List Stretch). Reads new file.name (level_front file.head ss)) all_runs (run_read file.name file.head (complete (runs_of rs)) file.run last.0 last.2 x old new has.stands adds)
     last_read (Err e) new adds = tt
 
--- The end behind a sync.
+-- The end after a sync.
 module _ (name : List ℕ) (head : LevelHead) (rs : List Numbered) (may : MayHave head rs) where
   abbrev front : List ℕ
   front = level_front head (runs_of rs)
@@ -96,7 +96,7 @@ module _ (name : List ℕ) (head : LevelHead) (rs : List Numbered) (may : MayHav
   front_unfinished : IsUnfinished (Some front)
   front_unfinished = inr (no_backup (head_of head) may.formed (runs_of rs) runs.all runs.few front (torn_self front))
 
-  -- whatever a stop leaves of the end
+  -- whatever a crash leaves of the end
   end_left : (n written : ℕ) (b c : File) → written ≡ length rs → b ≡ Some front → AppendLeft n (end_bytes written) b c → IsUnfinishedOr whole c
   end_left n written b c counted is (inl same) = inl (subst IsUnfinished (sym (same ∙ is)) front_unfinished)
   end_left n written b c counted is (inr (torn, from, long, grown)) =

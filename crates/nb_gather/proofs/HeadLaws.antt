@@ -36,7 +36,7 @@ no_total : total (complete (runs_of [])) < 4294967296
 unfolding runs_of complete
 no_total = omega arith
 
--- what a stop leaves of the head
+-- what a crash leaves of the head
 head_torn : (head : LevelHead) (n : ℕ) (b c : File) → n ≡ 0 → b ≡ Some [] → AppendLeft n (head_then 102 (head_of head) []) b c → IsTornFile (level_front head (complete (runs_of []))) c
 head_torn head n b c none empty left =
     subst (λ (x : List ℕ). IsTornFile x c) (sym (no_runs head)) (append_torn [] (head_then 102 (head_of head) []) n b c none (subst (IsTornFile []) (sym empty) empty_torn) left)

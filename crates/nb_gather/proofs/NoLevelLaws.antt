@@ -18,7 +18,7 @@ use Rattle.nb_gather.proofs.TornLaws.{Torn, torn_take, torn_drop, torn_short, to
 use Rattle.nb_gather.proofs.ReadAgain.{no_both}
 use Rattle.nb_gather.proofs.UnfinishedLaws.{small_torn, AreFit, torn_runs}
 
--- what stands behind a head goes on
+-- what stands after a head goes on
 pub head_more : (version : ℕ) (h : Head) (a b : List ℕ) → head_then version h a ++ b ≡ head_then version h (a ++ b)
 unfolding head_then bytes_of
 head_more version h a b =
@@ -55,7 +55,7 @@ module _ (bytes : List ℕ) where
   runs_read version is = ap (λ v. read_pages v (head_in bytes) bytes) is
 
 module _ (h : Head) (is : IsHeaded h) where
-  -- behind the GUIDs
+  -- after the GUIDs
   from_size : (tail : List ℕ) → drop 16 (drop 16 (drop 8 (head_then 102 h tail))) ≡ bytes_of 4 h.size ++ (bytes_of 4 h.scn ++ (bytes_of 4 h.previous_scn ++ tail))
   unfolding head_then bytes_of
   from_size tail =

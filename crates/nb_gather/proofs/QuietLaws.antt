@@ -1,4 +1,4 @@
--- Calls on the one file that is made, behind calls that change nothing.
+-- Calls on the one file that is made, after calls that change nothing.
 use Rattle.std.proofs.Common.{◌≡◌, refl, inl, inr, ⊎_elim, ℕ, List, [], ap, subst, ◌∙◌}
 use Rattle.std.specs.Prelude.{Bool, IsTrue, Result, Ok, Some, OnOk}
 use Rattle.nb_host.specs.Files.{File, Files, with_file}

@@ -36,7 +36,7 @@ pub behind_ok : (rs vs : List Numbered) (r : Result (List Numbered) ℕ) → beh
 behind_ok rs vs (Ok ws) is = (ws, refl)
 behind_ok rs vs (Err at) is = absurd (no_value at vs is)
 
--- what is read behind a run
+-- what is read after a run
 abbrev pub rest_runs : (left : ℕ) → Head → (at count : ℕ) (rest : List ℕ) → Result (List Numbered) ℕ
 rest_runs left h at count rest =
     let n : ℕ = number_in 0 4 rest in
@@ -63,7 +63,7 @@ module _ (left : ℕ) (h : Head) (at count least barred : ℕ) (rest : List ℕ)
   unfolding read_runs
   run_read long other clear = rw (long, read_runs) (rw (other, read_runs) (rw (clear, read_runs) refl))
 
-  -- the end stands there, or a run and what stands behind it
+  -- the end stands there, or a run and what stands after it
   abbrev pub IsEnd : Type 0
   IsEnd = (number_in 0 4 rest ≡ end_mark) × ((vs : List Numbered) × (read_end at count rest ≡ Ok vs))
 

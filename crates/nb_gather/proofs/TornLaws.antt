@@ -45,13 +45,13 @@ torn_front zero bs = tt
 torn_front (suc k) [] = tt
 torn_front (suc k) (b ∷ bs) = (inl refl, torn_front k bs)
 
--- bytes behind that were lost
+-- bytes after that were lost
 pub torn_longer : (bs cs ts : List ℕ) → Torn bs ts → Torn (bs ++ cs) ts
 torn_longer bs cs [] is = tt
 torn_longer [] cs (t ∷ ts) is = absurd is
 torn_longer (b ∷ bs) cs (t ∷ ts) is = (is.0, torn_longer bs cs ts is.1)
 
--- bytes behind that were torn
+-- bytes after that were torn
 pub torn_more : (bs cs ts us : List ℕ) → length ts ≡ length bs → Torn bs ts → Torn cs us → Torn (bs ++ cs) (ts ++ us)
 torn_more [] cs [] us long is more = more
 torn_more [] cs (t ∷ ts) us long is more = absurd is
@@ -68,7 +68,7 @@ torn_take (suc k) bs [] is = tt
 torn_take (suc k) [] (t ∷ ts) is = absurd is
 torn_take (suc k) (b ∷ bs) (t ∷ ts) is = (is.0, torn_take k bs ts is.1)
 
--- and what stands behind it
+-- and what stands after it
 pub torn_drop : (k : ℕ) (bs ts : List ℕ) → Torn bs ts → Torn (drop k bs) (drop k ts)
 torn_drop zero bs ts is = is
 torn_drop (suc k) bs [] is = tt

@@ -14,7 +14,7 @@ use Rattle.nb_level.specs.Adding.{IsWhileAdding, AddsTwo}
 use Rattle.nb_gather.specs.Touching.{Touches}
 use Rattle.nb_gather.proofs.AppendLaws.{two_others}
 
--- nothing is said of what a stop leaves
+-- nothing is said of what a crash leaves
 abbrev Any : Files → Type 0
 Any files = Unit {0}
 
@@ -23,7 +23,7 @@ pub touches_named : (old new : World) (m n : List ℕ) → m ≡ n → Touches o
 touches_named old new m n same touches = subst (λ (x : List ℕ). Touches old new (Only x)) same touches
 
 module _ (name : List ℕ) where
-  -- more was said of what a stop leaves
+  -- more was said of what a crash leaves
   pub touches_has : (old new : World) (P : Files → Type 0) → Changes old new (Only name) P → Touches old new (Only name)
   touches_has old new P changes = weaker_has old new (Only name) P Any changes (λ files has. tt)
 

@@ -52,7 +52,7 @@ abbrev pub AreFit : ℕ → List Stretch → Type 0
 AreFit size [] = Unit {0}
 AreFit size (s ∷ ss) = IsFit size s × AreFit size ss
 
--- a run behind its number and its count
+-- a run after its number and its count
 run_front : (s : Stretch) (ss : List Stretch) (e : List ℕ) → run_bytes (s ∷ ss) ++ e ≡ bytes_of 4 s.first ++ (bytes_of 4 (length s.pages) ++ (joined s.pages ++ (run_bytes ss ++ e)))
 unfolding run_bytes bytes_of
 run_front s ss e = ap (λ (x : List ℕ). bytes_of 4 s.first ++ (bytes_of 4 (length s.pages) ++ x)) (append_assoc (joined s.pages) (run_bytes ss) e)
@@ -61,7 +61,7 @@ run_long : (size : ℕ) (s : Stretch) (ss : List Stretch) → IsFit size s → l
 unfolding run_bytes bytes_of
 run_long size s ss fit = let all = length-joined size s.pages fit.sizes in omega (arith, all, length-append (joined s.pages) (run_bytes ss))
 
--- the number and the count of a run, and what stands behind it
+-- the number and the count of a run, and what stands after it
 module _ (a b : ℕ) (more rest : List ℕ) (torn : Torn (bytes_of 4 a ++ (bytes_of 4 b ++ more)) rest) where
   first_torn : Torn (bytes_of 4 a) (take 4 rest)
   unfolding bytes_of
@@ -111,12 +111,12 @@ no_runs : length (run_bytes []) ≡ 0
 unfolding run_bytes
 no_runs = refl
 
--- Where torn bytes are read as runs, the end stands whole behind all of them.
+-- Where torn bytes are read as runs, the end stands whole after all of them.
 module _ (h : Head) (n : ℕ) (wide : 1024 ≤ h.size) (low : n < 4294967296) where
   abbrev Whole : List Stretch → List ℕ → Type 0
   Whole ss rest = drop (length (run_bytes ss)) rest ≡ end_bytes n
 
-  -- behind the last run
+  -- after the last run
   last_whole : (left at count least barred : ℕ) (rest : List ℕ) (vs : List Numbered) → count ≡ n → Torn (end_bytes n) rest → read_runs (suc left) h at count least barred rest ≡ Ok vs → rest ≡ end_bytes n
   last_whole left at count least barred rest vs counted torn is = elim (runs_are left h at count least barred rest vs is) [
     | inl ends ↦ let facts = end_facts at count rest ends.1.0 ends.1.1 in end_whole n rest low torn facts.long ends.0 (facts.counted ∙ counted)

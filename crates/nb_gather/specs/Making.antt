@@ -1,4 +1,4 @@
--- What a stop leaves of a backup file that is made.
+-- What a crash leaves of a backup file that is made.
 use Rattle.std.specs.Prelude.{◌≡◌, ◌⊎◌, ℕ, List, [], take, Some, Ok, true, false}
 use Rattle.nb_fields.specs.Bytes.{is_zeros}
 use Rattle.nb_fields.specs.Free.{is_free_file}
@@ -38,7 +38,7 @@ pub record IsMade (w : World) (name : List ℕ) : Type 0 where
   pub reads : IsEmpty (w.files name)
   pub only : (c : File) → w.now name c → IsEmpty c
 
--- a stop leaves these bytes of the file and nothing else, and so it reads
+-- a crash leaves these bytes of the file and nothing else, and so it reads
 pub record IsKept (w : World) (name bytes : List ℕ) : Type 0 where
   pub durable : IsDurable w name (Some bytes)
   pub reads : w.files name ≡ Some bytes

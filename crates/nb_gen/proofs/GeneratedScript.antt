@@ -16,7 +16,7 @@ use Rattle.nb_gen.specs.Texts.{IsScriptText, generated_first}
 abbrev first_line : Bytes
 first_line = codes "1: create database 'gen.db' page_size 4096 raw 100"
 
--- what stands behind it
+-- what stands after it
 abbrev behind : ℕ → Bytes
 behind n = ended (codes "seed " ++ decimal n) ++ (ended (codes "1: create table t") ++ (lines_from 1000 1 n ++ ended (codes "1: show pages")))
 

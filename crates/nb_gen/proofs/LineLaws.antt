@@ -4,7 +4,7 @@ use Rattle.std.proofs.lemmas.List.{append-nil}
 use Rattle.nb_model.specs.Generated.{ended, line_of, backup_line, lines_from}
 use Rattle.nb_model.specs.Seeds.{stepped}
 
--- line i + 1 and its backup stand, and then the lines behind them
+-- line i + 1 and its backup stand, and then the lines after them
 pub next_line : (out : List ℕ) (i x : ℕ) → i < 1000
     → (out ++ (ended (line_of (i + 1) (stepped x / 2 ^ 33)) ++ backup_line (i + 1))) ++ lines_from (1000 - (i + 1)) (i + 1 + 1) (stepped x) ≡ out ++ lines_from (1000 - i) (i + 1) x
 unfolding lines_from
@@ -25,6 +25,6 @@ all_lines out i x past =
 pub with_number : (out first front number rest : List ℕ) → (out ++ (first ++ front) ++ number) ++ 10 ∷ rest ≡ out ++ (first ++ ((front ++ number ++ 10 ∷ []) ++ rest))
 with_number out first front number rest = simp append_assoc
 
--- the lines of a head, those behind it, and the last
+-- the lines of a head, those after it, and the last
 pub all_parts : (a b c lines last : List ℕ) → (a ++ (b ++ c) ++ lines) ++ last ≡ a ++ (b ++ (c ++ (lines ++ last)))
 all_parts a b c lines last = simp append_assoc

@@ -67,7 +67,7 @@ module _ (name bytes : List ℕ) (text : IsScriptText bytes) where
     empty : mid.files name ≡ Some []
     empty = ap (λ (f : Files). f name) (makes.files told) ∙ with_file-same old.files name (Some [])
 
-    -- what a stop leaves of what is appended
+    -- what a crash leaves of what is appended
     append_left : (n : ℕ) (b c : File) → b ≡ Some [] → AppendLeft n bytes b c → IsUnfinishedOr bytes c
     append_left n b c none (inl same) = inl (subst IsUnfinished (sym (same ∙ none)) empty_unfinished)
     append_left n b c none (inr (torn, from, long, grown)) =

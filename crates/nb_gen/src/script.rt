@@ -8,10 +8,10 @@ ghost use Rattle.nb_model.specs.Seeds.{stepped};
 use nb_host::Fault;
 use std::alloc::{AllocError, Global};
 
-/// How many lines the numbers behind a seed choose.
+/// How many lines the numbers after a seed choose.
 const LINES: u32 = 1000;
 
-/// The number behind one of the generator, which is linear and congruential.
+/// The number after one of the generator, which is linear and congruential.
 #[tactic(auto, unfolding(nb_model::specs::Seeds::stepped))]
 fn stepped(x: u64) -> u64
     ensures { result ≡ stepped x }
@@ -77,7 +77,7 @@ fn put_line(out: &mut Vec<u8>, i: u32, r: u64) -> Result<(), AllocError>
     }
 }
 
-/// The line of a backup, behind lines 250, 500 and 750.
+/// The line of a backup, after lines 250, 500 and 750.
 #[tactic(auto, unfolding(nb_model::specs::Generated::backup_line))]
 fn put_backup(out: &mut Vec<u8>, i: u32) -> Result<(), AllocError>
     ensures { OnOk result (out.new.items ≡ out.old.items ++ backup_line i) }
@@ -90,7 +90,7 @@ fn put_backup(out: &mut Vec<u8>, i: u32) -> Result<(), AllocError>
     }
 }
 
-/// Line `i` by the number `x`, and the backup behind it where there is one.
+/// Line `i` by the number `x`, and the backup after it where there is one.
 fn put_one(out: &mut Vec<u8>, i: u32, x: u64) -> Result<(), AllocError>
     ensures { OnOk result (out.new.items ≡ out.old.items ++ (ended (line_of i (x / 2 ^ 33)) ++ backup_line i)) }
 {
@@ -99,7 +99,7 @@ fn put_one(out: &mut Vec<u8>, i: u32, x: u64) -> Result<(), AllocError>
     put_backup(out, i)
 }
 
-/// The lines that the numbers behind a seed choose.
+/// The lines that the numbers after a seed choose.
 fn put_lines(out: &mut Vec<u8>, seed: u64) -> Result<(), AllocError>
     ensures { OnOk result (out.new.items ≡ out.old.items ++ lines_from 1000 1 seed) }
 {
@@ -122,8 +122,8 @@ fn put_head(out: &mut Vec<u8>, n: u64) -> Result<(), AllocError>
     Ok(())
 }
 
-/// The script of that number: a database of 100 raw pages and a table, 1,000 lines that the numbers behind it choose, each a row that is
-/// inserted, a page that is written or a page that is read, with a backup of level 0, 1 and 2 behind lines 250, 500 and 750, and at last
+/// The script of that number: a database of 100 raw pages and a table, 1,000 lines that the numbers after it choose, each a row that is
+/// inserted, a page that is written or a page that is read, with a backup of level 0, 1 and 2 after lines 250, 500 and 750, and at last
 /// the pages by kind.
 pub fn generate(alloc: Global, n: u64) -> Result<Vec<u8>, Fault>
     ensures script { IfOk result (λ bytes. bytes.items ≡ generated n) }

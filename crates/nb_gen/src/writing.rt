@@ -8,7 +8,7 @@ ghost use Rattle.nb_gen.specs.Texts.{IsScriptText};
 
 use nb_host::{Host, HostFault, Name};
 
-/// Makes a file of that name with these bytes, and keeps it for good. A stop before it answers leaves the file as it was, unfinished or whole.
+/// Makes a file of that name with these bytes, and keeps it for good. A crash before it answers leaves the file as it was, unfinished or whole.
 pub fn write_script<H: Host>(host: &mut H, name: &Name, bytes: &[u8]) -> Result<(), HostFault>
     requires { IsScriptText bytes.now }
     ensures left { IsTrue H.tells → Changes (H.world host.old) (H.world host.new) (Only name.now) (Remade (H.world host.old) name.now (IsUnfinishedOr bytes.now)) }

@@ -8,7 +8,7 @@ use Rattle.nb_host.specs.Crash.{Leaves, PageLeft, AppendLeft, IsDurable, Untouch
 abbrev pub WholeOrNot : {T E X : Type 0} → Result T E → X → X → X → Type 0
 WholeOrNot result before done after = MatchResult result (λ _. after ≡ done) (λ _. (after ≡ before) ⊎ (after ≡ done))
 
--- the files stay, and a stop leaves nothing of them that it would not have left before
+-- the files stay, and a crash leaves nothing of them that it would not have left before
 pub record IsStill (old new : World) : Type 0 where
   pub files : new.files ≡ old.files
   pub left : Untouched old new (λ _. Unit {0})
@@ -21,7 +21,7 @@ pub record Remakes {T E : Type 0} (tells : Bool) (result : Result T E) (old new 
   pub now : (c : File) → new.now name c → Leaves old name c ⊎ (c ≡ file)
   pub others : Untouched old new (λ m. m ≢ name)
 
--- one file goes on by a step, and a stop leaves of the others what it would have left
+-- one file goes on by a step, and a crash leaves of the others what it would have left
 pub record Steps (old new : World) (name : List ℕ) (step : File → File → Type 0) : Type 0 where
   pub back : (c : File) → new.back name c → old.back name c
   pub now : (c : File) → new.now name c → (b : File) × old.now name b × step b c
@@ -39,7 +39,7 @@ pub record AppendsBytes {T E : Type 0} (tells : Bool) (result : Result T E) (old
       (λ _. (new.files ≡ old.files) ⊎ ((k : ℕ) × (new.files ≡ with_file old.files name (with_bytes (old.files name) (take k bytes)))))
   pub left : Steps old new name (AppendLeft (length (bytes_of (old.files name))) bytes)
 
--- the files stay, and after Ok a stop leaves of this one what a read gives
+-- the files stay, and after Ok a crash leaves of this one what a read gives
 pub record Syncs {T E : Type 0} (tells : Bool) (result : Result T E) (old new : World) (name : List ℕ) : Type 0 where
   pub still : IsStill old new
   pub durable : IsTrue tells → OnOk result (IsDurable new name (old.files name))

@@ -23,7 +23,7 @@ bytes_of (Some bytes) = bytes
 abbrev pub is_page_size : ℕ → Bool
 is_page_size n = n == 1024 || n == 2048 || n == 4096 || n == 8192 || n == 16384 || n == 32768
 
--- the bytes with zeros behind, up to this length
+-- the bytes with zeros after, up to this length
 unfoldable pub padded : List ℕ → ℕ → List ℕ
 padded bytes len = bytes ++ replicate (len - length bytes) 0
 

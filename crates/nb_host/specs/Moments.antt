@@ -1,4 +1,4 @@
--- Moments: what was said at one, and what a stop then leaves.
+-- Moments: what was said at one, and what a crash then leaves.
 use Rattle.std.specs.Prelude.{◌≡◌, ◌⊎◌, ℕ, ◌≤◌, List, length, take}
 use Rattle.nb_host.specs.Files.{Files}
 use Rattle.nb_host.specs.World.{World}

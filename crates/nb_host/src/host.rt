@@ -11,9 +11,9 @@ use crate::{HostFault, Name};
 /// Named files of pages, an output, GUIDs and a clock.
 ///
 /// Each call says six things, where they apply: `answer`, what it gives; `files`, what it does to the
-/// files and to what a stop leaves of them; `others`, that a stop still leaves of every other file all that it
+/// files and to what a crash leaves of them; `others`, that a crash still leaves of every other file all that it
 /// would have left before; `log`, what it says, reads and gives; `time`, which moments it
-/// adds at which a stop may come; and `cause`, that it fails only where the count of faults rises.
+/// adds at which a crash may come; and `cause`, that it fails only where the count of faults rises.
 ///
 /// What a call does to the files and the log it does also where it fails, as far as its words say.
 pub trait Host {
@@ -118,6 +118,6 @@ pub trait Host {
     /// This moment counts, and since this moment there is no other.
     ghost timely: { (host : Self) → IsTimely (world host) };
 
-    /// What reads now is one of the things that a stop may leave.
+    /// What reads now is one of the things that a crash may leave.
     ghost reads_left: { (host : Self) → IsTrue tells → (name : List ℕ) → Leaves (world host) name ((world host).files name) };
 }

@@ -1,9 +1,9 @@
 //! The outside, as everything above sees it: named files of pages, an output, GUIDs and a clock.
 //!
 //! It rests on nothing of the project. A layer above may rely on the clauses of `Host` alone: what each
-//! call does to the files, what a stop at any moment leaves of them, what was said, read and given, and
+//! call does to the files, what a crash at any moment leaves of them, what was said, read and given, and
 //! that a call fails only where the host's count of faults rises. The definitions are in `specs/World`
-//! (what a host tells), `specs/Crash` (what a stop leaves) and `specs/Calls` (what one call does).
+//! (what a host tells), `specs/Crash` (what a crash leaves) and `specs/Calls` (what one call does).
 #![tactic(auto)]
 
 mod faults;

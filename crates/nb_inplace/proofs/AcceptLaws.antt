@@ -30,7 +30,7 @@ use Rattle.nb_inplace.specs.declared.standby.Standby.{Standby}
 use Rattle.nb_inplace.proofs.StandbyLaws.{not_there}
 use Rattle.nb_inplace.proofs.VerdictLaws.{by_state, mergeable_by, unfit, no_level, bad_level, answered, verdict_by}
 
--- four tests, and a fifth behind them
+-- four tests, and a fifth after them
 abbrev firsts : (a b c d : Cause) → Cause
 firsts a b c d = first_cause (a ∷ b ∷ c ∷ d ∷ [])
 

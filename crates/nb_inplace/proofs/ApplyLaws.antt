@@ -270,7 +270,7 @@ module _ (old : World) (standby name : List ℕ) (s : Standby) (reader : Reading
         left : Changes mid new (Only standby) (Remade mid standby (IsHalfOr size c.pages pages first))
         stays : (m : List ℕ) → Leaves new m (new.files m)
 
-      -- what reads is what a stop may leave, and before there was one of that
+      -- what reads is what a crash may leave, and before there was one of that
       reads_all : Goes → ApplyLeft (λ file. file ≡ files standby) old standby name new.files
       reads_all goes =
           ⊎_elim (λ was. inl (durable_is mid standby (mid.files standby) goes.durable (new.files standby) was ∙ ap (λ (f : Files). f standby) quiet.still.files)) (λ part. inr (fit.bytes, c, m, part_in new.files part))

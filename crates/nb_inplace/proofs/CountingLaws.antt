@@ -26,7 +26,7 @@ pub blank_read : (size number : ℕ) (ps : List Page) (file : File) (page after 
 blank_read size number ps file page after whole zeros there sizes below long reads is =
     is ∙ ap is_zeros (read_whole size ps number below sizes file page after whole there long (read_there size number ps file page after whole there sizes below long reads) reads)
 
--- the pages behind page 0
+-- the pages after page 0
 behind_first : (start : Page) (image : Image) (p : ℕ) → 1 ≤ p → page_at (start ∷ drop 1 image) p ≡ page_at image p
 behind_first start image zero some = absurd (omega (arith, some))
 behind_first start [] (suc p) some = refl

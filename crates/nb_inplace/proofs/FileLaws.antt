@@ -75,7 +75,7 @@ module _ (size : ℕ) (records : List Numbered) (before : Image) (first : Page) 
       let same = zeros_behind size xs zeros sizes (all-replicate (λ (x : Page). is_zeros x ≡ true) k (replicate size 0) (zeros-are size)) p in
       elim (half.between p from) [ inl was ↦ inl (same ∙ was) | inr one ↦ inr (subst (λ (x : Page). Contains records (p, x)) (sym same) one) ])
 
--- Whatever a stop leaves of the write of a record, the file is half merged still.
+-- Whatever a crash leaves of the write of a record, the file is half merged still.
 pub keeps_record : (n : ℕ) (page : Page) (records : List Numbered) (b c : File) → 1 ≤ n → n < 1048576 → 0 < length page → Contains records (n, page) → PageLeft (n * length page) page b c → KeepsHalf (length page) records b c
 keeps_record n page records b c some below wide there (inl same) image first half = subst (λ (f : File). IsHalfFile (length page) records image first f) (sym same) half
 keeps_record n page records b c some below wide there (inr (inl put)) image first half =
@@ -105,7 +105,7 @@ module _ (size : ℕ) (records : List Numbered) (wide : 0 < size) where
       behind zero low = absurd (omega (arith, low))
       behind (suc q) low = main_tail size first ps q ∙ sym (main_tail size p ps q)
 
-  -- What a stop leaves of that: the file as it was, or half merged.
+  -- What a crash leaves of that: the file as it was, or half merged.
   pub begun_left : (ps : List Page) (first : Page) (file c : File) → IsOfSize size ps → 5 ≤ length ps → length ps ≤ 1048576 → length first ≡ size → file ≡ Some (joined ps) → PageLeft (0 * length first) first file c → (c ≡ file) ⊎ IsHalfFile size records ps first c
   begun_left ps first file c sizes least most long is (inl same) = inl same
   begun_left ps first file c sizes least most long is (inr (inl put)) =
@@ -113,7 +113,7 @@ module _ (size : ℕ) (records : List Numbered) (wide : 0 < size) where
   begun_left ps first file c sizes least most long is (inr (inr (k, fits, grown))) =
       absurd (not_grown k first ps sizes (omega (arith, least)) long (subst (λ (f : File). length (file_bytes f) + k * length first ≤ 0 * length first + length first) is fits))
 
-  -- Behind it page 0 is put over page 0 once more: the file stays half merged, or has that page.
+  -- After it page 0 is put over page 0 once more: the file stays half merged, or has that page.
   pub ended_left : (ps : List Page) (first last : Page) (file c : File) → IsHalfFile size records ps first file → length last ≡ size → PageLeft (0 * length last) last file c → IsHalfFile size records ps first c ⊎ (c ≡ with_page file (0 * length last) last)
   ended_left ps first last file c half long (inl same) = inl (subst (λ (f : File). IsHalfFile size records ps first f) (sym same) half)
   ended_left ps first last file c half long (inr (inl put)) = inr put

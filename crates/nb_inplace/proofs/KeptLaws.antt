@@ -53,7 +53,7 @@ pub ancestor_there : (kept : List Kept) (between : List Kept) (q r : Kept) → I
 ancestor_there kept [] q r line = line.parent.there
 ancestor_there kept (p ∷ ps) q r line = ancestor_there kept ps q p line.1
 
--- the files behind one, where there is one
+-- the files after one, where there is one
 one_next : (files : Files) (k : ℕ) (last : Link) (name bytes : List ℕ) (l : Link) → files name ≡ Some bytes → next_link k last name bytes ≡ Ok l → next_links files k last (name ∷ []) ≡ Ok (l ∷ [])
 unfolding next_links
 one_next files k last name bytes l there accepted = rw (there, next_links) (rw (accepted, next_links) refl)
@@ -124,7 +124,7 @@ module _ (files : Files) (account : Account) (stands : Stands files account) (na
           stands.kept_records.distinct span.from from (ancestor_there account.kept span.ancestor.between span.from r span.ancestor.line) asks.kept_as.there (sym span.guid ∙ sym asks.kept_as.named) in
           subst (λ (q : Kept). IsAncestor account.kept q r) same span.ancestor
 
-  -- so it is accepted behind that record in a chain, which tells what it holds
+  -- so it is accepted after that record in a chain, which tells what it holds
   abbrev behind : Link
   behind = record { guid = c.head.previous; scn = c.head.previous_scn; size = c.head.size; pages = [] }
 

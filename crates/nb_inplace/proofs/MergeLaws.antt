@@ -100,7 +100,7 @@ module _ (old : World) (standby : List ℕ) (size count : ℕ) (is_begun : Bool)
   begun_half : Half (Some (joined begun_pages))
   begun_half = half_begun size records (omega (arith, wide)) ps first plan.whole.sizes least most first_long
 
-  -- 1. The merge is begun: a stop leaves the standby as it was, or half merged.
+  -- 1. The merge is begun: a crash leaves the standby as it was, or half merged.
   module _ (begun : World) (was : Leaves old standby (old.files standby)) where
     pub begun_on : Changes old begun (Only standby) (Remade old standby (PageLeft (0 * length first) first (old.files standby))) → Changes old begun (Only standby) (Remade old standby Half)
     begun_on is =
@@ -176,7 +176,7 @@ module _ (old : World) (standby : List ℕ) (size count : ℕ) (is_begun : Bool)
   pub count_is : (pages : ℕ) → pages ≡ length (trimmed merged_over) → pages ≡ length merged_image
   count_is pages is = is ∙ sym (standby_length (trimmed merged_over)) ∙ ap length image_is
 
-  -- 4. Page 0 comes last: a stop leaves the standby half merged, or merged.
+  -- 4. Page 0 comes last: a crash leaves the standby half merged, or merged.
   module _ (now : World) (so_far : Changes old now (Only standby) (Remade old standby Half)) (reads : Half (now.files standby)) (was : Leaves now standby (now.files standby)) (noted : Page) (holds : Holds size first noted merged_over (now.files standby))
       (last : Page) (last_is : last ≡ standby_page noted) where
     last_long : length last ≡ size
@@ -198,7 +198,7 @@ module _ (old : World) (standby : List ℕ) (size count : ℕ) (is_begun : Bool)
     pub ended_kept : (new : World) (pages : ℕ) → pages ≡ length (trimmed merged_over) → IsKept new standby (with_page (now.files standby) (0 * length last) last) → KeepsMerged new standby size records ps pages
     ended_kept new pages is kept = (record { file = with_page (now.files standby) (0 * length last) last; kept = kept; holds = whole }, count_is pages is)
 
-  -- All but page 0 is written, and the pages are counted: then a stop leaves the standby half merged, and it holds the image but page 0.
+  -- All but page 0 is written, and the pages are counted: then a crash leaves the standby half merged, and it holds the image but page 0.
   pub record IsWritten (then : World) (noted : Page) (pages : ℕ) : Type 0 where
     pub left : Changes old then (Only standby) (Remade old standby Half)
     pub reads : Half (then.files standby)

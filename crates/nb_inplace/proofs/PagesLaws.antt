@@ -1,4 +1,4 @@
--- Lists of pages, behind whose ends zeros are seen: which pages are the same once records are written over.
+-- Lists of pages, after whose ends zeros are seen: which pages are the same once records are written over.
 use Rattle.std.proofs.Common.{◌≡◌, ◌≢◌, ◌⊎◌, inl, inr, ℕ, zero, suc, ◌-◌, List, [], ◌∷◌, ◌++◌, length, replicate, refl, sym, ap, ◌∙◌, arith}
 use Rattle.std.specs.Prelude.{Contains}
 use Rattle.std.proofs.lemmas.Bool.{cases_eq, cases_lt}

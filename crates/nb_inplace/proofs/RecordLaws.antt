@@ -53,7 +53,7 @@ pages_more : (rs : List Numbered) (r : Numbered) (count : ℕ) → pages_with (r
 pages_more [] r count = refl
 pages_more (q ∷ rs) r count = pages_more rs r (max count (q.0 + 1))
 
--- a page, and what is still to come behind it
+-- a page, and what is still to come after it
 behind_ok : (r : Numbered) (rest : List Numbered) (more : Result (List Numbered) ℕ) → behind (r ∷ []) more ≡ Ok rest → (others : List Numbered) × (more ≡ Ok others) × (rest ≡ r ∷ others)
 behind_ok r rest (Ok more) e = (more, refl, sym (ok_same (r ∷ more) rest (Ok (r ∷ more)) refl e))
 behind_ok r rest (Err at) e = absurd (err_ok at rest (Err at) refl e)

@@ -1,4 +1,4 @@
--- What the bytes of a database are seen as, page by page: behind their end zeros are seen.
+-- What the bytes of a database are seen as, page by page: after their end zeros are seen.
 use Rattle.std.proofs.Common.{◌≡◌, inl, inr, ℕ, ◌+◌, ◌-◌, ◌*◌, ◌<◌, ◌≤◌, List, [], ◌∷◌, ◌++◌, length, take, drop, replicate, refl, sym, ap, subst, ◌∙◌, arith, length-drop, add-mul, mul-le-mul_right, take_all}
 use Rattle.std.specs.Prelude.{true, None, IsTrue, ◌==◌}
 use Rattle.std.proofs.Math.Seq.{drop-drop}
@@ -21,7 +21,7 @@ use Rattle.nb_model.proofs.SoundLaws.{all_from}
 use Rattle.nb_model.proofs.TrimLaws.{zeros_behind}
 use Rattle.nb_inplace.proofs.HalfLaws.{front_size}
 
--- zeros behind zeros
+-- zeros after zeros
 zeros_join : (xs ys : List ℕ) → is_zeros xs ≡ true → is_zeros ys ≡ true → is_zeros (xs ++ ys) ≡ true
 zeros_join [] ys h k = k
 zeros_join (x ∷ xs) ys h k = let parts = and_parts (x == 0) (is_zeros xs) h in and_from (x == 0) (is_zeros (xs ++ ys)) parts.0 (zeros_join xs ys parts.1 k)

@@ -40,7 +40,7 @@ module _ (name : List ℕ) (scn : ℕ) where
   unfolding written_since
   since_behind p ps early = rw (lt_no scn (stamp_of p) early, written_since) refl
 
-  -- pages behind others that aren't written since
+  -- pages after others that aren't written since
   since_on : (xs ys : List Page) → written_since name scn xs ≡ None → written_since name scn (xs ++ ys) ≡ written_since name scn ys
   since_on [] ys e = refl
   since_on (x ∷ xs) ys e = elim (cases_lt scn (stamp_of x)) [
@@ -71,7 +71,7 @@ module _ (size : ℕ) (ps : List Page) (sizes : IsOfSize size ps) where
   pub stamp_at : (k : ℕ) → 12 ≤ size → k < length ps → number_in 8 4 (drop (k * size) (joined ps)) ≡ stamp_of (page_at ps k)
   stamp_at k wide low = sym (number_in-take size 8 4 (drop (k * size) (joined ps)) wide) ∙ ap stamp_of (page-joined size k ps sizes low)
 
--- the pages from k on are page k and those behind it
+-- the pages from k on are page k and those after it
 drop_next : (k : ℕ) (ps : List Page) → k < length ps → drop k ps ≡ page_at ps k ∷ drop (suc k) ps
 drop_next k [] low = absurd (omega (arith, low))
 drop_next zero (p ∷ ps) low = refl

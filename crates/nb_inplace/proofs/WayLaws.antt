@@ -1,4 +1,4 @@
--- Images on their way to that of a record: a merge gives it, and what a stop leaves half merged is on the way still.
+-- Images on their way to that of a record: a merge gives it, and what a crash leaves half merged is on the way still.
 use Rattle.std.proofs.Common.{◌≡◌, ◌⊎◌, inl, inr, ℕ, zero, suc, ◌+◌, ◌<◌, ◌≤◌, List, [], ◌∷◌, length, replicate, refl, sym, ap, subst, ◌∙◌, arith}
 use Rattle.std.specs.Prelude.{None, Some, Contains}
 use Rattle.std.proofs.lemmas.Bool.{cases_lt}
@@ -80,7 +80,7 @@ module _ (s : ℕ) where
 follows_itself : (a : Image) (s : ℕ) → Follows a s a
 follows_itself a s = record { size = refl; no_shorter = omega arith; same = λ p low early. (low, refl) }
 
--- 2. The image of a record, and one on its way there: behind page 0 it has each page that stood before the SCN, and nothing is behind its end.
+-- 2. The image of a record, and one on its way there: after page 0 it has each page that stood before the SCN, and nothing is behind its end.
 pub record IsOnTheWay (size s : ℕ) (image now : Image) : Type 0 where
   pub same : (p : ℕ) → 1 ≤ p → p < length image → stamp_of (page_at image p) ≤ s → main_page size now p ≡ page_at image p
   pub behind : (p : ℕ) → length image ≤ p → main_page size now p ≡ replicate size 0
@@ -120,7 +120,7 @@ module _ (size s : ℕ) (image now : Image) (way : IsOnTheWay size s image now) 
     ];
   }
 
--- 3. An image of which no page behind page 0 was written since
+-- 3. An image of which no page after page 0 was written since
 none_since : (name : List ℕ) (s : ℕ) (ps : List Page) → written_since name s ps ≡ None → (k : ℕ) → k < length ps → stamp_of (page_at ps k) ≤ s
 none_since name s [] e k low = absurd (omega (arith, low))
 none_since name s (p ∷ ps) e k low = elim (cases_lt s (stamp_of p)) [

@@ -37,7 +37,7 @@ IsPartIn old standby name files = (bytes : List ℕ) × (c : Contents) × IsMerg
 abbrev pub ApplyLeft : (was : File → Type 0) (old : World) (standby name : List ℕ) → Files → Type 0
 ApplyLeft was old standby name files = was (files standby) ⊎ IsPartIn old standby name files
 
--- the standby is merged, as it reads and whatever a stop leaves of it, and has so many pages
+-- the standby is merged, as it reads and whatever a crash leaves of it, and has so many pages
 pub record IsMerged (old new : World) (standby name : List ℕ) (count : ℕ) : Type 0 where
   pub bytes : List ℕ
   pub contents : Contents
@@ -55,9 +55,9 @@ ApplyAnswers (Err Memory) old new standby name = Quiet old new
 
 pub record Applies (result : Result ℕ Fault) (old new : World) (standby name : List ℕ) : Type 0 where
   pub answer : ApplyAnswers result old new standby name
-  -- At each moment a stop leaves the standby so. No other file is touched, and nothing is said.
+  -- At each moment a crash leaves the standby so. No other file is touched, and nothing is said.
   pub left : Changes old new (Only standby) (ApplyLeft (Leaves old standby) old standby name)
-  -- so it reads behind the call, whatever is answered
+  -- so it reads after the call, whatever is answered
   pub reads : ApplyLeft (λ file. file ≡ old.files standby) old standby name new.files
   pub gave : GaveNothing old new
   -- where the merge is refused nothing changes, also where the device fails

@@ -11,7 +11,7 @@ use Rattle.nb_model.specs.Owner.{main_page}
 abbrev pub applying_page : (guid : List ℕ) → Page → Page
 applying_page guid page = with_part 22 (bytes_of 2 3) (with_part 48 guid page)
 
--- Behind page 0 each page is the one that stood there, or the record's of that number. Past its end an image has zeros.
+-- After page 0 each page is the one that stood there, or the record's of that number. Past its end an image has zeros.
 abbrev pub IsBetween : (size : ℕ) (records : List Numbered) (before after : Image) → Type 0
 IsBetween size records before after = (p : ℕ) → 1 ≤ p → (main_page size after p ≡ main_page size before p) ⊎ Contains records (p, main_page size after p)
 

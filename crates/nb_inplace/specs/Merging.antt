@@ -19,7 +19,7 @@ IsDoneBy (Err (Refused refusal)) P = ⊥
 IsDoneBy (Err Device) P = Unit {0}
 IsDoneBy (Err Memory) P = ⊥
 
--- In the place of page 0 stands `first`, and behind it each page as it was in `before`, or the record's of that number.
+-- In the place of page 0 stands `first`, and after it each page as it was in `before`, or the record's of that number.
 pub record IsHalfFile (size : ℕ) (records : List Numbered) (before : Image) (first : Page) (file : File) : Type 0 where
   pub pages : Image
   pub reads : file ≡ Some (joined (first ∷ pages))

@@ -62,7 +62,7 @@ pub fn what_is_merged_is_well()
 {}
 
 /// Files that stand for an account still do where one of them is a standby that is half merged, with it as a plain file. What stands beside it,
-/// and under the other names, may have changed since the merge began, as a stop may leave it, if it stands for the same records of backups.
+/// and under the other names, may have changed since the merge began, as a crash may leave it, if it stands for the same records of backups.
 pub fn half_merged_files_stand()
     ensures { (old mid files : Files) (account then : Account) (standby name bytes half : List ℕ) (c : Contents) → Stands old account → MergesBackup old standby name bytes c → IsHalf bytes c half
         → Stands mid then → then.kept ≡ account.kept → ((m : List ℕ) → m ≢ standby → m ≢ delta_name standby → files m ≡ mid m) → files standby ≡ Some half

@@ -87,7 +87,7 @@ fn merge<H: Host>(
 /// file written over, zeros between where a page lies past the end, and no pages of zeros at the end. It is in the normal state, read-only,
 /// and with no merge pending. It is kept for good before the call answers.
 ///
-/// A stop, and an answer of `Device`, leave the standby as it was, or half merged, or merged. Half merged it is in the applying state, with
+/// A crash, and an answer of `Device`, leave the standby as it was, or half merged, or merged. Half merged it is in the applying state, with
 /// the level file's GUID pending, and can't be opened. The same call then finishes the merge, in as many turns as it takes, and the
 /// same file alone is accepted.
 ///

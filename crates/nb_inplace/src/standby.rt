@@ -16,7 +16,7 @@ use nb_fields::layouts::header;
 use nb_host::{Fault, Host, Name, Refusal};
 use nb_page::{Header, read_header};
 
-/// How many bytes say what a standby is: its header, and behind it the access.
+/// How many bytes say what a standby is: its header, and after it the access.
 const START: usize = 66;
 
 /// How many pages a database has at least.
@@ -41,7 +41,7 @@ pub(crate) fn no_database(page: u32) -> Fault
     Fault::Refused(Refusal::NotDatabase { page })
 }
 
-/// How many pages a file of `len` bytes behind a header has. The refusal is `NotDatabase`, where they aren't 5 to 1,048,576 whole pages.
+/// How many pages a file of `len` bytes after a header has. The refusal is `NotDatabase`, where they aren't 5 to 1,048,576 whole pages.
 fn pages_in(len: u64, page_size: u32) -> Result<u32, Fault>
     requires { IsTrue (is_page_size page_size) }
     ensures test { (bytes : List ℕ) → is_header bytes ≡ true → size_of bytes ≡ page_size → length bytes ≡ len → Tested (not_database bytes) result }

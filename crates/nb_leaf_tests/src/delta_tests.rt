@@ -70,7 +70,7 @@ fn draft_and_clear(
     Ok((slot, before, counts(delta)))
 }
 
-/// The page of the second entry, and what drafting and clearing answer behind it.
+/// The page of the second entry, and what drafting and clearing answer after it.
 fn said(
     host: &mut MemHost,
     delta: &mut Delta,

@@ -49,7 +49,7 @@ fn is_long<R: Files>(rt: &R, name: &Name, len: u64) -> bool {
     len_in_system(rt, name.as_str()) == Some(len)
 }
 
-/// Whether pages are read as they were written, while they wait and when they are written, and bytes behind them wait by themselves.
+/// Whether pages are read as they were written, while they wait and when they are written, and bytes after them wait by themselves.
 fn pages_are_read<R: Files, H: Host>(rt: &R, host: &mut H, name: &Name) -> [bool; 10] {
     [
         host.make(name) == Ok(()),

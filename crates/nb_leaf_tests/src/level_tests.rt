@@ -9,7 +9,7 @@ use nb_page::{Header, stamp, write_header};
 use std::alloc::Global;
 use std::test::Fail;
 
-// The head of the file: pages of 1024 bytes, behind SCN 3 at SCN 8.
+// The head of the file: pages of 1024 bytes, after SCN 3 at SCN 8.
 const HEAD: LevelHead = LevelHead {
     level: 1,
     guid: [7; 16],

@@ -97,7 +97,7 @@ fn three_calls(host: &mut MemHost) -> ([Result<(), HostFault>; 3], u64) {
     (answers, host.fault_count())
 }
 
-/// The next GUID behind a stop, where those that were given before count on, and how many there are then.
+/// The next GUID after a crash, where those that were given before count on, and how many there are then.
 fn guid_behind_a_stop(host: &mut MemHost) -> Result<([u8; 16], u64), Fail> {
     host.guid()?;
     host.guid()?;

@@ -4,7 +4,7 @@ ghost use Rattle.nb_fields.specs.Places.{is_page_size};
 
 use nb_pip::{covers, give, is_place, is_used, lowest_free, place_of, take};
 
-/// Whether they stand at page 1, at that page, and right before and behind it.
+/// Whether they stand at page 1, at that page, and right before and after it.
 fn stand_at(size: u32, page: u32) -> [bool; 4]
     requires size { IsTrue (is_page_size size) }
     requires behind { 0 < page }

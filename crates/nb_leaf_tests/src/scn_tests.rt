@@ -4,7 +4,7 @@ ghost use Rattle.nb_fields.specs.Places.{is_page_size};
 
 use nb_scn::{covers, entry, fill, is_place, place_of, raise};
 
-/// Whether they stand at page 2, at that page, at page 0 and right behind that page.
+/// Whether they stand at page 2, at that page, at page 0 and right after that page.
 fn stand_at(size: u32, page: u32) -> [bool; 4]
     requires size { IsTrue (is_page_size size) }
     requires page { page + 1 < 2 ^ 20 }

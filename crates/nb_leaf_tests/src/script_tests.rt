@@ -5,7 +5,7 @@ use nb_script::{Script, parse, print};
 use std::alloc::Global;
 use std::test::Fail;
 
-/// The first session, the number of sessions and of turns, and the statements of session 1 behind the first of all.
+/// The first session, the number of sessions and of turns, and the statements of session 1 after the first of all.
 fn shape_of(script: &Script) -> (u32, u32, usize, usize) {
     (
         script.first_session(),

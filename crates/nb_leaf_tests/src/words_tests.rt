@@ -46,7 +46,7 @@ fn job_of(alloc: Global, line: &str) -> Result<&'static str, AllocError> {
     Ok(named(&read_job(alloc, &words)))
 }
 
-/// The jobs of all lines, one behind another.
+/// The jobs of all lines, one after another.
 fn jobs(alloc: Global) -> Result<Vec<&'static str>, AllocError> {
     let mut jobs = Vec::new(alloc);
     for line in LINES {

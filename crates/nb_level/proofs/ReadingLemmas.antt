@@ -205,7 +205,7 @@ module _ (fuel : ℕ) (h : Head) (at count least barred : ℕ) (rest : List ℕ)
   abbrev place : ℕ
   place = at + length rest
 
-  -- what stands behind the run's head
+  -- what stands after the run's head
   abbrev run_there : Result (List Numbered) ℕ
   run_there = behind (pages_in h.size m n (drop 8 rest)) (read_runs fuel h (at + 8 + m * h.size) (count + m) (n + m) (barred_after n m) (drop (8 + m * h.size) rest))
 
@@ -328,7 +328,7 @@ singles-fuel (suc f) (suc g) h at count least rest one two =
       from (Ok None) same = refl
       from (Ok (Some s)) same = ap (behind ((s.0, part 4 h.size rest) ∷ [])) (same (s.0 + 1))
 
--- the rest of a run, by what stands behind it
+-- the rest of a run, by what stands after it
 rest-same : (f g left : ℕ) (h : Head) (at count least barred : ℕ) (rest : List ℕ)
     → read_runs f h (at + left * h.size) (count + left) (least + left) barred (drop (left * h.size) rest) ≡ read_runs g h (at + left * h.size) (count + left) (least + left) barred (drop (left * h.size) rest)
     → read_rest f left h at count least barred rest ≡ read_rest g left h at count least barred rest

@@ -6,11 +6,11 @@ use Rattle.nb_host.specs.Crash.{Leaves, AppendLeft}
 use Rattle.nb_host.specs.Calls.{Steps}
 use Rattle.nb_host.specs.Moments.{Elapses}
 
--- what a stop leaves of a file once both were appended at its length `len`, where before it left `before`
+-- what a crash leaves of a file once both were appended at its length `len`, where before it left `before`
 abbrev pub TwoLeft : (len : ℕ) → (first second : List ℕ) → (before left : File) → Type 0
 TwoLeft len first second before left = (mid : File) × AppendLeft len first before mid × AppendLeft (len + length first) second mid left
 
--- what a stop leaves meanwhile, of this file and of the others; and nothing is said
+-- what a crash leaves meanwhile, of this file and of the others; and nothing is said
 pub record IsWhileAdding (old : World) (name first second : List ℕ) (files : Files) (said : List ℕ) : Type 0 where
   pub file : old.back name (files name) ⊎ ((b : File) × old.now name b × TwoLeft (length (bytes_of (old.files name))) first second b (files name))
   pub others : (m : List ℕ) → m ≢ name → Leaves old m (files m)

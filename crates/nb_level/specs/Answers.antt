@@ -30,7 +30,7 @@ lead_of r = elim (r.version == 101) [ true ↦ 4 | false ↦ elim (nat_lt 0 r.pl
 abbrev pub number_due : Reading → (rest : List ℕ) → ℕ
 number_due r rest = elim (nat_lt 0 r.place.left) [ true ↦ r.place.least | false ↦ number_in 0 4 rest ]
 
--- The page is the one that stands there in the file, whatever follows it, and so is its number. The reader then stands behind it.
+-- The page is the one that stands there in the file, whatever follows it, and so is its number. The reader then stands after it.
 pub record IsThere (bytes : List ℕ) (lead due : ℕ) (old new : Reading) (n : ℕ) (given : List ℕ) : Type 0 where
   pub number : n ≡ due
   pub page : given ≡ part lead old.head.page_size (drop old.place.at bytes)

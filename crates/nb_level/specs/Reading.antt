@@ -19,7 +19,7 @@ pub record Reading : Type 0 where
 abbrev pub Step : Type 0
 Step = Result (Option (ℕ × ℕ)) ℕ
 
--- the end mark, behind so many pages, and what follows
+-- the end mark, after so many pages, and what follows
 unfoldable pub end_step : (at count : ℕ) (bytes : List ℕ) → Step
 end_step at count bytes = elim (first_fault (
     (count == 0, at)
@@ -70,7 +70,7 @@ run_step h at count least barred bytes = elim (nat_lt (length bytes) 4) [
   ]
 ]
 
--- what is left of a run of which `left` pages are still to come, and of what stands behind it
+-- what is left of a run of which `left` pages are still to come, and of what stands after it
 unfoldable pub read_rest : (fuel left : ℕ) → Head → (at count least barred : ℕ) (rest : List ℕ) → Result (List Numbered) ℕ
 read_rest fuel left h at count least barred rest = elim (nat_lt (length rest) (left * h.size)) [
   | true ↦ Err (at + length rest)
@@ -108,7 +108,7 @@ pub record IsReader (version : ℕ) (head : LevelHead) (place : Place) (buffer :
   pub counted : place.count ≤ place.least
   pub reached : place.at ≤ 52 + 32776 * place.least
 
--- a reader behind the head that a file begins with
+-- a reader after the head that a file begins with
 pub record IsBegun (name first : List ℕ) (r : Reading) : Type 0 where
   pub file : r.name ≡ name
   pub version : r.version ≡ number_in 4 2 first

@@ -54,7 +54,7 @@ fn lead(version: u16) -> usize
 }
 
 impl LevelReader {
-    /// A reader behind a head that is of the form. It takes the memory for a page.
+    /// A reader after a head that is of the form. It takes the memory for a page.
     pub(crate) fn begun(
         alloc: Global,
         name: &Name,

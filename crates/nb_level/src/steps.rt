@@ -29,7 +29,7 @@ pub(crate) fn is_first_page(head: &LevelHead, page: &[u8]) -> bool
     }
 }
 
-/// Whether a number may not stand behind so many pages, where the least that may is `least`.
+/// Whether a number may not stand after so many pages, where the least that may is `least`.
 fn is_bad_number(count: u32, least: u32, number: u32) -> bool
     ensures { result ≡ is_bad_number count least number }
 {
@@ -147,7 +147,7 @@ pub(crate) fn run_step(
     Ok(Some((number, pages)))
 }
 
-/// The number that may not begin the run behind one of so many pages.
+/// The number that may not begin the run after one of so many pages.
 pub(crate) fn barred_after(number: u32, pages: u32) -> u32
     requires { number + pages < 2 ^ 32 }
     ensures { result ≡ barred_after number pages }

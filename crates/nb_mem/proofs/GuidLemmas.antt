@@ -1,4 +1,4 @@
--- GUIDs that are given behind others.
+-- GUIDs that are given after others.
 use Rattle.std.proofs.Common.{◌≡◌, ◌≢◌, ℕ, zero, suc, ◌+◌, ◌^◌, ◌<◌, ◌≤◌, List, [], ◌∷◌, ◌++◌, length, drop, replicate, refl, sym, ap, ◌∙◌, arith, length-append, append_assoc}
 use Rattle.std.specs.Prelude.{Contains}
 use Rattle.std.specs.Int.{w64, from_be_bytes}
@@ -9,7 +9,7 @@ use Rattle.nb_host.specs.Calls.{IsStill}
 use Rattle.nb_mem.specs.declared.entry.Entry.{Entry}
 use Rattle.nb_mem.specs.Histories.{files_of, Now, Back, guid_of, guids_of, guids_behind, with_guids, world_of}
 
--- the files stay, and so does what a stop leaves
+-- the files stay, and so does what a crash leaves
 with_guids-files : (n : ℕ) (es : List Entry) → files_of (with_guids n es) ≡ files_of es
 with_guids-files zero es = refl
 with_guids-files (suc n) es = with_guids-files n es
@@ -25,7 +25,7 @@ with_guids-now (suc n) es m c is = with_guids-now n es m c is
 pub given_still : (n : ℕ) (es : List Entry) → IsStill (world_of es) (world_of (with_guids n es))
 given_still n es = record { files = with_guids-files n es; left = record { back = λ m c is b. with_guids-back n es m c b; now = λ m c is k. with_guids-now n es m c k } }
 
--- one GUID more behind so many
+-- one GUID more after so many
 behind_more : (number n : ℕ) → guids_behind number (suc n) ≡ guids_behind number n ++ guid_of (number + n + 1) ∷ []
 behind_more number zero = ap (λ k. guid_of k ∷ []) (let e : number + 1 ≡ number + 0 + 1 = omega arith in e)
 behind_more number (suc n) =
@@ -36,7 +36,7 @@ behind_long : (number n : ℕ) → length (guids_behind number n) ≡ n
 behind_long number zero = refl
 behind_long number (suc n) = ap suc (behind_long (number + 1) n)
 
--- those that were given, and so many behind them
+-- those that were given, and so many after them
 pub given_guids : (n : ℕ) (es : List Entry) → guids_of (with_guids n es) ≡ guids_of es ++ guids_behind (length (guids_of es)) n
 given_guids zero es = sym (append-nil (guids_of es))
 given_guids (suc n) es =
@@ -65,7 +65,7 @@ none_is_nil = refl
 pub guid_not_nil : (n : ℕ) → 1 ≤ n → n < 2 ^ 64 → guid_of n ≢ replicate 16 0
 guid_not_nil n some small nil = absurd (omega (arith, some, guids_apart n 0 small (omega arith) (nil ∙ sym none_is_nil)))
 
--- a GUID among so many behind a number has one of their numbers
+-- a GUID among so many after a number has one of their numbers
 record IsBehind (number count : ℕ) (guid : List ℕ) : Type 0 where
   pub own : ℕ
   pub low : number < own

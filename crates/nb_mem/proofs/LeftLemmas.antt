@@ -1,4 +1,4 @@
--- The files that a stop leaves, placed one after another.
+-- The files that a crash leaves, placed one after another.
 use Rattle.std.proofs.Common.{◌≡◌, ◌≢◌, ◌⊎◌, inl, inr, ⊎_elim, ℕ, List, [], ◌∷◌, ◌++◌, refl, sym, ◌∙◌, ap, subst}
 use Rattle.std.specs.Prelude.{Some, None}
 use Rattle.nb_host.specs.Files.{File}
@@ -25,7 +25,7 @@ IsUnnamed-none : (m : List ℕ) (ss : List Slot) → IsUnnamed m ss → files_in
 IsUnnamed-none m [] none = refl
 IsUnnamed-none m (s ∷ ss) none = with_file-other (files_in ss) s.name s.file m none.0 ∙ IsUnnamed-none m ss none.1
 
--- Of each name either a file that a stop leaves was placed, or the name is yet to come.
+-- Of each name either a file that a crash leaves was placed, or the name is yet to come.
 pub record IsLeftSoFar (stopped left : List Entry) (slots : List Slot) : Type 0 where
   pub files : (m : List ℕ) → Leaves (world_of stopped) m (files_of left m) ⊎ ((files_of left m ≡ None) × IsUnnamed m slots)
   pub durable : (n : List ℕ) → IsDurable (world_of left) n (files_of left n)

@@ -85,7 +85,7 @@ bytes_left c len bytes before =
     (λ other. inl refl)
 
 module _ (es : List Entry) (n : List ℕ) where
-  -- what a stop may leave after a change of the file
+  -- what a crash may leave after a change of the file
   abbrev After : Change → Outcome → Type 0
   After change o = MatchBool o.is_back (BackAfter change (Back es n) (Now es n) o.left) (NowAfter change (files_of es n) (Now es n) o.left)
 

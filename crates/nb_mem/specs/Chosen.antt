@@ -1,4 +1,4 @@
--- What a stop leaves, by choices: each is yes or no, by a number.
+-- What a crash leaves, by choices: each is yes or no, by a number.
 use Rattle.std.specs.Prelude.{ℕ, ◌+◌, ◌-◌, ◌*◌, ◌/◌, ◌%◌, Bool, true, false, ◌||◌, ◌==◌, nat_le, List, [], ◌∷◌, ◌++◌, length, take, replicate, None, Some}
 use Rattle.std.specs.List.{position}
 use Rattle.nb_host.specs.Names.{same_name}
@@ -21,7 +21,7 @@ begun pick = record { pick = pick; rest = pick }
 abbrev pub is_yes : Choices → Bool
 is_yes c = c.pick == 1 || c.rest % 2 == 1
 
--- and the choices behind it
+-- and the choices after it
 unfoldable pub behind : Choices → Choices
 behind c = elim (c.pick == 1) [
   | true ↦ c
@@ -88,7 +88,7 @@ choices_after first (Paged at page) len o c = elim o.is_back [ true ↦ c | fals
 choices_after first (Appended bytes) len o c = elim o.is_back [ true ↦ c | false ↦ (bytes_by c len bytes o.left).1 ]
 choices_after first Synced len o c = first
 
--- what a stop after these calls leaves of a file, by choices, and the choices that are then left
+-- what a crash after these calls leaves of a file, by choices, and the choices that are then left
 unfoldable pub outcome_by : Choices → List Entry → List ℕ → Outcome × Choices
 outcome_by first [] n = (settled None, first)
 outcome_by first (Changed m change ∷ es) n =
@@ -106,7 +106,7 @@ outcome_by first (Asked question ∷ es) n = outcome_by first es n
 abbrev pub left_by : Choices → List Entry → List ℕ → File
 left_by first es n = (outcome_by first es n).0.left
 
--- the names, and this one behind them where it is new
+-- the names, and this one after them where it is new
 unfoldable pub with_name : List ℕ → List (List ℕ) → List (List ℕ)
 with_name n ns = elim (position (λ m. same_name n m) ns) [ None ↦ ns ++ n ∷ [] | Some at ↦ ns ]
 
@@ -117,7 +117,7 @@ names_of (Changed n change ∷ es) = with_name n (names_of es)
 names_of (Said bytes ∷ es) = names_of es
 names_of (Asked question ∷ es) = names_of es
 
--- what a stop leaves of these names is placed, one after another, by choices, behind what was placed before
+-- what a crash leaves of these names is placed, one after another, by choices, after what was placed before
 abbrev pub placed_all : (es : List Entry) → List (List ℕ) → (left : List Entry) → Choices → List Entry × Choices
 placed_all es [] left c = (left, c)
 placed_all es (n ∷ ns) left c = placed_all es ns (placed n (left_by c es n) left) (outcome_by c es n).1

@@ -1,4 +1,4 @@
--- The outcomes that a host in memory has, by the rules of a stop, and the picks that reach them. That it has no others is said by
+-- The outcomes that a host in memory has, by the rules of a crash, and the picks that reach them. That it has no others is said by
 -- the clauses of the trait.
 use Rattle.std.specs.Prelude.{◌≡◌, ◌≢◌, ℕ, ◌+◌, ◌-◌, ◌*◌, ◌/◌, ◌≤◌, true, false, List, [], ◌∷◌, ◌++◌, length, take, replicate, Some, None}
 use Rattle.nb_host.specs.Names.{same_name}
@@ -11,26 +11,26 @@ use Rattle.nb_mem.specs.declared.entry.Change.TheVariants.{Placed, Made, Removed
 use Rattle.nb_mem.specs.Histories.{files_of, world_of}
 use Rattle.nb_mem.specs.Chosen.{begun, grown, left_by, outcome_by}
 
--- what a stop leaves after a change of the file
+-- what a crash leaves after a change of the file
 abbrev pub LeavesAfter : List Entry → (n : List ℕ) → Change → File → Type 0
 LeavesAfter es n change = Leaves (world_of (Changed n change ∷ es)) n
 
--- A page was written. Where a stop would have left `before`, it may leave that, the page lost; or that with the page; or that
--- with pages of zeros behind it, up to the page's end.
+-- A page was written. Where a crash would have left `before`, it may leave that, the page lost; or that with the page; or that
+-- with pages of zeros after it, up to the page's end.
 pub record PagesMay (es : List Entry) (n : List ℕ) (at : ℕ) (page : List ℕ) (before : File) : Type 0 where
   pub lost : LeavesAfter es n (Paged at page) before
   pub kept : LeavesAfter es n (Paged at page) (with_page before at page)
   pub grown : (k : ℕ) → length (bytes_of before) + k * length page ≤ at + length page
       → LeavesAfter es n (Paged at page) (Some (bytes_of before ++ replicate (k * length page) 0))
 
--- Bytes were appended. Where a stop would have left `before`, it may leave that; and where `before` has the length at which they
--- were appended, also that and any of the bytes behind it, each as it was written or zero.
+-- Bytes were appended. Where a crash would have left `before`, it may leave that; and where `before` has the length at which they
+-- were appended, also that and any of the bytes after it, each as it was written or zero.
 pub record BytesMay (es : List Entry) (n bytes : List ℕ) (before : File) : Type 0 where
   pub lost : LeavesAfter es n (Appended bytes) before
   pub torn : (torn : List ℕ) → IsTornFrom bytes torn → length (bytes_of before) ≡ length (bytes_of (files_of es n))
       → LeavesAfter es n (Appended bytes) (Some (bytes_of before ++ torn))
 
--- A file was made or removed: it may be so, or be back with all that a stop would have left of it before.
+-- A file was made or removed: it may be so, or be back with all that a crash would have left of it before.
 pub record AnewMay (es : List Entry) (n : List ℕ) (change : Change) (file : File) : Type 0 where
   pub anew : LeavesAfter es n change file
   pub back : (before : File) → Leaves (world_of es) n before → LeavesAfter es n change before
@@ -63,7 +63,7 @@ settled_file (Asked question ∷ es) n = settled_file es n
 abbrev pub pick_after : (pick : ℕ) → List Entry → (n : List ℕ) → Change → File
 pick_after pick es n change = left_by (begun pick) (Changed n change ∷ Changed n Synced ∷ es) n
 
--- Each rule of a stop has a pick.
+-- Each rule of a crash has a pick.
 pub record PicksReach (es : List Entry) (n : List ℕ) : Type 0 where
   pub page_lost : (at : ℕ) (page : List ℕ) → pick_after 0 es n (Paged at page) ≡ files_of es n
   pub page_kept : (at : ℕ) (page : List ℕ) → pick_after 1 es n (Paged at page) ≡ with_page (files_of es n) at page

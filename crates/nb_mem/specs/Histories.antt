@@ -16,7 +16,7 @@ files_of (Changed n change ∷ es) = with_file (files_of es) n (file_after chang
 files_of (Said bytes ∷ es) = files_of es
 files_of (Asked question ∷ es) = files_of es
 
--- what a stop leaves of a file as it was made since it was last made or removed
+-- what a crash leaves of a file as it was made since it was last made or removed
 abbrev pub Now : List Entry → List ℕ → File → Type 0
 Now [] m left = left ≡ None
 Now (Changed n change ∷ es) m left = MatchBool (same_name m n) (NowAfter change (files_of es m) (Now es m) left) (Now es m left)
@@ -66,7 +66,7 @@ abbrev pub with_guids : ℕ → List Entry → List Entry
 with_guids zero es = es
 with_guids (suc n) es = Asked Guid ∷ with_guids n es
 
--- so many GUIDs, of the numbers behind this one
+-- so many GUIDs, of the numbers after this one
 abbrev pub guids_behind : (number count : ℕ) → List (List ℕ)
 guids_behind number zero = []
 guids_behind number (suc count) = guid_of (number + 1) ∷ guids_behind (number + 1) count
@@ -81,7 +81,7 @@ times_of (Asked Read ∷ es) = times_of es
 times_of (Asked Guid ∷ es) = times_of es
 times_of (Asked Time ∷ es) = times_of es ++ (1000000000 + length (times_of es)) ∷ []
 
--- after these calls the output is this, and a stop then leaves these files
+-- after these calls the output is this, and a crash then leaves these files
 pub record LeftAt (es : List Entry) (files : Files) (said : List ℕ) : Type 0 where
   pub left : (m : List ℕ) → Back es m (files m) ⊎ Now es m (files m)
   pub output : said ≡ said_of es

@@ -13,7 +13,7 @@ use Rattle.nb_mem.specs.declared.entry.Entry.TheVariants.{Changed, Said, Asked}
 use Rattle.nb_mem.specs.Changes.{file_after, NowAfter}
 use Rattle.nb_mem.specs.Histories.{files_of, Now, said_of, LeftSince, world_of}
 
--- a change that is kept whole is among what a stop leaves
+-- a change that is kept whole is among what a crash leaves
 seen_after : (change : Change) (file : File) (now : File → Type 0) → now file → NowAfter change file now (file_after change file)
 seen_after (Placed bytes) file now is = refl
 seen_after Made file now is = refl

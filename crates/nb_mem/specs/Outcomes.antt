@@ -1,4 +1,4 @@
--- One outcome of a stop.
+-- One outcome of a crash.
 use Rattle.std.specs.Prelude.{◌≢◌, ℕ, MatchBool, List, [], ◌∷◌, None, Some}
 use Rattle.nb_host.specs.Files.{File}
 use Rattle.nb_host.specs.Crash.{LeavesAll, IsDurable}
@@ -15,7 +15,7 @@ IsOther (Changed n change) m = m ≢ n
 IsOther (Said bytes) m = Unit {0}
 IsOther (Asked question) m = Unit {0}
 
--- a stop after these calls may leave that of the file
+-- a crash after these calls may leave that of the file
 abbrev pub MayBe : List Entry → List ℕ → Outcome → Type 0
 MayBe es n outcome = MatchBool outcome.is_back (Back es n outcome.left) (Now es n outcome.left)
 
@@ -24,7 +24,7 @@ abbrev pub placed : List ℕ → File → List Entry → List Entry
 placed n None es = es
 placed n (Some bytes) es = Changed n (Placed bytes) ∷ es
 
--- A stop after the calls `stopped` may leave the files of `left`, all of them durable, and nothing was said, read or given since.
+-- A crash after the calls `stopped` may leave the files of `left`, all of them durable, and nothing was said, read or given since.
 pub record IsLeft (stopped left : List Entry) : Type 0 where
   pub files : LeavesAll (world_of stopped) (files_of left)
   pub durable : (n : List ℕ) → IsDurable (world_of left) n (files_of left n)

@@ -70,7 +70,7 @@ impl Bytes {
     }
 }
 
-/// The bytes with zeros behind them, up to this length.
+/// The bytes with zeros after them, up to this length.
 fn extend_to(kept: &mut Vec<u8>, len: usize) -> Result<(), AllocError>
     ensures ok { OnOk result (kept.new.items ≡ padded kept.old.items len) }
     ensures err { OnErr result (kept.new.items ≡ kept.old.items) }

@@ -165,7 +165,7 @@ impl History {
         }
     }
 
-    /// What a stop now leaves, by the pick, as if it had just been placed.
+    /// What a crash now leaves, by the pick, as if it had just been placed.
     pub fn left(&self, pick: u64) -> Result<History, AllocError>
         ensures left { IfOk result (λ left. IsLeft self.now left) }
         ensures picked { IfOk result (λ left. left ≡ picked pick self.now) }

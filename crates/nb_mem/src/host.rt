@@ -85,10 +85,10 @@ impl MemHost {
         Ok(())
     }
 
-    /// One outcome of a stop now, as a new host of which no call is to fail. The only error is want of memory.
+    /// One outcome of a crash now, as a new host of which no call is to fail. The only error is want of memory.
     ///
     /// Pick 0 loses all that was not synced, and pick 1 keeps all. Any other pick goes by its bits, the lowest first and
-    /// a 0 behind them, again and again, through the files in the order of their first calls: whether a made or removed
+    /// a 0 after them, again and again, through the files in the order of their first calls: whether a made or removed
     /// file is so; whether a page is kept and, where it is lost past the end, whether the file grew; whether appended
     /// bytes are kept, then whether whole, and then whether zeros stand in the place of their second half.
     pub fn left(&self, pick: u64) -> Result<MemHost, Fault>
@@ -105,11 +105,11 @@ impl MemHost {
         })
     }
 
-    /// The host with so many GUIDs counted as given: the next is the one behind them. It is no call of the host. The only error is
+    /// The host with so many GUIDs counted as given: the next is the one after them. It is no call of the host. The only error is
     /// want of memory.
     ///
-    /// What starts from what a stop left counts from the first again. `host.left(pick)?.behind_guids(host.guid_count())` gives none
-    /// that was given before the stop.
+    /// What starts from what a crash left counts from the first again. `host.left(pick)?.behind_guids(host.guid_count())` gives none
+    /// that was given before the crash.
     pub fn behind_guids(mut self, count: u64) -> Result<MemHost, Fault>
         ensures ok { IfOk result (λ host. host ≡ record self { history = with_guids count self.history }) }
         ensures still { IfOk result (λ host. IsStill (world_of self.history) (world_of host.history)) }

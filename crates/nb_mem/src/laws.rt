@@ -1,4 +1,4 @@
-//! The outcomes that a host in memory has: one law for each rule of a stop, and one for its picks; and one of its GUIDs. None does anything.
+//! The outcomes that a host in memory has: one law for each rule of a crash, and one for its picks; and one of its GUIDs. None does anything.
 //!
 //! They speak of what a host has done, newest first, as the contracts of `MemHost` see it.
 
@@ -28,7 +28,7 @@ pub fn files_may_be_back()
     ensures removed { (es : List Call) (n : List ℕ) → AnewMay es n Step.Removed None }
 {}
 
-/// A file that was synced is as it reads, and so is a placed one. What a stop leaves of the others stays.
+/// A file that was synced is as it reads, and so is a placed one. What a crash leaves of the others stays.
 pub fn synced_stay()
     ensures synced { (es : List Call) (n : List ℕ) → SyncedMay es n }
     ensures others { (es : List Call) (n : List ℕ) (change : Step) → OthersMay es n change }
@@ -42,7 +42,7 @@ pub fn picks()
     ensures nothing { (es : List Call) (n : List ℕ) → LosesAll es n }
 {}
 
-/// A GUID tells its number, and none is nil. So none that is given behind others is one of them.
+/// A GUID tells its number, and none is nil. So none that is given after others is one of them.
 pub fn guids_are_apart()
     ensures apart { (m n : ℕ) → m < 2 ^ 64 → n < 2 ^ 64 → guid_of m ≡ guid_of n → m ≡ n }
     ensures not_nil { (n : ℕ) → 1 ≤ n → n < 2 ^ 64 → guid_of n ≢ replicate 16 0 }

@@ -53,7 +53,7 @@ fn follow_call(
     }
 }
 
-/// What a stop after these calls leaves of the file, by the choices.
+/// What a crash after these calls leaves of the file, by the choices.
 #[tactic(auto, unfolding(crate::specs::Chosen::outcome_by))]
 pub fn left_of(
     alloc: Global,

@@ -8,7 +8,7 @@ use crate::entry::Change;
 use crate::slots::{extend, write};
 use std::alloc::{AllocError, Global};
 
-/// What a stop leaves of a file: as it was made last, or as it was before that.
+/// What a crash leaves of a file: as it was made last, or as it was before that.
 #[derive(Drop)]
 pub struct Outcome {
     pub left: Option<Bytes>,

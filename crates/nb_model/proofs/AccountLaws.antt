@@ -1,4 +1,4 @@
--- What turns of statements that can be asked today leave of the account: the database that is seen behind their strokes, the records of
+-- What turns of statements that can be asked today leave of the account: the database that is seen after their strokes, the records of
 -- the backups that have begun, and all else as before.
 use Rattle.std.proofs.Common.{◌≡◌, ◌≢◌, ℕ, ◌-◌, List, [], ◌∷◌, ◌++◌, get_or, refl, sym, ap, subst, ◌∙◌, append_assoc}
 use Rattle.std.specs.Prelude.{Bool, true, false, Option, Some, None}
@@ -118,7 +118,7 @@ stands_grown files name b more made old new is stands =
     (λ n. ap (λ (e : Entry). elim (same_name n name) as (λ z. Entry) [ true ↦ IsBase b | false ↦ e ]) (files_entry made grown old n refl) ∙ sym (is.entries n))
     (with_kept name (IsBase b) (with_files made grown) ∙ files_kept made grown ∙ sym is.kept) stands
 
--- Behind a first statement that leaves the database of that name, and all else as before, turns leave such an account.
+-- After a first statement that leaves the database of that name, and all else as before, turns leave such an account.
 module _ (account : Account) (o : Opening) (first : Now) (name : List ℕ) (b : Base) (name_is : first.name ≡ name) (account_is : first.account ≡ o.account) (base : base_now first ≡ b)
     (here : o.account.entry name ≡ IsBase b) (rest : (n : List ℕ) → n ≢ name → o.account.entry n ≡ account.entry n) (same : o.account.kept ≡ account.kept) where
   pub begun_grown : (order : List ℕ) → IsGrown name (base_now (play order first).1) (records_after b (strokes_of (play order first).0)) (files_made (play order first).0) account (play order first).1.account

@@ -25,7 +25,7 @@ some_kept name account s ss = refl
 base_there : (name : List ℕ) (account : Account) (s : Stroke) (ss : List Stroke) → base_in ((after name account (s ∷ ss)).entry name) ≡ base_after (base_in (account.entry name)) (s ∷ ss)
 base_there name account s ss = ap base_in (some_entry name account s ss name ∙ entry_same name (IsBase (base_after (base_in (account.entry name)) (s ∷ ss))) account) ∙ base_in_base _
 
--- an entry behind another under the same name
+-- an entry after another under the same name
 over : (name : List ℕ) (first second : Entry) (account : Account) (n : List ℕ) → (with_entry name second account).entry n ≡ (with_entry name second (with_entry name first account)).entry n
 unfolding with_entry
 over name first second account n = by_test (same_name n name)

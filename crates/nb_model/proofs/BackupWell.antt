@@ -133,7 +133,7 @@ holds_on P R q old new goes held h = record {
 remembered_on : (kept more : List Kept) (P R : Kept → Type 0) → ((r : Kept) → P r → R r) → (row : Slot) → IsRemembered kept P row → IsRemembered (kept ++ more) R row
 remembered_on kept more P R goes row h = record { backup = h.backup; kept_as = kept_more kept more (guid_in row) h.backup h.kept_as; scn = h.scn; level = h.level; passes = goes h.backup h.passes }
 
--- So it is still behind steps that keep no record, while the page is held.
+-- So it is still after steps that keep no record, while the page is held.
 pub recorded_on : (kept : List Kept) (t : Trail) (ss : List Step) → KeepsAlong kept t ss → (b : Backing) → ((bytes : Page) → IsOfHistory bytes → IsLedTo b.page bytes t.base.image → IsLedTo b.page bytes (after_steps t ss).base.image)
     → IsRecorded kept t b → IsRecorded (kept_along kept t ss) (after_steps t ss) b
 recorded_on kept t ss keeps b held h = subst (λ (rs : List Kept). IsRecorded rs (after_steps t ss) b) (sym keeps.none) (record {
@@ -169,7 +169,7 @@ module _ (kept : List Kept) (t : Trail) (w : IsWellTrail kept t) where
   its_row : (test : Slot → Bool) (row : Spot) → broken_at (pages_of History t.base.image) ≡ None → backup_spot test t.base.image ≡ Some row → IsRemembered kept (AllGoOn t) row.bytes
   its_row test row unbroken is = backup_found (IsRemembered kept (AllGoOn t)) test t.base.image row unbroken is (chain_rows kept (AllGoOn t) t.base.image its_past)
 
-  -- A backup begins behind steps that keep no record: it goes on from the one that its row names.
+  -- A backup begins after steps that keep no record: it goes on from the one that its row names.
   module _ (u : Trail) (on : (r : Kept) → AllGoOn t r → AllGoOn u r) (later : IsWellTrail kept u) (normal : image_state u.base.image ≡ 0) (scn : image_scn u.base.image ≤ 4294967293) (guid : List ℕ) (sixteen : length guid ≡ 16) where
     goes_on_then : (ask : Option Ask) (r : Kept) → AllGoOn u r → GoesOn r (on_base (begin guid ask) u.base).image
     unfolding on_base
@@ -198,7 +198,7 @@ module _ (kept : List Kept) (t : Trail) (w : IsWellTrail kept t) where
         same_ask : (a : Ask) → Some asked ≡ Some a → asked ≡ a
         same_ask a e = cc
 
--- What is well along the strokes of an outcome, and recorded behind them.
+-- What is well along the strokes of an outcome, and recorded after them.
 pub record StartsWell (kept : List Kept) (t : Trail) (ss : List Stroke) (b : Backing) : Type 0 where
   pub along : WellAlong kept t (made ss)
   pub recorded : IsRecorded (kept_along kept t (made ss)) (after_steps t (made ss)) b

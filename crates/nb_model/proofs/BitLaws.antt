@@ -84,7 +84,7 @@ pub with_bit_length : (k bit : ℕ) (inventory : Page) → length (with_bit k bi
 unfolding with_bit
 with_bit_length k bit inventory = length-set inventory (32 + k / 8) _
 
--- a bit behind the head of a page that is stamped
+-- a bit after the head of a page that is stamped
 pub bit_behind : (old : Page) (kind scn number j : ℕ) (whole : Page) → length whole ≡ length old → 16 ≤ length old → bit_of (stamped old kind (drop 16 whole) scn number) j ≡ bit_of whole j
 unfolding stamped page_of
 bit_behind old kind scn number j whole len long =

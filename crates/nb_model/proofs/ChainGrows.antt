@@ -58,7 +58,7 @@ few_below zero [] distinct low = omega arith
 few_below zero (p ∷ ps) distinct low = absurd (omega (arith, low.0))
 few_below (suc n) ps distinct low = omega (arith, without_long n ps, few_below n (without n ps) (without_distinct n ps distinct) (without_less n ps distinct low))
 
--- so pages behind the first are fewer than the pages up to there
+-- so pages after the first are fewer than the pages up to there
 pub fewer_below : (n : ℕ) (ps : List ℕ) → 1 ≤ n → AreDistinct ps → AllByRecursion (λ (q : ℕ). (1 ≤ q) × (q < n)) ps → length ps + 1 ≤ n
 fewer_below n ps some distinct low = omega (arith, few_below n (0 ∷ ps) (behind ps low, distinct) (some, below ps low))
   where

@@ -110,7 +110,7 @@ begins_bytes : (version : ℕ) (h : Head) (rs : List Numbered) → begins_level 
 unfolding level_bytes
 begins_bytes version h rs = begins_there version h _
 
--- the file of a kept backup is accepted behind the one that it goes on from
+-- the file of a kept backup is accepted after the one that it goes on from
 pub kept_accepted : (k version : ℕ) (r : Kept) (last : Link) (name : List ℕ) (q : Kept) (ask : Ask) → last.guid ≡ r.guid → last.scn ≡ r.scn → last.size ≡ image_size r.image → IsKeptNext k version r q ask
     → next_link k last name (file_of version q) ≡ Ok (record { guid = q.guid; scn = q.scn; size = image_size q.image; pages = taken r.scn q.image })
 kept_accepted k version r last name q ask eg es ez next =

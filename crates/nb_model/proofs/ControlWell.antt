@@ -1,4 +1,4 @@
--- The control strokes of a backup keep a database well: a well trail begins behind each of them.
+-- The control strokes of a backup keep a database well: a well trail begins after each of them.
 use Rattle.std.proofs.Common.{◌≡◌, ℕ, ◌+◌, ◌<◌, ◌≤◌, List, [], ◌∷◌, ◌++◌, length, refl, sym, subst, arith}
 use Rattle.std.specs.Prelude.{Option, Some}
 use Rattle.std.proofs.lemmas.List.Elements.{Contains-append_right}

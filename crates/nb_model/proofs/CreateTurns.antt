@@ -140,11 +140,11 @@ module _ (b : Base) (header : HasHeader b.image) (is : IsSoundImage b.image) (ne
       (all_go (λ d. AllByRecursion (IsHeldIn d x) (found_pages d x)) (λ d. AllByRecursion (λ q. n ≢ q) (found_pages d x)) (chains x)
       (λ d helds. all_go (IsHeldIn d x) (λ q. n ≢ q) (found_pages d x) (λ q at e. is_made.other q (page_at x q) at.held (sym e)) helds) (chains_held x header is neat)))
 
-  -- the slot is placed behind
+  -- the slot is placed after
   abbrev place : Image → Draft
   place z = place_slot Catalogue (found_pages Catalogue z) bytes (drafted z)
 
-  -- the place that was free is the first that is free behind the new page
+  -- the place that was free is the first that is free after the new page
   same_room : room ≡ free_spot (spots_of m ps)
   unfolding spots
   same_room = ap free_spot (sym (catalogue_same x c.image neat History no_catalogue changes)) ∙ ap (λ (qs : List ℕ). free_spot (spots_of c.image qs)) pages_then ∙ ap (λ (z : Image). free_spot (spots_of z ps)) mid

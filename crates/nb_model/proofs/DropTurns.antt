@@ -230,7 +230,7 @@ module _ (s : Seen) (header : HasHeader s.base.image) (is : IsSoundImage s.base.
   rest_along : Along Gives (base_after b first.strokes) rest.strokes
   rest_along = along_more _ Gives (base_after b first.strokes) rest.strokes (λ z facts. inr (still_gone z facts.0 facts.1)) rest_facts
 
-  -- what stands behind all strokes
+  -- what stands after all strokes
   end_is : (base_after (base_after b first.strokes) rest.strokes).image ≡ rest.image
   end_is = ap (λ (c : Base). c.image) (sym (base_after-append b first.strokes rest.strokes)) ∙ ap (λ (d : Draft). (base_after b d.strokes).image) (sym parts) ∙ given.keeps.fits.is.is ∙ ap (λ (d : Draft). d.image) parts
 

@@ -58,7 +58,7 @@ last_one b m (suc k, low, is) = absurd (omega (arith, low))
 pub settled_sound : (b : Base) → IsCovered b → IsSoundImage b.image → IsSoundTrail (settled b)
 settled_sound b covered sound = record { sound = λ m there. subst (λ (c : Base). IsSoundImage c.image) (last_one b m there) sound; steps = (covered, tt, tt) }
 
--- The databases of a trail one stroke later: the new one alone where it settles, and otherwise behind those before.
+-- The databases of a trail one stroke later: the new one alone where it settles, and otherwise after those before.
 pub bases_after : (P : Base → Type 0) (s : Stroke) (t : Trail) → ((m : Base) → Contains (bases_of t) m → P m) → P (on_base s t.base) → (m : Base) → Contains (bases_of (after_stroke s t)) m → P m
 bases_after P s t before now = by (settles_at t s) refl
   where
@@ -90,6 +90,6 @@ trail_goes_on s t trail earlier covered sound = record {
 pub sound_before : (t : Trail) → IsSoundTrail t → (m : Base) → Contains (bases_of t) m → IsSoundBefore t.base.image m.image
 sound_before t trail m there = record { sound = trail.sound m there; earlier = steps_before t.earlier t.base m trail.steps there }
 
--- what a stop may leave of a sound trail is sound
+-- what a crash may leave of a sound trail is sound
 pub left_sound : (t : Trail) (b : Base) → IsSoundTrail t → IsLeft t b → IsSoundImage b.image
 left_sound t b trail left = mixture_sound (bases_of t) t.base b.image (sound_before t trail) (trail.sound t.base (last_there t.earlier t.base)) (left.covered trail.steps).entries left.mixed

@@ -13,7 +13,7 @@ none_some k e = cc
 some_same : (j k : ℕ) → Some j ≡ Some k → j ≡ k
 some_same j k e = cc
 
--- an entry behind another
+-- an entry after another
 abbrev behind_one : Option ℕ → Option ℕ
 behind_one None = None
 behind_one (Some i) = Some (suc i)
@@ -39,7 +39,7 @@ for_nothing : (p : ℕ) → entry_for p [] ≡ None
 unfolding entry_for
 for_nothing p = refl
 
--- an entry stays where more come behind
+-- an entry stays where more come after
 pub for_front : (p k : ℕ) (xs ys : List ℕ) → entry_for p xs ≡ Some k → entry_for p (xs ++ ys) ≡ Some k
 for_front p k [] ys e = absurd (none_some k (sym (for_nothing p) ∙ e))
 for_front p k (x ∷ xs) ys e = elim (eqb_tells p x) [

@@ -198,7 +198,7 @@ module _ (n q : ℕ) (place : is_scn_place n q ≡ true) where
     unfolding place_slot spots
     inserted_has chain bytes formed = at_has chain (free_spot (spots_of x (found_pages chain x))) (found_pages chain x) bytes (drafted x) (λ s is. free_apart chain formed s is) (last_apart chain formed) h
 
-  -- So behind the first turn of a statement on pages.
+  -- So after the first turn of a statement on pages.
   module _ (s : Seen) (h : HasScn s.base.image) where
     abbrev After : Outcome → Type 0
     After o = HasScn (base_after s.base o.strokes).image

@@ -39,7 +39,7 @@ weight_append (x ∷ xs) ys = omega (arith, weight_append xs ys)
 abbrev pub Leaves : Turn → List Turn → Type 0
 Leaves t ts = (weight_in ts < weight_of t) ⊎ ((weight_of t ≡ 0) × (ts ≡ []))
 
--- nothing is left behind a statement
+-- nothing is left after a statement
 none_left : (statement : Statement) → Leaves (Begins statement) []
 none_left statement = inl (omega arith)
 
@@ -262,7 +262,7 @@ module _ (now : Now) (few : length now.todo ≤ 16) where
   fewer : length next.todo ≤ 16
   fewer = omega (arith, few, round_keeps.same)
 
--- they weigh less behind each round in which a statement begins or goes on
+-- they weigh less after each round in which a statement begins or goes on
 within : (weight : ℕ) → ((lighter : ℕ) → lighter < weight → (turns : ℕ) → EndsWithin lighter turns) → (turns : ℕ) → EndsWithin weight turns
 within weight before zero now few s l = elim (play_tells all_sessions now) [
   | inl all ↦ idle_ends now few all
@@ -283,7 +283,7 @@ below : (bound weight : ℕ) → weight < bound → (turns : ℕ) → EndsWithin
 below zero weight low turns = absurd (omega arith)
 below (suc bound) weight low turns = within weight (λ lighter less. below bound lighter (omega (arith, less, low))) turns
 
--- Behind any order of turns, rounds bring all that is to come to its end.
+-- After any order of turns, rounds bring all that is to come to its end.
 pub rounds_end : (now : Now) → length now.todo ≤ 16 → HasRounds now
 rounds_end now few = below (suc (weight_left now)) (weight_left now) (omega arith) (turns_left now) now few (omega arith) (omega arith)
 

@@ -30,7 +30,7 @@ abbrev pub AreFitting : (K : Page → Type 0) → Base → List Stroke → Type 
 AreFitting K b [] = Unit {0}
 AreFitting K b (s ∷ ss) = IsFitting K b.image s × AreFitting K (on_base s b) ss
 
--- strokes behind strokes, and a front of them
+-- strokes after strokes, and a front of them
 pub fitting_append : (K : Page → Type 0) (xs ys : List Stroke) (b : Base) → AreFitting K b xs → AreFitting K (base_after b xs) ys → AreFitting K b (xs ++ ys)
 unfolding base_after
 fitting_append K [] ys b h k = k
@@ -66,7 +66,7 @@ pub fits_needs : (K : Page → Type 0) (b : Base) (kind p : ℕ) (d : Draft) →
 unfolding needs
 fits_needs K b kind p d h = either (Fits K b) (is_kind d.image kind p) _ _ h (record { is = (drafts_are b).reads _ d h.is; each = h.each; whole = h.whole })
 
--- the page that a write of a form writes, behind page 0
+-- the page that a write of a form writes, after page 0
 abbrev pub form_page : (p kind : ℕ) (payload : List ℕ) → Image → Page
 form_page p kind payload image = stamped (old_page p image) kind payload (image_scn image) p
 

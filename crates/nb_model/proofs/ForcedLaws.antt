@@ -1,4 +1,4 @@
--- With forced writes on what a stop leaves is the database behind a front of the strokes, which holds those that are acknowledged.
+-- With forced writes on what a crash leaves is the database after a front of the strokes, which holds those that are acknowledged.
 use Rattle.std.proofs.Common.{◌≡◌, ℕ, zero, suc, ◌+◌, ◌-◌, ◌≤◌, List, [], ◌∷◌, ◌++◌, length, take, drop, refl, sym, ap, subst, ◌∙◌, arith, length-append}
 use Rattle.std.specs.Prelude.{Bool, Option, Some, None, true, false, nat_le}
 use Rattle.std.proofs.lemmas.List.{take-append-drop, take_all, take-append-le}
@@ -27,7 +27,7 @@ forced_at finish b forced = refl
 forced_at fix b forced = refl
 forced_at (merge records) b forced = refl
 
--- so behind steps the trail is settled
+-- so after steps the trail is settled
 pub forced_front : (steps : List Step) (b : Base) → AreForced b (strokes_in steps) → (count : ℕ) → after_steps (settled b) (take count steps) ≡ settled (base_after b (strokes_in (take count steps)))
 unfolding after_steps after_step strokes_in base_after
 forced_front steps b are zero = refl

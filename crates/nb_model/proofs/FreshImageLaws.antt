@@ -155,7 +155,7 @@ fresh_forced size raw = ap (λ x. not (x == 0)) (ap (number_in 64 1) (fresh_firs
 pub fresh_open : (size raw : ℕ) → is_read_only (fresh size raw) ≡ false
 fresh_open size raw = ap (λ x. not (x == 0)) (ap (number_in 65 1) (fresh_first size raw) ∙ first-access size raw)
 
--- the pages one behind another are a main file that holds the image
+-- the pages one after another are a main file that holds the image
 fresh_laid : (size raw : ℕ) → IsTrue (is_page_size size) → raw ≤ 65535 → IsLaid (fresh size raw) (joined (fresh size raw))
 fresh_laid size raw is few =
     let same : image_size (fresh size raw) ≡ size = fresh_size size raw is in
@@ -178,7 +178,7 @@ pub fresh_main : (size raw : ℕ) → IsTrue (is_page_size size) → raw ≤ 655
 fresh_main size raw is few =
     subst (λ (x : List ℕ). HoldsMain (fresh size raw) (Some x)) (joined-flat_map (fresh size raw)) (main_laid (fresh size raw) (joined (fresh size raw)) (fresh_laid size raw is few) (fresh_state size raw))
 
--- Where the other pages stand behind bytes of one page, page 0 written over those makes the file whole.
+-- Where the other pages stand after bytes of one page, page 0 written over those makes the file whole.
 pub fresh_rebuilt : (size raw : ℕ) (old : Page) → IsTrue (is_page_size size) → length old ≡ size
     → put_at (flat_map (λ p. p) (old ∷ drop 1 (fresh size raw))) 0 (fresh_page size raw 0) ≡ flat_map (λ p. p) (fresh size raw)
 fresh_rebuilt size raw old is long =

@@ -115,7 +115,7 @@ gathered_total first ps (r ∷ rs) = elim (joins r.0 first (length ps)) [
   | inr w ↦ rw (w.0, runs_behind) (let t = gathered_total r.0 (r.1 ∷ []) rs in omega (arith, t))
 ]
 
--- one run behind its number and its count
+-- one run after its number and its count
 pub run_front : (s : Stretch) (ss : List Stretch) (e : List ℕ) → run_bytes (s ∷ ss) ++ e ≡ bytes_of 4 s.first ++ (bytes_of 4 (length s.pages) ++ (joined s.pages ++ (run_bytes ss ++ e)))
 unfolding run_bytes bytes_of
 run_front s ss e = ap (λ (x : List ℕ). bytes_of 4 s.first ++ (bytes_of 4 (length s.pages) ++ x)) (append_assoc (joined s.pages) (run_bytes ss) e)

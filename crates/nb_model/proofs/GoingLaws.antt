@@ -1,4 +1,4 @@
--- What holds between two turns holds behind each turn.
+-- What holds between two turns holds after each turn.
 use Rattle.std.proofs.Common.{◌≡◌, ◌≢◌, inl, inr, ◌⊎◌, ℕ, zero, suc, ◌+◌, ◌-◌, ◌<◌, ◌≤◌, List, [], ◌∷◌, ◌++◌, length, map, drop, replicate, get_or, set, refl, sym, ap, subst, ◌∙◌, arith, append_assoc}
 use Rattle.std.specs.Prelude.{Bool, Option, Some, None, true, false, ◌==◌, ◌&&◌}
 use Rattle.std.specs.List.{AllByRecursion, slice_index_or}
@@ -68,7 +68,7 @@ one_runs now place other m n a b = sym a.its ∙ ap (λ (x : ℕ). x - 1) (some_
 pub own_in_use : {sound : Bool} (now : Now) → IsGoing sound now → is_free_entry (now.account.entry now.name) ≡ true → ⊥
 own_in_use now going free = free_unseen (now.account.entry now.name) free going.header.header going.state
 
--- What stands behind an outcome.
+-- What stands after an outcome.
 module _ (session : ℕ) (rest : List Turn) (o : Outcome) (now : Now) where
   abbrev pub then : Now
   then = stands_then session rest o now
@@ -174,7 +174,7 @@ finish_controls b header =
     controlled_by 0 (image_scn (trimmed b.image)) (image_guid (trimmed b.image)) (trimmed b.image) (on_base finish b) still (may_finish (trimmed b.image) still)
     (ap (λ (c : Base). c.image) (finish_base b) ∙ ap (λ (page : Page). with_control 0 (scn_of page) (guid_of page) (trimmed b.image)) (sym first))
 
--- A backup begins behind the strokes that make room for its row.
+-- A backup begins after the strokes that make room for its row.
 record IsBegunAfter (new : Base) (page : ℕ) : Type 0 where
   header : HasHeader new.image
   state : image_state new.image ≡ 1
@@ -463,7 +463,7 @@ module _ {sound : Bool} (session : ℕ) (now : Now) (going : IsGoing sound now) 
       step_as u (Ends reply) rest tail e (ended_step session now going tail all reply (λ e. absurd (omega (arith, e, runs.state))) (only_one session now going 1 runs))
   turn_step u rest (merges turns runs) named = merging_step u rest turns runs
 
--- What stands behind it: what its session has still to do, and the others.
+-- What stands after it: what its session has still to do, and the others.
 module _ (session : ℕ) (now : Now) (u : Turn) (rest : List Turn) (is : get_or now.todo (session - 1) [] ≡ u ∷ rest) (o : Outcome) where
   inside : session - 1 < length now.todo
   inside = elim (leb_tells (length now.todo) (session - 1)) [

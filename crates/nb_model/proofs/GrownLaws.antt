@@ -26,7 +26,7 @@ pub record AreUnused (files : Files) (kept : List Kept) (guids : List (List ℕ)
   pub unnamed : (guid : List ℕ) → Contains guids guid → (name bytes : List ℕ) → is_delta name ≡ false → files name ≡ Some bytes → IsUnnamed bytes guid
   pub once : ComeOnce guids
 
--- so are those that are new, whatever a stop leaves
+-- so are those that are new, whatever a crash leaves
 pub new_unused : (w : World) (kept : List Kept) (guids : List (List ℕ)) (files : Files) → AreNew w kept guids → LeavesAll w files → AreUnused files kept guids
 new_unused w kept guids files new left = record {
   some = λ guid there. (new.each guid there).some;
@@ -41,7 +41,7 @@ first_there guid guids = (0, omega arith, refl)
 later_there : (guid g : List ℕ) (guids : List (List ℕ)) → Contains guids g → Contains (guid ∷ guids) g
 later_there guid g guids (i, low, is) = (suc i, omega (arith, low), is)
 
--- behind the first of them
+-- after the first of them
 unused_then : (files : Files) (kept : List Kept) (r : Kept) (guids : List (List ℕ)) → AreUnused files kept (r.guid ∷ guids) → AreUnused files (kept ++ r ∷ []) guids
 unused_then files kept r guids unused = record {
   some = λ guid there. unused.some guid (later_there r.guid guid guids there);

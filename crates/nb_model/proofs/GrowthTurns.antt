@@ -51,7 +51,7 @@ last_held [] some = absurd (omega (arith, some))
 last_held (p ∷ []) some = (0, omega arith, refl)
 last_held (p ∷ q ∷ qs) some = let rest = last_held (q ∷ qs) (omega arith) in (suc rest.0, omega (arith, rest.1), rest.2)
 
--- the slots of pages behind others
+-- the slots of pages after others
 spots_both : (x : Image) (ps qs : List ℕ) → spots_of x (ps ++ qs) ≡ spots_of x ps ++ spots_of x qs
 unfolding spots_of
 spots_both x [] qs = refl

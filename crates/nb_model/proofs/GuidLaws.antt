@@ -46,7 +46,7 @@ unfolding steps_of strokes_of strokes_in
 strokes_in_steps [] = refl
 strokes_in_steps (e ∷ es) = strokes_in_append (steps_in e) (steps_of es) ∙ ap (λ (ss : List Stroke). ss ++ strokes_in (steps_of es)) (strokes_in_turn e) ∙ ap (λ (ss : List Stroke). e.strokes ++ ss) (strokes_in_steps es)
 
--- the database that is seen behind steps is the one behind their strokes
+-- the database that is seen after steps is the one after their strokes
 pub seen_strokes : (ss : List Step) (t : Trail) → (after_steps t ss).base ≡ base_after t.base (strokes_in ss)
 unfolding after_steps after_step strokes_in base_after
 seen_strokes [] t = refl

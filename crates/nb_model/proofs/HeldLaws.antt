@@ -152,7 +152,7 @@ module _ (q : ℕ) (bytes : Page) where
       (held_bit (put p kind payload (drafted image)).image (plain_well image h p kind payload at plain some room) 0 p (omega arith) two (plain_low image h p kind payload at plain some room) other
       (held_put image h p kind payload at other (λ e. absurd ((no_place image h p plain).0 (q / bits_in (image_size image)) (sym e))) held))
 
--- the lowest free page is free, or the one behind the last
+-- the lowest free page is free, or the one after the last
 free_found : (left p : ℕ) (image : Image) → (is_free_page image (free_from left p image) ≡ true) ⊎ (free_from left p image ≡ p + left)
 unfolding free_from
 free_found zero p image = inr (omega arith)

@@ -179,7 +179,7 @@ pub trimmed-no_zeros : (ps : Image) → HasNoZeros ps → IsTrimmed ps
 trimmed-no_zeros [] h = trimmed-none
 trimmed-no_zeros (p ∷ ps) h = trimmed-other p ps h.0 ∙ ap (λ (qs : Image). p ∷ qs) (trimmed-no_zeros ps h.1)
 
--- zeros behind are cut off
+-- zeros after are cut off
 pub trimmed-zeros : (zs : List Page) → AreZeros zs → trimmed zs ≡ []
 trimmed-zeros [] h = trimmed-none
 trimmed-zeros (z ∷ zs) h = trimmed-cons z zs ∙ ap (kept z) (trimmed-zeros zs h.1) ∙ kept-zero z h.0
@@ -211,7 +211,7 @@ trimmed-drop zero ps h = h
 trimmed-drop (suc n) [] h = h
 trimmed-drop (suc n) (p ∷ ps) h = trimmed-drop n ps (trimmed-tail p ps h)
 
--- pages are an image and pages of zeros behind it
+-- pages are an image and pages of zeros after it
 pub record Trimming (ps : List Page) : Type 0 where
   pub rest : List Page
   pub is : ps ≡ trimmed ps ++ rest

@@ -30,7 +30,7 @@ module _ {X : Type 0} (v : X) where
   inserted_last [] = here []
   inserted_last (x ∷ xs) = behind x xs (xs ++ v ∷ []) (inserted_last xs)
 
-  -- before and behind other lists
+  -- before and after other lists
   pub inserted_behind : (zs xs ys : List X) → Inserted v xs ys → Inserted v (zs ++ xs) (zs ++ ys)
   inserted_behind [] xs ys more = more
   inserted_behind (z ∷ zs) xs ys more = behind z (zs ++ xs) (zs ++ ys) (inserted_behind zs xs ys more)
@@ -97,7 +97,7 @@ pub none_used : (ys : List Spot) → AllByRecursion (λ (u : Spot). is_used u.by
 none_used [] all = used_nothing
 none_used (y ∷ ys) all = used_not y ys all.0 ∙ none_used ys all.1
 
--- slots behind the others, of which the first is used
+-- slots after the others, of which the first is used
 pub used_more : (xs ys : List Spot) (v : Spot) → is_used v.bytes ≡ true → AllByRecursion (λ (u : Spot). is_used u.bytes ≡ false) ys → used (xs ++ v ∷ ys) ≡ used xs ++ v ∷ []
 used_more [] ys v is none = used_yes v ys is ∙ ap (λ (us : List Spot). v ∷ us) (none_used ys none) ∙ ap (λ (us : List Spot). us ++ v ∷ []) (sym used_nothing)
 used_more (x ∷ xs) ys v is none = by (is_used x.bytes) refl (used_more xs ys v is none)

@@ -69,7 +69,7 @@ pub found_leads : (image : Image) (q : ℕ) → broken_at (pages_of History imag
 unfolding pages_of
 found_leads image q formed at = let by = leads_by (length image) (first_of History) q image (found_pages History image) (ok_found History image formed) at in record { way = by.0; links = by.1 }
 
--- Behind the first page another image has the pages of this one, but for some that are none of the history.
+-- After the first page another image has the pages of this one, but for some that are none of the history.
 abbrev pub KeepsHistory : Image → Image → Type 0
 KeepsHistory x y = (p : ℕ) → 0 < p → ((p < length x) × (page_at y p ≡ page_at x p)) ⊎ (is_in_chain History y p ≡ false)
 
@@ -123,7 +123,7 @@ last_more : (p : ℕ) (ps : List ℕ) → 1 ≤ length ps → last_of (p ∷ ps)
 last_more p [] some = absurd (omega (arith, some))
 last_more p (q ∷ ps) some = refl
 
--- A page is linked behind the last one of the history. Of the history no page changes but the last, and the linked one if that was one of it.
+-- A page is linked after the last one of the history. Of the history no page changes but the last, and the linked one if that was one of it.
 behind_last : (left p : ℕ) (x y : Image) (n : ℕ) → 0 < n → (ps : List ℕ) → walk left History x p ≡ Ok ps → (last : ℕ) → last ≡ last_of ps
     → ((z : ℕ) → is_in_chain History x z ≡ true → z ≢ n → z ≢ last → page_at y z ≡ page_at x z) → next_in (page_at y last) ≡ n → (way : List ℕ) × AreLinks y p way n
 behind_last zero p x y n some ps e last ends_at same linked = absurd (err_ok p ps (sym (walk_zero History x p) ∙ e))

@@ -93,7 +93,7 @@ leaked_kind image p holds =
     eqb-true (kind_of (page_at image p)) 5
     (and_parts (not (is_free_page image p)) (kind_of (page_at image p) == 5) (and_parts (is_taken_data image p) (not (is_among p (reached image))) holds).0).1
 
--- A leaked page of a sound image is at no system place, and behind the first two.
+-- A leaked page of a sound image is at no system place, and after the first two.
 pub leaked_plain : (image : Image) → IsSoundImage image → (p : ℕ) → p < length image → is_leaked image p ≡ true → is_system_place (image_size image) p ≡ false
 unfolding is_system_place
 leaked_plain image sound p low holds = elim (cases_Bool (is_inventory_place (image_size image) p || is_scn_place (image_size image) p)) [

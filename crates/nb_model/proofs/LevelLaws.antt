@@ -13,7 +13,7 @@ use Rattle.nb_model.specs.Levels.{Head, IsHead, IsLevel, Contents, Test, Stretch
 use Rattle.nb_model.proofs.ReadLaws.{AreClear, clear_none, lt_no, lt_yes, IsRun, single_read, singles_end}
 use Rattle.nb_model.proofs.GatherLaws.{AreRuns, total, one_numbered, gathered_pages, gathered_runs, gathered_total, runs_read}
 
--- what stands behind two lists of sixteen
+-- what stands after two lists of sixteen
 past_guids : (g p w : List ℕ) (n k : ℕ) → length g ≡ 16 → length p ≡ 16 → n ≡ 32 + k → drop n (g ++ (p ++ w)) ≡ drop k w
 past_guids g p w n k eg ep e =
     let at : n ≡ 16 + (16 + k) = omega arith in
@@ -111,7 +111,7 @@ pub single_none : (e : List ℕ) → single_bytes [] ++ e ≡ e
 unfolding single_bytes
 single_none e = refl
 
--- pages of version 101 behind the first are read back
+-- pages of version 101 after the first are read back
 singles_read : (h : Head) (rs : List Numbered) (left at count least : ℕ) → length rs < left → 1 ≤ count → 1 ≤ least → AreRising least rs → AreOfSize h.size rs → count + length rs < 4294967296
     → read_singles left h at count least (single_bytes rs ++ end_bytes (count + length rs)) ≡ Ok rs
 singles_read h rs zero at count least few some past rising sizes small = absurd (omega arith)

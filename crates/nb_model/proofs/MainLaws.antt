@@ -24,7 +24,7 @@ use Rattle.nb_model.proofs.HeaderLaws.{header-long, header-state, header-other, 
 use Rattle.nb_model.proofs.ImageLaws.{AreZeros, IsTrimmed, Pages, pages_of, cut-joined, page-joined, length-joined, trimming, trimmed-other, trimmed-append_zeros, all-append, all-left}
 use Rattle.nb_model.proofs.SoundLaws.{all_at}
 
--- A file is an image and pages of zeros behind it. The image has a header, and its last page isn't zeros.
+-- A file is an image and pages of zeros after it. The image has a header, and its last page isn't zeros.
 pub record IsLaid (image : Image) (bytes : List ℕ) : Type 0 where
   pub rest : List Page
   pub is : bytes ≡ joined (image ++ rest)
@@ -100,7 +100,7 @@ pub trimmed-first : (ps : List Page) → 1 ≤ length ps → is_zeros (first_pag
 trimmed-first [] some other = absurd (omega arith)
 trimmed-first (p ∷ ps) some other = ap first_page (trimmed-other p ps other)
 
--- pages of zeros at the image's end are among those behind it
+-- pages of zeros at the image's end are among those after it
 pub trimmed_laid : (image : Image) (bytes : List ℕ) → IsLaidOut image bytes → IsLaid (trimmed image) bytes
 trimmed_laid image bytes out =
     let cut_off = trimming image in

@@ -129,7 +129,7 @@ module _ (now : Now) (place : ℕ) where
   to_make ts f at held = ⊎_elim (λ none. absurd (none_held f (held_as (making frozen_now ts) [] f none held)))
       (λ one. subst (IsToMake now place ts) (one_held one.0 f (held_as (making frozen_now ts) (one.0 ∷ []) f one.1.only held)) one.1) (at_makes ts at)
 
-  -- where one is to be made behind the next turn, that one copies a page
+  -- where one is to be made after the next turn, that one copies a page
   copies_before : {sound : Bool} (u : Turn) (rest : List Turn) (f : MadeFile) → IsAt sound now place (u ∷ rest) → Contains (making frozen_now rest) f → u ≡ Copies
   copies_before u rest f (waits all) held = absurd (none_held f (held_as (making frozen_now rest) [] f (beginnings_make frozen_now rest all.1) held))
   copies_before u rest f (backs_up left b tail e all runs room free) held = by left e
@@ -260,7 +260,7 @@ module _ (frozen : Image) (header : is_header (first_page frozen) ≡ true) (sta
   turn_used Merges f held = absurd (none_held f held)
   turn_used (Finishes reply) f held = absurd (none_held f held)
 
--- The entries behind an outcome.
+-- The entries after an outcome.
 module _ {sound : Bool} (session : ℕ) (rest : List Turn) (o : Outcome) (now : Now) (going : IsGoing sound now) where
   abbrev last : Now
   last = stands_then session rest o now
@@ -422,7 +422,7 @@ free_turn session now named going f held =
     let q : Played = one_turn session now in
     ⊎_elim (made_free session now going f) (λ under. free_before session now going f.0 (under_free q.1 (going_turn session now named going) f under)) (Contains-append_cases (files_made q.0) (under_way q.1) f held)
 
--- what turns make, and what is under way behind them, in two parts
+-- what turns make, and what is under way after them, in two parts
 parts : (x : ℕ) (xs : List ℕ) (now : Now)
     → files_made (play (x ∷ xs) now).0 ++ under_way (play (x ∷ xs) now).1 ≡ files_made (one_turn x now).0 ++ (files_made (play xs (one_turn x now).1).0 ++ under_way (play xs (one_turn x now).1).1)
 unfolding play
@@ -442,7 +442,7 @@ free_play (x ∷ xs) now named going f held =
     ⊎_elim (made_free x now going f) (λ later. free_before x now going f.0 (free_play xs q.1 (named_turn x now named going) (going_turn x now named going) f later))
     (Contains-append_cases (files_made q.0) _ f (held_as _ _ f (parts x xs now) held))
 
--- What is under way was made behind turns in an order, or is under way still.
+-- What is under way was made after turns in an order, or is under way still.
 pub under_play : {sound : Bool} (order : List ℕ) (now : Now) → AreNamed now → IsGoing sound now → AreAmong (under_way now) (files_made (play order now).0 ++ under_way (play order now).1)
 under_play [] now named going f held = held_as (under_way now) _ f (sym (no_turn now)) held
 under_play (x ∷ xs) now named going f held =

@@ -1,4 +1,4 @@
--- A page write and mixtures: whether it is kept or lost, what is left is a mixture with the database behind it.
+-- A page write and mixtures: whether it is kept or lost, what is left is a mixture with the database after it.
 use Rattle.std.proofs.Common.{◌≡◌, ◌≢◌, inl, inr, ℕ, ◌+◌, ◌<◌, ◌≤◌, List, [], ◌∷◌, ◌++◌, length, sym, ap, subst, ◌∙◌, arith}
 use Rattle.std.specs.Prelude.{max}
 use Rattle.std.proofs.lemmas.Bool.Decides.{eqb_tells}

@@ -6,7 +6,7 @@ use Rattle.nb_fields.specs.Places.{entries_in, inventory_place, scn_place, is_sc
 use Rattle.nb_model.specs.Image.{Image, image_size}
 use Rattle.nb_model.specs.Forms.{HasItsEntry, is_kind, scn_page_of, has_entry, Need, first_not, maps_from, entry_page}
 
--- the first that isn't of its kind, of pages behind others
+-- the first that isn't of its kind, of pages after others
 pub first_behind : Option ℕ → Option ℕ → Option ℕ
 first_behind None next = next
 first_behind (Some q) next = Some q

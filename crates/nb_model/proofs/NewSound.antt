@@ -43,7 +43,7 @@ inventory_before size p is behind =
         let more : bits_in size ≤ suc k * bits_in size = omega arith in
         omega arith
 
--- the lowest free page isn't behind the end
+-- the lowest free page isn't after the end
 free_between : (left p : ℕ) (image : Image) → (p ≤ free_from left p image) × (free_from left p image ≤ p + left)
 unfolding free_from
 free_between zero p image = (omega arith, omega arith)

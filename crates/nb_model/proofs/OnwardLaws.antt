@@ -14,7 +14,7 @@ use Rattle.nb_model.proofs.NewSound.{inventory_before}
 use Rattle.nb_model.proofs.StepLaws.{IsShaped, IsVisited, kind_from, scn_page_moves, map_entry_before}
 use Rattle.nb_model.proofs.PlaceOrder.{div_rises, map_places_from, map_place_is, map_behind}
 
--- `now` is the image behind a search that started at `old`, has come up to page `from`, and went past places without their system pages:
+-- `now` is the image after a search that started at `old`, has come up to page `from`, and went past places without their system pages:
 -- the last of an SCN page was `made`, the last of an inventory page `fresh`, 0 for none.
 pub record IsOnTheWay (old now : Image) (from made fresh : ℕ) : Type 0 where
   pub shaped : IsShaped now

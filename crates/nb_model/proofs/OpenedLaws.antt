@@ -30,7 +30,7 @@ use Rattle.nb_model.proofs.OverLaws.{owner_over}
 use Rattle.nb_model.proofs.StandsLaws.{header_no_level, applying_state, opened_entry, StandsUnder, stands_with_both}
 use Rattle.nb_model.proofs.WellTrailLaws.{settled_well, left_well}
 
--- zeros behind zeros
+-- zeros after zeros
 zeros_join : (xs ys : List ℕ) → is_zeros xs ≡ true → is_zeros ys ≡ true → is_zeros (xs ++ ys) ≡ true
 zeros_join [] ys h k = k
 zeros_join (x ∷ xs) ys h k = let parts = and_parts (x == 0) (is_zeros xs) h in and_from (x == 0) (is_zeros (xs ++ ys)) parts.0 (zeros_join xs ys parts.1 k)
@@ -175,7 +175,7 @@ module _ (files : Files) (account : Account) (name : List ℕ) (b : Base) (stand
   pub opened_trail : image_scn b.image < 4294967296 → IsWellTrail account.kept (settled b)
   opened_trail scn = settled_well account.kept b (opened_well_in scn) (owner_over name b (files name) (files (delta_name name)) opens sound.sound.no_zeros)
 
--- So one begins with what a stop left of a well trail.
+-- So one begins with what a crash left of a well trail.
 pub stood_trail : (kept : List Kept) (name : List ℕ) (t : Trail) (m d : File) → IsWellTrail kept t → (s : StandsOn name t m d) → IsWellTrail kept (settled s.base)
 stood_trail kept name t m d w s =
     let well : IsWellBaseIn kept s.base = left_well kept t s.base w s.left in
@@ -239,7 +239,7 @@ pub stands_with_well_in : (old new : Files) (account : Account) (name : List ℕ
 stands_with_well_in old new account name b stands plain others opens w =
     stands_with_both old new account name (IsBase b) stands plain others (well_under new account.kept name b opens w stands.kept_records.distinct)
 
--- So do they where a stop left them of a well trail.
+-- So do they where a crash left them of a well trail.
 pub stood_stands : (old new : Files) (account : Account) (name : List ℕ) (t : Trail)
     → Stands old account → is_delta name ≡ false → ((m : List ℕ) → m ≢ name → m ≢ delta_name name → new m ≡ old m)
     → IsWellTrail account.kept t → (s : StandsIn name t new)

@@ -85,7 +85,7 @@ pub free_entry : (files : Files) (account : Account) (name : List ℕ) → IsSam
     → is_free_entry (account.entry name) ≡ (is_free_file (files name) && not (is_some (files (delta_name name))))
 free_entry files account name same plain = ap is_free_entry (same name plain) ∙ free_of_files name (files name) (files (delta_name name))
 
--- what a creation does, and what stands for the turns behind it
+-- what a creation does, and what stands for the turns after it
 pub record IsCreated (account : Account) (given : Given) (sessions : List (List Statement)) (session : ℕ) (name : List ℕ) (size raw cache : ℕ) (o : Opening) : Type 0 where
   pub event : o.event ≡ record { session = session; strokes = make (fresh size raw) ∷ []; reply = Some (Pages (fresh_count size raw)); made = None; syncs = true }
   pub here : o.account.entry name ≡ IsBase (base_of (fresh size raw))

@@ -31,7 +31,7 @@ map_places_from size j k is le = elim (eqb_tells j k) [
   | inr w ↦ omega (arith, map_places_rise size j k is (omega (arith, le, w.1)))
 ]
 
--- the inventory page at a place has the page behind it as its first
+-- the inventory page at a place has the page after it as its first
 pub map_place_is : (size p : ℕ) → IsTrue (is_page_size size) → is_inventory_place size p ≡ true → inventory_place size ((p + 1) / bits_in size) ≡ p
 unfolding is_inventory_place
 map_place_is size p is at =
@@ -51,7 +51,7 @@ map_place_is size p is at =
     by zero e = absurd (omega (arith, e))
     by (suc k) e = omega (arith, e)
 
--- the inventory page of a page isn't behind that of a later page
+-- the inventory page of a page isn't after that of a later page
 pub maps_rise : (size p q : ℕ) → IsTrue (is_page_size size) → p ≤ q → inventory_place size (p / bits_in size) ≤ inventory_place size (q / bits_in size)
 maps_rise size p q is le =
     let least = bits-least size is in

@@ -48,7 +48,7 @@ free_of_catalogue : (image : Image) → free_spot (spots Catalogue image) ≡ fr
 unfolding spots
 free_of_catalogue image = refl
 
--- what is put into place behind other strokes makes the same strokes
+-- what is put into place after other strokes makes the same strokes
 join_grown : (chain : Chain) (ps : List ℕ) (bytes : Slot) (d : Draft) → (grown chain ps bytes d).0 ≡ joined d (grown chain ps bytes (drafted d.image)).0
 unfolding grown
 join_grown chain ps bytes d =
@@ -199,7 +199,7 @@ module _ (c : Base) (header : HasHeader c.image) (is : IsSoundImage c.image) (ne
   chain_is : (v : Spot) → v.bytes ≡ bytes → chain_at v ≡ RowsFrom n
   chain_is v its = ap RowsFrom (ap first_in its ∙ table_first table n small)
 
-  -- What is given along the strokes and behind them, and the table is in the catalogue then.
+  -- What is given along the strokes and after them, and the table is in the catalogue then.
   pub record Made (d : Draft) : Type 0 where
     pub along : Along Gives c d.strokes
     pub behind : Gives d.image

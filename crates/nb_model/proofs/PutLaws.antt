@@ -1,4 +1,4 @@
--- A page write to a main file in the normal state: what the file holds then, and what a stop leaves of it.
+-- A page write to a main file in the normal state: what the file holds then, and what a crash leaves of it.
 use Rattle.std.proofs.Common.{◌≡◌, ◌⊎◌, inl, inr, ℕ, suc, ◌+◌, ◌-◌, ◌*◌, ◌<◌, ◌≤◌, List, [], ◌∷◌, ◌++◌, length, take, drop, replicate, refl, sym, ap, subst, ◌∙◌, arith, length-append, append_assoc, suc-mul, mul-le-mul_right}
 use Rattle.std.specs.Prelude.{true, false, IsTrue, nat_le}
 use Rattle.std.proofs.lemmas.Bool.Decides.{leb_tells}
@@ -14,7 +14,7 @@ use Rattle.nb_model.proofs.ImageLaws.{joined-append, length-joined, take-joined,
 use Rattle.nb_model.proofs.StrokeLaws.{with_page_front}
 use Rattle.nb_model.proofs.MainLaws.{IsLaid, IsLaidOut}
 
--- the image with page p: what stands before it, the page, and what stands behind it
+-- the image with page p: what stands before it, the page, and what stands after it
 pub with_page-split : (p : ℕ) (page : Page) (image : Image) → p ≤ length image → with_page p page image ≡ take p image ++ page ∷ drop (suc p) image
 unfolding with_page
 with_page-split p page image low = elim (leb_tells (suc p) (length image)) [
@@ -61,7 +61,7 @@ pub put-first : (size : ℕ) (old page : Page) (ps : List Page) → IsOfSize siz
 put-first size old page ps sizes long =
     ap (λ x. put_at (joined (old ∷ ps)) x page) (let e : 0 ≡ 0 * size = omega arith in e) ∙ put-joined size 0 page (old ∷ ps) sizes (omega arith) long
 
--- what stands behind the image then
+-- what stands after the image then
 abbrev behind : (p : ℕ) (image : Image) (rest : List Page) → List Page
 behind p image rest = drop (suc p - length image) rest
 

@@ -99,7 +99,7 @@ scn_page_below image p fields least at has =
     let there = at.there in
     elim (scn_place_before (image_size image) p fields.size) [ inl second ↦ omega arith | inr before ↦ omega arith ]
 
--- an entry behind the head of a page that is stamped
+-- an entry after the head of a page that is stamped
 entry_behind : (old : Page) (kind scn number i : ℕ) (whole : Page) → length whole ≡ length old → 16 ≤ length old → entry_of (stamped old kind (drop 16 whole) scn number) i ≡ entry_of whole i
 unfolding stamped page_of number_in
 entry_behind old kind scn number i whole len long =

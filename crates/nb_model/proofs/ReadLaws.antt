@@ -80,7 +80,7 @@ run_tests h at count least barred rest n m =
     ∷ ends_before (8 + m * h.size) at rest
     ∷ []
 
--- what is read behind a page, and behind a run
+-- what is read after a page, and after a run
 abbrev pub behind_single : (left : ℕ) → Head → (at count : ℕ) (rest : List ℕ) (n : ℕ) → Result (List Numbered) ℕ
 behind_single left h at count rest n = behind ((n, part 4 h.size rest) ∷ []) (read_singles left h (at + 4 + h.size) (count + 1) (n + 1) (drop (4 + h.size) rest))
 
@@ -146,7 +146,7 @@ pub runs_end : (left : ℕ) (h : Head) (at count least barred : ℕ) → 1 ≤ c
 unfolding read_runs end_bytes number_in bytes_of number_of
 runs_end left h at count least barred some small = read_end_written at count some small
 
--- a page of version 101 behind its number
+-- a page of version 101 after its number
 behind_four : (a : ℕ) (x : List ℕ) → drop 4 (bytes_of 4 a ++ x) ≡ x
 unfolding bytes_of
 behind_four a x = refl

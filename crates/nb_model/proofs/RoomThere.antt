@@ -280,7 +280,7 @@ module _ (image : Image) (header : HasHeader image) (unbroken : broken_at (pages
       by (Some s) found short met left = subst (λ (x : Image). IsThere x s.page) (sym (same_image s)) (free_there s found met)
       by None found short met left = grown_there (five short) left met
 
--- and its image is that behind its strokes
+-- and its image is that after its strokes
 taken_keeps : (P : Draft → Type 0) → IsKept P → (p : ℕ) (d : Draft) → P d → P (needs_taken p d)
 unfolding needs_taken
 taken_keeps P kept p d h = either P (is_free_page d.image p) _ _ (kept.reads _ d h) h

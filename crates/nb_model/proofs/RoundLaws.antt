@@ -455,7 +455,7 @@ free_behind (suc n) left p image used =
     ∙ free_behind n left (p + 1) image (λ q from low. used q (omega (arith, from)) (omega (arith, low)))
     ∙ ap (λ (m : ℕ). free_from left m image) (let e : p + 1 + n ≡ p + suc n = omega arith in e)
 
--- so the search goes on behind a page up to which all are taken
+-- so the search goes on after a page up to which all are taken
 pub lowest_behind : (image : Image) (p : ℕ) → 5 ≤ p → p < length image → ((q : ℕ) → 5 ≤ q → q ≤ p → is_free_page image q ≡ false) → lowest_free image ≡ free_from (length image - (p + 1)) (p + 1) image
 unfolding lowest_free
 lowest_behind image p five low used =

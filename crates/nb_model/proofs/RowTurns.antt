@@ -130,7 +130,7 @@ module _ (x : Image) (header : HasHeader x) (is : IsSoundImage x) (neat : IsNeat
       its_put : IsSlotPut c s bytes x y
       its_put = slot_put x header is neat c of_all s on bytes long fits
 
-      -- what is given along the strokes, and behind them
+      -- what is given along the strokes, and after them
       pub slot_turn : (rs : RowMap) → AreDistinct (keys_in (map (f bytes) (spots c x))) → rows_in (map (f bytes) (spots c x)) ≡ rs
           → Along (λ z. GivesRows x z table (rows x table) ⊎ GivesRows x z table rs) b (put_slot s.page s.slot bytes (drafted x)).strokes × GivesRows x y table rs
       unfolding put_slot

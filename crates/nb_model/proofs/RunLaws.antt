@@ -11,7 +11,7 @@ use Rattle.nb_model.specs.Outcomes.{Turn, Outcome}
 use Rattle.nb_model.specs.Run.{Now, Event, Played, base_now, account_after, with_made, outcome, stands_then, take_turn, one_turn, play, rounds, all_sessions, AreFinished, IsPlayed, event_of, strokes_of}
 use Rattle.nb_model.proofs.StrokeLaws.{base_after-append}
 
--- one list of turns behind another
+-- one list of turns after another
 pub play-append : (xs ys : List ℕ) (now : Now) → play (xs ++ ys) now ≡ ((play xs now).0 ++ (play ys (play xs now).1).0, (play ys (play xs now).1).1)
 unfolding play
 play-append [] ys now = refl

@@ -85,7 +85,7 @@ module _ (x : Image) (kind : ℕ) (payload : ℕ → List ℕ) where
   pub try_full : (left : ℕ) → first_not x (needed_at x p) ≡ None → (p == 1048576) ≡ true → try left ≡ (no_page (drafted x), p)
   try_full left e f = try_is left None true (is_system_place (image_size x) p) e f refl
 
-  -- It goes on behind a system place,
+  -- It goes on after a system place,
   pub try_more : (left : ℕ) → first_not x (needed_at x p) ≡ None → (p == 1048576) ≡ false → is_system_place (image_size x) p ≡ true
       → try left ≡ joined_new (round_at p x) (new_within left kind payload (drafted (round_at p x).image))
   try_more left e f g = try_is left None false true e f g ∙ join_new left kind payload (round_at p x)
@@ -109,7 +109,7 @@ joined_cause d e c =
     or_false true = refl
     or_false false = refl
 
--- the inventory page of the page behind the last that a database may have is that of the last
+-- the inventory page of the page after the last that a database may have is that of the last
 pub last_map : (size : ℕ) → IsTrue (is_page_size size) → 1048576 / bits_in size ≡ 1048575 / bits_in size
 last_map size is = by (size == 1024) (size == 2048) (size == 4096) (size == 8192) (size == 16384) (size == 32768) refl refl refl refl refl refl is
   where

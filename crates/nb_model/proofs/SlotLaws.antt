@@ -32,7 +32,7 @@ module _ (n : ℕ) (a b : Page) (same : drop n a ≡ drop n b) where
   unfolding slots_in
   same_slots h long = ap (λ (k : ℕ). slots_from ((k - 32) / 256) 32 a) long ∙ slots_same ((length b - 32) / 256) 32 h
 
--- A page that is stamped has the payload behind its head.
+-- A page that is stamped has the payload after its head.
 stamped_behind : (old whole : Page) (kind scn number : ℕ) → length whole ≡ length old → drop 16 (stamped old kind (drop 16 whole) scn number) ≡ drop 16 whole
 unfolding stamped
 stamped_behind old whole kind scn number long =

@@ -71,7 +71,7 @@ pub finish_keeps : (b : Base) → HasHeader b.image → IsSoundImage b.image →
 unfolding base_after
 finish_keeps b header sound = control_keeps 0 (image_scn b.image) (image_guid b.image) b (on_base finish b) header sound (may_finish b.image header) (ap (λ (c : Base). c.image) (finish_full b sound.sound.no_zeros))
 
--- The start of a backup: what stands behind its strokes.
+-- The start of a backup: what stands after its strokes.
 pub record IsStarted (b new : Base) (page slot : ℕ) : Type 0 where
   pub keeps : StaysSound b new
   pub state : image_state new.image ≡ 1

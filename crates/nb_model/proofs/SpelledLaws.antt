@@ -125,7 +125,7 @@ ok_is x xs ys e f = ap held (sym e ∙ f)
 no_pages : (x : Result (List Numbered) ℕ) (at : ℕ) (rs : List Numbered) → x ≡ Err at → x ≡ Ok rs → ⊥
 no_pages x at rs e f = cc
 
--- what is read behind pages
+-- what is read after pages
 record IsBehind (rs : List Numbered) (rest : Result (List Numbered) ℕ) (all : List Numbered) : Type 0 where
   pub more : List Numbered
   pub read : rest ≡ Ok more
@@ -437,7 +437,7 @@ runs_long : (ss : List Stretch) → length (pages_of_runs ss) ≡ total ss
 runs_long [] = refl
 runs_long (s ∷ ss) = let rest = runs_long ss in omega (arith, rest, length-append (numbered_from s.first s.pages) (pages_of_runs ss), numbered_long s.first s.pages)
 
--- What the grammar says of pages behind a head, of a version.
+-- What the grammar says of pages after a head, of a version.
 record IsBody (version : ℕ) (h : Head) (rest : List ℕ) (r : Numbered) (rs : List Numbered) : Type 0 where
   pub spelled : rest ≡ body_bytes version (r ∷ rs) ++ end_bytes (length (r ∷ rs))
   pub first : FirstIsZero h (r ∷ rs)

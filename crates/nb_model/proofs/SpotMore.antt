@@ -1,4 +1,4 @@
--- Slots are added behind those of a chain, the first with a row of a new key and the others without.
+-- Slots are added after those of a chain, the first with a row of a new key and the others without.
 use Rattle.std.proofs.Common.{◌≡◌, ◌≢◌, inl, inr, ℕ, List, [], ◌∷◌, ◌++◌, refl, sym, ap, subst, ◌∙◌}
 use Rattle.std.specs.Prelude.{Bool, true, false, Option, Some, None, option_map}
 use Rattle.std.specs.List.{AllByRecursion}

@@ -1,4 +1,4 @@
--- Laws of the stalled state: a page write and a stop keep it that what is diverted is raised.
+-- Laws of the stalled state: a page write and a crash keep it that what is diverted is raised.
 use Rattle.std.proofs.Common.{◌≡◌, ◌≢◌, inl, inr, ℕ, zero, suc, ◌+◌, ◌<◌, ◌≤◌, List, length, refl, sym, ap, subst, ◌∙◌, arith}
 use Rattle.std.specs.Prelude.{true, false, ◌==◌, Option, Some, None, max}
 use Rattle.std.proofs.lemmas.Bool.{true≢false}
@@ -126,6 +126,6 @@ module _ (b : Base) (p : ℕ) (bytes : Page) (whole : IsWhole b.image) (stalled 
     ];
   })
 
--- So does a stop keep it, for the entries that it leaves.
+-- So does a crash keep it, for the entries that it leaves.
 pub left_stalled : (t : Trail) (b : Base) → IsLeft t b → AreInStep (bases_of t) → image_state b.image ≡ 1 → IsStalled t.base → IsStalled b
 left_stalled t b left steps stalled is = record { raised = (left.covered steps).raised stalled; old = subst HasOldEntries (sym left.rest.frozen) is.old }

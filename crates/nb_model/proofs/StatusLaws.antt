@@ -1,4 +1,4 @@
--- The exit status behind a reply.
+-- The exit status after a reply.
 use Rattle.std.proofs.Common.{◌≡◌, ◌≢◌, max, refl}
 use Rattle.std.specs.Prelude.{Bool, true, false, ◌||◌, if◌then◌else◌}
 use Rattle.nb_host.specs.declared.refusals.Refusal.{Refusal}

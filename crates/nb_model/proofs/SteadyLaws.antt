@@ -26,7 +26,7 @@ use Rattle.nb_model.proofs.RecordLaws.{HasParent}
 use Rattle.nb_model.proofs.TrailLaws.{trail_base}
 use Rattle.nb_model.proofs.WellTrailLaws.{go_on, stroke_well, settling_well}
 
--- the records behind one step, and behind steps
+-- the records after one step, and after steps
 abbrev pub kept_step : List Kept → Trail → Step → List Kept
 kept_step kept t (makes s) = kept ++ records_of s t.base
 kept_step kept t settles = kept
@@ -44,7 +44,7 @@ abbrev pub KeepsGood : List Kept → Trail → Step → Type 0
 KeepsGood kept t (makes (begin guid ask)) = IsBegun (record_of t guid ask) × HasParent kept (record_of t guid ask)
 KeepsGood kept t other = Unit {0}
 
--- What was seen is well before each step and behind all, with the records kept until then.
+-- What was seen is well before each step and after all, with the records kept until then.
 abbrev pub WellAlong : List Kept → Trail → List Step → Type 0
 WellAlong kept t [] = IsWellTrail kept t
 WellAlong kept t (s ∷ ss) = IsWellTrail kept t × KeepsGood kept t s × WellAlong (kept_step kept t s) (after_step s t) ss
@@ -58,7 +58,7 @@ unfolding after_steps
 along_append kept t [] ys a b = b
 along_append kept t (x ∷ xs) ys a b = (a.0, a.1, along_append (kept_step kept t x) (after_step x t) xs ys a.2 b)
 
--- at each front of them, and behind it
+-- at each front of them, and after it
 pub along_front : (kept : List Kept) (t : Trail) (ss : List Step) → WellAlong kept t ss → (k : ℕ) → WellAlong kept t (take k ss)
 along_front kept t ss w zero = along_first kept t ss w
 along_front kept t [] w (suc k) = w
@@ -91,7 +91,7 @@ kept_is kept t (makes s ∷ ss) =
     ∙ append_assoc kept (records_of s t.base) (records_after (on_base s t.base) (strokes_in ss))
 kept_is kept t (settles ∷ ss) = kept_is kept (settled t.base) ss
 
--- A settled point behind steps, or none.
+-- A settled point after steps, or none.
 pub settling_along : (kept : List Kept) (t : Trail) (waits : Bool) → IsWellTrail kept t → WellAlong kept t (elim waits as (λ z. List Step) [ true ↦ settles ∷ [] | false ↦ [] ])
 unfolding after_step
 settling_along kept t true w = (w, tt, settling_well kept t w)

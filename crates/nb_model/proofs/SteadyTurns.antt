@@ -270,7 +270,7 @@ settled_recorded kept t (Ends reply ∷ turns) all = (tt, settled_recorded kept 
 settled_recorded kept t (Merges ∷ turns) all = (tt, settled_recorded kept t turns all.1)
 settled_recorded kept t (Finishes reply ∷ turns) all = (tt, settled_recorded kept t turns all.1)
 
--- a settled point behind them, or none
+-- a settled point after them, or none
 settling_recorded : (kept : List Kept) (t : Trail) (now : Now) (waits : Bool) → AllRecorded kept t now
     → AllRecorded (kept_along kept t (elim waits as (λ z. List Step) [ true ↦ settles ∷ [] | false ↦ [] ])) (after_steps t (elim waits as (λ z. List Step) [ true ↦ settles ∷ [] | false ↦ [] ])) now
 unfolding after_steps after_step

@@ -404,7 +404,7 @@ fresh_free x y p k size on q own =
     ∙ ap (λ (z : Page). bit_of z (bit_number x q) == 1) on.page
     ∙ ap (λ (n : ℕ). n == 1) (fresh_bit (image_size x) k on.old on.scn p (bit_number x q) on.old_is byte)
 
--- What the search leaves of an image behind page p, which is taken then and of that kind.
+-- What the search leaves of an image after page p, which is taken then and of that kind.
 pub record IsVisited (x y : Image) (p kind : ℕ) : Type 0 where
   pub size : image_size y ≡ image_size x
   pub long : length y ≡ max (length x) (p + 1)

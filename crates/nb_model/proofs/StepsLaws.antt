@@ -1,4 +1,4 @@
--- Steps of runs, one behind another, and how many of them are acknowledged.
+-- Steps of runs, one after another, and how many of them are acknowledged.
 use Rattle.std.proofs.Common.{◌≡◌, ℕ, zero, suc, ◌+◌, ◌-◌, ◌≤◌, List, [], ◌∷◌, ◌++◌, length, take, refl, sym, ap, ◌∙◌, arith, length-append, append_assoc}
 use Rattle.std.specs.Prelude.{Bool, Option, Some, None, true, false, nat_le}
 use Rattle.std.proofs.lemmas.Bool.{lt-leb}
@@ -25,7 +25,7 @@ pub steps_one : (e : Event) → steps_of (e ∷ []) ≡ steps_in e
 unfolding steps_of
 steps_one e = append-nil (steps_in e)
 
--- turns behind turns
+-- turns after turns
 pub steps_append : (es fs : List Event) → steps_of (es ++ fs) ≡ steps_of es ++ steps_of fs
 unfolding steps_of
 steps_append [] fs = refl
@@ -34,7 +34,7 @@ steps_append (e ∷ es) fs = ap (λ (ss : List Step). steps_in e ++ ss) (steps_a
 pub steps_length : (es fs : List Event) → length (steps_of (es ++ fs)) ≡ length (steps_of es) + length (steps_of fs)
 steps_length es fs = ap length (steps_append es fs) ∙ length-append (steps_of es) (steps_of fs)
 
--- steps behind steps
+-- steps after steps
 pub after_steps_append : (t : Trail) (xs ys : List Step) → after_steps t (xs ++ ys) ≡ after_steps (after_steps t xs) ys
 unfolding after_steps
 after_steps_append t [] ys = refl
@@ -68,14 +68,14 @@ made_front zero ss = refl
 made_front (suc count) [] = refl
 made_front (suc count) (s ∷ ss) = ap (λ (xs : List Step). makes s ∷ xs) (made_front count ss)
 
--- the first steps of the first run are the first of both, and behind all of its steps stand those of the second
+-- the first steps of the first run are the first of both, and after all of its steps stand those of the second
 pub steps_front : (es fs : List Event) (count : ℕ) → count ≤ length (steps_of es) → take count (steps_of (es ++ fs)) ≡ take count (steps_of es)
 steps_front es fs count low = ap (take count) (steps_append es fs) ∙ take-append-le count (steps_of es) (steps_of fs) low
 
 pub steps_behind : (es fs : List Event) (count : ℕ) → take (length (steps_of es) + count) (steps_of (es ++ fs)) ≡ steps_of es ++ take count (steps_of fs)
 steps_behind es fs count = ap (take (length (steps_of es) + count)) (steps_append es fs) ∙ take-append-add (steps_of es) (steps_of fs) count
 
--- The database that is seen behind steps is the one behind their strokes.
+-- The database that is seen after steps is the one after their strokes.
 stroke_seen : (t : Trail) (s : Stroke) → (after_stroke s t).base ≡ on_base s t.base
 unfolding after_stroke
 stroke_seen t s = by (settles_at t s)
@@ -116,7 +116,7 @@ steps_grow (e ∷ es) (suc m) (suc n) low =
     let rest = steps_grow es m n (omega arith) in
     omega (arith, rest, length-append (steps_in e) (steps_of (take m es)), length-append (steps_in e) (steps_of (take n es)))
 
--- turns are acknowledged behind one that says nothing
+-- turns are acknowledged after one that says nothing
 abbrev pub behind_quiet : ℕ → ℕ
 behind_quiet n = elim n as (λ z. ℕ) [ zero ↦ 0 | suc m ↦ suc (suc m) ]
 
@@ -124,7 +124,7 @@ behind_quiet_most : (n : ℕ) → behind_quiet n ≤ suc n
 behind_quiet_most zero = omega arith
 behind_quiet_most (suc n) = omega arith
 
--- and behind one whose line is among so many bytes, or not
+-- and after one whose line is among so many bytes, or not
 abbrev pub behind_line : (line said : ℕ) → ℕ → ℕ
 behind_line line said n = elim (nat_le line said) as (λ z. ℕ) [ true ↦ suc n | false ↦ 0 ]
 
@@ -188,7 +188,7 @@ turns_front (e ∷ es) fs said low = by (turns_front es fs) e.reply refl
         ∙ ap (behind_line line said) (later (said - line) (omega (arith, same, length-append (line_text e.session r) (output es), low)))
         ∙ sym (turns_line e es said r is)
 
--- Behind all lines of the first no more are acknowledged than its turns and those of the second.
+-- After all lines of the first no more are acknowledged than its turns and those of the second.
 pub turns_behind : (es fs : List Event) (said : ℕ) → acked_turns (es ++ fs) (length (output es) + said) ≤ length es + acked_turns fs said
 turns_behind [] fs said =
     let same : acked_turns fs (length (output []) + said) ≡ acked_turns fs said = ap (acked_turns fs) (omega (arith, ap length output_no_event)) in

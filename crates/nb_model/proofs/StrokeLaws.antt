@@ -7,7 +7,7 @@ use Rattle.nb_model.specs.Image.{Page, Image, page_at, first_page, with_page}
 use Rattle.nb_model.specs.Account.{Base, Kept}
 use Rattle.nb_model.specs.Strokes.{Stroke, page, on_base, records_of, base_after, records_after, merged_page, fixed}
 
--- strokes behind strokes
+-- strokes after strokes
 pub base_after-append : (b : Base) (xs ys : List Stroke) → base_after b (xs ++ ys) ≡ base_after (base_after b xs) ys
 unfolding base_after
 base_after-append b [] ys = refl

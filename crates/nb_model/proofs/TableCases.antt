@@ -16,7 +16,7 @@ use Rattle.nb_fields.specs.Payloads.{data_payload}
 use Rattle.nb_model.proofs.PutSound.{no_first, not_when, short_text}
 use Rattle.nb_model.proofs.TurnCases.{refused, no_cause, unless_either}
 
--- What a change made behind its causes rests on: none of them applies, what it reads is of the form, and a page was left.
+-- What a change made after its causes rests on: none of them applies, what it reads is of the form, and a page was left.
 pub record MayChange (cs : List Cause) (d : Draft) : Type 0 where
   pub may : first_cause cs ≡ None
   pub formed : not_of_form d ≡ None

@@ -39,7 +39,7 @@ pub record IsTablePage (image : Image) (p : ℕ) : Type 0 where
 pub table_system : (image : Image) (p : ℕ) → IsTablePage image p → is_system_place (image_size image) p ≡ false
 table_system image p page = no_system (image_size image) p page.plain.no_inventory page.plain.no_scn_page
 
--- it stands behind the first two pages
+-- it stands after the first two pages
 pub table_two : (image : Image) (p : ℕ) → IsWhole image → IsTablePage image p → 2 ≤ p
 table_two image p h page = let some = page.plain.place.behind in let other = (no_place image h p (table_system image p page)).0 0 in omega (arith, some, other)
 

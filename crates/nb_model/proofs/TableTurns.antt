@@ -139,7 +139,7 @@ module _ (s : Seen) (h : HasHeader s.base.image) (is : IsSoundImage s.base.image
           new_left : (created image table).full ≡ false → (new_first image).0.full ≡ false
           new_left left = place_left Catalogue (free_spot (spots Catalogue image)) (found_pages Catalogue image) (table_slot table (new_first image).1) (new_first image).0 left
 
-          -- the place that was free is there behind the new page too
+          -- the place that was free is there after the new page too
           within : Goes s.base (drafted image) (new_first image).0 → (f : Spot) → free_spot (spots Catalogue image) ≡ Some f → IsTablePage (new_first image).0.image f.page × (256 * f.slot + 288 ≤ image_size (new_first image).0.image)
           within new f found =
               let on : IsSpotOn (IsTablePage image) image f = found_on image h is Catalogue (catalogue_other image h is) may.catalogue _ f found in

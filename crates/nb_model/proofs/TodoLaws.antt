@@ -1,4 +1,4 @@
--- What is left to do: behind a statement of one turn, and where a session has nothing left.
+-- What is left to do: after a statement of one turn, and where a session has nothing left.
 use Rattle.std.proofs.Common.{◌≡◌, ℕ, zero, suc, ◌+◌, ◌-◌, List, [], ◌++◌, refl, sym, ap, ◌∙◌, arith, append_assoc}
 use Rattle.std.specs.Prelude.{Some, None}
 use Rattle.std.specs.List.{slice_index_or}
@@ -15,7 +15,7 @@ use Rattle.nb_model.proofs.RunLaws.{nothing_taken}
 abbrev pub IsSingle : Statement → Type 0
 IsSingle statement = (s : Seen) (session : ℕ) → (first_turn s session statement).next ≡ []
 
--- nothing is left to do behind it
+-- nothing is left to do after it
 abbrev IsLast : Outcome → Type 0
 IsLast o = o.next ≡ []
 

@@ -1,4 +1,4 @@
--- Laws of trails: what a stop may leave of one that is settled, and that writes that are synced keep it settled.
+-- Laws of trails: what a crash may leave of one that is settled, and that writes that are synced keep it settled.
 use Rattle.std.proofs.Common.{◌≡◌, ℕ, zero, suc, ◌≤◌, List, [], ◌∷◌, ◌++◌, length, take, refl, sym, ap, subst, ◌∙◌, set, arith}
 use Rattle.std.specs.Prelude.{Bool, true, false, ◌||◌, ◌==◌, nat_le, nat_lt, Ok, Contains}
 use Rattle.std.specs.List.{AllByRecursion}
@@ -18,7 +18,7 @@ use Rattle.nb_model.proofs.CoveredLaws.{firm_left}
 pub last_there : (bases : List Base) (b : Base) → Contains (bases ++ b ∷ []) b
 last_there bases b = Contains-append_right bases (b ∷ []) b (0, omega arith, refl)
 
--- A stop may leave what was seen last.
+-- A crash may leave what was seen last.
 pub itself_firm : (t : Trail) → IsFirm t t.base
 itself_firm t = record {
   mixed = record { long = refl; first = refl; each = λ p low. record { base = t.base; there = last_there t.earlier t.base; below = low; same = refl } };
@@ -63,7 +63,7 @@ pub waits_after : (s : Stroke) (t : Trail) → settles_at t s ≡ false → afte
 unfolding after_stroke
 waits_after s t is = ap (λ (u : Bool). elim u as (λ z. Trail) [ true ↦ settled (on_base s t.base) | false ↦ record { base = on_base s t.base; earlier = bases_of t } ]) is
 
--- Behind strokes that settle the trail is settled.
+-- After strokes that settle the trail is settled.
 pub synced_front : (ss : List Stroke) (b : Base) → AreSynced (settled b) ss → (k : ℕ) → after_strokes (take k ss) (settled b) ≡ settled (base_after b (take k ss))
 unfolding after_strokes base_after
 synced_front ss b synced zero = refl

@@ -27,7 +27,7 @@ main_tail size x xs p = elim (cases_lt p (length xs)) [
   | inr w ↦ main_past size (x ∷ xs) (suc p) (omega (arith, w)) ∙ sym (main_past size xs p w)
 ]
 
--- pages of zeros behind a list are seen behind its end
+-- pages of zeros after a list are seen after its end
 pub zeros_behind : (size : ℕ) (xs zs : Image) → IsOfSize size zs → AreZeros zs → (p : ℕ) → main_page size (xs ++ zs) p ≡ main_page size xs p
 zeros_behind size [] zs sizes zeros p = elim (cases_lt p (length zs)) [
   | inl w ↦
@@ -73,7 +73,7 @@ trimmed_length image = let cut : Trimming image = trimming image in omega (arith
 pub trimmed_at : (image : Image) (p : ℕ) → p < length (trimmed image) → page_at (trimmed image) p ≡ page_at image p
 trimmed_at image p low = let cut : Trimming image = trimming image in sym (ap (λ (x : Image). page_at x p) cut.is ∙ get_or_append_left (trimmed image) cut.rest [] p low)
 
--- there is no page behind the end of either
+-- there is no page after the end of either
 pub trimmed_past : (image : Image) (p : ℕ) → length image ≤ p → page_at (trimmed image) p ≡ page_at image p
 trimmed_past image p past = none (trimmed image) p (omega (arith, past, trimmed_length image)) ∙ sym (none image p past)
   where
@@ -83,7 +83,7 @@ trimmed_past image p past = none (trimmed image) p (omega (arith, past, trimmed_
     none (x ∷ xs) zero low = absurd (omega (arith, low))
     none (x ∷ xs) (suc q) low = none xs q (omega (arith, low))
 
--- and each page behind is zeros
+-- and each page after is zeros
 pub trimmed_zeros : (image : Image) (p : ℕ) → length (trimmed image) ≤ p → p < length image → is_zeros (page_at image p) ≡ true
 trimmed_zeros image p past low =
     let cut : Trimming image = trimming image in
@@ -99,7 +99,7 @@ finish_base b = refl
 pub finish_full : (b : Base) → HasNoZeros b.image → on_base finish b ≡ record b { image = with_control 0 (image_scn b.image) (image_guid b.image) b.image; diverted = [] }
 finish_full b full = finish_base b ∙ ap (λ (x : Image). record b { image = with_control 0 (image_scn b.image) (image_guid b.image) x; diverted = [] }) (trimmed-no_zeros b.image full)
 
--- Behind it no page of zeros stands at the end, so it is an image that a main file may have.
+-- After it no page of zeros stands at the end, so it is an image that a main file may have.
 pub finish_whole : (b : Base) → HasHeader b.image → IsTrimmed (on_base finish b).image
 unfolding with_control
 finish_whole b header = subst (λ (x : Image). IsTrimmed x) (sym (ap (λ (c : Base). c.image) (finish_base b))) (by (trimmed b.image) (trimming b.image).whole (trimmed_front b.image header.header))

@@ -239,7 +239,7 @@ unfolding copy_turn
 copy_either P s session name denied done =
     unless_either P s (first_cause (not_state 1 s.base.image ∷ runs_any s.running ∷ not_free name (s.entry name) ∷ [])) (copied s session name) denied (λ none. done (copy_facts s name none))
 
--- what is still to be given behind a statement on pages: `show cache` takes a number of pages that are held
+-- what is still to be given after a statement on pages: `show cache` takes a number of pages that are held
 abbrev pub left_by : Statement → Given → Given
 left_by ShowCache given = without_hold given
 left_by other given = given

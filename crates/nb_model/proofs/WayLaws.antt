@@ -1,4 +1,4 @@
--- The pages that wait go out one by one: what is left and what reads behind each of them.
+-- The pages that wait go out one by one: what is left and what reads after each of them.
 use Rattle.std.proofs.Common.{◌≡◌, ◌≢◌, ◌⊎◌, inl, inr, ⊎_elim, ℕ, suc, ◌<◌, ◌≤◌, List, [], ◌∷◌, ◌++◌, length, refl, sym, ap, subst, ◌∙◌, arith, append_assoc, length-append}
 use Rattle.std.specs.Prelude.{Bool, true, false, ◌==◌, ◌||◌, nat_eq, nat_le}
 use Rattle.std.specs.List.{list_any}
@@ -24,7 +24,7 @@ same_pages [] (y ∷ ys) long same = absurd (omega arith)
 same_pages (x ∷ xs) [] long same = absurd (omega arith)
 same_pages (x ∷ xs) (y ∷ ys) long same = ap (λ (z : Page). z ∷ xs) (same 0) ∙ ap (λ (zs : Image). y ∷ zs) (same_pages xs ys (omega arith) (λ p. same (suc p)))
 
--- A page behind page 0 is written.
+-- A page after page 0 is written.
 module _ (b : Base) (p : ℕ) (bytes : Page) (some : 1 ≤ p) (low : p < length b.image) where
   abbrev new : Base
   new = on_base (page p bytes) b

@@ -1,4 +1,4 @@
--- Whatever a stop leaves of a well trail is well, and page strokes that fit keep a trail well.
+-- Whatever a crash leaves of a well trail is well, and page strokes that fit keep a trail well.
 use Rattle.std.proofs.Common.{◌≡◌, ◌≤◌, ℕ, zero, suc, ◌<◌, List, [], ◌∷◌, ◌++◌, length, take, refl, sym, ap, subst, ◌∙◌, arith}
 use Rattle.std.specs.Prelude.{IsTrue, true, Contains}
 use Rattle.nb_fields.specs.Fresh.{fresh}
@@ -43,7 +43,7 @@ base_covered kept b w = record { size = (base_whole kept b w).fields.size; entri
 of_record : (kept : List Kept) (a b : Base) → b.frozen ≡ a.frozen → image_guid b.image ≡ image_guid a.image → IsOfRecord kept a → IsOfRecord kept b
 of_record kept a b frozen guid is = record { backup = is.backup; kept_as = subst (λ (g : List ℕ). IsKeptAs kept g is.backup) (sym guid) is.kept_as; same = frozen ∙ is.same }
 
--- Whatever a stop leaves of a well trail is well.
+-- Whatever a crash leaves of a well trail is well.
 module _ (kept : List Kept) (t : Trail) (b : Base) (w : IsWellTrail kept t) (left : IsLeft t b) where
   there : Contains (bases_of t) t.base
   there = last_there t.earlier t.base

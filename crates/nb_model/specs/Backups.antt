@@ -76,7 +76,7 @@ backup_turn s session (suc below) name =
     let from : Option Spot = backup_spot (λ row. nat_eq (level_in row) below) s.base.image in
     starts s session name (ask_of (suc below) from) (when (is_none from) (NoHistory below))
 
--- the level behind that of a row, at most 9
+-- the level after that of a row, at most 9
 unfoldable pub level_behind : Option Spot → ℕ
 level_behind None = 0
 level_behind (Some row) = min (level_in row.bytes + 1) 9

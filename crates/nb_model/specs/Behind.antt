@@ -25,7 +25,7 @@ pub record IsRewritten (t : Trail) (b : Base) (p : ℕ) : Type 0 where
   pub named : entry_for p b.diverted ≡ Some entry
   pub same : page_at b.image p ≡ page_at t.base.image p
 
--- A stop while pages go into their slots, or SCN pages into the main file: an SCN page is as the files had it or as it is seen, and every
+-- A crash while pages go into their slots, or SCN pages into the main file: an SCN page is as the files had it or as it is seen, and every
 -- other page as the files may have had it, or rewritten.
 pub record IsOnTheWay (f t : Trail) (b : Base) : Type 0 where
   pub long : length b.image ≡ length t.base.image
@@ -37,7 +37,7 @@ pub record IsOnTheWay (f t : Trail) (b : Base) : Type 0 where
   pub diverted : (rest : List ℕ) × (f.base.diverted ≡ b.diverted ++ rest)
   pub merging : image_state t.base.image ≡ 2 → b.diverted ≡ f.base.diverted
 
--- A stop in the stalled state once all slots are written: each page that an entry names is as it is seen, every other as the files had it,
+-- A crash in the stalled state once all slots are written: each page that an entry names is as it is seen, every other as the files had it,
 -- and of the entries that waited the first are there.
 pub record IsEntering (f t : Trail) (b : Base) : Type 0 where
   pub stalled : image_state t.base.image ≡ 1

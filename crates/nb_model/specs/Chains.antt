@@ -181,7 +181,7 @@ last_of [] = 0
 last_of (p ∷ []) = p
 last_of (p ∷ q ∷ qs) = last_of (q ∷ qs)
 
--- The chain of these pages gets one page more, with these slots, and its number. Its last page has to be a data page behind the search too.
+-- The chain of these pages gets one page more, with these slots, and its number. Its last page has to be a data page after the search too.
 unfoldable pub grown : Chain → (pages : List ℕ) (slots : List ℕ) → Draft → Draft × ℕ
 grown chain pages slots d =
     let made : Draft × ℕ = new_page 5 (λ p. data_payload 0 (owner_of chain) slots) d in

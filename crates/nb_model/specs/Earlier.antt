@@ -1,4 +1,4 @@
--- Databases in step: each was before all behind it, so that no SCN entry falls, and its entries cover its pages.
+-- Databases in step: each was before all after it, so that no SCN entry falls, and its entries cover its pages.
 use Rattle.std.specs.Prelude.{◌≡◌, ℕ, ◌<◌, ◌≤◌, List, [], ◌∷◌, length, true, IsTrue}
 use Rattle.std.specs.List.{AllByRecursion}
 use Rattle.nb_fields.specs.Payloads.{entry_of}
@@ -22,7 +22,7 @@ pub record IsCovered (b : Base) : Type 0 where
   pub entries : HasEntries b.image
   pub raised : image_state b.image ≡ 1 → IsRaised b.image b.diverted
 
--- each is covered, and was before all behind it
+-- each is covered, and was before all after it
 abbrev pub AreInStep : List Base → Type 0
 AreInStep [] = Unit {0}
 AreInStep (b ∷ bs) = IsCovered b × AllByRecursion (λ c. IsEarlier b.image c.image) bs × AreInStep bs

@@ -117,7 +117,7 @@ take_page p d = set_bit 0 p d
 abbrev pub give_page : ℕ → Draft → Draft
 give_page p d = set_bit 1 p d
 
--- the lowest free page from p on, of which `left` pages are left to look at, or the one behind them
+-- the lowest free page from p on, of which `left` pages are left to look at, or the one after them
 unfoldable pub free_from : (left p : ℕ) → Image → ℕ
 free_from zero p image = p
 free_from (suc left) p image = elim (is_free_page image p) [ true ↦ p | false ↦ free_from left (p + 1) image ]

@@ -23,7 +23,7 @@ line_of i r = elim (r % 3) [
   ]
 ]
 
--- a backup behind lines 250, 500 and 750
+-- a backup after lines 250, 500 and 750
 unfoldable pub backup_line : (i : ℕ) → List ℕ
 backup_line i = elim (i == 250) [
   | true ↦ ended (codes "1: backup 0 to 'gen.0'")
@@ -33,7 +33,7 @@ backup_line i = elim (i == 250) [
   ]
 ]
 
--- so many lines from line i on, behind the number x
+-- so many lines from line i on, after the number x
 unfoldable pub lines_from : (left i x : ℕ) → List ℕ
 lines_from zero i x = []
 lines_from (suc left) i x = ended (line_of i (stepped x / 2 ^ 33)) ++ (backup_line i ++ lines_from left (i + 1) (stepped x))

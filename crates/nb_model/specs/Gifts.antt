@@ -17,7 +17,7 @@ pub record Foretells (given : Given) (shown : List ℕ) (old new : World) : Type
   pub times_first : given.times ≡ clock ++ later_clock
   pub holds_first : given.holds ≡ shown ++ later_shown
 
--- just these GUIDs and times were given: what was to come before, and isn't to come behind
+-- just these GUIDs and times were given: what was to come before, and isn't to come after
 pub record WasGiven (old new : World) (before after : Given) : Type 0 where
   pub ids : List (List ℕ)
   pub clock : List ℕ

@@ -56,7 +56,7 @@ trimmed (p ∷ ps) = elim (trimmed ps) [
 ]
 
 -- The image that a file's bytes hold by the page size in its header. A page of zeros at the end isn't counted: no page of a
--- database is all zeros, so it is what a stop left of a growth.
+-- database is all zeros, so it is what a crash left of a growth.
 unfoldable pub image_in : List ℕ → Image
 image_in bytes = trimmed (cut (size_of bytes) (length bytes) bytes)
 

@@ -1,4 +1,4 @@
--- Pages that are taken and that nothing reaches: a stop in an insert, a drop or a create leaves them.
+-- Pages that are taken and that nothing reaches: a crash in an insert, a drop or a create leaves them.
 use Rattle.std.specs.Prelude.{ℕ, List, length, Bool, ◌&&◌, ◌==◌, not, nat_eq}
 use Rattle.std.specs.List.{filter, list_any, range_with_len}
 use Rattle.nb_fields.specs.Page.{kind_of}

@@ -58,7 +58,7 @@ numbered_from n (p ∷ ps) = (n, p) ∷ numbered_from (n + 1) ps
 abbrev pub level_signature : List ℕ
 level_signature = codes "NBAK"
 
--- the 52 bytes of a head, and what stands behind
+-- the 52 bytes of a head, and what stands after
 unfoldable pub head_then : (version : ℕ) → Head → List ℕ → List ℕ
 head_then version h behind =
     78 ∷ 66 ∷ 65 ∷ 75 ∷ (bytes_of 2 version ++ (bytes_of 2 h.level ++ (h.guid ++ (h.previous ++ (bytes_of 4 h.size ++ (bytes_of 4 h.scn ++ (bytes_of 4 h.previous_scn ++ behind)))))))
@@ -81,7 +81,7 @@ pub record Stretch : Type 0 where
   pub first : ℕ
   pub pages : List Page
 
--- The runs of these pages, behind a run that has begun. A page goes into it where its number is the next and it has fewer than 16.
+-- The runs of these pages, after a run that has begun. A page goes into it where its number is the next and it has fewer than 16.
 unfoldable pub runs_behind : (first : ℕ) → List Page → List Numbered → List Stretch
 runs_behind first pages [] = record { first = first; pages = pages } ∷ []
 runs_behind first pages (r ∷ rs) = elim (r.0 == first + length pages && nat_lt (length pages) 16) [
@@ -133,7 +133,7 @@ file_of version kept = file_for version kept kept.ask
 unfoldable pub count_in : Kept → Ask → ℕ
 count_in kept ask = elim (ask.level == 0) [ true ↦ length kept.image | false ↦ length (changed ask.previous_scn kept.image) ]
 
--- Page 0 in a level file is a header in the stalled state, of the head's page size and GUID, with the SCN behind the head's.
+-- Page 0 in a level file is a header in the stalled state, of the head's page size and GUID, with the SCN after the head's.
 unfoldable pub is_first_page : Head → Page → Bool
 is_first_page h p =
     is_header p && (state_of p == 1 && (size_of p == h.size && (same_name (guid_of p) h.guid && scn_of p == h.scn + 1)))
@@ -191,7 +191,7 @@ abbrev pub behind : List Numbered → Result (List Numbered) ℕ → Result (Lis
 behind rs (Ok more) = Ok (rs ++ more)
 behind rs (Err at) = Err at
 
--- The end mark stands at this place, behind so many pages, and the rest begins with it.
+-- The end mark stands at this place, after so many pages, and the rest begins with it.
 unfoldable pub read_end : (at count : ℕ) (rest : List ℕ) → Result (List Numbered) ℕ
 read_end at count rest = elim (first_fault (
     (count == 0, at)
@@ -203,11 +203,11 @@ read_end at count rest = elim (first_fault (
       | None ↦ Ok []
     ]
 
--- a page's number that may not stand behind so many pages, where the least that may is `least`
+-- a page's number that may not stand after so many pages, where the least that may is `least`
 abbrev pub is_bad_number : (count least n : ℕ) → Bool
 is_bad_number count least n = (count == 0 && not (n == 0)) || (nat_lt n least || nat_le 1048576 n)
 
--- Version 101 from this place on, behind so many pages: the pages, or the first broken place. The least number that may come
+-- Version 101 from this place on, after so many pages: the pages, or the first broken place. The least number that may come
 -- is `least`. There are no more pages than `left`.
 unfoldable pub read_singles : (left : ℕ) → Head → (at count least : ℕ) (rest : List ℕ) → Result (List Numbered) ℕ
 read_singles zero h at count least rest = Err at
@@ -233,7 +233,7 @@ unfoldable pub pages_in : (size count n : ℕ) (rest : List ℕ) → List Number
 pages_in size zero n rest = []
 pages_in size (suc count) n rest = (n, take size rest) ∷ pages_in size count (n + 1) (drop size rest)
 
--- The number that may not begin the next run: the one behind a run of fewer than 16 pages would belong into it. No page has
+-- The number that may not begin the next run: the one after a run of fewer than 16 pages would belong into it. No page has
 -- the number of the end mark.
 abbrev pub barred_after : (n count : ℕ) → ℕ
 barred_after n count = elim (nat_lt count 16) [ true ↦ n + count | false ↦ end_mark ]
@@ -277,7 +277,7 @@ abbrev pub with_head : (version : ℕ) → Head → Result (List Numbered) ℕ �
 with_head version h (Ok rs) = Ok (record { version = version; head = h; pages = rs })
 with_head version h (Err at) = Err at
 
--- the pages behind a head
+-- the pages after a head
 unfoldable pub read_pages : (version : ℕ) → Head → (bytes : List ℕ) → Result (List Numbered) ℕ
 read_pages version h bytes = elim (version == 101) [
   | true ↦ read_singles (length bytes) h 52 0 0 (drop 52 bytes)

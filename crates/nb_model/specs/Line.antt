@@ -33,7 +33,7 @@ last_in r (q ∷ qs) = last_in q qs
 abbrev pub AreZeroPages : Image → Type 0
 AreZeroPages = AllByRecursion (λ page. is_zeros page ≡ true)
 
--- what a file of the first backup holds, with these pages behind its own
+-- what a file of the first backup holds, with these pages after its own
 unfoldable pub first_file : Kept → (behind : Image) → Link
 first_file r behind = record { guid = r.guid; scn = r.scn; size = image_size r.image; pages = numbered_from 0 (r.image ++ behind) }
 
@@ -70,7 +70,7 @@ HoldLine files k r (name ∷ names) [] = ⊥
 HoldLine files k r [] (q ∷ qs) = ⊥
 HoldLine files k r (name ∷ names) (q ∷ qs) = HoldsNext files k r name q × HoldLine files (k + 1) q names qs
 
--- the file of that name is a copy of r, with pages of zeros behind at most
+-- the file of that name is a copy of r, with pages of zeros after at most
 pub record HoldsFirst (files : Files) (r : Kept) (zeros : Image) (name : List ℕ) : Type 0 where
   pub is : files name ≡ Some (joined (r.image ++ zeros))
   pub zero : AreZeroPages zeros

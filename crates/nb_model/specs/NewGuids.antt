@@ -21,7 +21,7 @@ pub record IsUnnamed (bytes guid : List ℕ) : Type 0 where
   pub stalled : is_header bytes ≡ true → state_of bytes ≡ 1 → guid_of bytes ≢ guid
   pub pending : IsTrue (is_applying bytes) → pending_of bytes ≢ guid
 
--- A GUID is new: it isn't nil, no record has it, and no file that a stop leaves names it. What reads is among what a stop leaves.
+-- A GUID is new: it isn't nil, no record has it, and no file that a crash leaves names it. What reads is among what a crash leaves.
 pub record IsNewGuid (w : World) (kept : List Kept) (guid : List ℕ) : Type 0 where
   pub sixteen : length guid ≡ 16
   pub some : guid ≢ nil

@@ -39,6 +39,6 @@ acked_in (e ∷ es) said = elim e.reply [
       ]
 ]
 
--- How many strokes are acknowledged once so many bytes of the output were said: after a stop these strokes at least stand.
+-- How many strokes are acknowledged once so many bytes of the output were said: after a crash these strokes at least stand.
 unfoldable pub acked : List Event → (said : ℕ) → ℕ
 acked events said = elim (acked_in events said) [ None ↦ 0 | Some n ↦ n ]

@@ -19,7 +19,7 @@ unfoldable pub entry_for : (p : ℕ) → List ℕ → Option ℕ
 entry_for p [] = None
 entry_for p (q ∷ qs) = elim (nat_eq p q) [ true ↦ Some 0 | false ↦ elim (entry_for p qs) [ None ↦ None | Some k ↦ Some (suc k) ] ]
 
--- the number behind the greatest entry
+-- the number after the greatest entry
 abbrev pub behind_entries : List ℕ → ℕ
 behind_entries [] = 0
 behind_entries (p ∷ ps) = max (p + 1) (behind_entries ps)

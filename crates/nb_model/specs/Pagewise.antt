@@ -1,4 +1,4 @@
--- What a stop leaves where forced writes are off: each page by itself is that of some image since the last settled point.
+-- What a crash leaves where forced writes are off: each page by itself is that of some image since the last settled point.
 use Rattle.std.specs.Prelude.{◌≡◌, ℕ, ◌<◌, ◌≤◌, List, length, take, drop, Contains, true}
 use Rattle.nb_fields.specs.Places.{is_scn_place}
 use Rattle.nb_model.specs.Image.{Image, page_at, first_page, image_size, image_state, image_scn}
@@ -11,7 +11,7 @@ pub record IsOfSome (images : List Image) (test : Image → Type 0) : Type 0 whe
   pub there : Contains images image
   pub passes : test image
 
--- The control block and the length are those of one image, and every other page, and page 0 behind its control block, is that of
+-- The control block and the length are those of one image, and every other page, and page 0 after its control block, is that of
 -- some image. The inventories are sound, and in the stalled state what is diverted is raised.
 pub record IsPagewise (images : List Image) (image : Image) (diverted : List ℕ) : Type 0 where
   pub control : IsOfSome images (λ m. (length image ≡ length m) × (take 64 (first_page image) ≡ take 64 (first_page m)))
@@ -20,7 +20,7 @@ pub record IsPagewise (images : List Image) (image : Image) (diverted : List ℕ
   pub sound : SoundInventory image
   pub raised : image_state image ≡ 1 → IsRaised image diverted
 
--- what a stop leaves agrees with what reads now in its length, its SCN and its SCN pages
+-- what a crash leaves agrees with what reads now in its length, its SCN and its SCN pages
 pub record AgreesWith (image now : Image) : Type 0 where
   pub long : length image ≡ length now
   pub scn : image_scn image ≡ image_scn now

@@ -59,7 +59,7 @@ not_behind k last name c = first_cause (
     ∷ when (not (c.head.previous_scn == last.scn)) (ChainScn name c.head.previous_scn last.scn)
     ∷ [])
 
--- the file in place k behind another; whole pages are known by their signature
+-- the file in place k after another; whole pages are known by their signature
 unfoldable pub next_link : (k : ℕ) → Link → (name bytes : List ℕ) → Result Link Refusal
 next_link k last name bytes = elim (begins_level bytes) [
   | false ↦ elim (number_in 16 4 bytes == signature) [ true ↦ Err (ChainLevel name 0 k) | false ↦ Err (BadLevel name 0) ]
@@ -74,7 +74,7 @@ abbrev pub linked : Link → Result (List Link) Refusal → Result (List Link) R
 linked l (Ok ls) = Ok (l ∷ ls)
 linked l (Err refusal) = Err refusal
 
--- the files in places k and on, behind this one
+-- the files in places k and on, after this one
 unfoldable pub next_links : Files → (k : ℕ) → Link → (names : List (List ℕ)) → Result (List Link) Refusal
 next_links files k last [] = Ok []
 next_links files k last (name ∷ names) = elim (files name) [

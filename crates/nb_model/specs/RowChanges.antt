@@ -11,7 +11,7 @@ pub record GivesRows (before image : Image) (table : List ℕ) (rs : RowMap) : T
   pub its : rows image table ≡ rs
   pub others : (other : List ℕ) → other ≢ table → rows image other ≡ rows before other
 
--- Behind the strokes the table has these rows. At each front of them, where a stop may leave the database, it has those rows or its
+-- After the strokes the table has these rows. At each front of them, where a crash may leave the database, it has those rows or its
 -- rows from before.
 pub record ChangesRows (b : Base) (strokes : List Stroke) (table : List ℕ) (rs : RowMap) : Type 0 where
   pub each : (k : ℕ) → GivesRows b.image (base_after b (take k strokes)).image table (rows b.image table) ⊎ GivesRows b.image (base_after b (take k strokes)).image table rs

@@ -56,7 +56,7 @@ unfoldable pub outcome : (session : ℕ) → Turn → Now → Outcome
 outcome session t now =
     turn (record { base = base_now now; cache = now.cache; running = now.running; entry = now.account.entry; given = now.given }) session t
 
--- what stands after it, where these turns were left behind it
+-- what stands after it, where these turns were left after it
 unfoldable pub stands_then : (session : ℕ) → (rest : List Turn) → Outcome → Now → Now
 stands_then session rest o now = record {
   name = now.name;
@@ -163,7 +163,7 @@ IsRest schedule o given events account left = elim o.now as (λ now. Type 0) [
   | Some now ↦ (last : Now) × IsPlayed schedule now events last × (account ≡ last.account) × (left ≡ last.given)
 ]
 
--- The run of a script from an account: its events, the account after, and what is still to be given behind it.
+-- The run of a script from an account: its events, the account after, and what is still to be given after it.
 pub record IsRun (before : Account) (given : Given) (first_session : ℕ) (first : Statement) (schedule : List ℕ) (sessions : List (List Statement)) (events : List Event) (after : Account) (left : Given) : Type 0 where
   pub rest : List Event
   pub is : events ≡ (opening before given sessions first_session first).event ∷ rest

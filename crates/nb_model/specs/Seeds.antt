@@ -1,7 +1,7 @@
 -- Numbers by a linear congruential generator: the order of turns that a seed means, and the lines of a generated script.
 use Rattle.std.specs.Prelude.{ℕ, zero, suc, ◌+◌, ◌*◌, ◌/◌, ◌%◌, ◌^◌, List, [], ◌∷◌}
 
--- the number behind x
+-- the number after x
 unfoldable pub stepped : ℕ → ℕ
 stepped x = (x * 6364136223846793005 + 1442695040888963407) % 2 ^ 64
 

@@ -36,7 +36,7 @@ pub data Belongs (account : Account) (image : Image) : Type 0 where
 abbrev pub IsSameImage : Files → Account → Type 0
 IsSameImage files account = (name : List ℕ) → is_delta name ≡ false → account.entry name ≡ entry_in files name
 
--- In the stalled state each diverted page with an SCN entry stands behind its SCN page, and its entry is the current SCN.
+-- In the stalled state each diverted page with an SCN entry stands after its SCN page, and its entry is the current SCN.
 pub record IsRaised (image : Image) (diverted : List ℕ) : Type 0 where
   pub behind : (p k : ℕ) → entry_for p diverted ≡ Some k → has_entry image p ≡ true → (j : ℕ) × (entry_for (scn_page_of image p) diverted ≡ Some j) × (j < k)
   pub current : (p k : ℕ) → entry_for p diverted ≡ Some k → has_entry image p ≡ true → scn_entry image p ≡ image_scn image
@@ -90,7 +90,7 @@ pub record IsSpan (kept : List Kept) (r : Kept) (ask : Ask) : Type 0 where
 abbrev pub IsFileOf : (kept : List Kept) (version : ℕ) (r : Kept) (bytes : List ℕ) → Type 0
 IsFileOf kept version r bytes = (bytes ≡ file_of version r) ⊎ ((ask : Ask) × IsSpan kept r ask × (bytes ≡ file_for version r (Some ask)))
 
--- the bytes are the pages of the record, and behind them pages of zeros at most
+-- the bytes are the pages of the record, and after them pages of zeros at most
 pub record IsCopyOf (r : Kept) (bytes : List ℕ) : Type 0 where
   pub zeros : List Page
   pub are_zeros : AllByRecursion (λ page. is_zeros page ≡ true) zeros
@@ -162,7 +162,7 @@ HasNoStrayDelta files account = (name : List ℕ) → is_delta name ≡ false �
     → ((b : Base) × (account.entry name ≡ IsBase b)) ⊎ ((bytes : List ℕ) × (files name ≡ Some bytes) × IsTrue (is_applying bytes))
 
 -- A merge in place was stopped: the standby can be gone on with to the image of the record r. It holds each page of r that
--- stood before the backup, and nothing behind r's length.
+-- stood before the backup, and nothing after r's length.
 pub record IsStopped (kept : List Kept) (bytes : List ℕ) (r : Kept) : Type 0 where
   pub formed : not_database bytes ≡ None
   pub size : size_of bytes ≡ image_size r.image

@@ -59,6 +59,6 @@ acked_turns (e ∷ es) said = elim e.reply [
   ]
 ]
 
--- how many steps are acknowledged then: after a stop these steps at least stand
+-- how many steps are acknowledged then: after a crash these steps at least stand
 abbrev pub acked_steps : List Event → (said : ℕ) → ℕ
 acked_steps events said = length (steps_of (take (acked_turns events said) events))

@@ -1,6 +1,6 @@
--- What was seen of a database since its last settled point, behind which nothing can be lost, and what a stop may leave of it.
+-- What was seen of a database since its last settled point, after which nothing can be lost, and what a crash may leave of it.
 --
--- With forced writes off a page may wait: it is seen at once, and the files get it later. So what a stop leaves may be older than what is
+-- With forced writes off a page may wait: it is seen at once, and the files get it later. So what a crash leaves may be older than what is
 -- seen, in each page by itself, and its SCN pages with it. What makes a mixture sound is kept: where the databases of the trail are in
 -- step, the SCN entries that are left cover the pages that are left.
 use Rattle.std.specs.Prelude.{◌≡◌, ℕ, ◌<◌, ◌≤◌, List, [], ◌∷◌, ◌++◌, length, Contains, Bool, true, false, ◌||◌, ◌==◌, nat_le, Ok}
@@ -83,7 +83,7 @@ pub record IsMixture (bases : List Base) (now image : Image) : Type 0 where
   pub first : first_page image ≡ first_page now
   pub each : (p : ℕ) → p < length image → HasPage bases p (page_at image p)
 
--- Beside its pages a stop leaves this: the frozen image stays, the last entries of the difference file may be missing, but for the merge
+-- Beside its pages a crash leaves this: the frozen image stays, the last entries of the difference file may be missing, but for the merge
 -- state, and where nothing was written since the settled point it is the database itself.
 pub record IsRest (t : Trail) (b : Base) : Type 0 where
   pub frozen : b.frozen ≡ t.base.frozen
@@ -91,20 +91,20 @@ pub record IsRest (t : Trail) (b : Base) : Type 0 where
   pub merging : image_state t.base.image ≡ 2 → b.diverted ≡ t.base.diverted
   pub whole : t.earlier ≡ [] → b ≡ t.base
 
--- What a stop may leave of the database: each page by itself is one that was seen since the settled point. Where all that was seen is in
+-- What a crash may leave of the database: each page by itself is one that was seen since the settled point. Where all that was seen is in
 -- step, the SCN entries cover the pages.
 pub record IsLeft (t : Trail) (b : Base) : Type 0 where
   pub mixed : IsMixture (bases_of t) t.base.image b.image
   pub covered : AreInStep (bases_of t) → IsCovered b
   pub rest : IsRest t b
 
--- What a stop may leave where no SCN page waits: its SCN pages are those that are seen.
+-- What a crash may leave where no SCN page waits: its SCN pages are those that are seen.
 pub record IsFirm (t : Trail) (b : Base) : Type 0 where
   pub mixed : IsMixture (bases_of t) t.base.image b.image
   pub kept : (p : ℕ) → is_scn_place (image_size t.base.image) p ≡ true → page_at b.image p ≡ page_at t.base.image p
   pub rest : IsRest t b
 
--- its two files can be opened, and hold what a stop may leave
+-- its two files can be opened, and hold what a crash may leave
 pub record StandsOn (name : List ℕ) (t : Trail) (m d : File) : Type 0 where
   pub base : Base
   pub opens : owner name m d ≡ Ok base

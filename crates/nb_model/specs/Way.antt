@@ -33,7 +33,7 @@ own_entry_on image made p = elim (is_kept image p) [ true ↦ [] | false ↦ ent
 abbrev pub needed_on : (image : Image) (from made fresh p : ℕ) → List Need
 needed_on image from made fresh p = maps_on image from fresh p ++ elim (p == 1048576) [ true ↦ [] | false ↦ map_entry_on image from made p ++ own_entry_on image made p ]
 
--- the SCN place that was passed last without its page, behind page p: the same, or p
+-- the SCN place that was passed last without its page, after page p: the same, or p
 pub data IsMadeBehind (image : Image) (p made m : ℕ) : Type 0 where
   same_made : m ≡ made → (is_scn_place (image_size image) p ≡ true → is_kind image 10 p ≡ true) → IsMadeBehind image p made m
   made_here : m ≡ p → is_scn_place (image_size image) p ≡ true → is_kind image 10 p ≡ false → IsMadeBehind image p made m

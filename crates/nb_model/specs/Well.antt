@@ -46,7 +46,7 @@ pub record IsWellBaseIn (kept : List Kept) (b : Base) : Type 0 where
   pub merge : image_state b.image ≡ 2 → b.frozen ≡ []
 
 -- A statement on raw pages, on tables or on a byte of the header, or one that shows or checks what stands, gives leaked pages back, or waits
--- for it to be durable: any but those that begin, end or copy a backup. Behind the first statement of a run, creating and opening do nothing.
+-- for it to be durable: any but those that begin, end or copy a backup. After the first statement of a run, creating and opening do nothing.
 abbrev pub is_on_pages : Statement → Bool
 is_on_pages BeginBackup = false
 is_on_pages EndBackup = false

@@ -1,4 +1,4 @@
--- What is kept true of a trail, so that whatever a stop leaves of it is well.
+-- What is kept true of a trail, so that whatever a crash leaves of it is well.
 use Rattle.std.specs.Prelude.{◌≡◌, ℕ, ◌<◌, List, length, take, Some, None, Contains}
 use Rattle.nb_model.specs.Image.{page_at, first_page, image_state}
 use Rattle.nb_model.specs.Account.{Kept, Base}

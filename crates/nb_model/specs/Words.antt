@@ -31,7 +31,7 @@ abbrev pub with_word : Word → Option Read → Option Read
 with_word word None = None
 with_word word (Some r) = Some (record { flags = r.flags; plain = word ∷ r.plain })
 
--- Flags may stand before, between and behind plain words, until the first word `--`, which is dropped and behind which all words
+-- Flags may stand before, between and after plain words, until the first word `--`, which is dropped and after which all words
 -- are plain. A letter that is no flag leaves nothing.
 unfoldable pub read_words : List Word → Option Read
 read_words [] = Some (record { flags = []; plain = [] })

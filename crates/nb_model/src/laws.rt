@@ -60,7 +60,7 @@ pub fn a_level_has_what_was_stamped()
     ensures { (image : Image) (s : ℕ) → ((p : ℕ) → p < length image → has_entry image p ≡ true → stamp_of (page_at image p) ≤ scn_entry image p) → changed s image ≡ taken s image }
 {}
 
-/// The files of a line of backups give the image of its last, whatever pages of zeros stood behind the first.
+/// The files of a line of backups give the image of its last, whatever pages of zeros stood after the first.
 pub fn a_line_gives_its_last()
     ensures { (r : Kept) (qs : List Kept) (zeros : Image) → IsLine r qs → AreZeroPages zeros → HasNoZeros (last_in r qs).image → applied (first_file r zeros ∷ next_files r qs) ≡ (last_in r qs).image }
 {}
@@ -88,7 +88,7 @@ pub fn what_is_read_is_spelled()
     ensures some { (bytes : List ℕ) (c : Contents) → AllByRecursion (λ b. b < 256) bytes → read_level bytes ≡ Ok c → 1 ≤ length c.pages }
 {}
 
-/// Strokes behind strokes.
+/// Strokes after strokes.
 pub fn strokes_join()
     ensures base { (b : Base) (xs ys : List Stroke) → base_after b (xs ++ ys) ≡ base_after (base_after b xs) ys }
     ensures records { (b : Base) (xs ys : List Stroke) → records_after b (xs ++ ys) ≡ records_after b xs ++ records_after (base_after b xs) ys }
@@ -136,7 +136,7 @@ pub fn a_refused_statement_does_nothing()
     ensures { (s : Seen) (session : ℕ) (statement : Statement) (r : Refusal) → (first_turn s session statement).reply ≡ Some (Refused r) → DoesNothing s (first_turn s session statement) }
 {}
 
-/// Turns behind turns are one run.
+/// Turns after turns are one run.
 pub fn turns_join()
     ensures { (xs ys : List ℕ) (now : Now) → play (xs ++ ys) now ≡ ((play xs now).0 ++ (play ys (play xs now).1).0, (play ys (play xs now).1).1) }
 {}
@@ -161,14 +161,14 @@ pub fn acknowledged_never_falls()
     ensures { (events : List Event) (said later : ℕ) → said ≤ later → acked events said ≤ acked events later }
 {}
 
-/// At a settled point a stop leaves the database and nothing else. Of each trail it may leave what was seen last.
+/// At a settled point a crash leaves the database and nothing else. Of each trail it may leave what was seen last.
 pub fn a_settled_trail_is_its_database()
     ensures shows { (name : List ℕ) (b : Base) (m d : File) → StandsOn name (settled b) m d → owner name m d ≡ Ok b }
     ensures stands { (name : List ℕ) (b : Base) (m d : File) → owner name m d ≡ Ok b → StandsOn name (settled b) m d }
     ensures last { (name : List ℕ) (t : Trail) (files : Files) → ShowsIn name t.base files → StandsIn name t files }
 {}
 
-/// Of strokes that never wait a stop leaves a front, and nothing in between: so it is with forced writes on, and of a write of page 0
+/// Of strokes that never wait a crash leaves a front, and nothing in between: so it is with forced writes on, and of a write of page 0
 /// in any case.
 pub fn synced_strokes_leave_a_front()
     ensures settled { (b : Base) (strokes : List Stroke) (k : ℕ) → AreSynced (settled b) strokes → after_strokes (take k strokes) (settled b) ≡ settled (base_after b (take k strokes)) }
@@ -179,7 +179,7 @@ pub fn synced_strokes_leave_a_front()
     ensures first { (b : Base) (bytes : Page) → AreSynced (settled b) (page_stroke 0 bytes ∷ []) }
 {}
 
-/// Where pages are written with forced writes on, what a stop leaves behind steps is the database behind their strokes, and nothing in
+/// Where pages are written with forced writes on, what a crash leaves after steps is the database after their strokes, and nothing in
 /// between. These strokes are a front of all, and hold those that are acknowledged where the steps do.
 pub fn forced_writes_leave_a_front()
     ensures settled { (b : Base) (steps : List Step) (count : ℕ) → AreForced b (strokes_in steps) → after_steps (settled b) (take count steps) ≡ settled (base_after b (strokes_in (take count steps))) }
@@ -191,7 +191,7 @@ pub fn forced_writes_leave_a_front()
     ensures acknowledged { (events : List Event) (said count : ℕ) → acked_steps events said ≤ count → acked events said ≤ length (strokes_in (take count (steps_of events))) }
 {}
 
-/// Whatever a stop leaves of a trail has the header's fields of what was seen last.
+/// Whatever a crash leaves of a trail has the header's fields of what was seen last.
 pub fn mixtures_keep_the_header()
     ensures size { (t : Trail) (b : Base) → IsLeft t b → image_size b.image ≡ image_size t.base.image }
     ensures state { (t : Trail) (b : Base) → IsLeft t b → image_state b.image ≡ image_state t.base.image }
@@ -201,7 +201,7 @@ pub fn mixtures_keep_the_header()
     ensures read_only { (t : Trail) (b : Base) → IsLeft t b → is_read_only b.image ≡ is_read_only t.base.image }
 {}
 
-/// Whatever a stop leaves of a sound trail is sound.
+/// Whatever a crash leaves of a sound trail is sound.
 pub fn mixtures_are_sound()
     ensures { (t : Trail) (b : Base) → IsSoundTrail t → IsLeft t b → IsSoundImage b.image }
 {}
@@ -224,7 +224,7 @@ pub fn mixtures_are_pagewise()
     ensures lineage { (bases : List Base) (s : ℕ) (now : Base) (image : Image) → IsMixture bases now.image image → Contains bases now → s < stamp_of (first_page now.image) → IsMixed (images bases) s image }
 {}
 
-/// Whether a page write is kept or lost, a mixture of the databases before is one with the database behind it. A write may be lost
+/// Whether a page write is kept or lost, a mixture of the databases before is one with the database after it. A write may be lost
 /// where it makes the database no longer and isn't of page 0.
 pub fn mixtures_go_on()
     ensures put { (bases : List Base) (now image : Image) (new : Base) (p : ℕ) (page : Page) → IsMixture bases now image → p ≤ length now → new.image ≡ with_page p page now
@@ -239,7 +239,7 @@ pub fn mixtures_keep_lineage()
         → ((m : Base) → Contains bases m → GoesOn r m.image) → GoesOn r image }
 {}
 
-/// Whatever a stop leaves of a well trail is well in its state, whether it is normal, stalled or merge, and a well trail begins
+/// Whatever a crash leaves of a well trail is well in its state, whether it is normal, stalled or merge, and a well trail begins
 /// with what can be opened of it.
 pub fn well_trails_leave_well_databases()
     ensures left { (kept : List Kept) (t : Trail) (b : Base) → IsWellTrail kept t → IsLeft t b → IsWellBaseIn kept b }
@@ -260,7 +260,7 @@ pub fn well_trails_stay_well()
     ensures settled { (kept : List Kept) (t : Trail) → IsWellTrail kept t → IsWellTrail kept (settled t.base) }
 {}
 
-/// A well trail begins behind each control stroke of a backup. A begin keeps the record of its backup.
+/// A well trail begins after each control stroke of a backup. A begin keeps the record of its backup.
 pub fn control_strokes_keep_well()
     ensures begin { (kept : List Kept) (b : Base) (guid : List ℕ) (ask : Option Ask) → IsWellBaseIn kept b → image_state b.image ≡ 0 → length guid ≡ 16 → image_scn b.image ≤ 4294967293
         → IsWellTrail (kept ++ records_of (begin guid ask) b) (settled (on_base (begin guid ask) b)) }
@@ -268,7 +268,7 @@ pub fn control_strokes_keep_well()
     ensures finish { (kept : List Kept) (b : Base) → IsWellBaseIn kept b → image_state b.image ≡ 2 → IsWellTrail kept (settled (on_base finish b)) }
 {}
 
-/// What turns have seen of their database is well behind each of their steps, whatever backups and copies are under way, with the records of
+/// What turns have seen of their database is well after each of their steps, whatever backups and copies are under way, with the records of
 /// the backups that have begun by then. The files that they make are those of kept records.
 pub fn turns_keep_well()
     ensures well { (kept : List Kept) (now : Now) (order : List ℕ) (k : ℕ) → IsGoing true now → AreNamed now → ((place : ℕ) → AreBeginnings (slice_index_or now.todo place [])) → IsWellTrail kept (settled (base_now now))

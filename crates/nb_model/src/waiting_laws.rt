@@ -1,4 +1,4 @@
-// Laws of pages that wait in memory: what a stop leaves while they do, and on their way into the files.
+// Laws of pages that wait in memory: what a crash leaves while they do, and on their way into the files.
 ghost use Rattle.std.specs.Prelude.{◌≡◌, ◌≢◌, ◌<◌, ◌≤◌, ℕ, [], Bool, length, true, false};
 ghost use Rattle.nb_model.specs.Account.{Base};
 ghost use Rattle.nb_fields.specs.Places.{is_scn_place};
@@ -36,7 +36,7 @@ pub fn pages_go_out()
     ensures done { (f t : Trail) (waits : ℕ → Bool) (r : Base) → IsRead f t waits r → ((p : ℕ) → waits p ≡ false) → r ≡ t.base }
 {}
 
-/// A page that waits is seen at once, and the files are behind then. They are not behind where nothing waits.
+/// A page that waits is seen at once, and the files are behind then. They are not after where nothing waits.
 pub fn a_page_waits()
     ensures itself { (t : Trail) → IsBehind t t }
     ensures one { (f t : Trail) (p : ℕ) (bytes : Page) → IsBehind f t → 1 ≤ p → p < length t.base.image → is_forced t.base.image ≡ false → IsBehind f (after_stroke (page_stroke p bytes) t) }

@@ -1,4 +1,4 @@
--- The pages that wait go out: what a stop leaves at each moment, and what reads.
+-- The pages that wait go out: what a crash leaves at each moment, and what reads.
 use Rattle.std.proofs.Common.{◌≡◌, ◌≢◌, inl, inr, ⊎_elim, ℕ, ◌<◌, ◌≤◌, List, [], length, refl, sym, ap, subst, ◌∙◌, arith}
 use Rattle.std.specs.Prelude.{Bool, true, false, Option, Some, None, is_some}
 use Rattle.std.proofs.lemmas.Bool.{true≢false}
@@ -30,7 +30,7 @@ use Rattle.nb_owner.specs.Open.{Held, Pages, waits, IsWaiting, IsOpen, NoScnWait
 use Rattle.nb_owner.proofs.RankLaws.{rank_marked, rank_marked_other, waits_there, none_found, marked_of}
 use Rattle.nb_owner.proofs.WaitLaws.{agrees_same, plain_table}
 
--- Calls that change nothing come behind.
+-- Calls that change nothing come after.
 pub quiet_more : (old mid new : World) (names : Names) (P : Files → Type 0) → Changes old mid names P → Quiet mid new → Changes old new names P
 quiet_more old mid new names P before quiet =
     composed old mid new names P P P before (rested mid new names P quiet.still quiet.said quiet.moments before.now) (λ files is. is) (λ files is. is)
@@ -63,7 +63,7 @@ module _ (held : Held) (f t : Trail) (P : Base → Type 0) (same : (b : Base) �
         ⊎_elim (λ stays. record { base = s.base; opens = stays; is = s.is }) (λ goes. record { base = on_base (page p own) s.base; opens = goes; is = put_on s.base s.is })
         (put.by s.base s.opens (may_put s.base is.0 is.1))
 
-    -- At each moment a stop leaves what may be left of what was seen.
+    -- At each moment a crash leaves what may be left of what was seen.
     pub put_changes : ((b : Base) → P b → IsLeft t b) → (old : World) → Changes old w (Only held.files.name) (StandsIn held.files.name t)
         → Changes w new (Only held.files.name) (PutLeft w held.files.name p (page_at t.base.image p)) → Changes old new (Only held.files.name) (StandsIn held.files.name t)
     put_changes weak old before by =

@@ -32,7 +32,7 @@ start_slots w held t is stalled unsettled = record {
     by p None e waiting = absurd (true≢false (sym waiting ∙ ap is_some e))
     by p (Some rank) e waiting = let one = is.waits.each p rank e in (one.some, one.low, one.named (sym is.agrees.state ∙ stalled))
 
--- what a stop leaves then
+-- what a crash leaves then
 pub slots_begun : (w : World) (held : Held) (f t : Trail) → GoesSlot w held f t → IsTimely w → Changes w w (Only (delta_name held.files.name)) (StandsIn held.files.name t)
 slots_begun w held f t out timely = begun w (Only (delta_name held.files.name)) (StandsIn held.files.name t) timely
     (λ files all. let s = out.goes.left files all in record { base = s.base; opens = s.opens; left = way_left f t out.goes.behind s.base out.goes.unsettled s.is })

@@ -41,7 +41,7 @@ to_keys P [] all = tt
 to_keys P (e ∷ es) all = (all.0, to_keys P es all.1)
 
 module _ {V : Type 0} (p : ℕ) where
-  -- no page is there twice, so behind a removal it is there no more
+  -- no page is there twice, so after a removal it is there no more
   none_left : (es : List (ℕ × V)) → IsDistinct nat_eq (keys_of es) → AllByRecursion (Other p) (remove_entry (nat_eq p) es)
   none_left [] once = tt
   none_left (e ∷ es) once = (elim (nat_eq p e.0) as (λ b. nat_eq p e.0 ≡ b → AllByRecursion (Other p) (remove_entry (nat_eq p) (e ∷ es))) [

@@ -84,7 +84,7 @@ cache_of held = record { pages = held.pages; cap = held.cap; page_size = held.fi
 abbrev pub may_wait : Held → (p : ℕ) → (forced : Bool) → Bool
 may_wait held p forced = not forced && (nat_lt held.files.state 2 && (not (p == 0) && (nat_lt p held.files.count && not (is_some (dropped (cache_of held) p)))))
 
--- Whatever a stop now leaves is what may be left of what was seen, and what is held agrees with what was seen last, as does each page in
+-- Whatever a crash now leaves is what may be left of what was seen, and what is held agrees with what was seen last, as does each page in
 -- memory. The files read as they have seen it, and lack the pages that wait, and the entries that are drafted.
 pub record IsOpen (w : World) (held : Held) (t : Trail) : Type 0 where
   pub left : (files : Files) → LeavesAll w files → StandsIn held.files.name t files
@@ -102,7 +102,7 @@ HasBlock w held page = (t : Trail) → IsOpen w held t → take 64 page ≡ take
 abbrev pub NoScnWaits : Trail → Pages → Type 0
 NoScnWaits t pages = (p : ℕ) → is_scn_place (image_size t.base.image) p ≡ true → waits pages p ≡ false
 
--- The pages that wait are on their way into the files in the normal state: of what a stop leaves P holds, and what reads has the pages that
+-- The pages that wait are on their way into the files in the normal state: of what a crash leaves P holds, and what reads has the pages that
 -- are out.
 pub record GoesOut (w : World) (held : Held) (f t : Trail) (P : Base → Type 0) : Type 0 where
   pub left : (files : Files) → LeavesAll w files → StandsAs held.files.name P files

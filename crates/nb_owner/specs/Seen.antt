@@ -12,7 +12,7 @@ abbrev pub waiting_in : Pages → List Numbered
 waiting_in [] = []
 waiting_in (e ∷ es) = elim e.1.rank [ None ↦ waiting_in es | Some rank ↦ (e.0, e.1.bytes) ∷ waiting_in es ]
 
--- The database is that of the two files as they read, with the waiting pages written over, and with the entries that are drafted behind those
+-- The database is that of the two files as they read, with the waiting pages written over, and with the entries that are drafted after those
 -- of the files' table.
 pub record IsSeenOver (w : World) (held : Held) (b : Base) : Type 0 where
   pub files : Base

@@ -10,7 +10,7 @@ use crate::Pair;
 use nb_host::Host;
 
 /// What is seen of an open database is what its two files hold, with each page that waits written over, and with the entries that the table of
-/// its difference file still lacks behind those that it has.
+/// its difference file still lacks after those that it has.
 pub fn what_waits_is_seen<H: Host>(_host: &H, pair: &Pair)
     ensures { (t : Trail) → IsTrue H.tells → IsOpen (H.world _host.now) pair.now t → IsSeenOver (H.world _host.now) pair.now t.base }
 {

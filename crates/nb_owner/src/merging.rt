@@ -1,4 +1,4 @@
-// The stalled state ends, and the pages of the difference file are merged back. Page 0 is held no longer where it changes, nor pages behind the
+// The stalled state ends, and the pages of the difference file are merged back. Page 0 is held no longer where it changes, nor pages after the
 // end.
 ghost use Rattle.std.specs.Prelude.{◌≡◌, ◌<◌, ◌+◌, ◌-◌, [], ◌∷◌, length, slice_index, nat_eq, IsTrue, OnOk, None};
 ghost use Rattle.std.specs.Map.{remove_entry};

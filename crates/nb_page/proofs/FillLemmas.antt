@@ -1,4 +1,4 @@
--- What the writes behind the head of a blank page leave.
+-- What the writes after the head of a blank page leave.
 use Rattle.std.proofs.Common.{◌≡◌, ℕ, zero, suc, ◌+◌, ◌-◌, ◌/◌, ◌%◌, ◌^◌, ◌<◌, ◌≤◌, List, [], ◌∷◌, ◌++◌, length, take, drop, replicate, refl, sym, ap, ◌∙◌, arith, append_assoc, length-append, length-drop}
 use Rattle.std.specs.Prelude.{slice_set, Bool, true, false, if◌then◌else◌}
 use mir.Val.{bool_byte}
@@ -11,14 +11,14 @@ use Rattle.nb_fields.proofs.PartLemmas.{put_mid-with_part}
 use Rattle.nb_fields.proofs.PageLemmas.{padded-append, padded-append-zeros, with_part-padded, with_part-padded_next, stamped-zeros}
 use Rattle.nb_page.specs.Blank.{IsBlank}
 
--- a blank page is its head with zeros behind
+-- a blank page is its head with zeros after
 pub blank_page : (page : List ℕ) → 16 ≤ length page → IsBlank page → page ≡ padded (length page) (take 16 page)
 unfolding padded
 blank_page page long blank =
     let len = length-take-le 16 page long in
     sym (take-append-drop 16 page) ∙ ap (λ zs. take 16 page ++ zs) (blank ∙ ap (λ n. replicate n 0) (let e : length page - 16 ≡ length page - length (take 16 page) = omega arith in e))
 
--- bytes behind the head of a page are its payload
+-- bytes after the head of a page are its payload
 pub payload_behind : (page bytes : List ℕ) → 16 ≤ length page → padded (length page) (take 16 page ++ bytes) ≡ with_payload page bytes
 unfolding with_payload
 payload_behind page bytes long =

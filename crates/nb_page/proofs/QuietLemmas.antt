@@ -7,7 +7,7 @@ use Rattle.nb_host.specs.Calls.{IsStill}
 use Rattle.nb_host.specs.Moments.{IsNow, Passes, IsTimely}
 use Rattle.nb_page.specs.Quiet.{Quiet}
 
--- what a stop leaves later it would have left before
+-- what a crash leaves later it would have left before
 pub left_before : (old new : World) (names : List ℕ → Type 0) → Untouched old new names → (name : List ℕ) (file : Files) → names name → Leaves new name (file name) → Leaves old name (file name)
 left_before old new names same name file is = ⊎_elim (λ b. inl (same.back name (file name) is b)) (λ n. inr (same.now name (file name) is n))
 

@@ -4,7 +4,7 @@ use Rattle.nb_host.specs.World.{World}
 use Rattle.nb_host.specs.Calls.{IsStill}
 use Rattle.nb_host.specs.Moments.{IsNow, AtEachMoment}
 
--- The files stay, nothing was said or given, and at each moment a stop leaves what it would have left before.
+-- The files stay, nothing was said or given, and at each moment a crash leaves what it would have left before.
 -- Reads are not counted here.
 pub record Quiet (old new : World) : Type 0 where
   pub still : IsStill old new

@@ -10,7 +10,7 @@ use crate::{Header, write_header};
 use nb_fields::layouts::{data, header, inventory, scn_inventory};
 use nb_fields::{bits_in, entries_in, put_number};
 
-/// The header of a new database behind the head of its page: state 0, SCN 1 and nil GUIDs.
+/// The header of a new database after the head of its page: state 0, SCN 1 and nil GUIDs.
 pub(crate) fn fill_header(page: &mut [u8])
     requires size { IsTrue (is_page_size (length page.old)) }
     requires blank { IsBlank page.old }
@@ -30,7 +30,7 @@ pub(crate) fn fill_header(page: &mut [u8])
     header::History::put(page, u64::from(header::HISTORY_PAGE));
 }
 
-/// The page inventory page at place `number` of a new database, behind its head: the bits of its pages are taken.
+/// The page inventory page at place `number` of a new database, after its head: the bits of its pages are taken.
 pub(crate) fn fill_inventory(page: &mut [u8], raw: u32, number: u32)
     requires size { IsTrue (is_page_size (length page.old)) }
     requires blank { IsBlank page.old }
@@ -60,7 +60,7 @@ fn fill_bits(bits: &mut [u8], taken: usize)
     }
 }
 
-/// The SCN inventory page at place `number` of a new database, behind its head: each entry is 1.
+/// The SCN inventory page at place `number` of a new database, after its head: each entry is 1.
 pub(crate) fn fill_scn_inventory(page: &mut [u8], number: u32)
     requires size { IsTrue (is_page_size (length page.old)) }
     requires blank { IsBlank page.old }
@@ -82,7 +82,7 @@ fn fill_entries(entries: &mut [u8], scn: u32)
     }
 }
 
-/// The first page of the catalogue or of the history, behind its head: no slot is used.
+/// The first page of the catalogue or of the history, after its head: no slot is used.
 pub(crate) fn fill_data(page: &mut [u8], number: u32)
     requires size { IsTrue (is_page_size (length page.old)) }
     requires blank { IsBlank page.old }

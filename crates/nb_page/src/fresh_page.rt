@@ -23,7 +23,7 @@ pub fn fresh(page: &mut [u8], raw: u32, number: u32)
     fill_payload(page, kind, raw, number);
 }
 
-/// Writes what stands behind the head of such a page.
+/// Writes what stands after the head of such a page.
 #[tactic(auto, unfolding(nb_fields::specs::Fresh::fresh_payload))]
 fn fill_payload(page: &mut [u8], kind: PageKind, raw: u32, number: u32)
     requires size { IsTrue (is_page_size (length page.old)) }

@@ -35,7 +35,7 @@ pub fn read_head(page: &[u8]) -> PageHead
 
 /// Sets the head of a page that is written, and raises its generation by one, from the greatest to 0.
 ///
-/// What stands behind the head stays.
+/// What stands after the head stays.
 pub fn stamp(page: &mut [u8], kind: u8, scn: u32, number: u32)
     requires { IsTrue (is_page_size (length page.old)) }
     ensures written { page.new ≡ stamped page.old kind (drop 16 page.old) scn number }

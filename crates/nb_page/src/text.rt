@@ -19,7 +19,7 @@ pub fn raw_text(page: &[u8]) -> Option<&[u8]>
     Some(&page[raw::TEXT_AT..raw::TEXT_AT + length])
 }
 
-/// Makes this text what stands behind the head of a page: its length, its bytes, and zeros.
+/// Makes this text what stands after the head of a page: its length, its bytes, and zeros.
 pub fn put_text(page: &mut [u8], text: &[u8])
     requires size { IsTrue (is_page_size (length page.old)) }
     requires short { length text.now ≤ 200 }

@@ -58,7 +58,7 @@ fn lowest_one(byte: u8, from: u32) -> Option<u32>
 
 /// The lowest free bit of the inventory page `map` from bit `from` on and below bit `below`.
 ///
-/// It reads each byte of the page at most once, and none behind that bit.
+/// It reads each byte of the page at most once, and none after that bit.
 pub fn lowest_free(map: &[u8], from: u32, below: u32) -> Option<u32>
     requires size { IsTrue (is_page_size (length map.now)) }
     requires below { below ≤ bits_in (length map.now) }

@@ -1,4 +1,4 @@
--- What the files of an accepted chain are: level 0, and the level files behind it.
+-- What the files of an accepted chain are: level 0, and the level files after it.
 use Rattle.std.proofs.Common.{◌≡◌, ◌≢◌, ℕ, zero, suc, ◌+◌, ◌*◌, ◌<◌, ◌≤◌, List, [], ◌∷◌, length, take, drop, get_or, refl, sym, ap, subst, ◌∙◌, arith}
 use Rattle.std.specs.Prelude.{Bool, true, false, not, ◌==◌, Some, None, Result, Ok, Err, Contains}
 use Rattle.std.specs.Cmp.Lexicographic.{told_text}
@@ -67,7 +67,7 @@ goes_behind k last name c none =
       previous_scn = eqb-true c.head.previous_scn last.scn (test_passed (c.head.previous_scn == last.scn) (ChainScn name c.head.previous_scn last.scn) scn.0);
     }
 
--- the file behind another is a level file
+-- the file after another is a level file
 pub record IsLevelFile (k : ℕ) (last : Link) (bytes : List ℕ) (l : Link) : Type 0 where
   pub contents : Contents
   pub read : read_level bytes ≡ Ok contents
@@ -106,7 +106,7 @@ linked_parts : (l : Link) (links : List Link) (rest : Result (List Link) Refusal
 linked_parts l links (Ok more) e = record { more = more; all = ok_same links (l ∷ more) (Ok (l ∷ more)) e refl; is = refl }
 linked_parts l links (Err r) e = absurd (err_ok r links (Err r) refl e)
 
--- the files behind another begin with a level file
+-- the files after another begin with a level file
 pub record IsNextSplit (files : Files) (k : ℕ) (last : Link) (name : List ℕ) (names : List (List ℕ)) (links : List Link) : Type 0 where
   pub bytes : List ℕ
   pub there : files name ≡ Some bytes
@@ -157,7 +157,7 @@ module _ (files : Files) (target : List ℕ) (free : is_free_file (files target)
     same = is.behind.size ∙ same;
   }
 
-  -- the files behind level 0 are level files of its page size
+  -- the files after level 0 are level files of its page size
   pub sources : (size k : ℕ) (last : Link) (names : List (List ℕ)) (links : List Link) → last.size ≡ size → next_links files k last names ≡ Ok links → AreSources files target names size links
   sources size k last [] links same e = subst (λ (ls : List Link). AreSources files target [] size ls) (none_next files k last links e) tt
   sources size k last (name ∷ names) links same e =

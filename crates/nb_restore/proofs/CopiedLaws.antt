@@ -40,7 +40,7 @@ pub all_over-one : (l : Link) (image : Image) → all_over (l ∷ []) image ≡ 
 unfolding all_over
 all_over-one l image = refl
 
--- a page put behind pages that are joined, with zeros between
+-- a page put after pages that are joined, with zeros between
 put-past : (size n : ℕ) (page : Page) (ps : List Page) → IsOfSize size ps → length ps ≤ n → length page ≡ size
     → put_at (joined ps) (n * size) page ≡ joined (ps ++ (replicate (n - length ps) (replicate size 0) ++ page ∷ []))
 unfolding put_at padded
@@ -80,7 +80,7 @@ written-sizes size r ps sizes long = elim (cases_lt r.0 (length ps)) [
     P : Page → Type 0
     P x = length x ≡ size
 
--- page 0 is another's where a page behind it is written
+-- page 0 is another's where a page after it is written
 written-behind : (size n : ℕ) (page p q : Page) (ps : List Page) → written_at size (suc n, page) (p ∷ ps) ≡ p ∷ drop 1 (written_at size (suc n, page) (q ∷ ps))
 written-behind size n page p q ps = elim (cases_lt (suc n) (length (p ∷ ps))) [
   | inl w ↦ written-inside size (suc n, page) (p ∷ ps) w ∙ ap (λ (x : Image). p ∷ drop 1 x) (sym (written-inside size (suc n, page) (q ∷ ps) (omega (arith, w))))

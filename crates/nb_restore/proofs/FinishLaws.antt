@@ -129,7 +129,7 @@ module _ (size : ℕ) (start first : Page) (image : Image) (file : File) (is : I
         is = ap (take 64) bytes ∙ take-append-le 64 start (joined (drop 1 image)) (omega (arith, holds.long, wide));
       }
 
-  -- whatever a stop leaves of the write of page 0
+  -- whatever a crash leaves of the write of page 0
   pub last_left : (last : Page) (c : File) → IsUnfinishedPage start → last ≡ normal_page first → PageLeft (0 * length last) last file c → IsFreeOr (fixed (trimmed image)) c
   last_left last c stands last_is (inl same) = inl (subst IsFree (sym same) (free_front start file stands began))
   last_left last c stands last_is (inr (inl put)) = inr (subst (λ (f : File). HoldsMain (fixed (trimmed image)) f) (sym put) (written_whole last last_is))

@@ -1,4 +1,4 @@
--- The first 64 bytes of the target stay while pages behind page 0 are written.
+-- The first 64 bytes of the target stay while pages after page 0 are written.
 use Rattle.std.proofs.Common.{◌≡◌, ◌⊎◌, inl, inr, ⊎_elim, ℕ, ◌+◌, ◌-◌, ◌*◌, ◌≤◌, List, ◌++◌, length, take, drop, replicate, sym, ap, subst, ◌∙◌, arith, length-append, mul-le-mul_right}
 use Rattle.std.specs.Prelude.{Bool, IsTrue, Some, Result, Ok, Err, OnOk}
 use Rattle.std.proofs.lemmas.List.{take-append-le, take-take, length-take-le, length-replicate}
@@ -14,7 +14,7 @@ use Rattle.nb_change.proofs.CallLaws.{bytes_alone, page_alone}
 use Rattle.nb_change.proofs.MovedLaws.{moved_begun, moved_still, moved_joined}
 use Rattle.nb_restore.specs.Copied.{BeginsWith, KeepsFront}
 
--- bytes behind, and a page behind
+-- bytes after, and a page after
 front_grown : (front more : List ℕ) (b : File) → BeginsWith front b → BeginsWith front (Some (bytes_of b ++ more))
 front_grown front more b begins = record {
   long = omega (arith, length-append (bytes_of b) more, begins.long);
@@ -46,7 +46,7 @@ pub keeps_bytes : (len : ℕ) (bytes : List ℕ) (b c : File) → AppendLeft len
 keeps_bytes len bytes b c (inl same) front begins = subst (λ (f : File). BeginsWith front f) (sym same) begins
 keeps_bytes len bytes b c (inr (torn, from, there, grown)) front begins = subst (λ (f : File). BeginsWith front f) (sym grown) (front_grown front torn b begins)
 
--- page n lies behind the header
+-- page n lies after the header
 pub far_behind : (n size : ℕ) → 1 ≤ n → 1024 ≤ size → 64 ≤ n * size
 far_behind n size some wide = let low : 1 * size ≤ n * size = mul-le-mul_right size some in omega (arith, low, wide)
 
@@ -74,7 +74,7 @@ module _ (name : List ℕ) where
   pub front_still : (old new : World) → IsTimely old → IsStill old new → new.said ≡ old.said → Passes old new → Changes old new (Only name) (Moved old name KeepsFront)
   front_still old new timely still silent time = moved_still old new (Only name) name KeepsFront timely still silent time (λ b was. keeps_none b)
 
-  -- a page behind page 0 is written, also where that fails
+  -- a page after page 0 is written, also where that fails
   pub front_page : {T E : Type 0} (tells : Bool) (result : Result T E) (old new : World) (n : ℕ) (page : List ℕ) → IsTrue tells → 1 ≤ n → 1024 ≤ length page → IsTimely old → WritesPage tells result old new name (n * length page) page
       → new.said ≡ old.said → Passes old new → Changes old new (Only name) (Moved old name KeepsFront)
   front_page tells result old new n page told some wide timely writes silent time =

@@ -1,4 +1,4 @@
--- Files that are those of a chain of kept backups are accepted. A file behind them that isn't in its place, or is foreign, is refused.
+-- Files that are those of a chain of kept backups are accepted. A file after them that isn't in its place, or is foreign, is refused.
 use Rattle.std.proofs.Common.{◌≡◌, ◌≢◌, ℕ, ◌+◌, ◌≤◌, List, [], ◌∷◌, ◌++◌, length, refl, sym, ap, subst, ◌∙◌, arith}
 use Rattle.std.specs.Prelude.{Bool, true, false, ◌&&◌, ◌==◌, nat_le, Option, Some, None, Ok, Err, Contains}
 use Rattle.std.specs.Cmp.Lexicographic.{told_text}
@@ -37,7 +37,7 @@ AreAlike [] (r ∷ rs) = ⊥
 AreAlike (q ∷ qs) [] = ⊥
 AreAlike (q ∷ qs) (r ∷ rs) = (o : Option Ask) × (q ≡ with_ask o r) × AreAlike qs rs
 
--- the files of these names are those of a line behind r that tells of these records
+-- the files of these names are those of a line after r that tells of these records
 record IsHeldLine (files : Files) (k : ℕ) (r : Kept) (names : List (List ℕ)) (rs : List Kept) : Type 0 where
   line : List Kept
   alike : AreAlike line rs
@@ -62,7 +62,7 @@ links_alike p (q ∷ qs) [] alike = absurd alike
 links_alike p (q ∷ qs) (r ∷ rs) alike = (link_alike _ q r alike.0 alike.1 (record { guid = refl; scn = refl; size = refl }), links_alike q qs rs alike.2)
 
 module _ (files : Files) (account : Account) (stands : Stands files account) where
-  -- a level in its place behind a kept record is the file of its record
+  -- a level in its place after a kept record is the file of its record
   level_held : (k : ℕ) → 1 ≤ k → (q : Kept) → Contains account.kept q → (o : Option Ask) → (name : List ℕ) → is_delta name ≡ false → (r : Kept) → HoldsLevel files account.kept k q name r → HoldsKeptNext files k (with_ask o q) name r
   level_held k some q there o name plain r holds =
       let c : Contents = holds.contents in
@@ -121,7 +121,7 @@ module _ (files : Files) (account : Account) (stands : Stands files account) whe
           image = chain_gives files none first.zeros held.line name names first.holds held.holds no_zeros ∙ ap (λ (x : Kept). x.image) last.1;
         }
 
-    -- What is refused behind the last of them is refused of all.
+    -- What is refused after the last of them is refused of all.
     pub behind_refused : (refusal : Refusal) (more : List (List ℕ)) → ((l : Link) → l.guid ≡ (last_in r rs).guid → next_links files (1 + length names) l more ≡ Err refusal) → verdict files (name ∷ (names ++ more)) ≡ Err refusal
     behind_refused refusal more refused =
         let last = last_alike none r None held.line rs refl held.alike in
@@ -156,7 +156,7 @@ pub verdict_first : (files : Files) (name : List ℕ) (names : List (List ℕ)) 
 unfolding verdict
 verdict_first files name names bytes c there read = rw (there, verdict) (rw (first_refused name bytes c (level_begins bytes c read) read, verdict) refl)
 
--- a file behind another is refused
+-- a file after another is refused
 next_refused : (files : Files) (k : ℕ) (last : Link) (name : List ℕ) (names : List (List ℕ)) (bytes : List ℕ) (refusal : Refusal) → files name ≡ Some bytes → next_link k last name bytes ≡ Err refusal → next_links files k last (name ∷ names) ≡ Err refusal
 unfolding next_links
 next_refused files k last name names bytes refusal there refused = rw (there, next_links) (rw (refused, next_links) refl)

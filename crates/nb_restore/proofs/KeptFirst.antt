@@ -1,4 +1,4 @@
--- Level 0 of a chain whose records are kept: the pages of its record, and pages of zeros behind.
+-- Level 0 of a chain whose records are kept: the pages of its record, and pages of zeros after.
 use Rattle.std.proofs.Common.{◌≡◌, inl, inr, ℕ, suc, ◌/◌, ◌%◌, ◌≤◌, List, ◌++◌, length, refl, sym, ap, subst, ◌∙◌, arith, div-add-mod'}
 use Rattle.std.specs.Prelude.{true, false, not, ◌||◌, ◌==◌, nat_lt, Some, None}
 use Rattle.std.proofs.lemmas.Bool.{true≢false, eqb-true, or_parts}

@@ -31,7 +31,7 @@ use Rattle.nb_restore.proofs.KeptNext.{HoldsKeptNext, kept_next}
 abbrev ArePlain : List (List ℕ) → Type 0
 ArePlain = AllByRecursion (λ (name : List ℕ). is_delta name ≡ false)
 
--- the files of these names are those of a line behind r, whose last record is kept
+-- the files of these names are those of a line after r, whose last record is kept
 record HoldsKeptLine (files : Files) (kept : List Kept) (k : ℕ) (r : Kept) (names : List (List ℕ)) : Type 0 where
   line : List Kept
   last : Kept
@@ -57,7 +57,7 @@ module _ (files : Files) (account : Account) (stands : Stands files account) whe
       let is = ok_same l _ (first_link name bytes) accepted (ap (first_link name) (sym same) ∙ copy_accepted files (with_ask None r) first.zeros name first.holds) in
       record { guid = ap (λ (x : Link). x.guid) is; scn = ap (λ (x : Link). x.scn) is; size = ap (λ (x : Link). x.size) is }
 
-  -- the files behind r are those of a line of backups, each with the ask that its file spells
+  -- the files after r are those of a line of backups, each with the ask that its file spells
   kept_line : (k : ℕ) → 1 ≤ k → (r : Kept) → Contains account.kept r → (o : Option Ask) → (last : Link) → IsLinkOf last r → (names : List (List ℕ)) → ArePlain names
       → (links : List Link) → next_links files k last names ≡ Ok links → AreKept account.kept links → HoldsKeptLine files account.kept k (with_ask o r) names
   kept_line k some r there o last of [] plain links e kept = record { line = []; last = r; there = there; ask = o; ends = refl; holds = tt }

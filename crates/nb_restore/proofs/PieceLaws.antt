@@ -1,4 +1,4 @@
--- Level 0 behind its page 0, as far as it was copied.
+-- Level 0 after its page 0, as far as it was copied.
 use Rattle.std.proofs.Common.{◌≡◌, ℕ, ◌+◌, ◌-◌, ◌<◌, ◌≤◌, List, ◌++◌, length, take, drop, sym, ap, ◌∙◌, arith, append_assoc, length-drop}
 use Rattle.std.specs.Prelude.{Some}
 use Rattle.std.proofs.lemmas.List.{append-nil, drop-drop, length-take-le, take_all}

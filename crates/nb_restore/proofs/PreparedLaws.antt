@@ -82,7 +82,7 @@ module _ (files : Files) (target : List ℕ) (names : List (List ℕ)) (count : 
     some : 1 ≤ length whole.pages
     some = omega (arith, whole.count, least)
 
-    -- level 0 and the files behind it
+    -- level 0 and the files after it
     pub level_0 : IsLevel0 files target name size first.pages whole.pages
     level_0 = record {
       apart = copy_apart files target name bytes (whole_link bytes) free there copy;

@@ -12,7 +12,7 @@ use Rattle.nb_restore.specs.Copied.{Holds}
 use Rattle.nb_restore.specs.Sources.{IsLevel0, AreReady}
 use Rattle.nb_restore.proofs.HeadLaws.{HasHead, AllHeaded}
 
--- with all of level 0 behind its start the target holds level 0, but for its page 0
+-- with all of level 0 after its start the target holds level 0, but for its page 0
 pub level_0_holds : (size : ℕ) (page first : Page) (ps : List Page) (after : File) → length page ≡ size → IsOfSize size ps → 1 ≤ length ps → length ps ≤ 1048576 → first ≡ first_page ps → after ≡ Some (page ++ drop size (joined ps))
     → Holds size page first ps after
 level_0_holds size page first ps after long sizes some most is copied =

@@ -92,7 +92,7 @@ started_all files target size links more readers none started = by started.rest 
     by [] all sources = subst (λ (ls : List Link). AreReady files target size ls readers) (sym (all ∙ append-nil started.done)) started.ready
     by (l ∷ ls) all sources = absurd sources
 
--- the name in place k, and those behind it
+-- the name in place k, and those after it
 pub names_from : (names : List (List ℕ)) (k : ℕ) (name : List ℕ) → k < length names → name ≡ get_or names k name → drop k names ≡ name ∷ drop (k + 1) names
 names_from names k name inside is = drop-cons names k name inside ∙ ap (λ n. n ∷ drop (suc k) names) (sym is) ∙ ap (λ i. name ∷ drop i names) (let e : suc k ≡ k + 1 = omega arith in e)
 

@@ -1,4 +1,4 @@
--- The target is made, so that a stop leaves its name free, and made whole by its page 0.
+-- The target is made, so that a crash leaves its name free, and made whole by its page 0.
 use Rattle.std.proofs.Common.{◌≡◌, inl, inr, ⊎_elim, ℕ, zero, suc, ◌+◌, ◌-◌, ◌*◌, ◌≤◌, List, [], ◌++◌, length, take, drop, replicate, refl, sym, ap, subst, ◌∙◌, arith}
 use Rattle.std.specs.Prelude.{Bool, true, ◌&&◌, ◌==◌, IsTrue, None, Some, Result, Ok, Err, OnOk}
 use Rattle.std.proofs.lemmas.Bool.{or_left, or_right, and_from}
@@ -111,13 +111,13 @@ module _ (target : List ℕ) where
   pub page_reads : {T E : Type 0} (tells : Bool) (result : Result T E) (mid new : World) (page : Page) → IsTrue tells → IsUnfinishedPage page → mid.files target ≡ Some [] → WritesPage tells result mid new target (0 * length page) page → IsFree (new.files target)
   page_reads tells result mid new page told is empty writes = ⊎_elim (λ same. subst IsFree (sym (same ∙ empty)) free_empty) (λ put. subst IsFree (sym (put ∙ ap (λ (f : File). with_page f (0 * length page) page) empty ∙ put-alone page)) (free_page page is)) (page_read tells result mid new target (0 * length page) page told writes)
 
-  -- Behind the page that says that a restore goes on, other pages are written: whatever a stop leaves begins with that page.
+  -- After the page that says that a restore goes on, other pages are written: whatever a crash leaves begins with that page.
   pub begun_then : (mid new : World) (page : Page) → IsUnfinishedPage page → 64 ≤ length page → IsKept mid target (Some page) → Changes mid new (Only target) (Moved mid target KeepsFront) → Changes mid new (Only target) (λ files. IsFree (files target))
   begun_then mid new page is long kept more =
       weaker_has mid new (Only target) (Moved mid target KeepsFront) (λ files. IsFree (files target)) more
       (λ files moved. free_front page (files target) is (moved_from mid target (Some page) KeepsFront files kept.durable moved (take 64 page) (record { long = long; is = refl })))
 
-  -- Then page 0 is written over it: a stop leaves the name free, or the whole.
+  -- Then page 0 is written over it: a crash leaves the name free, or the whole.
   pub then_done : (old mid new : World) (image : Image) (made : File → Type 0) (there : File) → Changes old mid (Only target) (λ files. IsFree (files target)) → Leaves mid target there → Changes mid new (Only target) (Remade mid target made)
       → ((c : File) → made c → IsFreeOr image c) → Changes old new (Only target) (λ files. IsFreeOr image (files target))
   then_done old mid new image made there first was second by =

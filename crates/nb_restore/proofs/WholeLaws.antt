@@ -37,7 +37,7 @@ pub begun_by : (old mid : World) (target level_0 : List ℕ) (count : ℕ) (read
     → IsBegun old mid target level_0 (length page) count readers first page pages links
 begun_by old mid target level_0 count readers first page pages links plan size wide left kept = record { plan = plan; size_is = size; long = refl; wide = wide; left = left plan.stands; kept = kept }
 
--- since the target was begun a stop leaves its name free, or this image
+-- since the target was begun a crash leaves its name free, or this image
 abbrev pub Since : (mid new : World) (target : List ℕ) (image : Image) → Type 0
 Since mid new target image = Changes mid new (Only target) (λ files. IsFreeOr image (files target))
 
@@ -50,7 +50,7 @@ pub record IsWritten (mid now : World) (target : List ℕ) (size : ℕ) (start f
   pub head : HasHead size 5 image
 
 module _ (old mid : World) (target level_0 : List ℕ) (size count : ℕ) (readers : List Reading) (first page : Page) (pages : List Page) (links : List Link) (begun : IsBegun old mid target level_0 size count readers first page pages links) where
-  -- while pages behind page 0 are written the name stays free
+  -- while pages after page 0 are written the name stays free
   stays_free : (new : World) → Changes mid new (Only target) (Moved mid target KeepsFront) → Changes mid new (Only target) (λ files. IsFree (files target))
   stays_free new more = let wide = (size_facts size begun.size_is).at_least in begun_then target mid new page begun.plan.stands (omega (arith, begun.long, wide)) begun.kept more
 
@@ -96,7 +96,7 @@ module _ (old mid : World) (target level_0 : List ℕ) (size count : ℕ) (reade
       (overwrites links (readers_ready copied wide same first_part))
 
 module _ (old mid new : World) (target : List ℕ) (size : ℕ) (start first : Page) (image : Image) (written : IsWritten old mid target size start first image) (last : Page) (last_is : last ≡ normal_page first) where
-  -- page 0 is written: a stop leaves the name free, or the whole
+  -- page 0 is written: a crash leaves the name free, or the whole
   pub all_since : Leaves mid target (mid.files target) → Changes mid new (Only target) (Remade mid target (PageLeft (0 * length last) last (mid.files target))) → Since old new target (fixed (trimmed image))
   all_since was more =
       then_done target old mid new (fixed (trimmed image)) (PageLeft (0 * length last) last (mid.files target)) (mid.files target) written.free was more

@@ -24,7 +24,7 @@ pub record BeginsWith (front : List ℕ) (file : File) : Type 0 where
 abbrev pub KeepsFront : (before after : File) → Type 0
 KeepsFront before after = (front : List ℕ) → BeginsWith front before → BeginsWith front after
 
--- The pages behind page 0 are those of the image. In the place of page 0 stands `start`, and the image's is held apart.
+-- The pages after page 0 are those of the image. In the place of page 0 stands `start`, and the image's is held apart.
 pub record Holds (size : ℕ) (start first : Page) (image : Image) (file : File) : Type 0 where
   pub reads : file ≡ Some (joined (start ∷ drop 1 image))
   pub long : length start ≡ size

@@ -58,7 +58,7 @@ pub record HoldsLevel (files : Files) (kept : List Kept) (k : ℕ) (q : Kept) (n
   pub level : contents.head.level ≡ k
   pub previous : contents.head.previous ≡ q.guid
 
--- the files of these names are so, in places k and on behind q
+-- the files of these names are so, in places k and on after q
 abbrev pub HoldLevels : (files : Files) (kept : List Kept) (k : ℕ) (q : Kept) (names : List (List ℕ)) → List Kept → Type 0
 HoldLevels files kept k q [] [] = Unit {0}
 HoldLevels files kept k q [] (r ∷ rs) = ⊥

@@ -29,7 +29,7 @@ RestoreLeft was old target names files =
     ⊎ (is_free_file (files target) ≡ true)
     ⊎ ((links : List Link) × (verdict old.files names ≡ Ok links) × ShowsIn target (base_from links) files)
 
--- The files are a chain, and the target is the database that they give, as it reads and whatever a stop leaves of it. None of the files is
+-- The files are a chain, and the target is the database that they give, as it reads and whatever a crash leaves of it. None of the files is
 -- the target, so all of them are as they were.
 pub record IsRestored (old new : World) (target : List ℕ) (names : List (List ℕ)) (count : ℕ) : Type 0 where
   pub links : List Link

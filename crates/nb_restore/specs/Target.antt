@@ -21,7 +21,7 @@ IsFree file = is_free_file file ≡ true
 abbrev pub IsFreeOr : Image → File → Type 0
 IsFreeOr image file = IsFree file ⊎ HoldsMain image file
 
--- a stop leaves this of the file and nothing else, and so it reads
+-- a crash leaves this of the file and nothing else, and so it reads
 pub record IsKept (w : World) (name : List ℕ) (file : File) : Type 0 where
   pub durable : IsDurable w name file
   pub reads : w.files name ≡ file
@@ -42,13 +42,13 @@ pub record IsUnfinishedPage (page : Page) : Type 0 where
   pub state : state_of page ≡ 3
   pub pending : is_zeros (pending_of page) ≡ true
 
--- All that a restore goes by: level 0, the readers of the level files behind it, page 0, and the page that stands in its place.
+-- All that a restore goes by: level 0, the readers of the level files after it, page 0, and the page that stands in its place.
 pub record IsPlan (files : Files) (target level_0 : List ℕ) (size count : ℕ) (readers : List Reading) (first page : Page) (pages : List Page) (links : List Link) : Type 0 where
   pub whole : IsLevel0 files target level_0 size count pages
   pub ready : AreReady files target size links readers
   pub page_0 : first ≡ first_page pages
   pub stands : IsUnfinishedPage page
 
--- the database that level 0 and the files behind it give
+-- the database that level 0 and the files after it give
 abbrev pub restored : List Page → List Link → Image
 restored pages links = fixed (trimmed (all_over links pages))

@@ -12,7 +12,7 @@ use nb_host::{Host, HostFault, Name};
 
 /// Writes page 0 of a file. What stands there is kept for good before, and the page itself before the call answers.
 ///
-/// A stop, and a fault, leave the file as it was, or with the page, or grown by zeros where it was shorter.
+/// A crash, and a fault, leave the file as it was, or with the page, or grown by zeros where it was shorter.
 pub fn write_first<H: Host>(host: &mut H, name: &Name, page: &[u8]) -> Result<(), HostFault>
     requires { IsTrue (is_page_size (length page.now)) }
     ensures left { IsTrue H.tells

@@ -28,7 +28,7 @@ pub fn a_chain_of_kept_backups_is_accepted()
     ensures { (files : Files) (account : Account) (name : List ℕ) (names : List (List ℕ)) (r : Kept) (rs : List Kept) → Stands files account → HoldChain files account.kept name names r rs → GiveLast files (name ∷ names) r rs }
 {}
 
-/// A chain is refused at the first file that isn't in its place, whatever stands behind it: a level file in the place of level 0, pages in the
+/// A chain is refused at the first file that isn't in its place, whatever stands after it: a level file in the place of level 0, pages in the
 /// place of a level, a level of another place, and one that goes on from another backup than the one before it.
 pub fn a_file_out_of_place_is_refused()
     ensures first { (files : Files) (name : List ℕ) (more : List (List ℕ)) (bytes : List ℕ) (c : Contents) → files name ≡ Some bytes → read_level bytes ≡ Ok c → verdict files (name ∷ more) ≡ Err (ChainLevel name c.head.level 0) }

@@ -31,7 +31,7 @@ pub(crate) struct Plan {
     pub(crate) first: Vec<u8>,
     /// The same page in state 3 and without a pending GUID: while it stands in a file, a restore goes on there.
     pub(crate) page: Vec<u8>,
-    /// The level files behind level 0.
+    /// The level files after level 0.
     pub(crate) readers: Vec<LevelReader>,
 }
 

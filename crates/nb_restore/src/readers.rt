@@ -32,7 +32,7 @@ fn start_reader<H: Host>(
     Ok(reader)
 }
 
-/// Begins to read the files behind the first. It takes memory for a page of each.
+/// Begins to read the files after the first. It takes memory for a page of each.
 pub(crate) fn start_readers<H: Host>(
     alloc: Global,
     host: &mut H,

@@ -77,7 +77,7 @@ fn copy_piece<H: Host>(
     Ok(())
 }
 
-/// Copies level 0 from page 1 on, as it stands there, behind the page that the target has. It goes by pieces, not by pages: the
+/// Copies level 0 from page 1 on, as it stands there, after the page that the target has. It goes by pieces, not by pages: the
 /// system takes large ones with less work.
 pub(crate) fn copy_pages<H: Host>(
     host: &mut H,

@@ -19,7 +19,7 @@ const PIECE: usize = 262_144;
 /// The refusals are `FileExists`, where the target's name isn't free, and then those of `nb_chain::check`, in its order. A
 /// refused call changes nothing. Neither does one that answers `Memory`: all memory is taken before the target is made.
 ///
-/// A stop, and an answer of `Device`, leave the target as it was, or such that its name is free for another restore, or
+/// A crash, and an answer of `Device`, leave the target as it was, or such that its name is free for another restore, or
 /// whole. Until then it can't be opened.
 pub fn restore<H: Host>(
     alloc: Global,

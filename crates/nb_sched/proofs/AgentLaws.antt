@@ -45,7 +45,7 @@ module _ {A : Type 0} (left : A → ℕ × ℕ) where
   rests_past agents zero past agent there = absurd cc
   rests_past agents (suc place) past agent there = let within = slice_get_within agents place agent there in absurd (omega arith)
 
-  -- each behind some rests, where those up to a number do and those past it
+  -- each after some rests, where those up to a number do and those past it
   pub rests_behind : (agents : List A) (count most : ℕ) → ((session : ℕ) → most < session → Rests left agents session) → ((session : ℕ) → count < session → session ≤ most → Rests left agents session)
       → (session : ℕ) → count < session → Rests left agents session
   rests_behind agents count most past upto session from = elim (cases_lt most session) [ inl beyond ↦ past session beyond | inr within ↦ upto session from within ]
@@ -60,7 +60,7 @@ module _ {A : Type 0} (left : A → ℕ × ℕ) where
       let range = lower.in_range in
       elim lower.falls [ inl first ↦ omega (arith, sums, old, range, first) | inr second ↦ omega (arith, sums, old, range, second.0, second.1) ]
 
--- What is said of each number of a range, of those behind some, and of the last of the first ones.
+-- What is said of each number of a range, of those after some, and of the last of the first ones.
 module _ (P : ℕ → Type 0) where
   all_in : (first n : ℕ) → ((m : ℕ) → first ≤ m → P m) → AllByRecursion P (range_with_len first n)
   all_in first zero all = tt

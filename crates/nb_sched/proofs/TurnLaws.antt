@@ -1,4 +1,4 @@
--- Turns behind turns, and what holds while they are taken.
+-- Turns after turns, and what holds while they are taken.
 use Rattle.std.proofs.Common.{◌≡◌, ◌<◌, ◌≤◌, ◌+◌, ℕ, zero, suc, List, [], ◌∷◌, ◌++◌, ◌⊎◌, inl, inr, Some, Result, Ok, Err, IsErrAnd, refl, sym, subst, arith, append_assoc, length, take, drop, get_or, take-append-drop}
 use Rattle.std.specs.List.{AllByRecursion}
 use Rattle.std.proofs.lemmas.List.{append-nil, take_more}
@@ -21,7 +21,7 @@ module _ {A H C : Type 0} (of : Kind A H C) where
   turns_then (x ∷ xs) ys before mid after answer (inr (inl go)) next = inr (inl (go.0, go.1, turns_then xs ys go.0 mid after answer go.2 next))
   turns_then (x ∷ xs) ys before mid after answer (inr (inr stop)) next = absurd (cc (stop.0))
 
-  -- numbers behind an error are not gone through
+  -- numbers after an error are not gone through
   pub turns_stop : (xs ys : List ℕ) (before after : Scene A H C) (fault : Fault) → TakesTurns of xs before (Err fault) after → TakesTurns of (xs ++ ys) before (Err fault) after
   turns_stop [] ys before after fault turns = absurd (cc (turns.0))
   turns_stop (x ∷ xs) ys before after fault (inl rest) = inl (rest.0, turns_stop xs ys before after fault rest.1)
@@ -92,7 +92,7 @@ module _ {A H C : Type 0} (of : Kind A H C) where
   turns_rest [] s all = (refl, refl)
   turns_rest (x ∷ order) s all = inl (all.0, turns_rest order s all.1)
 
-  -- a round is one of the first sessions, where those behind them rest
+  -- a round is one of the first sessions, where those after them rest
   pub round_of : (count : ℕ) (before after : Scene A H C) → ((session : ℕ) → count < session → Rests of.left before.agents session) → TakesTurns of (take count all_sessions) before (Ok tt) after
       → TakesTurns of all_sessions before (Ok tt) after
   round_of count before after rest turns =

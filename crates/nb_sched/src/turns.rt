@@ -77,7 +77,7 @@ pub fn take_turns<H, C, A: Agent<H, C>>(
     ensures finished { OnOk result (AllDone A.left agents.new) }
 {
     take_order(agents, host, shared, schedule)?;
-    // One that has finished has no turn any more, so those behind the last that has not are asked no further.
+    // One that has finished has no turn any more, so those after the last that has not are asked no further.
     let mut count = unfinished(agents, agents.len());
     while count > 0 {
         take_order(agents, host, shared, &ROUND[..count])?;

@@ -14,13 +14,13 @@ take-with_part at n bytes page h e =
     ap (take n) (sym (append_assoc (take at page) bytes rest))
     ∙ take_at (take at page ++ bytes) rest n (length-append (take at page) bytes ∙ omega (arith, length-take-le at page h))
 
--- one entry more, behind the others
+-- one entry more, after the others
 pub same_entries-more : (scn n : ℕ) → same_entries scn (suc n) ≡ same_entries scn n ++ bytes_of 4 scn
 unfolding same_entries
 same_entries-more scn zero = append-nil (bytes_of 4 scn)
 same_entries-more scn (suc n) = ap (λ xs. bytes_of 4 scn ++ xs) (same_entries-more scn n) ∙ sym (append_assoc (bytes_of 4 scn) (same_entries scn n) (bytes_of 4 scn))
 
--- the head of an old page, and SCN inventory page k behind it up to its first entries
+-- the head of an old page, and SCN inventory page k after it up to its first entries
 abbrev pub front : (old : List ℕ) (k scn count : ℕ) → List ℕ
 front old k scn count = take 16 old ++ (bytes_of 4 k ++ (replicate 12 0 ++ same_entries scn count))
 

@@ -56,7 +56,7 @@ sizes_again size raw cache is small =
     ∙ ap (λ o. o >>= (λ (s : ℕ × Bytes). after (codes " raw ") s.1 >>= (λ (w : Bytes). within 0 65535 w >>= (λ (r : ℕ × Bytes). Some (s.0, r.0, r.1))))) (page_size_again size (decimal raw ++ cache_text cache) is)
     ∙ ap (λ o. o >>= (λ (r : ℕ × Bytes). Some (size, r.0, r.1))) (within_again 0 65535 raw (cache_text cache) (omega arith) (omega arith) small refl)
 
--- a database's name, before what stands behind it
+-- a database's name, before what stands after it
 base_again : (name rest : Bytes) → IsBase name → name_at 94 (quoted name ++ rest) ≡ Some (name, rest)
 base_again name rest given = ap (λ (b : Bytes). name_at 94 (codes "'" ++ b)) (append_assoc name (codes "'") rest) ∙ name_again 94 name rest given
 
@@ -84,7 +84,7 @@ pub no_first_session : (line : Bytes) → None ≡ session_line line → None �
 unfolding first_at
 no_first_session line none = ap (λ o. o >>= (λ (x : ℕ × Bytes). database_at x.1 >>= (λ (k : Statement). Some (x.0, k)))) none
 
--- of any other it is what stands behind the session
+-- of any other it is what stands after the session
 pub its_first : (line : Bytes) (session : ℕ) (rest : Bytes) (read : Option Statement) → Some (session, rest) ≡ session_line line → read ≡ database_at rest → (read >>= (λ (k : Statement). Some (session, k))) ≡ first_at line
 unfolding first_at
 its_first line session rest read first second =

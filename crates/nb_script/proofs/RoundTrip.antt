@@ -50,7 +50,7 @@ unfolding after
 begins_otherwise w d word rest other =
     ap (λ (same : Bool). if same && pointwise nat_eq word (take (length word) rest) then Some (drop (suc (length word)) (d ∷ rest)) else None) other
 
--- the order of a line, from what stands behind the word `schedule`
+-- the order of a line, from what stands after the word `schedule`
 abbrev order_behind : Bytes → Option Bytes → Option (List ℕ)
 order_behind line (Some rest) = sessions_at 4096 rest
 order_behind line None = option_map (seeded 4096) (after (codes "seed ") line >>= seed_at)
@@ -115,7 +115,7 @@ module _ (asks : ℕ) (first : Statement) (order : List ℕ) where
   abbrev plan_of : List (List Statement) → Plan
   plan_of lists = record { first_session = asks; first = first; schedule = order; sessions = lists }
 
-  -- a statement more of the session behind these
+  -- a statement more of the session after these
   one_more : (front : List (List Statement)) (statements : List Statement) (back : List (List Statement)) (s : Statement)
       → with_statement (plan_of (front ++ statements ∷ back)) (length front + 1, s) ≡ plan_of (front ++ (statements ++ s ∷ []) ∷ back)
   one_more front statements back s =
@@ -147,7 +147,7 @@ module _ (asks : ℕ) (first : Statement) (order : List ℕ) where
       ∙ ap (λ (list : List Statement). with_lines (taken + 1 + length statements) (plan_of (front ++ list ∷ back)) (numbered (before + 1 + length statements) rest)) (append_assoc known (s ∷ []) statements)
       ∙ ap₂ (λ (n m : ℕ). with_lines n (plan_of (front ++ (known ++ s ∷ statements) ∷ back)) (numbered m rest)) count passed
 
-  -- and those of all sessions behind these
+  -- and those of all sessions after these
   sessions_read : (taken before : ℕ) (front lists : List (List Statement)) → length front + length lists ≤ 16 → taken + statement_count lists ≤ 10000 → AllFurther lists
       → with_lines taken (plan_of (front ++ replicate (length lists) [])) (numbered before (session_lines (length front + 1) lists)) ≡ Ok (plan_of (front ++ lists))
   unfolding with_lines numbered
@@ -176,7 +176,7 @@ order_again : (session : ℕ) (others : List ℕ) → FitsOrder (session ∷ oth
 unfolding order_at after
 order_again session others is = sessions_again 4096 session others (omega (arith, is.few)) is.each.0 is.each.1
 
--- the order that a line gives, and the lines behind
+-- the order that a line gives, and the lines after
 abbrev ordered : Numbered → List Numbered → Option (List ℕ) → List ℕ × List Numbered
 ordered line lines (Some order) = (order, lines)
 ordered line lines None = ([], line ∷ lines)
@@ -201,7 +201,7 @@ one_ordered : (line : Numbered) (lines : List Numbered) (order : List ℕ) → o
 unfolding order_in
 one_ordered line lines order is = ap (ordered line lines) is
 
--- a text whose lines behind the first give this order, and these statements
+-- a text whose lines after the first give this order, and these statements
 record Orders (text : Bytes) (order : List ℕ) (lists : List (List Statement)) : Type 0 where
   before : ℕ
   gives : order_in (numbered 1 (lines_of text)) ≡ (order, numbered before (session_lines 1 lists))

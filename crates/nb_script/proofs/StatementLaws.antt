@@ -10,7 +10,7 @@ use Rattle.nb_script.specs.Spelling.{quoted, row_text_of, command_text, line_tex
 use Rattle.nb_script.specs.Fits.{Fits, IsText, IsFile, IsTable}
 use Rattle.nb_script.proofs.WordLaws.{number_again, within_again, text_again, name_again, table_again}
 
--- a page number, and what stands behind it
+-- a page number, and what stands after it
 page_again : (page : ℕ) (rest : Bytes) → page < 2 ^ 32 → digit_count rest ≡ 0 → page_at (decimal page ++ rest) ≡ Some (page, rest)
 page_again page rest small none = within_again 0 4294967295 page rest (omega arith) (omega arith) (omega arith) none
 
@@ -80,7 +80,7 @@ command_again (Access true) h = refl
 command_again (Access false) h = refl
 command_again other h = refl
 
--- the session of a line, and what stands behind it
+-- the session of a line, and what stands after it
 pub session_again : (session : ℕ) (rest : Bytes) → 1 ≤ session → session ≤ 16 → session_line (decimal session ++ (codes ": " ++ rest)) ≡ Some (session, rest)
 unfolding session_line after
 session_again session rest low high =
@@ -91,7 +91,7 @@ pub no_session : (line : Bytes) → None ≡ session_line line → None ≡ stat
 unfolding statement_at
 no_session line none = ap (λ o. o >>= (λ (x : ℕ × Bytes). command_at x.1 >>= (λ (k : Statement). Some (x.0, k)))) none
 
--- of any other it is what stands behind the session
+-- of any other it is what stands after the session
 pub its_statement : (line : Bytes) (session : ℕ) (rest : Bytes) (read : Option Statement) → Some (session, rest) ≡ session_line line → read ≡ command_at rest → (read >>= (λ (k : Statement). Some (session, k))) ≡ statement_at line
 unfolding statement_at
 its_statement line session rest read first second =

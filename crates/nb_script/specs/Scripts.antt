@@ -45,7 +45,7 @@ unfoldable pub with_lines : ℕ → Plan → List Numbered → Result Plan Refus
 with_lines taken plan [] = Ok plan
 with_lines taken plan (line ∷ lines) = or_bad line (if nat_lt taken 10000 then statement_at line.1 else None) (λ read. with_lines (taken + 1) (with_statement plan read) lines)
 
--- the order of turns that the first line gives, none where it gives none, and the lines behind
+-- the order of turns that the first line gives, none where it gives none, and the lines after
 unfoldable pub order_in : List Numbered → List ℕ × List Numbered
 order_in [] = ([], [])
 order_in (line ∷ lines) = elim (order_at line.1) [

@@ -22,7 +22,7 @@ sizes_text page_size raw = codes " page_size " ++ (decimal page_size ++ (codes "
 abbrev pub row_text_of : Bytes → ℕ → Bytes
 row_text_of table key = table ++ (codes " " ++ decimal key)
 
--- what stands behind the session
+-- what stands after the session
 abbrev pub command_text : Statement → Bytes
 command_text (CreateDb name page_size raw cache) = codes "create database " ++ (quoted name ++ (sizes_text page_size raw ++ cache_text cache))
 command_text (OpenDb name cache) = codes "open " ++ (quoted name ++ cache_text cache)

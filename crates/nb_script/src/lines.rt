@@ -24,7 +24,7 @@ fn without_first(bytes: &[u8]) -> &[u8]
     if bytes.is_empty() { bytes } else { &bytes[1..] }
 }
 
-/// The first line, and the bytes behind it.
+/// The first line, and the bytes after it.
 fn first_line(bytes: &[u8]) -> (&[u8], &[u8])
     requires { 0 < length bytes.now }
     ensures line { lines_of bytes.now ≡ result.0.now ∷ lines_of result.1.now }

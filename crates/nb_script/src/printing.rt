@@ -138,7 +138,7 @@ fn put_row_text(
     put_quoted(out, text.as_slice())
 }
 
-/// What stands behind the session.
+/// What stands after the session.
 fn put_command(out: &mut Vec<u8>, statement: &Statement) -> Result<(), AllocError>
     ensures { OnOk result (out.new.items ≡ out.old.items ++ command_text statement.now) }
 {

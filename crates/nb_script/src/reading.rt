@@ -27,7 +27,7 @@ fn bad(line: u32) -> Fault
     Fault::Refused(Refusal::BadScript { line })
 }
 
-/// The order of turns that the next line gives, none where it gives none, and the lines behind.
+/// The order of turns that the next line gives, none where it gives none, and the lines after.
 #[tactic(auto, unfolding(crate::specs::Scripts::order_in))]
 fn order_line<'a>(alloc: Global, lines: Lines<'a>) -> Result<(Vec<u32>, Lines<'a>), Fault>
     ensures ok { IfOk result (λ x. (x.0.items, left x.1.passed x.1.rest.now) ≡ order_in (left lines.entry.passed lines.entry.rest.now)) }

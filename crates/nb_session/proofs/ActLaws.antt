@@ -96,7 +96,7 @@ module _ {T S : Type 0} (reply : T → Option Reply) (other : S → Option Reply
   may_passed fault (Err e) is may =
       subst (λ (f : Fault). MayAct other (Err f) old new a b t now session turn files) (sym is.1) (record { grows = may.grows; acts = λ told. by_fault fault (may.acts told) })
 
-  -- memory runs out behind it
+  -- memory runs out after it
   pub may_then_memory : (value : T) (fault : Fault) (result : Result S Fault) → fault ≡ Memory → IsErr result × IsErrAnd result (λ e. e ≡ fault) → MayAct reply (Ok value) old new a b t now session turn files → MayAct other result old new a b t now session turn files
   may_then_memory value fault (Ok x) memory is may = absurd is.1
   may_then_memory value fault (Err e) memory is may =
@@ -112,7 +112,7 @@ module _ {T S : Type 0} (reply : T → Option Reply) (other : S → Option Reply
     acts = λ told. let acts = may.acts told in record { says = acts.says ∙ same; left = acts.left; opened = acts.opened; running = acts.running; given = acts.given; kept = acts.kept; unchanged = acts.unchanged; name = acts.name; cap = acts.cap };
   }
 
--- the trail behind a turn that waits for nothing
+-- the trail after a turn that waits for nothing
 pub trail_plain : (t : Trail) (e : Event) → e.syncs ≡ false → after_strokes t e.strokes ≡ after_steps t (steps_in e)
 trail_plain t e plain = strokes_are_steps t e.strokes ∙ ap (after_steps t) (sym (steps_plain e plain))
 

@@ -197,7 +197,7 @@ module _ (old new : World) (a b : Held) (t : Trail) (now : Now) (session : ℕ) 
           apart_one a asked whole (record { plain = plain; other = not_own old a t now asked ready free }) n bytes (subst (λ (fs : List MadeFile). Contains fs (n, bytes)) is there)
       by (inr (is, loud)) = absurd (no_file n bytes (subst (λ (fs : List MadeFile). Contains fs (n, bytes)) is there))
 
-  -- what a stop leaves of a start is what it leaves of this turn
+  -- what a crash leaves of a start is what it leaves of this turn
   start_left : StartMakes old new asked db t begins begins.strokes → Changes old new (Touched db begun) (TurnLeft old db t begins.strokes begun)
   unfolding Files_are
   start_left makes = by begun files_are
@@ -340,7 +340,7 @@ module _ (old new : World) (a b : Held) (t : Trail) (now : Now) (session : ℕ) 
   pub backup_files : files ≡ touching session (copy_first rest last) (copy_rest rest last) now
   backup_files = ap (λ (bytes : List ℕ). (name, bytes) ∷ []) whole_is ∙ backups_make (base_now now).frozen rest copier.backing ∙ plain_touch session (copy_first rest last) (copy_rest rest last) now (copy_plain rest last tt)
 
-  -- what a stop leaves of a close is what it leaves of this turn
+  -- what a crash leaves of a close is what it leaves of this turn
   module _ (reads : Leaves old name (old.files name)) where
     close_left : (ss : List Stroke) → Changes old new (OfBackup name (name_of a)) (CloseLeft old name whole (name_of a) t ss) → Changes old new (Touched (name_of a) files) (TurnLeft old (name_of a) t ss files)
     close_left ss changes =
@@ -447,7 +447,7 @@ module _ (old new : World) (a b : Held) (t : Trail) (now : Now) (session : ℕ) 
       pub turn_sure : IfErr result IsNoRefusal
       turn_sure = turn_once.sure
 
-  -- What is left behind it.
+  -- What is left after it.
   module _ (runs : a.running ≡ Some session) where
     pub more_behind : later.backing ≡ copier.backing → BackupCounts (Ok More) copier later → IsBackingUp new later t.base.frozen → IsBehind new b session (copy_first rest last) (copy_rest rest last) now (Some (Backup later))
     more_behind backed counts further = by rest refl

@@ -88,7 +88,7 @@ pub made_by : (w : World) (e : Event) (file : MadeFile) → e.made ≡ Some file
 unfolding files_made
 made_by w e file made kept = subst (λ (m : Option MadeFile). AreKept w (elim m as (λ z. List MadeFile) [ Some f ↦ f ∷ [] | None ↦ [] ])) (sym made) kept
 
--- What a stop leaves while a file that isn't the database's is made, and the database stays.
+-- What a crash leaves while a file that isn't the database's is made, and the database stays.
 module _ (old new : World) (a : Held) (t : Trail) (opened : IsOpen old a t) (name whole : List ℕ) (apart : IsApart a name) (reads : Leaves old name (old.files name)) where
   touches : (m : List ℕ) → m ≡ name → Touched (name_of a) ((name, whole) ∷ []) m
   touches m same = inr (whole, (0, omega arith, ap (λ (n : List ℕ). (n, whole)) (sym same)))
@@ -348,7 +348,7 @@ module _ (old mid : World) (a b : Held) (t : Trail) (now : Now) (session : ℕ) 
           };
         }
 
-  -- what is left behind it
+  -- what is left after it
   pub more_behind : (left : ℕ) → 1 ≤ left → later.count - later.next ≡ left - 1 → later.name ≡ copy.name → b ≡ a → IsCopying mid later t.base.frozen → a.running ≡ Some session
       → IsBehind mid b session (copy_first left last) (copy_rest left last) now (Some (Copy later))
   more_behind zero some rest named same goes runs = absurd (omega (arith, some))

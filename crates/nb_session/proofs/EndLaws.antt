@@ -11,7 +11,7 @@ use Rattle.nb_script.specs.Scripts.{Plan}
 begun_length : (plan : Plan) → IsAskable plan → (now : Now) → now.todo ≡ begun plan.sessions → length now.todo ≤ 16
 begun_length plan askable now todo = omega (arith, ap length todo, length-map plan.sessions (map Begins), askable.sixteen)
 
--- rounds behind rounds
+-- rounds after rounds
 rounds_joined : (m n : ℕ) → rounds m ++ rounds n ≡ rounds (m + n)
 unfolding rounds
 rounds_joined zero n = let same : n ≡ 0 + n = omega arith in ap rounds same

@@ -107,7 +107,7 @@ kept_still old new files still kept name bytes there =
     let is : IsKept old name bytes = kept name bytes there in
     record { durable = durable_still old new name (Some bytes) still is.durable; reads = ap (λ (f : Files). f name) still.files ∙ is.reads }
 
--- The files that a turn makes are none of the database's, and what a stop then leaves of each is as it was, unfinished, or whole.
+-- The files that a turn makes are none of the database's, and what a crash then leaves of each is as it was, unfinished, or whole.
 pub record Marks (old mid : World) (held : Held) (files : List MadeFile) : Type 0 where
   pub apart : (name bytes : List ℕ) → Contains files (name, bytes) → IsApart held name
   pub left : (name bytes : List ℕ) (file : File) → Contains files (name, bytes) → Leaves mid name file → Leaves old name file ⊎ IsUnfinishedOr bytes file
@@ -197,7 +197,7 @@ module _ (old mid new : World) (e0 e1 : Held) (t : Trail) (now : Now) (session :
       unfolding files_made
       kept_mid = kept_turn
 
-      -- the database stands ready behind it
+      -- the database stands ready after it
       ready_at : (w : World) → IsStill mid w → IsReady w e1 (after_steps t (steps_of (event ∷ []))) one.1
       ready_at w still =
           subst (λ (x : Trail). IsReady w e1 x one.1) trail_is

@@ -101,7 +101,7 @@ none_front : (xs ys : List (List ℕ)) → xs ++ ys ≡ [] → ys ≡ []
 none_front [] ys is = is
 none_front (x ∷ xs) ys is = absurd cc
 
--- Where some GUID is left behind turns, they have taken those of the backups that they began, in order.
+-- Where some GUID is left after turns, they have taken those of the backups that they began, in order.
 pub play_takes : (order : List ℕ) (now : Now) → IsMaking now → (play order now).1.given.guids ≢ [] → now.given.guids ≡ guids_in (strokes_of (play order now).0) ++ (play order now).1.given.guids
 unfolding play strokes_of guids_in
 play_takes [] now making some = refl

@@ -1,4 +1,4 @@
--- Turns behind turns, one by one.
+-- Turns after turns, one by one.
 use Rattle.std.proofs.Common.{◌≡◌, inl, inr, ℕ, List, [], ◌∷◌, ◌++◌, refl, ap, subst, ◌∙◌}
 use Rattle.std.specs.Prelude.{Err}
 use Rattle.nb_host.specs.World.{World}
@@ -18,7 +18,7 @@ use Rattle.nb_session.specs.Told.{told_turns}
 use Rattle.nb_session.proofs.PlayLaws.{after_none, trail_after}
 use Rattle.nb_session.proofs.ToldLaws.{told_steps}
 
--- what was seen behind turns, whatever was told of them
+-- what was seen after turns, whatever was told of them
 pub told_trail : (told : Told) (t : Trail) (p : Played) → trail_after t (told_turns told p) ≡ after_steps t (steps_of p.0)
 told_trail told t p = ap (after_steps t) (told_steps told p.0)
 
@@ -32,7 +32,7 @@ pub play_idle : (session : ℕ) (order : List ℕ) (now : Now) → HasNone sessi
 unfolding play
 play_idle session order now none = ap (λ (p : Played). (p.0 ++ (play order p.1).0, (play order p.1).1)) (one_turn_idle session now none)
 
--- what was seen behind one turn and others
+-- what was seen after one turn and others
 play_then : (session : ℕ) (order : List ℕ) (now : Now) (t : Trail)
     → after_steps t (steps_of (play (session ∷ order) now).0) ≡ after_steps (after_steps t (steps_of (one_turn session now).0)) (steps_of (play order (one_turn session now).1).0)
 unfolding play
@@ -51,7 +51,7 @@ module _ {H : Type 0} (world : H → World) (told : Told) where
       (subst (λ (u : Trail). InTurn world told order mid new between after u now) (after_none t)
       (subst (λ (p : Played). InTurn world told order mid new between after (after_steps t (steps_of p.0)) p.1) (play_none now) turns)))
 
-  -- turns behind turns
+  -- turns after turns
   pub in_turn_then : (front order : List ℕ) (old mid new : H) (before between after : Held) (t : Trail) (now : Now) → InTurn world told front old mid before between t now
       → InTurn world told order mid new between after (after_steps t (steps_of (play front now).0)) (play front now).1 → InTurn world told (front ++ order) old new before after t now
   unfolding play

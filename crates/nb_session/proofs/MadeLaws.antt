@@ -46,7 +46,7 @@ named_tells (f ∷ files) name = elim (decide f.0 name) [
   ]
 ]
 
--- what turns make, and those behind them
+-- what turns make, and those after them
 pub made_first : (es fs : List Event) → AreAmong (files_made es) (files_made (es ++ fs))
 made_first es fs = subst (AreAmong (files_made es)) (sym (made_append es fs)) (among_left (files_made es) (files_made fs))
 

@@ -189,7 +189,7 @@ module _ (old new : World) (a b : Held) (t : Trail) (now : Now) (session : ℕ) 
       goes = tt;
     }
 
-    -- and behind a backup
+    -- and after a backup
     pub ends_behind : (reply : Reply) → IsBehind new b session (Ends reply) [] now (Some (Merge (record { left = entries; reply = reply })))
     ends_behind reply = record {
       next = append-nil (outcome session (Ends reply) now).next ∙ ap (λ (x : Outcome). x.next) (ends_is session reply now) ∙ ends_next (seen_now now) session reply ∙ next_is reply;
@@ -203,7 +203,7 @@ module _ (old new : World) (a b : Held) (t : Trail) (now : Now) (session : ℕ) 
     goes = tt;
   }
 
-  -- The end behind a backup, where its session runs.
+  -- The end after a backup, where its session runs.
   module _ (reply : Reply) (quiet : turn_of.reply ≡ None) where
     is_quiet : turn_of ≡ ending (seen_now now) session
     is_quiet = end_goes (seen_now now) session quiet
@@ -238,7 +238,7 @@ module _ (old new : World) (a b : Held) (t : Trail) (now : Now) (session : ℕ) 
       };
     }
 
--- The stalled state ends behind a backup whose session runs: it isn't refused.
+-- The stalled state ends after a backup whose session runs: it isn't refused.
 pub ends_quiet : {sound : Bool} (w : World) (held : Held) (t : Trail) (now : Now) (session : ℕ) → IsReady w held t now → IsGoing sound now → (reply : Reply) (more : List Turn) → slice_index_or now.todo (session - 1) [] ≡ Ends reply ∷ more
     → held.running ≡ Some session → (end_turn (seen_now now) session).reply ≡ None
 ends_quiet {sound = sound} w held t now session ready going reply more here runs =

@@ -1,4 +1,4 @@
--- What stands behind one number more of an order, and what is made then.
+-- What stands after one number more of an order, and what is made then.
 use Rattle.std.proofs.Common.{◌≡◌, ◌≢◌, ℕ, ◌-◌, List, [], ◌∷◌, ◌++◌, length, drop, get_or, refl, sym, ap, subst, ◌∙◌, get_or-set_other, length-set}
 use Rattle.std.specs.Prelude.{Bool, Contains}
 use Rattle.std.specs.List.{slice_index_or}
@@ -114,7 +114,7 @@ module _ (now : Now) (making : IsMaking now) (front : List ℕ) (session : ℕ) 
         among_right made (touching_by session so_far.1) file
         (among_right (begun_first session (slice_index_or so_far.1.todo (session - 1) []) so_far.1) (making_by session so_far.1) file (made_among session so_far.1 far_making.going file there)))
 
--- What is under way behind a front of an order was made behind all of it, or is under way still.
+-- What is under way after a front of an order was made after all of it, or is under way still.
 pub play_ahead : (front rest : List ℕ) (now : Now) → IsMaking now
     → AreAmong (files_made (play front now).0 ++ under_way (play front now).1) (files_made (play (front ++ rest) now).0 ++ under_way (play (front ++ rest) now).1)
 play_ahead front rest now making =

@@ -77,7 +77,7 @@ leaves_among old new few many are leaves = record {
   added = leaves.added;
 }
 
--- The line of a refusal was said, and more behind it, or before it.
+-- The line of a refusal was said, and more after it, or before it.
 pub refusal_said : (old new : World) (session : ℕ) (refusal : Refusal) → new.said ≡ old.said ++ line_text session (Refused refusal) → SaysRefusal old new
 refusal_said old new session refusal said = record {
   session = session;

@@ -1,4 +1,4 @@
--- What waits is written out behind the turns.
+-- What waits is written out after the turns.
 use Rattle.std.proofs.Common.{◌≡◌, inl, inr, ℕ, List, [], ◌∷◌, ◌++◌, Bool, true, false, refl, sym, ap, subst, ◌∙◌, arith}
 use Rattle.std.proofs.lemmas.Bool.{true≢false}
 use Rattle.std.specs.Prelude.{Contains, Result, Ok, Err, IsErr, ◌||◌}
@@ -98,7 +98,7 @@ or_false : (a : Bool) → (a || false) ≡ a
 or_false true = refl
 or_false false = refl
 
--- behind turns
+-- after turns
 module _ (old mid new : World) (e0 e1 e2 : Held) (t : Trail) (now : Now) (p : Played) (made : List MadeFile) (once : NamesOnce made) (has : AreAmong (files_made p.0) made) (a : Bool) (first : Plays (Ok a) old mid e0 e1 t now p made) where
   once_more : NamesOnce (made ++ [])
   once_more = subst NamesOnce (sym (append-nil made)) once
@@ -149,7 +149,7 @@ none_left : (told : Told) (rest : List ℕ) (old mid new : World) (a b c : Held)
 none_left told [] old mid new a b c t now refused result last go = go last
 none_left told (session ∷ rest) old mid new a b c t now refused result last go = absurd last
 
--- and behind all turns of a script
+-- and after all turns of a script
 -- what stood at a failure stands where it is passed on
 pub whole_passed : {H : Type 0} (world : H → World) (old new : H) (before after : Held) (t : Trail) (told : Told) (now : Now) (schedule : List ℕ) (e : Stop) (result : Result Bool Stop) → IsErr result
     → PlaysInTurn world (Err e) old new before after t told now schedule → PlaysInTurn world result old new before after t told now schedule

@@ -1,4 +1,4 @@
--- Turns behind turns.
+-- Turns after turns.
 use Rattle.std.proofs.Common.{◌≡◌, inl, inr, ℕ, zero, suc, List, [], ◌∷◌, ◌++◌, take, Bool, false, refl, sym, ap, subst, ◌∙◌, arith, append_assoc, max}
 use Rattle.std.specs.Prelude.{Contains, Result, Ok, Err, IfOk, true, ◌&&◌, ◌||◌, if◌then◌else◌}
 use Rattle.std.specs.List.{list_all}
@@ -34,11 +34,11 @@ use Rattle.nb_session.proofs.GiftLaws.{given_nothing, given_joined}
 use Rattle.nb_session.proofs.MadeLaws.{among_left, among_right}
 use Rattle.nb_session.proofs.StopLaws.{AreApart, FileLeft, Stays, others_fewer, left_more, stop_wider, stop_more, stop_then}
 
--- one list of turns behind another
+-- one list of turns after another
 abbrev pub behind : Played → Played → Played
 behind p q = (p.0 ++ q.0, q.1)
 
--- the trail behind turns
+-- the trail after turns
 abbrev pub trail_after : Trail → Played → Trail
 trail_after t p = after_steps t (steps_of p.0)
 
@@ -70,7 +70,7 @@ leads_more old new name t es fs made leads = record {
   others_read = leads.others_read;
 }
 
--- Turns behind turns, which leave the files that those made whole. No two of all files have the same name.
+-- Turns after turns, which leave the files that those made whole. No two of all files have the same name.
 module _ (old mid new : World) (name : List ℕ) (t : Trail) (es fs : List Event) (made more : List MadeFile) (once : NamesOnce (made ++ more)) where
   abbrev all : List MadeFile
   all = made ++ more
@@ -110,7 +110,7 @@ pub both_true : (a b : Bool) → (a && b) ≡ true → (a ≡ true) × (b ≡ tr
 both_true true b all = (refl, all)
 both_true false b all = absurd (true≢false (sym all))
 
--- Behind turns that only told something a settled point is one still.
+-- After turns that only told something a settled point is one still.
 no_stroke_told : (e : Event) → only_told e ≡ true → e.strokes ≡ []
 no_stroke_told e told = by e.strokes told
   where
@@ -183,7 +183,7 @@ kept_on mid new name made n bytes same read other kept = record {
   reads = read n other ∙ kept.reads;
 }
 
--- The turns of q behind those of p. All files that p made whole are among its own, and q makes none of their names.
+-- The turns of q after those of p. All files that p made whole are among its own, and q makes none of their names.
 module _ (old mid new : World) (e0 e1 e2 : Held) (t : Trail) (now : Now) (p q : Played) (made more : List MadeFile) (once : NamesOnce (made ++ more)) (has : AreAmong (files_made p.0) made)
     (others : (n bytes : List ℕ) → Contains (files_made p.0) (n, bytes) → IsNoneOf more n) where
   trail_is : after_steps (trail_after t p) (steps_of q.0) ≡ after_steps t (steps_of (p.0 ++ q.0))
@@ -225,7 +225,7 @@ module _ (old mid new : World) (e0 e1 e2 : Held) (t : Trail) (now : Now) (p q : 
   pub plays_failed : (a : Bool) (e : Stop) → Plays (Ok a) old mid e0 e1 t now p made → Plays (Err e) mid new e1 e2 (trail_after t p) p.1 q more → Plays (Err e) old new e0 e2 t now (behind p q) (made ++ more)
   plays_failed a e first second = plays_by (Err e) old new e0 e2 t now (behind p q) (made ++ more) (both a (Err e) first second) (second.name ∙ first.name) tt
 
--- what turns would have come behind those that ended early
+-- what turns would have come after those that ended early
 pub plays_cut : (old new : World) (before after : Held) (t : Trail) (now : Now) (p : Played) (more : List Event) (last : Now) (made : List MadeFile) (e : Stop) → Plays (Err e) old new before after t now p made
     → Plays (Err e) old new before after t now (p.0 ++ more, last) made
 plays_cut old new before after t now p more last made e plays =

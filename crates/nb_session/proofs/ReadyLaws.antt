@@ -1,4 +1,4 @@
--- Behind a turn the database is ready for the next one.
+-- After a turn the database is ready for the next one.
 use Rattle.std.proofs.Common.{◌≡◌, ◌≢◌, ◌⊎◌, inl, inr, ℕ, zero, suc, ◌-◌, List, [], ◌∷◌, ◌++◌, length, Bool, true, false, arith, refl, sym, ap, subst, ◌∙◌}
 use Rattle.std.specs.Prelude.{Contains, Option, Some, None, is_some, not, nat_le, ◌&&◌}
 use Rattle.std.proofs.lemmas.Bool.{true≢false}
@@ -110,7 +110,7 @@ made_or_not e name = by e.made
       | inr other ↦ inr (λ bytes there. other (alone file bytes there))
     ]
 
--- The entries behind a turn.
+-- The entries after a turn.
 module _ (session : ℕ) (rest : List Turn) (o : Outcome) (now : Now) where
   abbrev then : Now
   then = stands_then session rest o now
@@ -147,7 +147,7 @@ module _ (session : ℕ) (rest : List Turn) (o : Outcome) (now : Now) where
   unfolding stands_then
   running_then = refl
 
--- Behind a turn of a database that was ready, which made its files whole.
+-- After a turn of a database that was ready, which made its files whole.
 module _ (old w : World) (e0 e1 : Held) (t : Trail) (now : Now) (session : ℕ) (u : Turn) (tail more : List Turn) (ready : IsReady old e0 t now)
     (here : slice_index_or now.todo (session - 1) [] ≡ u ∷ (tail ++ more)) where
   abbrev o : Outcome

@@ -120,7 +120,7 @@ module _ {H : Type 0} (tells : Bool) (told : IsTrue tells) (world : H → World)
   abbrev pub Holds : (shown front : List ℕ) → Scene Asker H Held → Type 0
   Holds shown front s = (rest : List ℕ) → front ++ rest ≡ order → HoldsAt shown front s
 
-  -- the order goes on behind one number more
+  -- the order goes on after one number more
   one_more : (front rest : List ℕ) (session : ℕ) → (front ++ session ∷ []) ++ rest ≡ order → front ++ (session ∷ rest) ≡ order
   one_more front rest session is = sym (append_assoc front (session ∷ []) rest) ∙ is
 

@@ -134,7 +134,7 @@ module _ {H : Type 0} (tells : Bool) (told : IsTrue tells) (world : H → World)
             says = tt;
           }
 
--- What waits is written out behind them.
+-- What waits is written out after them.
 module _ (old mid new : World) (a b c : Held) (plan : Plan) (refused : Bool) (first : ScriptStays (Ok refused) old mid a b plan) (xs : List Stroke) (struck : Strikes mid new (name_of b) first.opened.trail xs) (same : but_pages c ≡ but_pages b) where
   abbrev touched : List ℕ → Type 0
   touched = OfFilesOr (name_of a) (ScriptMakes plan)

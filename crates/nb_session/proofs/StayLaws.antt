@@ -71,7 +71,7 @@ aside : (w : World) (held : Held) (t : Trail) (name : List ℕ) → IsOpen w hel
 aside w held t name is free plain (inl same) = true≢false (sym free ∙ ap (λ (n : List ℕ). is_free_name w.files n) same ∙ not_free w held t is)
 aside w held t name is free plain (inr same) = true≢false (sym (delta_named (name_of held)) ∙ ap is_delta (sym same) ∙ plain)
 
--- the name is none of the database's behind a call either
+-- the name is none of the database's after a call either
 pub aside_then : (w : World) (a b : Held) (t : Trail) (asked name : List ℕ) → IsOpen w a t → is_free_name w.files asked ≡ true → is_delta asked ≡ false → name ≡ asked → name_of b ≡ name_of a → IsAside b name
 aside_then w a b t asked name is free plain same named own =
     aside w a t asked is free plain (subst (λ (n : List ℕ). OfFiles n asked) named (subst (λ (n : List ℕ). OfFiles (name_of b) n) same own))
@@ -129,7 +129,7 @@ module _ (old mid : World) (a b : Held) (names : Names) (still : IsStillOpen old
       says = λ yes. absurd (true≢false (sym yes ∙ none));
     }
 
-    -- a line is said behind it, or a front of that
+    -- a line is said after it, or a front of that
     module _ (new : World) {V E : Type 0} (line_said : Result V E) (line : List ℕ) (timely : IsTimely new) (reads : LeavesAll new new.files) (says : SaysLine line_said mid new line) (c : Held) (but : c ≡ record b { running = c.running }) where
       both : LeavesOthers old new (OfFilesOr (name_of a) names)
       both = leaves_then old mid new (OfFilesOr (name_of a) names) leaves (leaves_line line_said mid new line (OfFilesOr (name_of a) names) timely reads says)

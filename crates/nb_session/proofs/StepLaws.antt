@@ -41,13 +41,13 @@ use Rattle.nb_session.proofs.MakesLaws.{place_in}
 use Rattle.nb_session.proofs.TouchingLaws.{one_turn_is}
 use Rattle.nb_session.proofs.UnderWayLaws.{making_append, making_begins}
 
--- a session that took a turn has then what the turn left, and what stood behind it
+-- a session that took a turn has then what the turn left, and what stood after it
 taken_todo : (session : ℕ) (now : Now) (t : Turn) (rest : List Turn) → slice_index_or now.todo (session - 1) [] ≡ t ∷ rest
     → slice_index_or (take_turn session (t ∷ rest) now).1.todo (session - 1) [] ≡ (outcome session t now).next ++ rest
 unfolding take_turn stands_then
 taken_todo session now t rest is = get_or-set_same now.todo (session - 1) ((outcome session t now).next ++ rest) [] (place_in now.todo (session - 1) t rest is)
 
--- the database is that behind its strokes
+-- the database is that after its strokes
 taken_base : (session : ℕ) (now : Now) (t : Turn) (rest : List Turn) → base_now (take_turn session (t ∷ rest) now).1 ≡ base_after (base_now now) (outcome session t now).strokes
 unfolding take_turn
 taken_base session now t rest = turn_stands session rest (outcome session t now) now
@@ -59,7 +59,7 @@ plays_err f g (Refused refusal) old new before after t now p made plays = plays
 plays_err f g Device old new before after t now p made plays = plays
 plays_err f g Memory old new before after t now p made plays = plays
 
--- The next turn of a session, whose value tells whether its statement was refused and what is under way then: `tail` is what its statement has to do behind it, and these statements it has not begun then.
+-- The next turn of a session, whose value tells whether its statement was refused and what is under way then: `tail` is what its statement has to do after it, and these statements it has not begun then.
 module _ {T : Type 0} (refused : T → Bool) (task : T → Option Task) (old new : World) (a b : Held) (t : Trail) (now : Now) (asker moved : Asker) (turn : Turn) (tail : List Turn) (rest : List Statement) (here : todo_of asker ≡ turn ∷ (tail ++ map Begins rest)) (has : HasTodo asker now) where
   abbrev more : List Turn
   more = map Begins rest

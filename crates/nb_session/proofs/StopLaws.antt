@@ -1,4 +1,4 @@
--- How what a stop leaves goes on from turn to turn.
+-- How what a crash leaves goes on from turn to turn.
 use Rattle.std.proofs.Common.{◌≡◌, ◌⊎◌, inl, inr, ℕ, zero, suc, ◌+◌, ◌-◌, ◌≤◌, List, [], ◌∷◌, ◌++◌, length, take, sym, ap, subst, ◌∙◌, arith, append_assoc, length-append, length-take}
 use Rattle.std.specs.Prelude.{Contains, Bool, true, false, Option, Some, None, nat_le}
 use Rattle.std.proofs.Math.Seq.{take-append-add}
@@ -29,7 +29,7 @@ use Rattle.nb_session.proofs.MadeLaws.{named_tells, made_grow}
 abbrev pub AreApart : (name : List ℕ) → List MadeFile → Type 0
 AreApart name made = (n bytes : List ℕ) → Contains made (n, bytes) → OfFiles name n → ⊥
 
--- what a stop leaves of each file it would have left before, or an unfinished file, or a whole one
+-- what a crash leaves of each file it would have left before, or an unfinished file, or a whole one
 abbrev pub FileLeft : World → (name bytes : List ℕ) → File → Type 0
 FileLeft old name bytes file = Leaves old name file ⊎ IsUnfinishedOr bytes file
 
@@ -101,13 +101,13 @@ acked_files es said = files_made (take (acked_turns es said) es)
 files_front : (es fs : List Event) (said : ℕ) → said ≤ length (output es) → acked_files (es ++ fs) said ≡ acked_files es said
 files_front es fs said low = ap (λ n. files_made (take n (es ++ fs))) (turns_front es fs said low) ∙ ap files_made (take-append-le (acked_turns es said) es fs (turns_most es said))
 
--- and behind them all at most all of the first, and those of the second
+-- and after them all at most all of the first, and those of the second
 files_behind : (es fs : List Event) (said : ℕ) → AreAmong (acked_files (es ++ fs) (length (output es) + said)) (files_made es ++ acked_files fs said)
 files_behind es fs said =
     subst (AreAmong (acked_files (es ++ fs) (length (output es) + said))) (ap files_made (take-append-add es fs (acked_turns fs said)) ∙ made_append es (take (acked_turns fs said) fs))
     (made_grow (es ++ fs) (acked_turns (es ++ fs) (length (output es) + said)) (length es + acked_turns fs said) (turns_behind es fs said))
 
--- more events come behind
+-- more events come after
 pub stop_more : (old : World) (name : List ℕ) (t : Trail) (es fs : List Event) (made : List MadeFile) (files : Files) (said : List ℕ) → StopLeft old name t es made files said → StopLeft old name t (es ++ fs) made files said
 stop_more old name t es fs made files said left =
     let fits : length left.out.part ≤ length (output es) = part_fits left.out.part (output es) left.out.front in
@@ -122,7 +122,7 @@ stop_more old name t es fs made files said left =
       others = left.others;
     }
 
--- a file that is kept for good, and that the turns behind don't make
+-- a file that is kept for good, and that the turns after don't make
 pub record Stays (w : World) (name : List ℕ) (made : List MadeFile) (n bytes : List ℕ) : Type 0 where
   pub durable : IsDurable w n (Some bytes)
   pub other : Other (Touched name made) n
@@ -131,7 +131,7 @@ stays_whole : (w : World) (name : List ℕ) (made : List MadeFile) (n bytes : Li
 stays_whole w name made n bytes file stays (inl back) = stays.durable.none_back file back
 stays_whole w name made n bytes file stays (inr now) = stays.durable.only file now
 
--- Events behind events: of the first these files were made, and of the second those among all.
+-- Events after events: of the first these files were made, and of the second those among all.
 module _ (old mid : World) (name : List ℕ) (t : Trail) (es fs : List Event) (made all : List MadeFile) (among : AreAmong made all) (once : NamesOnce all) (apart : AreApart name all) where
   pub stop_then : (files : Files) (said : List ℕ) → mid.said ≡ old.said ++ output es → Untouched old mid (Other (Touched name all)) → ((n bytes : List ℕ) (file : File) → Contains all (n, bytes) → Leaves mid n file → FileLeft old n bytes file)
       → ((n bytes : List ℕ) → Contains (files_made es) (n, bytes) → Stays mid name made n bytes) → StopLeft mid name (after_steps t (steps_of es)) fs made files said → StopLeft old name t (es ++ fs) all files said

@@ -31,7 +31,7 @@ told_one Whole e = refl
 told_one (WithPages pages) e = refl
 told_one Sparingly e = refl
 
--- events behind events
+-- events after events
 sized_append : (pages : ℕ) (a b : List Event) → all_sized pages (a ++ b) ≡ all_sized pages a ++ all_sized pages b
 unfolding all_sized
 sized_append pages [] b = refl

@@ -56,7 +56,7 @@ err_none : {S : Type 0} (result : Result S Fault) (P : S → Type 0) → IsErr r
 err_none (Ok value) P is = absurd (cc (is))
 err_none (Err e) P is = tt
 
--- A turn of the session that has it to do next, and `tail` and `more` behind it.
+-- A turn of the session that has it to do next, and `tail` and `more` after it.
 module _ {T S : Type 0} (how : Told) (reply : T → Option Reply) (result : Result T Fault) (refused : S → Bool) (task : S → Option Task) (old mid new : World) (e0 e1 : Held) (t : Trail) (now : Now) (session : ℕ)
     (u : Turn) (tail more : List Turn) (files : List MadeFile) (files_are : files ≡ touching session u tail now) (makes : IsMaking now) (place : slice_index_or now.todo (session - 1) [] ≡ u ∷ (tail ++ more))
     (may : MayAct reply result old mid e0 e1 t now session u files) (mark : Acts reply result old mid e0 e1 t now session u files → Marks old mid e0 files) where
@@ -144,19 +144,19 @@ pub outcome_is : (session : ℕ) (statement : Statement) (now : Now) → outcome
 unfolding outcome turn
 outcome_is session statement now = refl
 
--- the status behind a statement is 1 where it was refused
+-- the status after a statement is 1 where it was refused
 pub status_told : (session : ℕ) (statement : Statement) (now : Now) (r : Reply) → (outcome session (Begins statement) now).reply ≡ Some r → status_after r ≡ (if is_refusal r then 1 else 0)
 status_told session statement now r is =
     status_plain r (λ usage. never_usage statement (seen_now now) session (sym (ap (λ o. o.reply) (outcome_is session statement now)) ∙ is ∙ ap Some usage))
 
--- behind a reply that is no refusal it is 0
+-- after a reply that is no refusal it is 0
 pub status_none : (r : Reply) → is_refusal r ≡ false → status_after r ≡ 0
 status_none r none = status_plain r (λ usage. refused_is (sym none ∙ ap is_refusal usage)) ∙ ap (λ (b : Bool). if b then 1 else 0) none
   where
     refused_is : false ≡ true → ⊥
     refused_is e = cc
 
--- a statement that is done in one turn leaves nothing behind it
+-- a statement that is done in one turn leaves nothing after it
 pub single_behind : (w : World) (held : Held) (session : ℕ) (statement : Statement) (now : Now) → IsSingle statement → IsBehind w held session (Begins statement) [] now None
 single_behind w held session statement now single =
     record { next = append-nil (outcome session (Begins statement) now).next ∙ ap (λ o. o.next) (outcome_is session statement now) ∙ single (seen_now now) session; goes = tt }

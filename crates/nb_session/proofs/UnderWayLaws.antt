@@ -12,7 +12,7 @@ use Rattle.nb_model.proofs.GoingLaws.{one_runs}
 use Rattle.nb_session.specs.Askers.{copy_first}
 use Rattle.nb_session.proofs.MadeLaws.{none_among, among_left, among_right}
 
--- turns behind turns
+-- turns after turns
 pub making_append : (frozen : Image) (ts us : List Turn) → making frozen (ts ++ us) ≡ making frozen ts ++ making frozen us
 unfolding making
 making_append frozen [] us = refl
@@ -47,7 +47,7 @@ at_among frozen (ts ∷ todo) (suc place) file there = among_right (making froze
 pub by_among : (session : ℕ) (now : Now) → AreAmong (making_by session now) (under_way now)
 by_among session now = at_among (base_now now).frozen now.todo (session - 1)
 
--- a turn of a copy, or the end behind it
+-- a turn of a copy, or the end after it
 abbrev pub IsCopyTurn : Turn → Type 0
 IsCopyTurn (Begins statement) = ⊥
 IsCopyTurn Copies = Unit {0}

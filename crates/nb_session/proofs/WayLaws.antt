@@ -122,7 +122,7 @@ module _ (now : Now) (place : ℕ) where
   pub copying_at : {sound : Bool} (left : ℕ) (name : List ℕ) (more : List Turn) → IsAt sound now place (copy_first left (ClosesCopy name) ∷ (copy_rest left (ClosesCopy name) ++ more)) → Runs now place 1 × (is_free_entry (now.account.entry name) ≡ true)
   copying_at left name more at = copies_by _ name (closing_copy left name more) at
 
-  -- an end behind a backup
+  -- an end after a backup
   pub ending_at : {sound : Bool} (reply : Reply) (more : List Turn) → IsAt sound now place (Ends reply ∷ more) → Runs now place 1
   unfolding closing
   ending_at reply more (waits all) = absurd all.0

@@ -188,7 +188,7 @@ module _ {H : Type 0} (tells : Bool) (told : IsTrue tells) (world : H → World)
           guids = λ some. given_taken (world old) (world after.host) order now making far.plays.done.given some;
         }
 
-    -- A turn ended early, and these would have come behind it.
+    -- A turn ended early, and these would have come after it.
     failed : (front rest whole : List ℕ) (session : ℕ) (mid new : World) (e1 e2 : Held) (r : Bool) (e : Stop) (made : List MadeFile) → whole ≡ front ++ (session ∷ rest)
         → AreAmong made (files_made (play front now).0 ++ under_way (play front now).1) → AreAmong (files_made (play front now).0) made → Plays (Ok r) (world old) mid before e1 t now (told_turns how (play front now)) made
         → Plays (Err e) mid new e1 e2 (trail_after t (told_turns how (play front now))) (play front now).1 (told_turns how (one_turn session (play front now).1)) (touching_by session (play front now).1)

@@ -58,13 +58,13 @@ MadeLeft old made files = (name bytes : List ℕ) → Contains made (name, bytes
 abbrev pub AreKept : World → List MadeFile → Type 0
 AreKept w made = (name bytes : List ℕ) → Contains made (name, bytes) → IsKept w name bytes
 
--- What a stop leaves while a turn makes its strokes, and files: the database behind a front of the strokes, and the files.
+-- What a crash leaves while a turn makes its strokes, and files: the database after a front of the strokes, and the files.
 pub record TurnLeft (old : World) (name : List ℕ) (t : Trail) (strokes : List Stroke) (made : List MadeFile) (files : Files) : Type 0 where
   pub database : Reached after_stroke (StandsIn name) t strokes files
   pub each : MadeLeft old made files
 
 -- The strokes of a turn are made in order, and what it is to say is answered. Once it has ended with a value or a refusal the database is
--- open behind its steps, and the file that the turn made whole is kept for good. Where it only tells something no file has changed, also where a call of
+-- open after its steps, and the file that the turn made whole is kept for good. Where it only tells something no file has changed, also where a call of
 -- the host failed in it. As many pages may be in memory as before.
 pub record Acts {T : Type 0} (reply : T → Option Reply) (result : Result T Fault) (old new : World) (before after : Held) (t : Trail) (now : Now) (session : ℕ) (turn : Turn) (made : List MadeFile) : Type 0 where
   pub says : Says reply result (outcome session turn now).reply

@@ -66,7 +66,7 @@ pub record Asker : Type 0 where
   -- whether a statement of it was refused
   pub refused : Bool
 
--- so many turns, and then a last one: the first of them, and those behind it
+-- so many turns, and then a last one: the first of them, and those after it
 abbrev pub copy_first : (left : ℕ) → (last : Turn) → Turn
 copy_first zero last = last
 copy_first (suc left) last = Copies
@@ -83,7 +83,7 @@ abbrev pub merge_rest : (left : ℕ) → (last : Turn) → List Turn
 merge_rest zero last = []
 merge_rest (suc left) last = replicate left Merges ++ last ∷ []
 
--- the next turn of a statement that is under way, and those behind it
+-- the next turn of a statement that is under way, and those after it
 abbrev pub task_first : Task → Turn
 task_first (Backup c) = copy_first (file_count c.file - file_next c.file) (ClosesBackup c.backing)
 task_first (Copy c) = copy_first (c.count - c.next) (ClosesCopy c.name)

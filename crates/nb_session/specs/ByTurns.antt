@@ -40,7 +40,7 @@ abbrev pub StillInLast : (rest : List ℕ) → Now → (old new : World) → Typ
 StillInLast [] now old new = Unit {0}
 StillInLast (session ∷ rest) now old new = list_all only_told (one_turn session now).0 ≡ true → new.files ≡ old.files
 
--- The turns of a schedule and then of rounds, to the end of all or up to one that ended early. Behind them what waits was written out, or not all of it.
+-- The turns of a schedule and then of rounds, to the end of all or up to one that ended early. After them what waits was written out, or not all of it.
 pub record GoesByTurns {H : Type 0} (world : H → World) (told : List Event → List Event) (old new : H) (now : Now) (schedule : List ℕ) : Type 0 where
   pub how_often : ℕ
   pub front : List ℕ

@@ -35,7 +35,7 @@ InTurn {H} world told (session ∷ order) old new before after t now =
     ⊎ ((mid : H) × (between : Held) × TakesOne (world old) (world mid) before between t told now session
     × InTurn world told order mid new between after (after_steps t (steps_of (one_turn session now).0)) (one_turn session now).1)
 
--- The last thing done of a run, of which these numbers are left: what waits is written out behind all turns, or a turn ended early, or that. Where
+-- The last thing done of a run, of which these numbers are left: what waits is written out after all turns, or a turn ended early, or that. Where
 -- that turn was only to tell something, the files read as before it.
 abbrev pub EndsBy : Result Bool Stop → Told → (rest : List ℕ) → (old new : World) → (before after : Held) → Trail → Now → Type 0
 EndsBy (Ok refused) told [] old new before after t now = Plays (Ok false) old new before after t now ([], now) []

@@ -14,12 +14,12 @@ pub record IsAdded (old : World) (said : List ℕ) : Type 0 where
   pub part : List ℕ
   pub is : said ≡ old.said ++ part
 
--- At one moment: of each other name a stop leaves what it would have left before.
+-- At one moment: of each other name a crash leaves what it would have left before.
 pub record OthersLeft (old : World) (names : Names) (files : Files) (said : List ℕ) : Type 0 where
   pub added : IsAdded old said
   pub others : (m : List ℕ) → Other names m → Leaves old m (files m)
 
--- Whatever becomes of the files of these names: at each moment since `old`, and now, of every other name a stop leaves what it would have left
+-- Whatever becomes of the files of these names: at each moment since `old`, and now, of every other name a crash leaves what it would have left
 -- before, and it reads as it did. Something may be said.
 pub record LeavesOthers (old new : World) (names : Names) : Type 0 where
   pub moments : AtEachMoment old new (OthersLeft old names)

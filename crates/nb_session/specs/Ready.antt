@@ -30,7 +30,7 @@ pub record IsApart (held : Held) (name : List ℕ) : Type 0 where
   pub plain : is_delta name ≡ false
   pub other : name ≢ name_of held
 
--- A copy that is under way goes on from where it is, into a file of its own. Up to the end behind it its session runs.
+-- A copy that is under way goes on from where it is, into a file of its own. Up to the end after it its session runs.
 abbrev pub TaskGoes : (session : ℕ) → World → Held → (frozen : Image) → Option Task → Type 0
 TaskGoes session w held frozen None = Unit {0}
 TaskGoes session w held frozen (Some (Backup c)) = IsBackingUp w c frozen × IsApart held c.backing.name × (held.running ≡ Some session)

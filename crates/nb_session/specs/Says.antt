@@ -7,7 +7,7 @@ use Rattle.nb_host.specs.Calls.{IsStill}
 use Rattle.nb_host.specs.Moments.{AtEachMoment}
 use Rattle.nb_change.specs.Gave.{GaveNothing}
 
--- A front of these bytes was said behind what had been said, and a stop leaves what it would have left before.
+-- A front of these bytes was said after what had been said, and a crash leaves what it would have left before.
 pub record FrontSaid (old : World) (bytes : List ℕ) (files : Files) (said : List ℕ) : Type 0 where
   pub count : ℕ
   pub is : said ≡ old.said ++ take count bytes

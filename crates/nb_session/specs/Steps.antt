@@ -35,7 +35,7 @@ as_played refused (Err (Refused refusal)) = Err MemoryStop
 as_played refused (Err Device) = Err DeviceStop
 as_played refused (Err Memory) = Err MemoryStop
 
--- the files that are still to be made behind that turn
+-- the files that are still to be made after that turn
 abbrev pub left_making : (session : ℕ) → Turn → Now → List MadeFile
 left_making session turn now = making (base_after (base_now now) (outcome session turn now).strokes).frozen (outcome session turn now).next
 
@@ -45,7 +45,7 @@ begun_in session (Begins (BackupTo level name)) now = left_making session (Begin
 begun_in session (Begins (BackupSince guid name)) now = left_making session (Begins (BackupSince guid name)) now
 begun_in session other now = []
 
--- the files that a turn may touch, where `tail` stands behind it: that of a backup that begins, and those that its statement is still to make
+-- the files that a turn may touch, where `tail` stands after it: that of a backup that begins, and those that its statement is still to make
 abbrev pub touching : (session : ℕ) → Turn → (tail : List Turn) → Now → List MadeFile
 touching session turn tail now = begun_in session turn now ++ making (base_now now).frozen (turn ∷ tail)
 
@@ -65,13 +65,13 @@ shown_first (turn ∷ rest) held = shown_by turn held
 abbrev pub shown_next : Asker → Held → List ℕ
 shown_next asker held = shown_first (todo_of asker) held
 
--- What a turn leaves of its statement, where `tail` stood behind it: what is under way then, and that it goes on from where it is.
+-- What a turn leaves of its statement, where `tail` stood after it: what is under way then, and that it goes on from where it is.
 pub record IsBehind (w : World) (held : Held) (session : ℕ) (turn : Turn) (tail : List Turn) (now : Now) (task : Option Task) : Type 0 where
   pub next : (outcome session turn now).next ++ tail ≡ task_todo task
   pub goes : TaskGoes session w held (base_after (base_now now) (outcome session turn now).strokes).frozen task
 
 -- A turn was taken, and what is told of it said, where the outside gave what it may give. Where it only tells something, no file has changed,
--- however it ended. `tail` is what its statement has to do behind it, and `more` what its session has behind that.
+-- however it ended. `tail` is what its statement has to do after it, and `more` what its session has after that.
 pub record Turns {T : Type 0} (told : Told) (refused : T → Bool) (task : T → Option Task) (result : Result T Fault) (old new : World) (before after : Held) (t : Trail) (now : Now) (session : ℕ) (turn : Turn) (tail more : List Turn) : Type 0 where
   pub grows : Grows old new
   pub plays : Foretells now.given (shown_by turn before) old new

@@ -42,7 +42,7 @@ pub record TurnStays {T : Type 0} (refused : T → Bool) (task : T → Option Ta
   pub makes : IfOk result (λ value. (m : List ℕ) → TaskMakes (task value) m → names m)
   pub says : IfOk result (λ value. refused value ≡ true → SaysRefusal old new)
 
--- The same of one turn of a session. It may make no file behind it that it might not have made before.
+-- The same of one turn of a session. It may make no file after it that it might not have made before.
 pub record AskerTurnStays (refused : Bool) (result : Result (Unit {0}) Fault) (old new : World) (before after : Held) (asker moved : Asker) : Type 0 where
   pub leaves : LeavesOthers old new (OfFilesOr (name_of before) (MayMake asker))
   pub name : name_of after ≡ name_of before

@@ -1,4 +1,4 @@
--- What a stop leaves while turns are taken, and what they did.
+-- What a crash leaves while turns are taken, and what they did.
 use Rattle.std.specs.Prelude.{◌≡◌, ◌⊎◌, ℕ, ◌≤◌, List, [], ◌++◌, length, take, Bool, true, Some, Result, IfOk, Contains, if◌then◌else◌}
 use Rattle.std.specs.List.{list_all}
 use Rattle.nb_host.specs.Files.{File, Files}
@@ -36,8 +36,8 @@ abbrev pub AreWhole : List MadeFile → Files → Type 0
 AreWhole made files = (name bytes : List ℕ) → Contains made (name, bytes) → files name ≡ Some bytes
 
 -- While these events happen to a database that is open, and these files are made: a front of their lines was said, and the files hold what
--- may be left of what was seen behind so many of their steps, each acknowledged one among them. A file that is made is as it was, unfinished
--- or whole, and whole once its turn is acknowledged. Other files are as a stop would have left them before.
+-- may be left of what was seen after so many of their steps, each acknowledged one among them. A file that is made is as it was, unfinished
+-- or whole, and whole once its turn is acknowledged. Other files are as a crash would have left them before.
 pub record StopLeft (old : World) (name : List ℕ) (t : Trail) (events : List Event) (made : List MadeFile) (files : Files) (said : List ℕ) : Type 0 where
   pub out : IsSaid old events said
   pub count : ℕ

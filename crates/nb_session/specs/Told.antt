@@ -30,7 +30,7 @@ abbrev pub told_line : (session : ℕ) → Option Reply → List ℕ
 told_line session None = []
 told_line session (Some reply) = line_text session reply
 
--- the status behind it
+-- the status after it
 abbrev pub told_status : Option Reply → ℕ
 told_status None = 0
 told_status (Some reply) = status_after reply

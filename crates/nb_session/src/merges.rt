@@ -88,7 +88,7 @@ pub fn begin_merge<H: Host>(
     }
 }
 
-/// The turn behind a backup's copy: the stalled state ends, and its merge begins.
+/// The turn after a backup's copy: the stalled state ends, and its merge begins.
 pub fn end_backup<H: Host>(
     alloc: Global,
     host: &mut H,

@@ -71,7 +71,7 @@ pub fn do_statement<H: Host>(
     requires single { IsOneTurn statement.now }
     ensures turn { (now : Now) (t : Trail) (session : ℕ) → IsTrue H.tells → IsReady (H.world host.old) engine.old t now
         → MayAct some_said result (H.world host.old) (H.world host.new) engine.old engine.new t now session (Begins statement.now) [] }
-    // Whatever stands in the database: only its two files are touched, and it is open behind that.
+    // Whatever stands in the database: only its two files are touched, and it is open after that.
     ensures stays_open { (t : Trail) → IsTrue H.tells → IsOpen (H.world host.old) engine.old t → StaysOpen result (H.world host.old) (H.world host.new) engine.old engine.new t NoNames }
     ensures others { (session : ℕ) → KeepsOthers session engine.old engine.new }
     ensures cause { CountsDevice result (H.faults host.old) (H.faults host.new) }

@@ -26,7 +26,7 @@ pub enum Task {
     Backup(Copier),
     /// A copy of the frozen file.
     Copy(FileCopier),
-    /// The end of the stalled state behind a backup, of which this is said once all is merged.
+    /// The end of the stalled state after a backup, of which this is said once all is merged.
     End(Reply),
     Merge(Merging),
 }
@@ -45,7 +45,7 @@ impl Task {
     }
 }
 
-/// What is under way of a statement behind a turn, if anything is, and whether it was refused.
+/// What is under way of a statement after a turn, if anything is, and whether it was refused.
 #[derive(Drop)]
 pub struct Taken {
     pub task: Option<Task>,

@@ -22,7 +22,7 @@ place_rises size (suc k) is =
     more : (n : ℕ) → suc n + 1 ≡ suc (suc n)
     more n = omega arith
 
--- page p was found broken first, and all that were found since stand behind it
+-- page p was found broken first, and all that were found since stand after it
 record IsFound (image : Image) (k p : ℕ) (d : Draft) : Type 0 where
   pub same : d.image ≡ image
   pub last : ℕ

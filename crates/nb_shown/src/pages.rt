@@ -116,7 +116,7 @@ fn count_covered<H: Host>(
     Ok(())
 }
 
-/// Counts the pages from page `first` on that have their bits in inventory page `k`, and answers the first page behind them, at most
+/// Counts the pages from page `first` on that have their bits in inventory page `k`, and answers the first page after them, at most
 /// the length. The refusal is `NotDatabase` of the inventory page.
 fn count_next<H: Host>(
     host: &mut H,

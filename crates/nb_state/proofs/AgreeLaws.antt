@@ -1,4 +1,4 @@
--- What is held of page 0 behind a stroke.
+-- What is held of page 0 after a stroke.
 use Rattle.std.proofs.Common.{◌≡◌, inl, inr, ℕ, zero, suc, ◌<◌, ◌≤◌, List, length, refl, sym, ap, subst, ◌∙◌, arith}
 use Rattle.std.specs.Prelude.{true, not, ◌==◌}
 use Rattle.std.proofs.lemmas.Bool.Decides.{eqb_tells}
@@ -32,7 +32,7 @@ agrees_front held a b same agrees = record {
   read_only = agrees.read_only ∙ ap (λ (x : Page). not (number_in 65 1 x == 0)) (sym same);
 }
 
--- Behind another control block: the SCN and the GUID are those of the block, and the flags stay.
+-- After another control block: the SCN and the GUID are those of the block, and the flags stay.
 module _ (held now : Held) (before after : Base) (state scn : ℕ) (guid : List ℕ) where
   pub agrees_control : AgreesWith held before → is_header (first_page before.image) ≡ true → length guid ≡ 16 → scn < 4294967296 → after.image ≡ with_control state scn guid before.image
       → now.scn ≡ scn → now.guid ≡ guid → now.forced ≡ held.forced → now.read_only ≡ held.read_only → AgreesWith now after
@@ -51,7 +51,7 @@ module _ (held now : Held) (before after : Base) (state scn : ℕ) (guid : List 
             ∙ control_other state scn guid (first_page before.image) long sixteen 65 1 (inl (omega arith)) (inl (omega arith)) (inl (omega arith)) (inl (omega arith)) (inl (omega arith))));
       }
 
--- Behind a page write.
+-- After a page write.
 module _ (t : Trail) (p : ℕ) (bytes : Page) (fits : Fits p bytes t.base.image) where
   abbrev later : Image
   later = (after_stroke (page p bytes) t).base.image
@@ -99,7 +99,7 @@ module _ (t : Trail) (p : ℕ) (bytes : Page) (fits : Fits p bytes t.base.image)
       read_only = agrees.read_only ∙ ap (λ (x : Page). not (number_in 65 1 x == 0)) (sym (first_stays some));
     }
 
-    -- the database is open behind it
+    -- the database is open after it
     pub open_written : (old new : World) (after : Held) → (p ≡ 0 → after ≡ flagged) → (0 < p → after ≡ same) → IsOpen old held t → pair.files.state ≡ held.files.state → (held.files.state ≡ 2 → pair.files.entries ≡ held.files.entries)
         → PairOpen new pair (after_stroke (page p bytes) t) → (held.files.state ≡ 2 → AreMerged new pair.files held.merged) → IsOpen new after (after_stroke (page p bytes) t)
     open_written old new after first other is state entries opened merged = elim (eqb_tells p 0) [

@@ -38,7 +38,7 @@ open_quiet old new held t quiet is = still_open old new held t quiet.still is
 pub open_still : (old new : World) (a b : Held) (t : Trail) → b ≡ a → Quiet old new → IsOpen old a t → IsOpen new b t
 open_still old new a b t same quiet is = subst (λ (h : Held). IsOpen new h t) (sym same) (open_quiet old new a t quiet is)
 
--- the database behind one stroke, as it is seen
+-- the database after one stroke, as it is seen
 after_base_one : (t : Trail) (x : Stroke) → (after_stroke x t).base ≡ on_base x t.base
 unfolding after_stroke
 after_base_one t x = by (settles_at t x)
@@ -47,7 +47,7 @@ after_base_one t x = by (settles_at t x)
     by true = refl
     by false = refl
 
--- and behind strokes
+-- and after strokes
 pub after_base : (t : Trail) (xs : List Stroke) → (after_strokes t xs).base ≡ base_after t.base xs
 unfolding base_after
 after_base t [] = refl
@@ -161,7 +161,7 @@ makes_after result old mid new a b c t xs same quiet is makes = record {
   gave = nothing_joined old mid new (gave_none old mid quiet) makes.gave;
 }
 
--- and behind it
+-- and after it
 pub makes_before : {S T : Type 0} (value : S) (result : Result T Fault) (old mid new : World) (a b c : Held) (t : Trail) (xs : List Stroke) → Makes (Ok value) old mid a b t xs
     → but_pages c ≡ but_pages b → Quiet mid new → ((u : Trail) → IsOpen mid b u → IsOpen new c u) → Makes result old new a c t xs
 makes_before value result old mid new a b c t xs makes same quiet opens =

@@ -22,7 +22,7 @@ shown w held t none is = (files_open w (pair_of held) t none.0 is.files).shows
 pub shown_settled : (w : World) (held : Held) (b : Base) → IsOpen w held (settled b) → ShowsIn (name_of held) b w.files
 shown_settled w held b is = (files_shown w (pair_of held) (settled b) (settled_none w (pair_of held) (settled b) is.files refl) is.files).shows
 
--- The two files read as before, and a stop leaves of them only what it would have left.
+-- The two files read as before, and a crash leaves of them only what it would have left.
 module _ (old new : World) (held : Held) (t : Trail) (is : IsOpen old held t) (main : new.files (name_of held) ≡ old.files (name_of held)) (beside : new.files (delta_name (name_of held)) ≡ old.files (delta_name (name_of held)))
     (left : (P : File → File → Type 0) → ((files : Files) → LeavesAll old files → P (files (name_of held)) (files (delta_name (name_of held)))) → (files : Files) → LeavesAll new files → P (files (name_of held)) (files (delta_name (name_of held)))) where
   reads : (P : File → File → Type 0) → P (old.files (name_of held)) (old.files (delta_name (name_of held))) → P (new.files (name_of held)) (new.files (delta_name (name_of held)))

@@ -1,4 +1,4 @@
--- What is open behind the turns of a backup.
+-- What is open after the turns of a backup.
 use Rattle.std.proofs.Common.{◌≡◌, ◌≢◌, ◌⊎◌, ⊎_elim, ℕ, ◌+◌, ◌<◌, ◌≤◌, List, [], ◌∷◌, ◌++◌, length, drop, refl, sym, ap, subst, ◌∙◌, arith, length-append, drop_at}
 use Rattle.std.specs.Prelude.{Bool, true, false, Option, Some, None, Result, Ok, Err}
 use Rattle.std.proofs.lemmas.Bool.{eq-eqb, ne_eqb}
@@ -63,7 +63,7 @@ given_guid old new given guid is =
     ⊎_elim (λ none. absurd (omega (arith, ap length (sym none ∙ is), length-append old (given ∷ []))))
     (λ one. ap first_of (sym (drop_at old (guid ∷ []) (length old) refl) ∙ ap (drop (length old)) (sym one ∙ is) ∙ drop_at old (given ∷ []) (length old) refl))
 
--- the state behind another control block
+-- the state after another control block
 state_control : (before after : Base) (state scn : ℕ) (guid : List ℕ) → is_header (first_page before.image) ≡ true → length guid ≡ 16 → state < 65536 → after.image ≡ with_control state scn guid before.image → image_state after.image ≡ state
 state_control before after state scn guid header sixteen low is =
     ap image_state is ∙ ap state_of (with_control-first state scn guid before.image (some_page before.image header)) ∙ control_state state scn guid (first_page before.image) (header-long (first_page before.image) header) sixteen low

@@ -15,7 +15,7 @@ use Rattle.nb_model.specs.Trail.{ShowsIn, settled}
 use Rattle.nb_base.specs.Beginnings.{CreateLeft, CreateReads}
 use Rattle.nb_state.specs.Open.{Held, IsOpen, name_of}
 
--- what is held is the database that the two files were as the call began, and each stop from now on leaves it
+-- what is held is the database that the two files were as the call began, and each crash from now on leaves it
 pub record IsAttached (held : Held) (old new : World) (name : List ℕ) : Type 0 where
   pub base : Base
   pub stands : ShowsIn name base old.files

@@ -75,8 +75,8 @@ pub record Goes (before after : Held) : Type 0 where
   pub merged : after.merged ≡ before.merged
   pub cap : after.cap ≡ before.cap
 
--- The call makes these strokes in order: at each moment a stop leaves what may be left of what was seen behind a front of them, and
--- once the call has ended the database is open behind all of them. It asks for no GUID and no time.
+-- The call makes these strokes in order: at each moment a crash leaves what may be left of what was seen after a front of them, and
+-- once the call has ended the database is open after all of them. It asks for no GUID and no time.
 pub record Makes {T : Type 0} (result : Result T Fault) (old new : World) (before after : Held) (t : Trail) (strokes : List Stroke) : Type 0 where
   pub left : Strikes old new (name_of before) t strokes
   pub opened : WhereEnded result (IsOpen new after (after_strokes t strokes))

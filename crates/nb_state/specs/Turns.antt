@@ -58,13 +58,13 @@ pub record Ends (result : Result ℕ Fault) (old new : World) (before after : He
   pub idle : (r : Refusal) → end_cause t.base.image before.running session ≡ Some r → Quiet old new
   pub name : name_of after ≡ name_of before
 
--- How far a merge has come behind one turn more, whatever the host tells.
+-- How far a merge has come after one turn more, whatever the host tells.
 abbrev pub GoesOn : Progress → (before after : Held) → Type 0
 GoesOn More before after =
     (before.merged < length before.files.entries) × (after.merged ≡ before.merged + 1) × (after.files.state ≡ 2) × (after.running ≡ before.running) × (after.files.entries ≡ before.files.entries)
 GoesOn Finished before after = length before.files.entries ≤ before.merged
 
--- What a turn of a merge changes of the files, whatever they hold: one page of the main file, that of the next entry; or behind the last one the
+-- What a turn of a merge changes of the files, whatever they hold: one page of the main file, that of the next entry; or after the last one the
 -- difference file is gone.
 abbrev pub PutsOn : Progress → (old new : Files) (before : Held) → Type 0
 PutsOn More old new before = PutsPage old new (name_of before) before.files.page_size (slice_index before.files.entries before.merged)

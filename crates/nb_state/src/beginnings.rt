@@ -49,7 +49,7 @@ fn open<H: Host>(host: &mut H, pair: Pair, page: &mut [u8]) -> Result<Store, Hos
 
 impl Store {
     /// Opens a database, and takes memory for so many of its pages. It changes nothing: its files are kept for good before it answers.
-    /// Behind what opening its files reads it reads page 0, in two parts at most.
+    /// After what opening its files reads it reads page 0, in two parts at most.
     ///
     /// The refusals are `NoFile`, `NotDatabase`, `Unfinished`, `NoFile` of the difference file and `BadDelta`, in this order.
     pub fn attach<H: Host>(

@@ -1,4 +1,4 @@
-// What page 0 says behind its head.
+// What page 0 says after its head.
 ghost use Rattle.std.specs.Prelude.{◌≡◌, ◌<◌, ◌≤◌, length, not, ◌==◌};
 ghost use Rattle.nb_fields.specs.Bytes.{number_in};
 ghost use Rattle.nb_fields.specs.Header.{scn_of, guid_of};

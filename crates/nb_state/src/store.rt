@@ -212,7 +212,7 @@ impl Store {
         Ok(())
     }
 
-    /// Takes over what a page 0 that was written says behind its control block.
+    /// Takes over what a page 0 that was written says after its control block.
     fn take_flags(&mut self, number: u32, page: &[u8])
         requires { 80 ≤ length page.now }
         ensures first { number ≡ 0 → self.new ≡ record self.old { forced = not (number_in 64 1 page.now == 0); read_only = not (number_in 65 1 page.now == 0) } }

@@ -29,7 +29,7 @@ pub enum Progress {
     Finished,
 }
 
-/// The SCN behind this one. The last one stays.
+/// The SCN after this one. The last one stays.
 fn next_scn(scn: u32) -> u32
     ensures { scn < 4294967295 → result ≡ scn + 1 }
 {

@@ -47,7 +47,7 @@ unfolding lowest_broken
 lower_second [] more c e f = f ∙ ap lowest_broken (sym (append-nil more))
 lower_second (x ∷ xs) more c e f = absurd (none_some (lowest_of x xs) e)
 
--- Some pages of a chain were tested, behind others; the rest are still to come, `number` next.
+-- Some pages of a chain were tested, after others; the rest are still to come, `number` next.
 pub record Checks (chain : Chain) (image : Image) (pages noted : List ℕ) (left number : ℕ) (lacking : Option ℕ) : Type 0 where
   pub behind : List ℕ
   pub rest : List ℕ

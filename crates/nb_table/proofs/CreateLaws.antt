@@ -47,7 +47,7 @@ first p = data_payload 0 p []
 pub first_short : IsShort first
 first_short p = data_short p [] (omega arith)
 
--- nothing keeps pages from being made with a page behind them
+-- nothing keeps pages from being made with a page after them
 pub record IsClearBehind (image : Image) (d : Draft) (p : ℕ) : Type 0 where
   pub long : too_short image ≡ None
   pub free : IsFreeBehind d p
@@ -83,7 +83,7 @@ module _ (image : Image) where
     pub in_named : unmade image (created_in image table place) ≡ unmade_behind image made.0 place.page
     in_named = slot_named image place.page place.slot bytes made.0
 
-  -- The slot in a new page behind the last.
+  -- The slot in a new page after the last.
   module _ (table : List ℕ) where
     abbrev slots : Slot
     slots = table_slot table made.1
@@ -106,7 +106,7 @@ module _ (image : Image) where
     pub behind_named : unmade image (created_behind image table) ≡ unmade_behind image (second_data first second image).0 (last_of pages)
     behind_named = grown_named image Catalogue pages slots made.0
 
-    -- where both pages can be made, the first one can, and the second behind it
+    -- where both pages can be made, the first one can, and the second after it
     pub both_made : unmade image (created_behind image table) ≡ None → (draft_cause made.0 ≡ None) × (draft_cause grows ≡ None)
     both_made none =
         let parts = no_first (too_short image) (draft_cause (created_behind image table) ∷ []) (sym (unmade_is image (created_behind image table)) ∙ none) in

@@ -1,4 +1,4 @@
--- A statement on a table, test by test: before the table is looked for, that it is there, behind that, and that its chain is of the form.
+-- A statement on a table, test by test: before the table is looked for, that it is there, after that, and that its chain is of the form.
 use Rattle.std.proofs.Common.{◌≡◌, ℕ, List, [], ◌∷◌, refl, sym, ap, subst, ◌∙◌}
 use Rattle.std.specs.Prelude.{Option, Some, None, is_none, Result, Err, IsErr, IsErrAnd}
 use Rattle.nb_host.specs.World.{World}

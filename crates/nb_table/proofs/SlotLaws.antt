@@ -13,7 +13,7 @@ zeros_are : replicate 256 0 ≡ padded 256 []
 unfolding padded
 zeros_are = refl
 
--- bytes are written behind a gap
+-- bytes are written after a gap
 with_gap : (at gap : ℕ) (bytes front : List ℕ) → length front + gap ≡ at → at + length bytes ≤ 256 → with_part at bytes (padded 256 front) ≡ padded 256 (front ++ (replicate gap 0 ++ bytes))
 with_gap at gap bytes front place room =
     with_part-padded 256 at bytes front (omega (arith, place)) room ∙ ap (λ (n : ℕ). padded 256 (front ++ (replicate n 0 ++ bytes))) (let e : at - length front ≡ gap = omega (arith, place) in e)

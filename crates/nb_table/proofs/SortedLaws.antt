@@ -74,7 +74,7 @@ insert_is key text (r ∷ rs) = by (insert_is key text rs)
       ]
     ]
 
--- One slot more behind those that were come by.
+-- One slot more after those that were come by.
 module _ (ss : List Spot) (s : Spot) where
   abbrev more : List Spot
   more = ss ++ s ∷ []

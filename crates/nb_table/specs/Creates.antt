@@ -21,7 +21,7 @@ new_cause image table = first_cause (
 abbrev pub first_made : Image → Draft × ℕ
 first_made image = new_page 5 (λ p. data_payload 0 p []) (drafted image)
 
--- its slot in the catalogue then, at a place, whose page has to be a data page still, or in a new page behind its last one
+-- its slot in the catalogue then, at a place, whose page has to be a data page still, or in a new page after its last one
 abbrev pub created_in : Image → (table : List ℕ) → Place → Draft
 created_in image table place = wants (first_made image).0.image 5 place.page (put_slot place.page place.slot (table_slot table (first_made image).1) (first_made image).0)
 

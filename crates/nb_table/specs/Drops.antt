@@ -17,7 +17,7 @@ pub record IsWholeTable (image : Image) (table : List ℕ) (spot : Spot) : Type 
 abbrev pub dropped : Image → Spot → Draft
 dropped image spot = all_given (found_pages (RowsFrom (first_in spot.bytes)) image) (put_slot spot.page spot.slot free_slot (drafted image))
 
--- the pages that aren't of their kind of those that change where these pages are given back, behind others
+-- the pages that aren't of their kind of those that change where these pages are given back, after others
 abbrev pub drop_broken : Image → (pages noted : List ℕ) → List ℕ
 drop_broken image [] noted = noted
 drop_broken image (q ∷ qs) noted = drop_broken image qs (give_broken image q ++ noted)

@@ -81,14 +81,14 @@ fn create_in<H: Host>(
     ensures goes { Goes engine.old engine.new }
     ensures cause { CountsDevice result (H.faults host.old) (H.faults host.new) }
 {
-    // Nothing is made where the slot isn't to be written behind it.
+    // Nothing is made where the slot isn't to be written after it.
     engine.room_for(host, 1, place.page)?;
     let first = engine.data_new(host, None, &[])?;
     put_slot(host, engine, place, &table_bytes(table, first), page)?;
     Ok(())
 }
 
-/// Makes the first page of a table, and then one behind the last of the catalogue, in which its slot stands. All is tested before the first
+/// Makes the first page of a table, and then one after the last of the catalogue, in which its slot stands. All is tested before the first
 /// write.
 ///
 /// The refusals are `NotDatabase` of a database of fewer than five pages, by its length, or of the lowest page that isn't of its kind, and
@@ -124,7 +124,7 @@ pub fn create<H: Host>(host: &mut H, engine: &mut Engine, table: &TableName) -> 
     ensures turn { (s : Seen) (t : Trail) → IsTrue H.tells → t.base ≡ s.base → IsOpen (H.world host.old) engine.old t → IsOfSize (image_size s.base.image) s.base.image
         → Does done result (H.world host.old) (H.world host.new) engine.old engine.new t (create_turn s table.now) }
 
-    // Whatever is in the database: only its two files are touched, and it is open behind that.
+    // Whatever is in the database: only its two files are touched, and it is open after that.
     ensures stays_open { (t : Trail) → IsTrue H.tells → IsOpen (H.world host.old) engine.old t → StaysOpen result (H.world host.old) (H.world host.new) engine.old engine.new t NoNames }
     ensures goes { Goes engine.old engine.new }
     ensures cause { CountsDevice result (H.faults host.old) (H.faults host.new) }

@@ -93,7 +93,7 @@ fn look_further<H: Host>(
     Ok((lower(lacking, here), next))
 }
 
-/// Tests that the pages of a table's chain may be given back, behind a page that isn't of its kind, if there is one. The refusal is
+/// Tests that the pages of a table's chain may be given back, after a page that isn't of its kind, if there is one. The refusal is
 /// `NotDatabase` of the lowest.
 fn check_chain<H: Host>(
     host: &mut H,
@@ -236,7 +236,7 @@ pub fn drop_table<H: Host>(
     ensures turn { (s : Seen) (t : Trail) → IsTrue H.tells → t.base ≡ s.base → IsOpen (H.world host.old) engine.old t → IsOfSize (image_size s.base.image) s.base.image
         → Does done result (H.world host.old) (H.world host.new) engine.old engine.new t (drop_turn s table.now) }
 
-    // Whatever is in the database: only its two files are touched, and it is open behind that.
+    // Whatever is in the database: only its two files are touched, and it is open after that.
     ensures stays_open { (t : Trail) → IsTrue H.tells → IsOpen (H.world host.old) engine.old t → StaysOpen result (H.world host.old) (H.world host.new) engine.old engine.new t NoNames }
     ensures goes { Goes engine.old engine.new }
     ensures cause { CountsDevice result (H.faults host.old) (H.faults host.new) }

@@ -54,7 +54,7 @@ pub(crate) fn put_slot<H: Host>(
 }
 
 /// Puts these bytes into a chain whose pages have that owner: into `room`, its first free slot, or, where it has none, into the first slot
-/// of a new page, behind which the last page is linked to that.
+/// of a new page, after which the last page is linked to that.
 ///
 /// The refusals are `NotDatabase` of the lowest page that isn't of its kind, or of a database of fewer than five pages, by its length, where a
 /// new page is made, and `Full`, where no page is left for it.

@@ -1,4 +1,4 @@
--- A run behind its first statement.
+-- A run after its first statement.
 use Rattle.std.proofs.Common.{◌≡◌, ◌⊎◌, inl, inr, ⊎_elim, ℕ, List, [], ◌∷◌, ◌++◌, take, true, false, refl, sym, ap, subst, ◌∙◌, true≢false}
 use Rattle.std.specs.List.{list_all}
 use Rattle.std.specs.Prelude.{Bool, Option, None, Some, Ok, Err, Contains, if◌then◌else◌}
@@ -73,7 +73,7 @@ module _ (old : World) (account : Account) (given : Given) (plan : Plan) (tellin
   abbrev pub pages : ℕ
   pages = pages_first account plan.first
 
-  -- the events behind it
+  -- the events after it
   abbrev pub later : ℕ → List Event
   later n = told_later telling pages (turns plan first.now n).0
 
@@ -159,7 +159,7 @@ module _ (old : World) (account : Account) (given : Given) (plan : Plan) (tellin
     outside n m other none (inl own) = other own
     outside n m other none (inr one) = none one.0 (subst (λ (files : List MadeFile). Contains files (m, one.0)) (sym (made_is n)) one.1)
 
-    -- while turns are taken behind it
+    -- while turns are taken after it
     left_behind : (n : ℕ) → AreApart name (made n) → (files : Files) (said : List ℕ) → StopLeft mid name (settled start) (events n) (made n) files said → Left n files said
     left_behind n apart files said left = record {
       out = record { part = left.out.part; is = left.out.is ∙ ap (λ (l : List ℕ). l ++ left.out.part) silent; front = left.out.front };

@@ -91,7 +91,7 @@ told_as world timely reads result old new before after t how telling pages now s
       turns = goes_told world (told_events how) (told_later telling pages) same old new now schedule (goes_by world timely reads how result old new before after t now schedule named plays);
     }
 
--- What opening does to other files, where the sessions go on behind it, and to all files, where they don't.
+-- What opening does to other files, where the sessions go on after it, and to all files, where they don't.
 abbrev pub OpensBeside : (old mid : World) → Account → Given → Plan → Type 0
 OpensBeside old mid account given plan = elim (opening account given plan.sessions plan.first_session plan.first).now as (λ now. Type 0) [ None ↦ mid.files ≡ old.files | Some now ↦ LeavesOthers old mid (OfFiles now.name) ]
 
@@ -129,7 +129,7 @@ module _ {H : Type 0} (world : H → World) (early : Type 0) (account : Account)
   pub script_none : (old new : H) → first_now ≡ None → (world new).files ≡ (world old).files → ScriptByTurns world early old new plan telling account given
   script_none old new ends same = subst (By old new) (sym ends) same
 
-  -- its turns were taken behind it
+  -- its turns were taken after it
   pub script_turns : (old mid new : H) (now : Now) (ended : Type 0) → (ended → early) → first_now ≡ Some now → OpensBeside (world old) (world mid) account given plan
       → TurnsFrom world ended (told_later telling (pages_first account plan.first)) mid new now plan.schedule → ScriptByTurns world early old new plan telling account given
   script_turns old mid new now ended so goes_on beside turns = subst (By old new) (sym goes_on) (by turns)
@@ -157,7 +157,7 @@ module _ {H : Type 0} (world : H → World) (early : Type 0) (account : Account)
   pub script_undone : (old new : H) → early → Quiet (world old) (world new) → ScriptByTurns world early old new plan telling account given
   script_undone old new ends quiet = script_early old new ends (beside_quiet (world old) (world new) account given plan quiet)
 
--- The reply of a first statement, and the turns behind it.
+-- The reply of a first statement, and the turns after it.
 module _ {H : Type 0} (world : H → World) (timely : (h : H) → IsTimely (world h)) (reads : (h : H) → LeavesAll (world h) (world h).files) (told : List Event → List Event) (now : Now) (schedule : List ℕ) where
   pub reply_unsaid_by : {S E : Type 0} (said : Result S E) (line : List ℕ) (early : Type 0) → early → (old new : H) → SaysLine said (world old) (world new) line → TurnsFrom world early told old new now schedule
   reply_unsaid_by said line early ends old new says = inr (ends, leaves_line said (world old) (world new) line (OfFiles now.name) (timely new) (reads new) says)
@@ -166,7 +166,7 @@ module _ {H : Type 0} (world : H → World) (timely : (h : H) → IsTimely (worl
   reply_said_by said line early old mid new says goes =
       inl (record { opened = mid; leaves = leaves_line said (world old) (world mid) line (OfFiles now.name) (timely mid) (reads mid) says; goes = goes })
 
--- What is asked for, behind calls that change nothing.
+-- What is asked for, after calls that change nothing.
 module _ {H : Type 0} (world : H → World) (early : Type 0) (old mid new : H) (quiet : Quiet (world old) (world mid)) (account : Account) (given : Given) where
   pub run_quietly : (asked : Result Request Refusal) → RunByTurns world early mid new asked account given → RunByTurns world early old new asked account given
   run_quietly (Err refusal) same = same ∙ quiet.still.files

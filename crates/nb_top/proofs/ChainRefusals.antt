@@ -116,7 +116,7 @@ linked_fine : (l : Link) (rest : Result (List Link) Refusal) → IsFine rest →
 linked_fine l (Ok links) h = tt
 linked_fine l (Err refusal) h = h
 
--- a file that is there, and those behind it
+-- a file that is there, and those after it
 file_fine : (answer : Result Link Refusal) (rest : Link → Result (List Link) Refusal) → IsFine answer → ((l : Link) → IsFine (rest l))
     → IsFine (elim answer as (λ z. Result (List Link) Refusal) [ Err refusal ↦ Err refusal | Ok l ↦ linked l (rest l) ])
 file_fine (Ok l) rest h later = linked_fine l (rest l) (later l)

@@ -13,7 +13,7 @@ sixteen : (n : ℕ) → length (guid_of n) ≡ 16
 unfolding guid_of
 sixteen n = refl
 
--- one of so many behind a number has one of their numbers
+-- one of so many after a number has one of their numbers
 record IsCounted (number count : ℕ) (guid : List ℕ) : Type 0 where
   own : ℕ
   low : number < own

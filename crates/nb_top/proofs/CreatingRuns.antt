@@ -109,7 +109,7 @@ module _ (old : World) (account : Account) (given : Given) (plan : Plan) (tellin
     unfolding first_created
     small e = absurd (true≢false e)
 
-    -- the account behind it
+    -- the account after it
     created_behind : IsBehind account name first.now
     unfolding first_created
     created_behind =

@@ -1,4 +1,4 @@
--- The turns behind a first statement come to an end, whatever stands then.
+-- The turns after a first statement come to an end, whatever stands then.
 use Rattle.std.proofs.Common.{◌≡◌, ℕ, ◌≤◌, map, length, ap, arith}
 use Rattle.std.proofs.lemmas.List.{length-map}
 use Rattle.nb_model.specs.Outcomes.{Begins}

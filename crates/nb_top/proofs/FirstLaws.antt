@@ -1,4 +1,4 @@
--- The first statement of a run, and the run that comes behind it.
+-- The first statement of a run, and the run that comes after it.
 use Rattle.std.proofs.Common.{◌≡◌, ℕ, List, [], ◌∷◌, ◌++◌, length, true, false, refl, sym, ap, subst, ◌∙◌, arith}
 use Rattle.std.specs.Prelude.{None, Some}
 use Rattle.nb_fields.specs.Fresh.{fresh, fresh_count}
@@ -24,11 +24,11 @@ use Rattle.nb_session.specs.Replies.{is_refusal}
 use Rattle.nb_top.specs.Performed.{cache_asked, Target, first_event, target_named}
 use Rattle.nb_top.proofs.ToldLaws.{Ran}
 
--- the turns behind it
+-- the turns after it
 abbrev pub turns : Plan → Now → ℕ → Played
 turns plan now n = play (plan.schedule ++ rounds n) now
 
--- What the first statement of a run must be, where it isn't refused: what it says, its strokes, and what stands behind it.
+-- What the first statement of a run must be, where it isn't refused: what it says, its strokes, and what stands after it.
 pub record First (account : Account) (given : Given) (plan : Plan) : Type 0 where
   pub target : Target
   pub named : target_named plan.first ≡ Some target
@@ -42,10 +42,10 @@ pub record First (account : Account) (given : Given) (plan : Plan) : Type 0 wher
   pub running : now.running ≡ None
   pub cache_is : now.cache ≡ cache_asked plan.first
   pub given_is : now.given ≡ given
-  -- the sessions go on behind it, and it begins no backup
+  -- the sessions go on after it, and it begins no backup
   pub goes_on : (opening account given plan.sessions plan.first_session plan.first).now ≡ Some now
   pub none : guids_in strokes ≡ []
-  -- behind it the database stands settled
+  -- after it the database stands settled
   pub trail : after_steps (settled (base_in (account.entry target.name))) (steps_in (first_event plan.first_session strokes reply)) ≡ settled (base_now now)
   pub ran : (n : ℕ) → AreFinished (turns plan now n).1.todo
       → Ran account given plan (first_event plan.first_session strokes reply ∷ (turns plan now n).0) (turns plan now n).1.account (turns plan now n).1.given

@@ -1,4 +1,4 @@
--- Behind the first statement the database stands ready for the turns of its sessions, and the files that they make are none of its two.
+-- After the first statement the database stands ready for the turns of its sessions, and the files that they make are none of its two.
 use Rattle.std.proofs.Common.{◌≡◌, ◌≢◌, inl, inr, ℕ, ◌+◌, ◌-◌, ◌≤◌, List, [], ◌∷◌, length, get_or, refl, sym, ap, subst, ◌∙◌, arith}
 use Rattle.std.specs.Prelude.{Bool, true, false, not, nat_le, is_some, ◌&&◌, Contains}
 use Rattle.std.specs.List.{AllByRecursion}
@@ -62,7 +62,7 @@ own_entry : (b : Base) → is_free_entry (IsBase b) ≡ false
 unfolding is_free_entry
 own_entry b = refl
 
--- The account behind the first statement has the database under its name, and under other names what it had.
+-- The account after the first statement has the database under its name, and under other names what it had.
 pub record IsBehind (before : Account) (name : List ℕ) (now : Now) : Type 0 where
   pub here : now.account.entry name ≡ IsBase (base_now now)
   pub others : (m : List ℕ) → m ≢ name → now.account.entry m ≡ before.entry m

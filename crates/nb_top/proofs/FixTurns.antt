@@ -1,4 +1,4 @@
--- The one turn of a fixup: what it must be, and what stands behind it.
+-- The one turn of a fixup: what it must be, and what stands after it.
 use Rattle.std.proofs.Common.{◌≡◌, ◌≢◌, ℕ, List, [], ◌∷◌, refl, ap, ◌∙◌}
 use Rattle.std.specs.Prelude.{None, Some, Err}
 use Rattle.nb_host.specs.Files.{File, Files}

@@ -78,7 +78,7 @@ module _ (old mid : World) (db : List ℕ) (result : Result (Unit {0}) Fault) (d
     idle = idle;
   }
 
--- the account behind it
+-- the account after it
 fixed_entries : (account : Account) (db : List ℕ) (n : List ℕ) → (with_entry db (IsBase (base_of (fixed (base_in (account.entry db)).image))) account).entry n ≡ (account_after db (fix ∷ []) None account).entry n
 unfolding account_after with_made with_entry base_after on_base
 fixed_entries account db n = refl

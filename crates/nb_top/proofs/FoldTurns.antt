@@ -1,4 +1,4 @@
--- The one turn of a fold: what it must be, and what stands behind it.
+-- The one turn of a fold: what it must be, and what stands after it.
 use Rattle.std.proofs.Common.{◌≡◌, ◌≢◌, ◌⊎◌, inl, inr, ℕ, List, true, false, refl, sym, ap, ◌∙◌}
 use Rattle.std.specs.Prelude.{Bool, None, Result, Ok, Err}
 use Rattle.nb_host.specs.Files.{Files}

@@ -1,4 +1,4 @@
--- A run whose script is written first: what a stop leaves of both, and what stands at the end.
+-- A run whose script is written first: what a crash leaves of both, and what stands at the end.
 use Rattle.std.proofs.Common.{◌≡◌, ◌≢◌, ◌⊎◌, ⊎_elim, inl, inr, ℕ, zero, suc, ◌≤◌, List, [], ◌∷◌, ◌++◌, length, take, true, false, true≢false, refl, sym, ap, subst, ◌∙◌, arith}
 use Rattle.std.specs.Prelude.{Bool, not, Option, Some, None, is_some, Result, Ok, Err, IfOk, OnOk, Contains}
 use Rattle.std.proofs.lemmas.List.{append-nil}
@@ -57,7 +57,7 @@ use Rattle.nb_top.proofs.QuietRuns.{given_from, left_quietly, runs_quietly}
 use Rattle.nb_top.proofs.ReadsLaws.{reads_quiet}
 use Rattle.nb_top.proofs.RefusedRuns.{refused_runs}
 
--- the file, and what a run does behind it
+-- the file, and what a run does after it
 module _ (name bytes : List ℕ) (es : List Event) where
   abbrev event : Event
   event = script_made name bytes
@@ -111,7 +111,7 @@ module _ (old mid : World) (account : Account) (name bytes : List ℕ) (plain : 
   abbrev whole : List Event
   whole = all name bytes es
 
-  -- what a stop leaves of another file, it would have left before
+  -- what a crash leaves of another file, it would have left before
   before : (m : List ℕ) (file : File) → m ≢ name → Leaves mid m file → Leaves old m file
   before m file other left = left_before old mid _ written.others m file other left
 
@@ -270,7 +270,7 @@ module _ (old mid : World) (account : Account) (name bytes : List ℕ) (plain : 
           by None off is = tt
           by (Some t) off is = subst (λ (tr : Trail). IsEnded new t.name tr) (seen_same t off (steps_of es) ∙ ap (seen_after account t.name) (sym (steps_are name bytes es))) is
 
--- what is asked of the run behind the file
+-- what is asked of the run after the file
 abbrev pub read_request : Result Plan Refusal → Result Request Refusal
 read_request (Ok plan) = Ok (ToRun plan Sparingly)
 read_request (Err refusal) = Err refusal
@@ -386,7 +386,7 @@ module _ (old : World) (number : ℕ) (name : List ℕ) (account : Account) (giv
 
       module _ (kept : IsKept mid name bytes) where
         module _ (gave : GaveNothing old mid) (new : World) (timely : IsTimely new) (reads : (m : List ℕ) → Leaves new m (new.files m)) where
-          -- the run behind it is that of the whole
+          -- the run after it is that of the whole
           whole_runs : (result : Result Status Stop) (rest : List Event) (last : Account) (left : Given) → IsReadRun (script_of bytes) Sparingly behind given rest last left → AtEachMoment mid new (RunLeft mid behind (its_target rest) rest)
               → RunReads mid new behind (its_target rest) rest → IfOk result (λ status. Finished status mid new behind (its_target rest) rest given left) → RunsTo result old new asked account given
           whole_runs result rest last left run stops beside finished =

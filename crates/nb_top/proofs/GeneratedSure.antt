@@ -93,7 +93,7 @@ module _ (number : ℕ) (name : List ℕ) (plain : is_delta name ≡ false) (acc
     same_entry : written.entry its_database.name ≡ account.entry its_database.name
     same_entry = other_entry its_database.name apart
 
-    -- the records that are kept behind it
+    -- the records that are kept after it
     abbrev kept : List Kept
     kept = kept_along account.kept (settled known.run.base) known.run.further
 
@@ -171,7 +171,7 @@ module _ (old : World) (number : ℕ) (name : List ℕ) (account : Account) (giv
       by None only l = made_holds old account sure.stands before (files_made events) only.new files l.each (λ m off. l.others m tt off) (λ f there. none_whole account.kept f.1 (only.none f there))
       by (Some target) run l = target_left old account sure.stands before target events last sure.new run files said l
 
-  -- behind it, however it ended
+  -- after it, however it ended
   pub generated_after : (new : World) → IsTimely new → ((m : List ℕ) → Leaves new m (new.files m)) → AtEachMoment old new (RunLeft old account (target_of asked events) events) → RunReads old new account (target_of asked events) events
       → (later : Account) × StandsFor new later × (later.kept ≡ kept_after account (target_of asked events) (take (length (steps_of events)) (steps_of events)))
   generated_after new timely reads stops read = by (target_of asked events) known stops read

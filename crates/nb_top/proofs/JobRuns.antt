@@ -91,7 +91,7 @@ usage_number (Err e) ended = tt
 none_refused : (events : List Event) (refusal : Refusal) → events ≡ refused_job refusal → (m : List ℕ) → IsNoneOf (files_made events) m
 none_refused events refusal is m = subst (λ (es : List Event). IsNoneOf (files_made es) m) (sym is) (none_alone (first_event 0 [] (RefusedReply refusal)) refl m)
 
--- Where it is sure, what a stop leaves stands for an account.
+-- Where it is sure, what a crash leaves stands for an account.
 module _ (old : World) (account : Account) (given : Given) (sixteen : MayBeGiven given) (before : (name : List ℕ) → Leaves old name (old.files name)) (events : List Event) (last : Account) (left : Given) where
   sure_left : (asked : Result Request Refusal) → CanBeMet (Runs asked) → IsPerformed old.files asked account given events last left → IsSure old account events → HasSmallScn account (target_of asked events)
       → (files : Files) (said : List ℕ) (l : RunLeft old account (target_of asked events) events files said) → HoldsKept files (kept_after account (target_of asked events) (take l.count (steps_of events)))
@@ -100,7 +100,7 @@ module _ (old : World) (account : Account) (given : Given) (sixteen : MayBeGiven
   sure_left (Ok (ToGenerate number name)) can performed sure small files said l =
       generated_left old number name account given can before sixteen events last left performed sure files said l
 
-  -- behind it, however it ended
+  -- after it, however it ended
   sure_after : (asked : Result Request Refusal) → CanBeMet (Runs asked) → IsPerformed old.files asked account given events last left → IsSure old account events → HasSmallScn account (target_of asked events)
       → (new : World) → IsTimely new → ((name : List ℕ) → Leaves new name (new.files name)) → AtEachMoment old new (RunLeft old account (target_of asked events) events) → RunReads old new account (target_of asked events) events
       → (later : Account) × StandsFor new later × (later.kept ≡ kept_after account (target_of asked events) (take (length (steps_of events)) (steps_of events)))

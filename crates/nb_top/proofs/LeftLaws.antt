@@ -1,4 +1,4 @@
--- What a stop leaves at the moments of a run.
+-- What a crash leaves at the moments of a run.
 use Rattle.std.proofs.Common.{◌≡◌, inl, inr, ⊎_elim, ℕ, List, [], ◌++◌, length, refl, sym, ap, ◌∙◌, arith}
 use Rattle.std.specs.Prelude.{Option, None, Some}
 use Rattle.std.proofs.lemmas.List.{append-nil}
@@ -14,7 +14,7 @@ use Rattle.nb_model.proofs.StepsLaws.{acked_steps_none}
 use Rattle.nb_top.specs.Performed.{RunLeft, StandsAsked, Target}
 use Rattle.nb_top.proofs.MadeRuns.{none_yet}
 
--- before anything is done, what a stop leaves is as it was
+-- before anything is done, what a crash leaves is as it was
 first_asked : (old : World) (account : Account) (target : Option Target) (events : List Event) (files : Files) → ((n : List ℕ) → Leaves old n (files n)) → StandsAsked old account target events 0 0 files
 first_asked old account None events files left = tt
 first_asked old account (Some target) events files left = inr (record { none = refl; unsaid = refl; main = inl (left target.name); delta = left (delta_name target.name) })

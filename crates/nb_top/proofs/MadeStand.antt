@@ -1,4 +1,4 @@
--- While files are made beside what stood, what a stop leaves stands for an account.
+-- While files are made beside what stood, what a crash leaves stands for an account.
 use Rattle.std.proofs.Common.{◌≡◌, ◌≢◌, ◌⊎◌, inl, inr, ⊎_elim, ℕ, zero, suc, List, [], ◌∷◌, map, true, false, refl, sym, ap, subst, ◌∙◌, arith}
 use Rattle.std.specs.Prelude.{not, Some, None, is_some, Contains}
 use Rattle.std.proofs.lemmas.Bool.{and_parts, true≢false}
@@ -114,7 +114,7 @@ not_some None h = refl
 not_some (Some bytes) h = cc
 
 module _ (old : World) (account : Account) (stands : StandsFor old account) where
-  -- beside a free name no difference file stands, and a stop brings none back
+  -- beside a free name no difference file stands, and a crash brings none back
   pub free_name : (f : MadeFile) → IsNewFile account f → (is_free_file (old.files f.0) ≡ true) × (old.files (delta_name f.0) ≡ None)
   free_name f new =
       let both = and_parts (is_free_file (old.files f.0)) (not (is_some (old.files (delta_name f.0)))) (sym (free_entry old.files account f.0 stands.now.same_image new.plain) ∙ new.free) in

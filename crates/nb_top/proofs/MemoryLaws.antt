@@ -13,7 +13,7 @@ use Rattle.nb_top.specs.Worlds.{StartsFrom, no_files}
 pub new_starts : StartsFrom (world_of []) no_files
 new_starts = record { reads = λ name. refl; only = λ name file leaves. ⊎_elim (λ back. absurd back) (λ is. is) leaves }
 
--- behind a stop
+-- after a crash
 pub left_starts : (stopped left : List Entry) → IsLeft stopped left → StartsFrom (world_of left) (files_of left)
 left_starts stopped left is = record { reads = λ name. refl; only = λ name file leaves. ⊎_elim ((is.durable name).none_back file) ((is.durable name).only file) leaves }
 

@@ -1,4 +1,4 @@
--- The one turn of a merge in place: what it must be, and what stands behind it.
+-- The one turn of a merge in place: what it must be, and what stands after it.
 use Rattle.std.proofs.Common.{◌≡◌, ◌≢◌, ℕ, List, [], ◌∷◌, length, true, false, refl, sym, ap, subst, ◌∙◌}
 use Rattle.std.specs.Prelude.{Bool, ◌==◌, nat_lt, None, Some, Result, Ok, Err}
 use Rattle.nb_fields.specs.Header.{state_of}

@@ -87,7 +87,7 @@ module _ (old mid : World) (db name : List ℕ) (result : Result ℕ Fault) (doe
     idle = idle;
   }
 
--- the account behind it
+-- the account after it
 merged_entries : (account : Account) (db : List ℕ) (c : Contents) (n : List ℕ) → (with_entry db (IsBase (base_of (merged c.pages (base_in (account.entry db)).image))) account).entry n ≡ (account_after db (merge c.pages ∷ []) None account).entry n
 unfolding account_after with_made with_entry base_after on_base
 merged_entries account db c n = refl

@@ -25,7 +25,7 @@ module _ (kept more : List Kept) where
   trail_more : (t : Trail) → IsWellTrail kept t → IsWellTrail (kept ++ more) t
   trail_more t is = record { base = base_more t.base is.base; over = is.over; sound = is.sound; past = λ b there. past_more kept more (AllGoOn t) b.image (is.past b there) }
 
--- Behind a front of steps it is well with the records that are kept along all of them.
+-- After a front of steps it is well with the records that are kept along all of them.
 pub front_well : (kept : List Kept) (t : Trail) (ss : List Step) → WellAlong kept t ss → (k : ℕ) → IsWellTrail (kept_along kept t ss) (after_steps t (take k ss))
 front_well kept t ss along k =
     let front : List Step = take k ss in

@@ -94,7 +94,7 @@ module _ (old mid new : World) (held after : Held) (start : Base) (now : Now) (p
     done = out;
   }
 
-  -- the turns behind it, with the files that they make, and as they are told
+  -- the turns after it, with the files that they make, and as they are told
   abbrev behind_it : ℕ → Played
   behind_it n = turns plan now n
 
@@ -134,7 +134,7 @@ module _ (old mid new : World) (held after : Held) (start : Base) (now : Now) (p
     unchanged = λ settled only. says.still.files;
   })
 
-  -- turns behind it
+  -- turns after it
   pub reply_said_then : status_of (replies_of (event ∷ [])) ≡ 0 → mid.said ≡ old.said ++ line → (result : Result Bool Stop) → PlaysTold result mid new held after (settled (base_now now)) telling pages now plan.schedule
       → PlaysOpened result old new held after start event telling pages now plan
   reply_said_then fine said (Ok refused) whole =

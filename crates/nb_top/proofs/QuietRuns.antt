@@ -31,7 +31,7 @@ no_given = record { guids = []; times = []; holds = [] }
 pub quiet_gave : (old mid : World) → Quiet old mid → GaveNothing old mid
 quiet_gave old mid quiet = record { guids = quiet.guids; times = quiet.times }
 
--- what is foretold is foretold behind calls that ask for nothing
+-- what is foretold is foretold after calls that ask for nothing
 pub foretold_from : (old mid new : World) (given : Given) (shown : List ℕ) → GaveNothing old mid → Foretells given shown old new → Foretells given shown mid new
 foretold_from old mid new given shown none told = record {
   ids = told.ids;
@@ -73,7 +73,7 @@ module _ (old mid new : World) (account : Account) (target : Option Target) (eve
       (λ files said is. left_first old account target events files said is)
       (λ files said left. left_before_all old mid quiet.still.left quiet.said account target events files said left)
 
--- nothing was done before or behind them
+-- nothing was done before or after them
 undone_quietly : (old mid new : World) (result : Result Status Stop) → Quiet old mid → IsUndone result mid new → IsUndone result old new
 undone_quietly old mid new (Ok status) quiet undone = undone
 undone_quietly old mid new (Err e) quiet undone = quiet_joined old mid new quiet undone

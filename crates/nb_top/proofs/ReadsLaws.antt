@@ -1,4 +1,4 @@
--- What reads behind a run.
+-- What reads after a run.
 use Rattle.std.proofs.Common.{◌≡◌, inl, inr, ⊎_elim, ℕ, List, ap, ◌∙◌}
 use Rattle.std.specs.Prelude.{Option, None, Some}
 use Rattle.nb_host.specs.Files.{Files}

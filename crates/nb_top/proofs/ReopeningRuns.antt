@@ -62,7 +62,7 @@ module _ (old : World) (account : Account) (given : Given) (plan : Plan) (tellin
   there : (b : Base) → owner name (old.files name) (old.files (delta_name name)) ≡ Ok b → account.entry name ≡ IsBase b
   there b opens = knows ∙ shown_entry old.files name b opens
 
-  -- the account behind it
+  -- the account after it
   opened_behind : (b : Base) (here : account.entry name ≡ IsBase b) → IsBehind account name (first_opened account given plan name cache first_is b here).now
   unfolding first_opened
   opened_behind b here =

@@ -102,7 +102,7 @@ some_links : (files : Files) (names : List (List ℕ)) (links : List Link) → 1
 some_links files [] links some is = absurd (omega (arith, some))
 some_links files (name ∷ names) links some is = let split = split_chain files name names links is in omega (arith, ap length split.all)
 
--- the account behind it
+-- the account after it
 made_entries : (account : Account) (db : List ℕ) (image : Image) (n : List ℕ) → (with_entry db (IsBase (base_of image)) account).entry n ≡ (account_after db (make image ∷ []) None account).entry n
 unfolding account_after with_made with_entry base_after on_base
 made_entries account db image n = refl

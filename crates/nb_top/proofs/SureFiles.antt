@@ -44,7 +44,7 @@ use Rattle.nb_top.proofs.MoreRecords.{front_well}
 use Rattle.nb_top.proofs.SureLaws.{both, beside, holds_along, holds_free, holds_within}
 use Rattle.nb_top.proofs.WellRuns.{IsWellRun, kept_front, seen_behind, kept_behind, cut_is}
 
--- no record behind no step
+-- no record after no step
 pub kept_none : (account : Account) (target : Option Target) → kept_after account target [] ≡ account.kept
 unfolding strokes_in records_after
 kept_none account None = refl
@@ -88,11 +88,11 @@ module _ (old : World) (account : Account) (stands : StandsFor old account) (rea
   whole_with : (some : List Kept) → ((r : Kept) → Contains some r → Contains kept r) → (f : MadeFile) → Contains made f → IsWholeFile some f.1
   whole_with some among f there = ⊎_elim (whole_among old.files grown grown_stands some among f.1) (none_whole some f.1) (run.made f there).whole
 
-  -- what a stop leaves of the files that are made, and of others
+  -- what a crash leaves of the files that are made, and of others
   abbrev Left : Files → Type 0
   Left files = MadeLeft old made files × ((m : List ℕ) → Other (OfFiles name) m → IsNoneOf made m → Leaves old m (files m))
 
-  -- they hold what may be left of what was seen behind some of the further steps
+  -- they hold what may be left of what was seen after some of the further steps
   behind_holds : (ss : List Step) → WellAlong account.kept (settled run.base) ss → AreNew old account.kept (guids_in (strokes_in ss)) → ((r : Kept) → Contains (kept_along account.kept (settled run.base) ss) r → Contains kept r) → (files : Files) → Left files
       → StandsIn name (after_steps (settled run.base) ss) files → HoldsKept files (kept_along account.kept (settled run.base) ss)
   behind_holds ss along fresh among files left s =
@@ -108,7 +108,7 @@ module _ (old : World) (account : Account) (stands : StandsFor old account) (rea
       subst (λ (xs : List Step). HoldsKept files (account.kept ++ records_after (base_in (account.entry name)) (strokes_in xs))) (sym (cut_is account name events last run count low))
       (subst (HoldsKept files) (sym (kept_behind account name events last run ss)) holds)
 
-  -- Behind a front of all steps they stand with the records of each longer front: none of them names a GUID that is taken later, but where it is the whole
+  -- After a front of all steps they stand with the records of each longer front: none of them names a GUID that is taken later, but where it is the whole
   -- file of that backup.
   pub stood_within : (count most : ℕ) → length run.first ≤ count → count ≤ most → (files : Files) → Left files → StandsIn name (seen_after account name (take count (steps_of events))) files → KeptIn most files
   stood_within count most low high files left s =
@@ -170,7 +170,7 @@ module _ (old : World) (account : Account) (stands : StandsFor old account) (rea
       → IsUnbegun old target said count files → KeptIn most files
   unbegun_within most low target named free said count files left none = kept_in most low files (unbegun_along (most - length run.first) target named free said count files left none)
 
-  -- Where a name beside the database's is free behind it, a stop brings no difference file back.
+  -- Where a name beside the database's is free after it, a crash brings no difference file back.
   module _ (end : World) (read : (m : List ℕ) → Other (OfFiles name) m → IsNoneOf made m → end.files m ≡ old.files m) (reads_end : (m : List ℕ) → Leaves end m (end.files m)) (left : (files : Files) → LeavesAll end files → Left files) where
     pub free_beside : (n : List ℕ) → n ≢ name → is_delta n ≡ false → is_free_file (end.files n) ≡ true → end.files (delta_name n) ≡ None → (d : File) → Leaves end (delta_name n) d → d ≡ None
     free_beside n off plain_n free alone d is =

@@ -1,4 +1,4 @@
--- What a stop leaves while one database is changed, and files are made beside it, stands for an account with the records of the backups
+-- What a crash leaves while one database is changed, and files are made beside it, stands for an account with the records of the backups
 -- that have begun.
 use Rattle.std.proofs.Common.{◌≡◌, ◌≢◌, ◌⊎◌, ⊎_elim, ℕ, List, [], ◌∷◌, true, false, sym, subst, ◌∙◌}
 use Rattle.std.specs.Prelude.{None, Contains}
@@ -67,7 +67,7 @@ module _ (old : World) (account : Account) (stands : StandsFor old account) (rea
       same = with_kept name (IsBase s.base) its.account ∙ its.same;
     }
 
-    -- so behind all steps
+    -- so after all steps
     pub holds_along : StandsIn name (after_steps t ss) files → HoldsKept files (kept_along account.kept t ss)
     holds_along s = holds_within (after_steps t ss) (along_last account.kept t ss well) s
 

@@ -342,7 +342,7 @@ module _ (old : World) (plan : Plan) (telling : Telling) (askable : IsAskable pl
         by None is few l = sure.stands.left files (λ m. l.others m tt (none_made is m))
         by (Some target) is few l = target_left old account sure.stands before target events last sure.new (sure_run target is few) files said l
 
-    -- behind it, however it ended
+    -- after it, however it ended
     pub script_after : (new : World) → IsTimely new → ((name : List ℕ) → Leaves new name (new.files name)) → AtEachMoment old new (RunLeft old account (target_of asked events) events) → RunReads old new account (target_of asked events) events
         → (later : Account) × StandsFor new later × (later.kept ≡ kept_after account (target_of asked events) (take (length (steps_of events)) (steps_of events)))
     script_after new timely reads stops read = by (target_of asked events) refl small stops read

@@ -1,4 +1,4 @@
--- What is sure of a run with a database: what a stop leaves stands for an account at each moment, and so does what stands at its end.
+-- What is sure of a run with a database: what a crash leaves stands for an account at each moment, and so does what stands at its end.
 use Rattle.std.proofs.Common.{◌≡◌, inl, inr, ⊎_elim, ℕ, ◌≤◌, List, [], length, take, true, false, refl, sym, ap, subst, ◌∙◌, arith, length-append}
 use Rattle.std.specs.Prelude.{None, Some}
 use Rattle.nb_fields.specs.Free.{is_free_file}
@@ -25,7 +25,7 @@ use Rattle.nb_top.proofs.MadeStand.{free_name}
 use Rattle.nb_top.proofs.SureFiles.{kept_none, stood_holds, stood_within, unbegun_holds, unbegun_within, ended_stands, free_beside, opens_in_use}
 use Rattle.nb_top.proofs.WellRuns.{IsWellRun}
 
--- It is well behind its first steps, before which its database isn't seen, and where it creates the database the name was free.
+-- It is well after its first steps, before which its database isn't seen, and where it creates the database the name was free.
 pub record IsSureRun (account : Account) (target : Target) (events : List Event) (last : Account) : Type 0 where
   pub plain : is_delta target.name ≡ false
   pub free : target.creates ≡ true → is_free_entry (account.entry target.name) ≡ true
@@ -42,7 +42,7 @@ module _ (old : World) (account : Account) (stands : StandsFor old account) (bef
       (unbegun_holds old account stands before target.name known.plain events last known.run new target refl known.free (length l.out.part) l.count files (l.each, l.others) none))
       l.database
 
-  -- Behind it, however it ended.
+  -- After it, however it ended.
   module _ (end : World) (timely : IsTimely end) (reads : (m : List ℕ) → Leaves end m (end.files m)) (stops : AtEachMoment old end (RunLeft old account (Some target) events)) (read : RunReads old end account (Some target) events) where
     left_then : (files : Files) → LeavesAll end files → RunLeft old account (Some target) events files end.said
     left_then files leaves = stops.each files end.said (timely.counts_now old.moment files stops.later leaves)

@@ -87,7 +87,7 @@ module _ (old : World) (job : OneTurn) (turn : Event) where
     others = λ m other. all m;
   }
 
-  -- a line was said behind calls that said nothing
+  -- a line was said after calls that said nothing
   line_said : (mid : World) (reply : Reply) (session : ℕ) (files : Files) (said : List ℕ) → output (turn ∷ []) ≡ line_text session reply → mid.said ≡ old.said → FrontSaid mid (line_text session reply) files said → IsSaid old (turn ∷ []) said
   line_said mid reply session files said is silent front =
       let line : List ℕ = line_text session reply in
@@ -138,7 +138,7 @@ module _ (old mid : World) (job : OneTurn) (account : Account) (result : Result 
   pub turn_fails : (e : Stop) → TurnsTo (Err e) old mid job account
   turn_fails e = record { stops = call_stops; reads = call_reads; gave = serves.gave; ended = tt }
 
-  -- A line is said behind it.
+  -- A line is said after it.
   module _ (new : World) (timely : IsTimely new) (reads_left : LeavesAll new new.files) (reply : Reply) {S E : Type 0} (told : Result S E) (says : SaysLine told mid new (line_text 1 reply)) (line_is : output (turn ∷ []) ≡ line_text 1 reply) where
     gave_nothing : GaveNothing old new
     gave_nothing = record { guids = says.gave.guids ∙ serves.gave.guids; times = says.gave.times ∙ serves.gave.times }
@@ -206,7 +206,7 @@ module _ (old mid : World) (job : OneTurn) (account : Account) (result : Result 
       then_said : (files : Files) (said : List ℕ) → FrontSaid mid (line_text 1 reply) files said → IsSaid old (turn ∷ []) said
       then_said = said_then new timely reads_left reply told says reply_line
 
-      -- what stood behind the call stands behind its line
+      -- what stood after the call stands after its line
       same_now : (m : List ℕ) → new.files m ≡ mid.files m
       same_now = same_files new timely reads_left reply told says reply_line
 

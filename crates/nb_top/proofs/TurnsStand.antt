@@ -1,4 +1,4 @@
--- Where the files stand for an account as a job of one turn begins, they stand for one at each moment of it, and behind it, however it ended.
+-- Where the files stand for an account as a job of one turn begins, they stand for one at each moment of it, and after it, however it ended.
 use Rattle.std.proofs.Common.{true≢false, ◌≡◌, ◌≢◌, ◌⊎◌, inl, inr, ℕ, List, [], ◌∷◌, true, false, refl, sym, ap, subst, ◌∙◌}
 use Rattle.std.specs.Prelude.{Bool, Ok, Option, Some, None}
 use Rattle.nb_fields.specs.Free.{is_free_file}
@@ -29,7 +29,7 @@ use Rattle.nb_top.specs.OneTurn.{OneTurn, OfName, Was, IsAsWas, Read, IsOnItsWay
 use Rattle.nb_top.specs.Standing.{HoldsKept, StandsFor}
 use Rattle.nb_top.proofs.OpenLaws.{none_shown}
 
--- What a job that isn't refused leaves of the file of that name, half way and once it is done, and the entry that it has in the account behind the
+-- What a job that isn't refused leaves of the file of that name, half way and once it is done, and the entry that it has in the account after the
 -- turn.
 pub record IsWellDone (old : World) (account : Account) (job : OneTurn) (name : List ℕ) : Type 0 where
   pub half : (before files : Files) → LeavesAll old before → HoldsKept before account.kept → before name ≡ old.files name → ((m : List ℕ) → m ≢ name → files m ≡ before m) → job.half files → HoldsKept files account.kept
@@ -47,7 +47,7 @@ pub record IsSoundJob (old : World) (account : Account) (job : OneTurn) : Type 0
   pub plain : (name : List ℕ) → job.name ≡ Some name → is_delta name ≡ false
   pub done : leaves_all (job.turn account) ≡ false → (name : List ℕ) × (job.name ≡ Some name) × IsWellDone old account job name
 
--- The same, where it is done to a well database, which the account behind the turn has.
+-- The same, where it is done to a well database, which the account after the turn has.
 pub record IsWellBased (old : World) (account : Account) (job : OneTurn) (name : List ℕ) : Type 0 where
   pub half : (before files : Files) → LeavesAll old before → HoldsKept before account.kept → before name ≡ old.files name → ((m : List ℕ) → m ≢ name → files m ≡ before m) → job.half files → HoldsKept files account.kept
   pub free : (files : Files) → job.half files → is_free_file (files name) ≡ true → is_free_file (old.files name) ≡ true
@@ -149,7 +149,7 @@ module _ (old : World) (account : Account) (job : OneTurn) (stands : StandsFor o
       same = with_kept own well.entry its.account ∙ its.same;
     }
 
-  -- At a moment: what a stop leaves.
+  -- At a moment: what a crash leaves.
   module _ (files : Files) (others : (m : List ℕ) → Other (OfName job.name) m → Leaves old m (files m)) where
     -- the same files, but for that of the job, as it was
     module _ (some : leaves_all turn ≡ false) where
@@ -181,7 +181,7 @@ module _ (old : World) (account : Account) (job : OneTurn) (stands : StandsFor o
       by false is (inl way) = way_holds files l.others is (inl way.0)
       by false is (inr done) = way_holds files l.others is (inr done)
 
-  -- Behind it: what reads.
+  -- After it: what reads.
   module _ (new : World) (timely : IsTimely new) (reads_new : LeavesAll new new.files) (stops : AtEachMoment old new (TurnLeft (Leaves old) old job turn)) (reads : TurnLeft (Read old.files) old job turn new.files new.said) where
     pub turn_moments : AtEachMoment old new (λ files said. HoldsKept files account.kept)
     turn_moments = weaker old new _ _ stops turn_holds

@@ -1,4 +1,4 @@
--- A run is well behind its first strokes: what was seen of its database is well along all further steps.
+-- A run is well after its first strokes: what was seen of its database is well along all further steps.
 use Rattle.std.proofs.Common.{◌≡◌, ◌≢◌, ◌⊎◌, inl, ℕ, ◌-◌, ◌+◌, ◌≤◌, List, [], ◌∷◌, ◌++◌, length, take, drop, true, sym, ap, subst, ◌∙◌, arith, take-append-drop}
 use Rattle.std.specs.Prelude.{Option, Some, Contains, true}
 use Rattle.std.proofs.Math.Seq.{take-append-add}
@@ -44,7 +44,7 @@ pub record IsOfRun (account : Account) (name : List ℕ) (kept : List Kept) (fil
   pub whole : IsKeptOrNone kept file.1
 
 -- The first steps keep no record and leave a database, settled. Along all further steps what was seen is well, the files that are made are
--- of the records that are kept behind them, or no backups, and the account after is the one before with the database that is seen then,
+-- of the records that are kept after them, or no backups, and the account after is the one before with the database that is seen then,
 -- these files and the records of the backups that have begun.
 pub record IsWellRun (account : Account) (name : List ℕ) (events : List Event) (last : Account) : Type 0 where
   pub first : List Step
@@ -61,7 +61,7 @@ module _ (account : Account) (name : List ℕ) (events : List Event) (last : Acc
   abbrev before : Base
   before = base_in (account.entry name)
 
-  -- what was seen behind the first steps and some further ones
+  -- what was seen after the first steps and some further ones
   pub seen_behind : (ss : List Step) → seen_after account name (run.first ++ ss) ≡ after_steps (settled run.base) ss
   seen_behind ss = after_steps_append (settled before) run.first ss ∙ ap (λ (t : Trail). after_steps t ss) run.seen
 
@@ -81,7 +81,7 @@ module _ (account : Account) (name : List ℕ) (events : List Event) (last : Acc
       let sum : count ≡ length run.first + (count - length run.first) = omega (arith, low) in
       ap (take count) run.steps ∙ ap (λ (n : ℕ). take n (run.first ++ run.further)) sum ∙ take-append-add run.first run.further (count - length run.first)
 
--- what is kept before steps, and behind a front of them, is kept behind them all
+-- what is kept before steps, and after a front of them, is kept after them all
 pub kept_first : (kept : List Kept) (t : Trail) (ss : List Step) (r : Kept) → Contains kept r → Contains (kept_along kept t ss) r
 kept_first kept t ss r there = subst (λ (rs : List Kept). Contains rs r) (sym (kept_is kept t ss)) (Contains-append_left kept (records_after t.base (strokes_in ss)) r there)
 
@@ -91,13 +91,13 @@ kept_front kept t ss k r there =
     subst (λ (rs : List Kept). Contains rs r) (sym (kept_append kept t xs (drop k ss)) ∙ ap (kept_along kept t) (take-append-drop k ss))
     (kept_first (kept_along kept t xs) (after_steps t xs) (drop k ss) r there)
 
--- what is well behind a first statement that leaves this database
+-- what is well after a first statement that leaves this database
 pub record IsWellBehind (account : Account) (name : List ℕ) (b : Base) (rest : List Event) (last : Account) : Type 0 where
   pub along : WellAlong account.kept (settled b) (settles ∷ steps_of rest)
   pub made : (file : MadeFile) → Contains (files_made rest) file → IsOfRun account name (kept_along account.kept (settled b) (settles ∷ steps_of rest)) file
   pub grown : IsGrown name (after_steps (settled b) (settles ∷ steps_of rest)).base (records_after b (strokes_in (settles ∷ steps_of rest))) (files_made rest) account last
 
--- The turns behind it.
+-- The turns after it.
 module _ (account : Account) (plan : Plan) (askable : IsAskable plan) (o : Opening) (now : Now) (name : List ℕ) (b : Base) (goes_on : o.now ≡ Some now) (name_is : now.name ≡ name) (account_is : now.account ≡ o.account)
     (base : base_now now ≡ b) (here : o.account.entry name ≡ IsBase b) (others : (n : List ℕ) → n ≢ name → o.account.entry n ≡ account.entry n) (kept : o.account.kept ≡ account.kept)
     (todo : now.todo ≡ begun plan.sessions) (sixteen : MayBeGiven now.given) (well : IsWellTrail account.kept (settled b)) where

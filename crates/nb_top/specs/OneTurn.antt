@@ -49,7 +49,7 @@ pub record OneTurn : Type 1 where
   pub knows : Account → Type 0
   -- its turn
   pub turn : Account → Event
-  -- what a stop may leave half way, while nothing is said
+  -- what a crash may leave half way, while nothing is said
   pub half : Files → Type 0
   -- what stands once the turn has changed its file
   pub done : Files → Type 0
@@ -63,7 +63,7 @@ abbrev pub OfName : Option (List ℕ) → Names
 OfName None = NoNames
 OfName (Some name) = Only name
 
--- the account behind a turn
+-- the account after a turn
 abbrev pub behind : (name : Option (List ℕ)) → Event → Account → Account
 behind None turn account = account
 behind (Some name) turn account = account_behind name turn account
@@ -173,7 +173,7 @@ one_turn files (ToPlan keep names) = planning files keep names
 abbrev pub leaves_all : Event → Bool
 leaves_all turn = elim turn.made [ Some file ↦ false | None ↦ elim turn.strokes [ [] ↦ true | s ∷ ss ↦ false ] ]
 
--- what a file was before: one of the things that a stop would have left of it, or what it read as
+-- what a file was before: one of the things that a crash would have left of it, or what it read as
 abbrev pub Was : Type 1
 Was = List ℕ → File → Type 0
 
@@ -204,7 +204,7 @@ pub record TurnLeft (was : Was) (old : World) (job : OneTurn) (turn : Event) (fi
   pub own : FileLeft was job turn out.part files
   pub others : (m : List ℕ) → Other (OfName job.name) m → was m (files m)
 
--- its file is as the turn leaves it, and whatever a stop leaves of it
+-- its file is as the turn leaves it, and whatever a crash leaves of it
 pub record IsDoneFor (w : World) (job : OneTurn) : Type 0 where
   pub now : job.done w.files
   pub left : (files : Files) → LeavesAll w files → job.done files
@@ -217,15 +217,15 @@ pub record TurnEnded (status : Status) (old new : World) (job : OneTurn) (turn :
   pub done : leaves_all turn ≡ false → IsDoneFor new job
   pub unchanged : leaves_all turn ≡ true → new.files ≡ old.files
 
--- Where the files stood for the account, files stand for accounts with the same records: at each moment of the job, and behind it, however it ended;
--- and where it came to its end, for the account behind its turn. Where it isn't refused, what it has done is what the begin of a backup kept.
+-- Where the files stood for the account, files stand for accounts with the same records: at each moment of the job, and after it, however it ended;
+-- and where it came to its end, for the account after its turn. Where it isn't refused, what it has done is what the begin of a backup kept.
 pub record TurnStands (status : Status) (old new : World) (job : OneTurn) (turn : Event) (account : Account) : Type 0 where
   pub moments : AtEachMoment old new (λ files said. HoldsKept files account.kept)
   pub after : (later : Account) × StandsFor new later × (later.kept ≡ account.kept)
   pub ended : status ≢ Device → status ≢ Memory → StandsFor new (behind job.name turn account)
   pub gives : leaves_all turn ≡ false → (files : Files) → job.done files → job.gives account.kept files
 
--- What a run does of a job of one turn, where the account knows of the files what the job asks for: at each moment a stop leaves a front of it, and
+-- What a run does of a job of one turn, where the account knows of the files what the job asks for: at each moment a crash leaves a front of it, and
 -- so do the files as they read now, however it ended. Where the files stood for the account, and those that the job takes, if it isn't refused, are of
 -- kept backups, they go on to stand.
 pub record DoesTurn (status : Status) (old new : World) (job : OneTurn) (account : Account) : Type 0 where

@@ -3,7 +3,7 @@
 -- The words ask for the run of a script, which may be written first, for a restore, for a fixup, or for a refusal. Each tells the events of
 -- the run one by one: whose turn, which strokes, which reply.
 -- Whatever stops the run, at each moment a front of its lines was said, and both files of its database can be opened and hold what may be
--- left behind a front of its steps, with each acknowledged one among them. A file that a backup or a copy makes, or that of a script which
+-- left after a front of its steps, with each acknowledged one among them. A file that a backup or a copy makes, or that of a script which
 -- is written, is as it was, unfinished or whole, and whole once that is acknowledged. No other file changes. At its end all lines were said,
 -- all steps stand, and all files are whole. Where the files stood for an account with the records of its backups, and the GUIDs that the outside gives are new, they stand for
 -- one at each moment, with the records of the backups that have begun by then.
@@ -100,7 +100,7 @@ is_all Quietly = false
 is_all WithSize = false
 is_all Sparingly = false
 
--- the first event as a run tells it, and those behind it
+-- the first event as a run tells it, and those after it
 abbrev pub told_first : Telling → Event → Event
 told_first All e = e
 told_first Quietly e = record e { reply = refusal_in e.reply }
@@ -166,7 +166,7 @@ abbrev pub target_asked : Request → Option Target
 target_asked (ToRun plan telling) = target_named plan.first
 target_asked (ToGenerate number name) = target_named generated_first
 
--- the events behind the file of a script that is made first
+-- the events after the file of a script that is made first
 abbrev pub behind_file : List Event → List Event
 behind_file [] = []
 behind_file (e ∷ es) = elim e.made [ None ↦ e ∷ es | Some file ↦ es ]
@@ -205,16 +205,16 @@ abbrev pub IsUnasked : Option Target → List ℕ → Type 0
 IsUnasked None m = Unit {0}
 IsUnasked (Some target) m = Other (OfFiles target.name) m
 
--- what was seen of the database behind steps of a run
+-- what was seen of the database after steps of a run
 abbrev pub seen_after : Account → (name : List ℕ) → List Step → Trail
 seen_after account name steps = after_steps (settled (base_in (account.entry name))) steps
 
--- the records of backups behind them
+-- the records of backups after them
 abbrev pub kept_after : Account → Option Target → List Step → List Kept
 kept_after account None steps = account.kept
 kept_after account (Some target) steps = account.kept ++ records_after (base_in (account.entry target.name)) (strokes_in steps)
 
--- The run hasn't begun to change its database: nothing was said, and both files are as a stop would have left them before. Only
+-- The run hasn't begun to change its database: nothing was said, and both files are as a crash would have left them before. Only
 -- where the run creates the database, the creation may also be stopped half way, and then the name is free.
 pub record IsUnbegun (old : World) (target : Target) (said count : ℕ) (files : Files) : Type 0 where
   pub none : count ≡ 0
@@ -222,14 +222,14 @@ pub record IsUnbegun (old : World) (target : Target) (said count : ℕ) (files :
   pub main : Leaves old target.name (files target.name) ⊎ ((target.creates ≡ true) × (is_free_file (files target.name) ≡ true))
   pub delta : Leaves old (delta_name target.name) (files (delta_name target.name))
 
--- The files hold what may be left of what was seen of the database behind so many steps, or the run hasn't begun.
+-- The files hold what may be left of what was seen of the database after so many steps, or the run hasn't begun.
 abbrev pub StandsAsked : (old : World) → Account → Option Target → List Event → (said count : ℕ) → Files → Type 0
 StandsAsked old account None events said count files = Unit {0}
 StandsAsked old account (Some target) events said count files = StandsIn target.name (seen_after account target.name (take count (steps_of events))) files ⊎ IsUnbegun old target said count files
 
--- At a moment of a run: a front of its lines was said, and a stop leaves the database behind so many of its steps, with each
+-- At a moment of a run: a front of its lines was said, and a crash leaves the database after so many of its steps, with each
 -- acknowledged one among them. A file that the run makes is as it was, unfinished or whole, and whole once its turn is acknowledged. Other
--- files are as a stop would have left them before.
+-- files are as a crash would have left them before.
 pub record RunLeft (old : World) (account : Account) (target : Option Target) (events : List Event) (files : Files) (said : List ℕ) : Type 0 where
   pub out : IsSaid old events said
   pub count : ℕ
@@ -245,18 +245,18 @@ pub record IsSure (old : World) (account : Account) (events : List Event) : Type
   pub stands : StandsFor old account
   pub new : AreNew old account.kept (guids_in (strokes_of events))
 
--- At a moment of a run: what a stop leaves is what may be left behind a front of its steps. Where the run is sure, it stands for an account
+-- At a moment of a run: what a crash leaves is what may be left after a front of its steps. Where the run is sure, it stands for an account
 -- with the records of the backups that have begun in the same front.
 pub record RunStands (old : World) (account : Account) (asked : Result Request Refusal) (events : List Event) (files : Files) (said : List ℕ) : Type 0 where
   pub left : RunLeft old account (target_of asked events) events files said
   pub stands : IsSure old account events → HoldsKept files (kept_after account (target_of asked events) (take left.count (steps_of events)))
 
--- the files as they read show what was seen last, and a stop leaves what may be left of all that was seen
+-- the files as they read show what was seen last, and a crash leaves what may be left of all that was seen
 pub record IsEnded (new : World) (name : List ℕ) (t : Trail) : Type 0 where
   pub shows : ShowsIn name t.base new.files
   pub left : (files : Files) → LeavesAll new files → StandsIn name t files
 
--- so it is of the database of a run behind all of its steps
+-- so it is of the database of a run after all of its steps
 abbrev pub EndsIn : (new : World) → Account → Option Target → List Event → Type 0
 EndsIn new account None events = Unit {0}
 EndsIn new account (Some target) events = IsEnded new target.name (seen_after account target.name (steps_of events))
@@ -271,7 +271,7 @@ only_tell [] = true
 only_tell (e ∷ es) = only_opens e && list_all only_told es
 
 -- A run to its end: all of its lines were said, the status is the one that they give, just what the run asks for was given, the database
--- stands behind all of its steps, and each file that it made is whole and kept for good. Where its turns only told something no file has
+-- stands after all of its steps, and each file that it made is whole and kept for good. Where its turns only told something no file has
 -- changed. Where more GUIDs could have been given, just those of the backups that it began were given, in order.
 pub record Finished (status : Status) (old new : World) (account : Account) (target : Option Target) (events : List Event) (given left : Given) : Type 0 where
   pub said : new.said ≡ old.said ++ output events
@@ -288,12 +288,12 @@ pub record ReadsUnbegun (old new : World) (target : Target) : Type 0 where
   pub main : (new.files target.name ≡ old.files target.name) ⊎ ((target.creates ≡ true) × (is_free_file (new.files target.name) ≡ true))
   pub delta : new.files (delta_name target.name) ≡ old.files (delta_name target.name)
 
--- The files as they read hold what may be left of what was seen of the database behind some of the steps, or the run hasn't begun.
+-- The files as they read hold what may be left of what was seen of the database after some of the steps, or the run hasn't begun.
 abbrev pub ReadsAsked : (old new : World) → Account → Option Target → List Event → Type 0
 ReadsAsked old new account None events = Unit {0}
 ReadsAsked old new account (Some target) events = ((count : ℕ) × StandsIn target.name (seen_after account target.name (take count (steps_of events))) new.files) ⊎ ReadsUnbegun old new target
 
--- What reads behind a run, however it ended: each file but the database's two and those that the run makes reads as before, and so do the two where
+-- What reads after a run, however it ended: each file but the database's two and those that the run makes reads as before, and so do the two where
 -- the run hasn't begun.
 pub record RunReads (old new : World) (account : Account) (target : Option Target) (events : List Event) : Type 0 where
   pub others : (m : List ℕ) → IsUnasked target m → IsNoneOf (files_made events) m → new.files m ≡ old.files m
@@ -314,7 +314,7 @@ IsUndone (Ok status) old new = ⊥
 IsUndone (Err stop) old new = Quiet old new
 
 -- What a run does that a script asks for, where the account knows of the database what the files tell, and these are the GUIDs and times
--- that were given and may still be: its events are those that the script must have. At each moment a stop leaves a front of them, behind it
+-- that were given and may still be: its events are those that the script must have. At each moment a crash leaves a front of them, after it
 -- other files read as before, and at its end all is done.
 pub record RunsTo (result : Result Status Stop) (old new : World) (asked : Result Request Refusal) (account : Account) (given : Given) : Type 0 where
   pub events : List Event
@@ -326,7 +326,7 @@ pub record RunsTo (result : Result Status Stop) (old new : World) (asked : Resul
   pub reads : RunReads old new account (target_of asked events) events
   pub finished : IfOk result (λ status. Finished status old new account (target_of asked events) events given left)
 
--- Behind a run, however it ended, the world stands for an account with the records of the backups that begin in a front of its steps. What a stop leaves now
+-- After a run, however it ended, the world stands for an account with the records of the backups that begin in a front of its steps. What a crash leaves now
 -- is behind no longer front. So the next run may begin.
 pub record StandsAfter (old new : World) (account : Account) (target : Option Target) (events : List Event) : Type 0 where
   pub count : ℕ
@@ -336,7 +336,7 @@ pub record StandsAfter (old new : World) (account : Account) (target : Option Ta
   pub kept : later.kept ≡ kept_after account target (take count (steps_of events))
 
 -- What is done of a run. Its events are those that it asks for, with the account after it and what is left to give.
--- At each moment a stop leaves a front of it. So do the files as they read now, where it ended early too, and other files read as before. Where it
+-- At each moment a crash leaves a front of it. So do the files as they read now, where it ended early too, and other files read as before. Where it
 -- was sure, the next run may begin. Where no call of the host failed and memory was enough, it came to its end, and where it was sure the files
 -- stand for the account after.
 pub record PerformsRun (status : Status) (old new : World) (asked : Result Request Refusal) (account : Account) (given : Given) : Type 0 where

@@ -32,7 +32,7 @@ abbrev pub IsShownOf : Result Status Stop → Option Broken → Asked → Type 0
 IsShownOf (Ok status) broken asked = BreaksAt broken asked
 IsShownOf (Err stop) broken asked = IfShown broken asked
 
--- and behind one that ends so
+-- and after one that ends so
 pub record IsShown (status : Status) (broken : Option Broken) (asked : Asked) : Type 0 where
   pub right : IfShown broken asked
   pub exact : status ≢ Device → status ≢ Memory → BreaksAt broken asked

@@ -42,7 +42,7 @@ ends_refused RefusedStatus = true
 ends_refused UsageStatus = true
 ends_refused other = false
 
--- Whatever stands in the files: at each moment, and now, of every file but those of these names a stop leaves what it would have left before, and
+-- Whatever stands in the files: at each moment, and now, of every file but those of these names a crash leaves what it would have left before, and
 -- it reads as it did. Where the run ends as one that has refused something, a line said so.
 pub record TouchesOnly (result : Result Status Stop) (old new : World) (names : Names) : Type 0 where
   pub leaves : LeavesOthers old new names

@@ -1,4 +1,4 @@
--- Worlds in which a run may begin: one with plain files or none, one that starts again from what a stop left, and one to which files were
+-- Worlds in which a run may begin: one with plain files or none, one that starts again from what a crash left, and one to which files were
 -- copied.
 use Rattle.std.specs.Prelude.{◌≡◌, ℕ, List, [], Some, None, true, false, Contains}
 use Rattle.nb_fields.specs.Header.{is_header}
@@ -10,7 +10,7 @@ use Rattle.nb_model.specs.Account.{Kept, Missing, Account}
 use Rattle.nb_model.specs.NewGuids.{IsUnnamed}
 use Rattle.nb_model.specs.Owner.{entry_in}
 
--- The files read as these, and a stop leaves just them. A host that starts again from what a stop left begins so.
+-- The files read as these, and a crash leaves just them. A host that starts again from what a crash left begins so.
 pub record StartsFrom (w : World) (files : Files) : Type 0 where
   pub reads : (name : List ℕ) → w.files name ≡ files name
   pub only : (name : List ℕ) (file : File) → Leaves w name file → file ≡ files name
@@ -19,7 +19,7 @@ pub record StartsFrom (w : World) (files : Files) : Type 0 where
 abbrev pub HaveNames : Files → Type 0
 HaveNames files = (name bytes : List ℕ) → files name ≡ Some bytes → is_name name ≡ true
 
--- so has each that a stop may leave
+-- so has each that a crash may leave
 abbrev pub LeaveNames : World → Type 0
 LeaveNames w = (name bytes : List ℕ) → Leaves w name (Some bytes) → is_name name ≡ true
 

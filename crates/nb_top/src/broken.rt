@@ -17,7 +17,7 @@ pub struct Broken {
     pub text: String,
 }
 
-/// The bytes of a line for a reader: what isn't printable as its number, and at most 200 bytes of it, behind which dots stand for the rest.
+/// The bytes of a line for a reader: what isn't printable as its number, and at most 200 bytes of it, after which dots stand for the rest.
 fn shown(alloc: Global, line: &[u8]) -> Result<String, AllocError> {
     let mut text = String::new(alloc);
     for byte in line.iter().take(MOST_SHOWN) {
@@ -40,7 +40,7 @@ fn text_of(alloc: Global, bytes: &[u8], line: u32, wanted: &str) -> Result<Strin
         .nth(line.saturating_sub(1) as usize)
     {
         Some(line) if !line.is_empty() => shown(alloc, line),
-        // A line without bytes is skipped, so only one behind the last breaks the form.
+        // A line without bytes is skipped, so only one after the last breaks the form.
         _ => String::from_str(alloc, wanted),
     }
 }

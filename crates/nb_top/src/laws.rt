@@ -1,5 +1,5 @@
 // Laws of the whole program: each is a public function with an empty body, whose contract is the law. They show that what a run is
-// promised on holds where a first run begins and where the next one begins behind a stop, and that a job is what it asks for.
+// promised on holds where a first run begins and where the next one begins after a crash, and that a job is what it asks for.
 ghost use Rattle.std.specs.Prelude.{◌≡◌, ℕ, ◌+◌, ◌^◌, ◌<◌, List, [], Some, Result, Contains, false};
 ghost use Rattle.nb_host.specs.Files.{Files, with_file};
 ghost use Rattle.nb_host.specs.Crash.{LeavesAll};
@@ -26,22 +26,22 @@ ghost use Rattle.nb_top.specs.Worlds.{AreCopies, ArePlain, HaveNames, LeaveNames
 
 use nb_host::Host;
 
-/// A first run may begin. Where there is no file, and a stop leaves none, the files stand for the account without entries and records.
+/// A first run may begin. Where there is no file, and a crash leaves none, the files stand for the account without entries and records.
 /// Where plain files were placed for good, such as scripts, they stand for the account that has them, without records.
 pub fn a_first_run_may_begin<H: Host>(_host: &H)
     ensures none { StartsFrom (H.world _host.now) no_files → StandsFor (H.world _host.now) empty }
     ensures plain { (files : Files) → ArePlain files → StartsFrom (H.world _host.now) files → StandsFor (H.world _host.now) (account_of files []) }
 {}
 
-/// The next run may begin behind a stop: a host that starts again from files that stand for an account with these records of backups
+/// The next run may begin after a crash: a host that starts again from files that stand for an account with these records of backups
 /// stands for one with the same.
 pub fn a_next_run_may_begin<H: Host>(_host: &H)
     ensures { (files : Files) (kept : List Kept) → HoldsKept files kept → StartsFrom (H.world _host.now) files
         → (account : Account) × StandsFor (H.world _host.now) account × (account.kept ≡ kept) }
 {}
 
-/// The next run may begin behind a run with no stop between, whatever its status: where the files stood for the account and the GUIDs were new, they
-/// stand for one that has all records of before; and so behind a job of one turn, where the files that it takes are of kept backups. So what is
+/// The next run may begin after a run with no crash between, whatever its status: where the files stood for the account and the GUIDs were new, they
+/// stand for one that has all records of before; and so after a job of one turn, where the files that it takes are of kept backups. So what is
 /// promised of restoring kept backups is promised over any list of runs.
 pub fn a_next_run_may_begin_at_once<H: Host>(_before: &H, _behind: &H)
     ensures runs { (status : Status) (asked : Result Request Refusal) (account : Account) (given : Given) (performs : PerformsRun status (H.world _before.now) (H.world _behind.now) asked account given)
@@ -50,8 +50,8 @@ pub fn a_next_run_may_begin_at_once<H: Host>(_before: &H, _behind: &H)
         → (leaves_all ((one_turn (H.world _before.now).files deed).turn account) ≡ false → (one_turn (H.world _before.now).files deed).takes account.kept) → NextMayBegin (H.world _behind.now) account }
 {}
 
-/// Files keep names that a host may give them: where all that a stop may leave has such names as a run begins, it has at each moment of the run and
-/// behind it, whatever its words ask for and whatever stands in the files. A host that starts from such files leaves such names.
+/// Files keep names that a host may give them: where all that a crash may leave has such names as a run begins, it has at each moment of the run and
+/// after it, whatever its words ask for and whatever stands in the files. A host that starts from such files leaves such names.
 pub fn names_stay_names<H: Host>(_before: &H, _behind: &H)
     ensures moments { (words : List (List ℕ)) → LeavesOthers (H.world _before.now) (H.world _behind.now) (OfAsked (H.world _before.now).files (request_asked (H.world _before.now).files words)) → LeaveNames (H.world _before.now)
         → AtEachMoment (H.world _before.now) (H.world _behind.now) (λ files said. HaveNames files) }
@@ -67,15 +67,15 @@ pub fn a_run_may_begin_on_copies<H: Host>(_host: &H)
         → StandsFor (H.world _host.now) (account_of copies account.kept) }
 {}
 
-/// There are such hosts, in memory: a new one has no file, each file that is placed is one more, and one that a stop left starts from what
-/// the stop left.
+/// There are such hosts, in memory: a new one has no file, each file that is placed is one more, and one that a crash left starts from what
+/// the crash left.
 pub fn hosts_in_memory_begin_so()
     ensures none { StartsFrom (world_of []) no_files }
     ensures placed { (es : List Entry) (files : Files) (name bytes : List ℕ) → StartsFrom (world_of es) files → StartsFrom (world_of (placed name (Some bytes) es)) (with_file files name (Some bytes)) }
     ensures left { (stopped left : List Entry) → IsLeft stopped left → LeavesAll (world_of stopped) (files_of left) × StartsFrom (world_of left) (files_of left) }
 {}
 
-/// On a host in memory the GUIDs of a next run are new. Behind a stop the host counts on from those that were given before, as
+/// On a host in memory the GUIDs of a next run are new. After a crash the host counts on from those that were given before, as
 /// `nb_mem::MemHost::behind_guids` lets it, so it gives none that a kept record has, and no GUID twice; where no file names one, they are new.
 pub fn counted_guids_are_new<H: Host>(_host: &H)
     ensures { (files : Files) (kept : List Kept) (count more : ℕ) → count + more < 2 ^ 64 → StartsFrom (H.world _host.now) files → ((r : Kept) → Contains kept r → Contains (guids_behind 0 count) r.guid)

@@ -1,7 +1,7 @@
 //! The program over any host: the words of the command line name a job, and the job is done.
 //!
 //! It rests on all crates below it. `run` is the whole program but for the real files: it says one line
-//! for each reply, and what it promises of the replies, the files and a stop stands in its contract. `broken` names the line of a script
+//! for each reply, and what it promises of the replies, the files and a crash stands in its contract. `broken` names the line of a script
 //! that breaks its form, and `laws` shows from which hosts a run begins with all that is promised of it.
 #![tactic(auto)]
 

@@ -247,7 +247,7 @@ fn do_job<H: Host>(
 }
 
 /// Does the job that was read of words: the job that they name, `Usage` where they name none, or `Memory` where it was too short to read them. Where that is a script a line of which breaks its form,
-/// that line is `broken` behind it.
+/// that line is `broken` after it.
 ///
 /// It says one line for each reply; a job that makes, begins or ends a backup, or shows the statistics, says nothing of the opening but why
 /// it is refused. Words that name no job, and a script that cannot be read, are refused to session 0. Where a call of the
@@ -288,16 +288,16 @@ pub fn run<H: Host>(alloc: Global, words: &[String], host: &mut H) -> Status
     ensures no_job { job_of (map string_bytes words.now) ≡ None → result ≢ Status.Done × result ≢ Status.Refused }
 
     // What the words ask for is done. Where an account knows what the files tell as the call begins, and whatever GUIDs of 16 bytes and times
-    // may still be given (`does`, `Performs`): the output is that of the run which the words ask for, and at each moment a stop leaves what may be left of the
-    // database behind a front of its steps that holds every acknowledged one, each file that the run makes as it was, unfinished or whole, and
+    // may still be given (`does`, `Performs`): the output is that of the run which the words ask for, and at each moment a crash leaves what may be left of the
+    // database after a front of its steps that holds every acknowledged one, each file that the run makes as it was, unfinished or whole, and
     // whole once its turn is acknowledged, and other files as before. So do the files as they read where the run ended early, and other files read
-    // as before, whatever the status. Where the files stand for the account and the GUIDs are new, they stand for one with the records behind that
-    // front, at the end for the account after, and behind every status for one with which the next run may begin.
+    // as before, whatever the status. Where the files stand for the account and the GUIDs are new, they stand for one with the records after that
+    // front, at the end for the account after, and after every status for one with which the next run may begin.
     //
     // Turn by turn (`turns`, `AskedByTurns`): each turn leaves alone every file but the database's two and those that this turn may touch, from the host
     // at which the one before it ended, and one that only tells something, as a refusal, leaves all files as they read before it, byte for byte.
     //
-    // Whatever stands in the files, and with no account (`touches`): at each moment, and at the end, no file is other than a stop would have left
+    // Whatever stands in the files, and with no account (`touches`): at each moment, and at the end, no file is other than a crash would have left
     // it before, or reads otherwise, but the two of the database that the words ask for and those that the job is to make: the files of the
     // backups and copies that its statements name, and that of a script which it writes. The answer is Refused or Usage only where a line of a refusal
     // was said.

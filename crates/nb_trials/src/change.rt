@@ -22,7 +22,7 @@ pub enum Change<'a> {
 }
 
 impl<'a> Change<'a> {
-    /// The change that a verb, what stands behind the name, and the lines below ask for.
+    /// The change that a verb, what stands after the name, and the lines below ask for.
     pub fn read(verb: &str, rest: &'a str, below: &'a [Line<'a>]) -> Option<Change<'a>> {
         match verb {
             "text" => Some(Change::Text(below)),
@@ -63,7 +63,7 @@ fn with_part(alloc: Global, file: &[u8], at: usize, part: &[u8]) -> Result<Vec<u
     Ok([front, part, rest].concat(alloc)?)
 }
 
-/// What a file has behind the change.
+/// What a file has after the change.
 fn changed(alloc: Global, host: &MemHost, name: &str, change: Change) -> Result<Vec<u8>> {
     let file = file_of(host, name).unwrap_or(&[]);
     match change {

@@ -92,7 +92,7 @@ pub fn run_line(alloc: Global, host: &mut MemHost, line: &str) -> Result<Status,
     Ok(run(alloc, &words, host))
 }
 
-/// Tells what was said behind so many bytes, and how the run ended.
+/// Tells what was said after so many bytes, and how the run ended.
 fn tell_run(host: &MemHost, before: usize, status: Status, told: &mut Told) -> Result<()> {
     let lines = host.output().get(before..).context("less was said")?;
     told.text.push_str(str::from_utf8(lines)?)?;

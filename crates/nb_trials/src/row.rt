@@ -1,4 +1,4 @@
-// What may be said of a database that a stop leaves.
+// What may be said of a database that a crash leaves.
 use crate::line::{Line, number_in};
 
 /// The first and the last number of replies of a row: `3`, or `0-4`.
@@ -28,7 +28,7 @@ fn is_one_of(line: &str, cell: &str) -> bool {
     cell.split(" or ").any(|choice| is_choice(line, choice))
 }
 
-/// Whether each line is one of the choices of its cell, and each cell has a line. A `|` stands behind each cell.
+/// Whether each line is one of the choices of its cell, and each cell has a line. A `|` stands after each cell.
 fn are_those(said: &str, cells: &str) -> bool {
     let are_choices = said
         .lines()

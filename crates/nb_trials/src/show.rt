@@ -28,7 +28,7 @@ pub enum Show<'a> {
 }
 
 impl<'a> Show<'a> {
-    /// What a verb and what stands behind the name ask for.
+    /// What a verb and what stands after the name ask for.
     pub fn read(verb: &str, rest: &'a str) -> Option<Show<'a>> {
         match verb {
             "length" => Some(Show::Length),
@@ -89,7 +89,7 @@ fn is_entered(file: &[u8], page: usize) -> bool {
     number_at(file, page * PAGE + 8) <= number_at(file, ENTRIES + page * 4)
 }
 
-/// Whether each page behind page 0 is one that a further level reads.
+/// Whether each page after page 0 is one that a further level reads.
 fn are_entered(file: &[u8]) -> bool {
     (1..file.len() / PAGE).all(|page| is_entered(file, page))
 }

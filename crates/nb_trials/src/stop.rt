@@ -27,7 +27,7 @@ fn play_on(alloc: Global, case: &Case, host: &mut MemHost) -> Result<()> {
     play(alloc, host, case.trial.steps, &mut told)
 }
 
-/// The host behind the trial, where that call is stopped.
+/// The host after the trial, where that call is stopped.
 fn host_at(alloc: Global, case: &Case, kind: Kind, call: u64) -> Result<MemHost> {
     let mut host = match kind {
         Kind::Stopped => MemHost::fused(alloc, call)?,
@@ -37,7 +37,7 @@ fn host_at(alloc: Global, case: &Case, kind: Kind, call: u64) -> Result<MemHost>
     Ok(host)
 }
 
-/// The first call at which a stop lets so many replies be said: the one behind that of the last of them.
+/// The first call at which a crash lets so many replies be said: the one after that of the last of them.
 fn call_behind(alloc: Global, case: &Case, replies: usize) -> Result<u64> {
     for call in 1..=case.whole.calls() {
         if replies_of(&host_at(alloc, case, Kind::Stopped, call)?) >= replies {
@@ -132,7 +132,7 @@ fn is_right(
     Ok(false)
 }
 
-/// Whether a stop now leaves by this pick what is right.
+/// Whether a crash now leaves by this pick what is right.
 fn is_left_right(
     alloc: Global,
     case: &Case,
@@ -161,7 +161,7 @@ fn are_picks_right(
     Ok(true)
 }
 
-/// Whether the run that was stopped there has ended there, with files of which a stop leaves what is right, and where only that call
+/// Whether the run that was stopped there has ended there, with files of which a crash leaves what is right, and where only that call
 /// has failed, with such files.
 fn is_host_right(
     alloc: Global,

@@ -13,7 +13,7 @@ pub struct Trial<'a> {
     /// `begin NAME..`: what is stopped begins on a new host with these files.
     pub kept: &'a str,
     pub steps: &'a [Line<'a>],
-    /// `look`: what is asked of what a stop leaves.
+    /// `look`: what is asked of what a crash leaves.
     pub look: &'a [Line<'a>],
     /// `rows`: what that may say.
     pub rows: &'a [Line<'a>],
@@ -21,7 +21,7 @@ pub struct Trial<'a> {
     pub verdicts: &'a [Line<'a>],
 }
 
-/// The lines behind the first.
+/// The lines after the first.
 fn behind<'a>(lines: &'a [Line<'a>]) -> &'a [Line<'a>] {
     lines.get(1..).unwrap_or(&[])
 }

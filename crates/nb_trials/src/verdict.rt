@@ -4,7 +4,7 @@ use crate::line::number_in;
 /// How a call of the host is kept from being done.
 #[derive(Clone, Copy)]
 pub enum Kind {
-    /// The call fails, and each one behind it.
+    /// The call fails, and each one after it.
     Stopped,
     /// It fails alone.
     Failing,
@@ -13,7 +13,7 @@ pub enum Kind {
 /// Which calls are stopped, one in each run.
 #[derive(Clone, Copy)]
 pub enum Calls {
-    /// Each one, and where it is a stop, the one behind the last, so that nothing is stopped.
+    /// Each one, and where it is a crash, the one after the last, so that nothing is stopped.
     All,
     /// `to NUMBER`: those up to that one.
     To(u64),
@@ -27,7 +27,7 @@ pub enum Calls {
 #[derive(Clone, Copy)]
 pub struct Verdict {
     pub kind: Kind,
-    /// So many picks are tried of what a stop then leaves.
+    /// So many picks are tried of what a crash then leaves.
     pub picks: u64,
     pub calls: Calls,
 }

@@ -74,7 +74,7 @@ module _ (chain : Chain) (slot : Slot) where
   pub filled_of : is_slot chain slot ≡ true → first ≢ 0 → is_filled chain slot ≡ true
   filled_of form e = (and_parts (is_used slot) (is_filled chain slot) (sym (by_use e) ∙ form)).1
 
--- the slots of pages, and of pages behind them
+-- the slots of pages, and of pages after them
 pub spots_both : (image : Image) (ps qs : List ℕ) → spots_of image (ps ++ qs) ≡ spots_of image ps ++ spots_of image qs
 unfolding spots_of
 spots_both image [] qs = refl

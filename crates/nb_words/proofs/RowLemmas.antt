@@ -110,7 +110,7 @@ values_read : (id : Text) (s : ValueSource) (how : Reading) (vs : List Text) (o 
 values_read id s how vs None = refl
 values_read id s how vs (Some r) = refl
 
--- values go behind those that an id has
+-- values go after those that an id has
 pub values_written : (id : Text) (how : Reading) (s : ValueSource) (vs : List Text) (rows : List Row) → unwrap_or (all_of id (with_values id how s vs rows)) [] ≡ unwrap_or (all_of id rows) [] ++ vs
 values_written id how s vs rows =
     ap (λ o. unwrap_or (option_map (λ (r : Row). r.values) o) []) (own_row id (values_more s vs) (valued_row id s how vs) rows (λ r. refl) (id_is_itself id))

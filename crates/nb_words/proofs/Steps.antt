@@ -80,7 +80,7 @@ module _ (ls : List ℕ) (s : Shape) (late : Bool) (rows : List Row) (waiting : 
       ∙ ap (λ o. option_map_or (λ a. positional_fault (rules_for ls) s.args_override_self a (held rows waiting)) o (stray_fault (shape ls s))) (plain_by_index ls)
       ∙ free s.args_override_self waiting
 
-  -- behind `--` every word is plain
+  -- after `--` every word is plain
   pub trailing_step : (word : Text) → walked (rules_for ls) [] (stand true late rows waiting) word ≡ stand true true rows (Some (unwrap_or waiting [] ++ word ∷ []))
   trailing_step word = value_step true word refl
 

@@ -75,7 +75,7 @@ module _ (ls : List ℕ) (s : Shape) where
   unfolding walk_fault
   no_words is_trailing late rows waiting flags plain seen = record { fault = refl; is_trailing = is_trailing; late = late; rows = rows; waiting = waiting; end = refl; seen = seen }
 
-  -- behind `--`
+  -- after `--`
   trailing_walk : (ws : List Text) (late : Bool) (rows : List Row) (waiting : Option (List Text)) (flags : List ℕ) (plain : List Text) → Seen rows waiting flags plain → Walked (stand true late rows waiting) ws flags (plain ++ ws)
   trailing_walk [] late rows waiting flags plain seen = subst (λ (p : List Text). Walked (stand true late rows waiting) [] flags p) (sym (append-nil plain)) (no_words true late rows waiting flags plain seen)
   trailing_walk (word ∷ ws) late rows waiting flags plain seen =

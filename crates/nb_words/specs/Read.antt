@@ -16,7 +16,7 @@ times letter (x ∷ xs) = elim (x == letter) [ true ↦ times letter xs + 1 | fa
 abbrev pub counts_of : List ℕ → List ℕ
 counts_of flags = map (λ letter. min (times letter flags) 255) (codes "BRLSNFI")
 
--- the words behind references
+-- the words after references
 abbrev pub words_of : List (Bor Word) → List Word
 words_of = map (λ s. s.now)
 

@@ -6,7 +6,7 @@ use Rattle.nb_model.specs.Causes.{not_database}
 use Rattle.nb_model.specs.Image.{image_in}
 use Rattle.nb_base.proofs.attach.find_length.Given as goal
 
--- the pages behind are of zeros
+-- the pages after are of zeros
 abbrev pub invariant-loop-count : goal.invariant-loop-count
 invariant-loop-count g l = record {
   some : 1 ≤ l.count;

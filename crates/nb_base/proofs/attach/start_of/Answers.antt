@@ -19,7 +19,7 @@ returns-then-first-lt-LENGTH-clause-test c bytes long read = start_short bytes (
 pub returns-in_default-clause-test : goal.returns-in_default-clause-test
 returns-in_default-clause-test c bytes long read = start_broken bytes _ (unheaded bytes (sym (first_header c.args.first.now bytes read) ∙ sym c.in_default.ensures.exact))
 
--- behind a header the length decides
+-- after a header the length decides
 pub returns-in_err-pages-clause-test : goal.returns-in_err-pages-clause-test
 returns-in_err-pages-clause-test c bytes long read =
     let header : is_header bytes ≡ true = sym (first_header c.args.first.now bytes read) ∙ sym c.in-Some.ensures.exact in

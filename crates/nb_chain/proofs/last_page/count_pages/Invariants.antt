@@ -4,7 +4,7 @@ use Rattle.nb_page.specs.Quiet.{Quiet}
 use Rattle.nb_chain.specs.Overlay.{is_blank, without_blank}
 use Rattle.nb_chain.proofs.last_page.count_pages.Given as goal
 
--- the pages behind are blank
+-- the pages after are blank
 abbrev pub invariant-loop-count : goal.invariant-loop-count
 invariant-loop-count g l = record {
   quiet : Quiet (g.H.Host.world l.fn.host) (g.H.Host.world l.host);

@@ -3,6 +3,6 @@ use Rattle.std.specs.List.{filter, range_with_len}
 use Rattle.nb_check.specs.Sets.{has}
 use Rattle.nb_check.proofs.report.page_of.Given as goal
 
--- so many pages of the set are still to come, or lie behind
+-- so many pages of the set are still to come, or lie after
 abbrev pub invariant-loop-page : goal.invariant-loop-page
 invariant-loop-page l = l.left + length (filter (has l.pages) (range_with_len 0 l.page)) ≡ l.fn.i

@@ -19,7 +19,7 @@ pub returns-in_default-clause-test : goal.returns-in_default-clause-test
 returns-in_default-clause-test c bytes long read =
     refused ℕ _ _ _ c.no_database-in_default.ensures (broken bytes _ (unheaded bytes (sym (first_header c.args.first.now bytes read) ∙ sym c.in_default.ensures.exact)))
 
--- behind a header
+-- after a header
 pub returns-then-first-header-clause-test : goal.returns-then-first-header-clause-test
 returns-then-first-header-clause-test c bytes long read =
     let first = c.args.first.now in

@@ -6,7 +6,7 @@ use Rattle.nb_model.specs.Trail.{Trail}
 use Rattle.nb_base.specs.Open.{IsOpen}
 use Rattle.nb_base.proofs.files.TwoFiles.find_filled.Given as goal
 
--- the pages behind are of zeros
+-- the pages after are of zeros
 abbrev pub invariant-loop-count : goal.invariant-loop-count
 invariant-loop-count g l = record {
   same : l.self ≡ l.fn.self;
