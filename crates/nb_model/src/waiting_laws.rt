@@ -36,7 +36,7 @@ pub fn pages_go_out()
     ensures done { (f t : Trail) (waits : ℕ → Bool) (r : Base) → IsRead f t waits r → ((p : ℕ) → waits p ≡ false) → r ≡ t.base }
 {}
 
-/// A page that waits is seen at once, and the files are behind then. They are not after where nothing waits.
+/// A page that waits is seen at once, and the files are behind then. They are not behind where nothing waits.
 pub fn a_page_waits()
     ensures itself { (t : Trail) → IsBehind t t }
     ensures one { (f t : Trail) (p : ℕ) (bytes : Page) → IsBehind f t → 1 ≤ p → p < length t.base.image → is_forced t.base.image ≡ false → IsBehind f (after_stroke (page_stroke p bytes) t) }
