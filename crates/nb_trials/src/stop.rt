@@ -37,7 +37,7 @@ fn host_at(alloc: Global, case: &Case, kind: Kind, call: u64) -> Result<MemHost>
     Ok(host)
 }
 
-/// The first call at which a crash lets so many replies be said: the one after that of the last of them.
+/// The first call at which a stop lets so many replies be said: the one after that of the last of them.
 fn call_behind(alloc: Global, case: &Case, replies: usize) -> Result<u64> {
     for call in 1..=case.whole.calls() {
         if replies_of(&host_at(alloc, case, Kind::Stopped, call)?) >= replies {

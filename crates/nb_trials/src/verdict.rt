@@ -13,7 +13,7 @@ pub enum Kind {
 /// Which calls are stopped, one in each run.
 #[derive(Clone, Copy)]
 pub enum Calls {
-    /// Each one, and where it is a crash, the one after the last, so that nothing is stopped.
+    /// Each one, and where it is a stop, the one after the last, so that nothing is stopped.
     All,
     /// `to NUMBER`: those up to that one.
     To(u64),
