@@ -64,15 +64,18 @@ class Place(Folder):
     def today(self):
         return str(FIRST + datetime.timedelta(self.day))
 
+    def weekday(self):
+        """From 0, a Sunday, to 6."""
+        return str((FIRST + datetime.timedelta(self.day)).isoweekday() % 7)
+
     def backup(self):
         """The file that tonight's level 0 or level 1 goes to, whichever is there."""
         return [os.path.join(self.backups, f"{self.today()}.{level}") for level in (0, 1)]
 
     def begin(self, user=None, **settings):
         """Starts tonight's backup."""
-        weekday = str((FIRST + datetime.timedelta(self.day)).isoweekday() % 7)
         given = {"PROGRAM": self.program, "DATABASE": self.file("a.db"), "BACKUPS": self.backups, "KEEP": str(KEEP), "NEHUMIRO_WAIT": "20"}
-        given |= {"TODAY": self.today(), "WEEKDAY": weekday, "PATH": os.environ["PATH"]} | settings
+        given |= {"TODAY": self.today(), "WEEKDAY": self.weekday(), "PATH": os.environ["PATH"]} | settings
         pipe = {"stdout": subprocess.PIPE, "stderr": subprocess.PIPE}
         return subprocess.Popen(["sh", NIGHTLY], cwd="/", env=given, user=user, stdin=subprocess.DEVNULL, text=True, start_new_session=True, **pipe)
 
@@ -313,6 +316,21 @@ def damaged(place):
     yield from place.wrong()
 
 
+def unsound(place):
+    """The night of a level 0 of a database that doesn't agree with itself: an inventory page says that a page past the end is taken."""
+    last = 2 * PAGE_SIZE - 1
+    with open(place.file("a.db"), "r+b") as file:
+        file.seek(last)
+        file.write(b"\xfe")
+    yield from expect(place.night(WHOLE_DAY=place.weekday()), "was made, but", "doesn't agree with itself: refused 31 Unsound")
+    if not os.path.exists(place.backup()[0]):
+        yield "no level 0 was made"
+    with open(place.file("a.db"), "r+b") as file:
+        file.seek(last)
+        file.write(b"\xff")
+    yield from place.wrong()
+
+
 CASES = [
     ("a folder that isn't there", no_folder),
     ("another user, without rights", no_rights),
@@ -329,6 +347,7 @@ CASES = [
     ("the database was restored", restored),
     ("two nights at once", two_at_once),
     ("a byte of a backup is damaged", damaged),
+    ("the database doesn't agree with itself", unsound),
 ]
 FOR_ROOT = (no_rights, full_disk)
 
@@ -347,7 +366,7 @@ def main():
             place.change()
             wrong = [*case(place), *place.next_night()]
             failed += bool(wrong)
-            print(f"  {name:36} {time.monotonic() - begun:5.1f} s  {'; '.join(wrong) or 'the next night works'}", flush=True)
+            print(f"  {name:38} {time.monotonic() - begun:5.1f} s  {'; '.join(wrong) or 'the next night works'}", flush=True)
     report("nightly", failed == 0, f"fourteen nights, and {len(cases)} things that go wrong, behind each of which the next night works, but for {failed}, in {time.monotonic() - start:.0f} s")
 
 
