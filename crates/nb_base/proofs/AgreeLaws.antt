@@ -1,18 +1,22 @@
 -- What is held agrees with the database after a page write, as it did before.
-use Rattle.std.proofs.Common.{◌≡◌, ℕ, ◌+◌, List, length, sym, ap, subst, ◌∙◌}
-use Rattle.std.specs.Prelude.{Bool, ◌||◌, nat_le, max, Result}
-use Rattle.nb_model.specs.Image.{Page, Image, first_page, image_size, image_state, is_forced}
+use Rattle.std.proofs.Common.{◌≡◌, inl, inr, ℕ, zero, suc, ◌+◌, ◌<◌, List, length, refl, sym, ap, subst, ◌∙◌, arith}
+use Rattle.std.specs.Prelude.{Bool, ◌||◌, not, ◌==◌, nat_le, max, Result}
+use Rattle.std.proofs.lemmas.Bool.Decides.{eqb_tells}
+use Rattle.nb_fields.specs.Bytes.{number_in}
+use Rattle.nb_model.specs.Image.{Page, Image, first_page, image_size, image_state, is_forced, with_page}
 use Rattle.nb_model.specs.Account.{Base}
 use Rattle.nb_model.specs.Strokes.{Stroke, page, on_base}
 use Rattle.nb_model.specs.Trail.{Trail, after_stroke}
 use Rattle.nb_base.specs.Firm.{is_kept_place, must_sync}
 use Rattle.nb_model.proofs.HeaderLaws.{same-header}
+use Rattle.nb_model.proofs.StrokeLaws.{with_page_same, with_page_other}
 use Rattle.nb_model.proofs.TrailLaws.{trail_base}
 use Rattle.nb_host.specs.World.{World}
 use Rattle.nb_base.specs.Open.{Held, Agrees, Fits, IsOpen}
 use Rattle.nb_base.specs.Seen.{IsSeen, noted_in}
 use Rattle.nb_base.specs.Takes.{TakesFirm}
-use Rattle.nb_base.proofs.LeftLaws.{later_size, later_state, later_length, later_front, later_frozen}
+use Rattle.nb_base.proofs.LeftLaws.{merged_fits, stroke-image, later_size, later_state, later_length, later_front, later_frozen}
+use Rattle.nb_base.proofs.ForcedLaws.{forced_in}
 
 -- what a page write makes of what is held
 abbrev pub written_held : Held → (p : ℕ) → Held
@@ -22,12 +26,41 @@ stroke-entries : (b : Base) (p : ℕ) (bytes : Page) → (on_base (page p bytes)
 unfolding on_base
 stroke-entries b p bytes = Rattle.std.proofs.Common.refl
 
-pub agrees_later : (held : Held) (t : Trail) (p : ℕ) (bytes : Page) → Fits p bytes t.base.image → Agrees held t.base → Agrees (written_held held p) (after_stroke (page p bytes) t).base
-agrees_later held t p bytes fits a = record {
+-- page 0 behind a page write
+module _ (t : Trail) (p : ℕ) (bytes : Page) (fits : Fits p bytes t.base.image) where
+  abbrev later : Image
+  later = (after_stroke (page p bytes) t).base.image
+
+  written : later ≡ with_page p bytes t.base.image
+  written =
+      ap (λ (b : Base). b.image) (trail_base (page p bytes) t) ∙ stroke-image t.base p bytes
+      ∙ ap (λ (x : Page). with_page p x t.base.image) (merged_fits p bytes t.base.image fits.front)
+
+  pub first_written : p ≡ 0 → first_page later ≡ bytes
+  first_written e = ap first_page written ∙ ap (λ (n : ℕ). first_page (with_page n bytes t.base.image)) e ∙ with_page_same 0 bytes t.base.image (omega arith)
+
+  pub first_stays : 0 < p → first_page later ≡ first_page t.base.image
+  first_stays some = ap first_page written ∙ with_page_other p 0 bytes t.base.image fits.low (λ e. absurd (omega (arith, e, some)))
+
+  -- so a page 0 that is written says whether writes are forced, and any other leaves it as it is
+  pub later_forced : (before after : Bool) → before ≡ is_forced t.base.image → (p ≡ 0 → after ≡ not (number_in 64 1 bytes == 0)) → (0 < p → after ≡ before) → after ≡ is_forced later
+  later_forced before after was first other = elim (eqb_tells p 0) [
+    | inl w ↦ first w.1 ∙ ap (λ (x : Page). not (number_in 64 1 x == 0)) (sym (first_written w.1))
+    | inr w ↦ let some : 0 < p = above p w.1 in other some ∙ was ∙ sym (forced_in later t.base.image (first_stays some))
+  ]
+    where
+      above : (n : ℕ) → (n ≡ 0 → ⊥) → 0 < n
+      above zero ne = absurd (ne refl)
+      above (suc n) ne = omega arith
+
+pub agrees_later : (held : Held) (t : Trail) (p : ℕ) (bytes : Page) (forced : Bool) → Fits p bytes t.base.image → forced ≡ is_forced (after_stroke (page p bytes) t).base.image → Agrees held t.base
+    → Agrees (record (written_held held p) { forced = forced }) (after_stroke (page p bytes) t).base
+agrees_later held t p bytes forced fits forced_is a = record {
   header = same-header _ (first_page t.base.image) (later_front t p bytes fits) ∙ a.header;
   page_size = a.page_size ∙ sym (later_size t p bytes fits);
   state = a.state ∙ sym (later_state t p bytes fits);
   opened = a.opened;
+  forced = forced_is;
   count = ap (λ n. max n (p + 1)) a.count ∙ sym (later_length t p bytes fits);
   main_count = λ stalled. a.main_count stalled ∙ ap (λ (x : Image). length x) (sym (later_frozen t p bytes fits));
   entries = ap (λ n. noted_in n p held.entries) a.state ∙ ap (noted_in (image_state t.base.image) p) a.entries ∙ sym (ap (λ (b : Base). b.diverted) (trail_base (page p bytes) t) ∙ stroke-entries t.base p bytes);
@@ -41,10 +74,10 @@ pub seen_open : (w : World) (held : Held) (t : Trail) → IsSeen w held.name t �
 seen_open w held t seen agrees none_drafted = record { left = seen.left; shows = seen.shows; agrees = agrees; drafted = none_drafted }
 
 -- which write is synced
-pub synced_is : (held : Held) (b : Base) (p : ℕ) (forced : Bool) → Agrees held b → forced ≡ is_forced b.image
-    → (forced || is_kept_place held.page_size p || nat_le held.count p) ≡ must_sync b.image p
-synced_is held b p forced a is =
-    ap (λ (f : Bool). f || is_kept_place held.page_size p || nat_le held.count p) is
+pub synced_is : (held : Held) (b : Base) (p : ℕ) → Agrees held b
+    → (held.forced || is_kept_place held.page_size p || nat_le held.count p) ≡ must_sync b.image p
+synced_is held b p a =
+    ap (λ (f : Bool). f || is_kept_place held.page_size p || nat_le held.count p) a.forced
     ∙ ap (λ n. is_forced b.image || is_kept_place n p || nat_le held.count p) a.page_size
     ∙ ap (λ n. is_forced b.image || is_kept_place (image_size b.image) p || nat_le n p) a.count
 

@@ -18,7 +18,7 @@ use Rattle.nb_page.specs.Quiet.{Quiet}
 use Rattle.nb_model.specs.Image.{Image}
 use Rattle.nb_model.specs.Account.{base_of}
 use Rattle.nb_model.specs.Owner.{delta_name}
-use Rattle.nb_model.proofs.FreshImageLaws.{fresh_main, fresh_size, fresh_state}
+use Rattle.nb_model.proofs.FreshImageLaws.{fresh_main, fresh_size, fresh_state, fresh_forced}
 use Rattle.nb_model.proofs.MainLaws.{main_facts}
 use Rattle.nb_base.proofs.FirmLaws.{shows_firm}
 use Rattle.nb_base.specs.Open.{Held}
@@ -53,9 +53,9 @@ failed result old new name image gives so_far reads taken =
     subst (λ (r : Result ℕ Fault). CreatesFile r old new name image) (sym (error.1 ∙ ap Err error.2)) (record { answer = tt; left = so_far; reads = reads; taken = taken })
 
 -- what is held of a new database agrees with it
-pub created : (size raw : ℕ) → IsTrue (is_page_size size) → raw ≤ 65535 → (long : ℕ) → long ≡ size → (old new : World) (name : List ℕ) (held : Held) → held.name ≡ name → held.page_size ≡ size → held.state ≡ 0 → held.entries ≡ [] → held.drafted ≡ 0
+pub created : (size raw : ℕ) → IsTrue (is_page_size size) → raw ≤ 65535 → (long : ℕ) → long ≡ size → (old new : World) (name : List ℕ) (held : Held) → held.name ≡ name → held.page_size ≡ size → held.state ≡ 0 → held.forced ≡ true → held.entries ≡ [] → held.drafted ≡ 0
     → CreatesFile (Ok held.count) old new name (fresh long raw) → GaveNothing old new → Creates (Ok held) old new name (fresh size raw)
-created size raw is few long same old new name held named sized normal none none_drafted file gave =
+created size raw is few long same old new name held named sized normal forced none none_drafted file gave =
     let image : Image = fresh size raw in
     let makes : CreatesFile (Ok held.count) old new name image = subst (λ (n : ℕ). CreatesFile (Ok held.count) old new name (fresh n raw)) same file in
     let ready : IsSettled new held.name (base_of image) = subst (λ (n : List ℕ). IsSettled new n (base_of image)) (sym named) makes.answer.2 in
@@ -71,6 +71,7 @@ created size raw is few long same old new name held named sized normal none none
             page_size = sized ∙ sym (fresh_size size raw is);
             state = normal ∙ sym (fresh_state size raw);
             opened = omega (arith, normal);
+            forced = forced ∙ sym (fresh_forced size raw);
             count = makes.answer.1;
             main_count = λ stalled. absurd (omega (arith, normal, stalled));
             entries = none;

@@ -28,6 +28,7 @@ use Rattle.nb_base.proofs.BlockLaws.{to_main, of_main}
 use Rattle.nb_base.proofs.ControlLaws.{with_control-length}
 use Rattle.nb_base.proofs.MergeLaws.{merged_alone}
 use Rattle.nb_base.proofs.OwnedLaws.{Holds, holds, shows, base-state, base-size}
+use Rattle.nb_base.proofs.ForcedLaws.{ended_forced, finished_forced}
 use Rattle.nb_base.proofs.StateLaws.{same_main, agrees_by, in_state-state, in_state-size, kept_sixteen, ended_holds, finished_holds}
 use Rattle.nb_base.proofs.StrokeLaws.{h0, main_state, stands_after, ends-settles, finish-settles, struck, struck_open}
 use Rattle.nb_base.proofs.WrittenLaws.{HasMain, one_main}
@@ -106,12 +107,12 @@ module _ (old : World) (held : Held) (t : Trail) (is : IsOpen old held t) (reads
       end_struck = struck old mid new held.name t ends g0.main (in_state 2 None g0.main) so_far block stays goes (ends-settles t)
 
       pub end_open : IsImageOf new held.name (in_state 2 None (h0 old held t is).main) → ((m : List ℕ) → Leaves mid m (mid.files m)) → (now : Held) → now.name ≡ held.name → now.page_size ≡ held.page_size → now.state ≡ 2
-          → now.count ≡ held.count → now.entries ≡ held.entries → now.drafted ≡ 0 → IsOpen new now (after_stroke ends t)
-      end_open image read now named sized two count entries none_drafted =
+          → now.forced ≡ held.forced → now.count ≡ held.count → now.entries ≡ held.entries → now.drafted ≡ 0 → IsOpen new now (after_stroke ends t)
+      end_open image read now named sized two forced count entries none_drafted =
           let sixteen : length (Rattle.nb_model.specs.Image.image_guid g0.main) ≡ 16 = kept_sixteen g0.main m0 g0.has in
           struck_open old mid new held.name t ends g0.main (in_state 2 None g0.main) so_far block stays goes (ends-settles t) image read now named
           (sized ∙ size ∙ sym (in_state-size g0.main m0 g0.has 2 None (omega arith) sixteen)) (two ∙ sym (in_state-state g0.main m0 g0.has 2 None (omega arith) sixteen))
-          (count ∙ is.agrees.count ∙ sym (ended_length t.base)) (λ stalled. absurd (omega (arith, two, stalled))) (entries ∙ is.agrees.entries ∙ sym (ended_entries t.base)) none_drafted
+          (forced ∙ is.agrees.forced ∙ sym (ended_forced t.base is.agrees.header)) (count ∙ is.agrees.count ∙ sym (ended_length t.base)) (λ stalled. absurd (omega (arith, two, stalled))) (entries ∙ is.agrees.entries ∙ sym (ended_entries t.base)) none_drafted
 
   -- The merge is finished.
   module _ (merges : held.state ≡ 2) (merged : AreMerged old held (length held.entries)) where
@@ -151,8 +152,8 @@ module _ (old : World) (held : Held) (t : Trail) (is : IsOpen old held t) (reads
             composed_within old new last (OfFiles held.name) (Only (delta_name held.name)) (OfFiles held.name) _ _ _ finish_struck removed (λ m one. one) (λ m is. inr is) (λ files others r. r)
             (λ files others r. inr (stands_after held.name finish t (files held.name) (files (delta_name held.name)) (finish-settles t) (ends_in files (image.left (files held.name) (others held.name (main_apart held.name))))))
 
-        pub finish_open : (now : Held) → now.name ≡ held.name → now.page_size ≡ held.page_size → now.state ≡ 0 → now.count ≡ length (trimmed t.base.image) → now.entries ≡ [] → now.drafted ≡ 0 → IsOpen last now (after_stroke finish t)
-        finish_open now named sized zero count entries none_drafted =
+        pub finish_open : (now : Held) → now.name ≡ held.name → now.page_size ≡ held.page_size → now.state ≡ 0 → now.forced ≡ held.forced → now.count ≡ length (trimmed t.base.image) → now.entries ≡ [] → now.drafted ≡ 0 → IsOpen last now (after_stroke finish t)
+        finish_open now named sized zero forced count entries none_drafted =
             let sixteen : length (Rattle.nb_model.specs.Image.image_guid g0.main) ≡ 16 = kept_sixteen g0.main m0 g0.has in
             let here : Holds (on_base finish t.base) (last.files held.name) (last.files (delta_name held.name)) =
             ends_in last.files (subst (λ (x : File). HasImage (in_state 0 None g0.main) x) (sym (removed.others_read held.name (main_apart held.name))) image.reads) in
@@ -165,6 +166,6 @@ module _ (old : World) (held : Held) (t : Trail) (is : IsOpen old held t) (reads
               agrees = subst (λ (b : Base). Agrees (record now { name = held.name }) b) (sym (trail_base finish t))
                   (agrees_by (record now { name = held.name }) (on_base finish t.base) (last.files held.name) (last.files (delta_name held.name)) here
                   (sized ∙ size ∙ sym (in_state-size g0.main m0 g0.has 0 None (omega arith) sixteen) ∙ ap image_size (sym one)) (zero ∙ sym (in_state-state g0.main m0 g0.has 0 None (omega arith) sixteen) ∙ ap image_state (sym one))
-                  (count ∙ sym (finished_length t.base)) (λ stalled. absurd (omega (arith, zero, stalled))) (entries ∙ sym (finished_entries t.base)));
+                  (forced ∙ is.agrees.forced ∙ sym (finished_forced t.base is.agrees.header)) (count ∙ sym (finished_length t.base)) (λ stalled. absurd (omega (arith, zero, stalled))) (entries ∙ sym (finished_entries t.base)));
               drafted = none_drafted;
             })

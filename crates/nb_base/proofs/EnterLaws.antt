@@ -309,6 +309,7 @@ module _ (w : World) (reads : (n : List ℕ) → Leaves w n (w.files n)) (held :
       page_size = goes.agrees.page_size;
       state = goes.agrees.state;
       opened = goes.agrees.opened;
+      forced = goes.agrees.forced;
       count = goes.agrees.count;
       main_count = goes.agrees.main_count;
       entries = goes.agrees.entries;

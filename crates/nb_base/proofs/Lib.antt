@@ -1,4 +1,5 @@
 pub mod FirmLaws
+pub mod ForcedLaws
 pub mod FilledLaws
 pub mod AgreeLaws
 pub mod AttachLaws

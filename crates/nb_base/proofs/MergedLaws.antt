@@ -134,9 +134,9 @@ module _ (old new : World) (held : Held) (t : Trail) (p : ℕ) (bytes : Page) (i
 -- the entries alone decide which are equal, with the name and the page size
 pub merged_held : (w : World) (a b : Held) (k : ℕ) → a.name ≡ b.name → a.page_size ≡ b.page_size → a.entries ≡ b.entries → AreMerged w a k → AreMerged w b k
 merged_held w a b k name size entries merged =
-    subst (λ (h : Held). AreMerged w h k) (λ i. record { name = name i; page_size = size i; state = b.state; count = b.count; main_count = b.main_count; entries = entries i; drafted = b.drafted }) merged_
+    subst (λ (h : Held). AreMerged w h k) (λ i. record { name = name i; page_size = size i; state = b.state; forced = b.forced; count = b.count; main_count = b.main_count; entries = entries i; drafted = b.drafted }) merged_
   where
-    merged_ : AreMerged w (record { name = a.name; page_size = a.page_size; state = b.state; count = b.count; main_count = b.main_count; entries = a.entries; drafted = b.drafted }) k
+    merged_ : AreMerged w (record { name = a.name; page_size = a.page_size; state = b.state; forced = b.forced; count = b.count; main_count = b.main_count; entries = a.entries; drafted = b.drafted }) k
     merged_ j low inside = record { later = (merged j low inside).later; same = (merged j low inside).same }
 
 -- The same by what each call of a write tells.

@@ -14,7 +14,7 @@ use Rattle.nb_host.specs.declared.refusals.Refusal.TheVariants.{NoFile, BadDelta
 use Rattle.nb_change.proofs.SettledLaws.{durable_is}
 use Rattle.nb_delta.specs.Known.{Known}
 use Rattle.nb_delta.specs.Slots.{HasTable}
-use Rattle.nb_model.specs.Image.{Image, image_size, image_state, image_in}
+use Rattle.nb_model.specs.Image.{Image, image_size, image_state, image_in, is_forced}
 use Rattle.nb_model.specs.Account.{Base}
 use Rattle.nb_model.specs.Causes.{Cause, not_database}
 use Rattle.nb_model.specs.Owner.{delta_name, owned, behind_entries, owner_with, owner_in, owner}
@@ -24,8 +24,9 @@ use Rattle.nb_base.proofs.FirmLaws.{shows_firm}
 use Rattle.nb_base.specs.declared.attach.Start.{Start}
 use Rattle.nb_base.specs.Attach.{Tested, main_cause, IsStart, AttachesFor}
 use Rattle.nb_base.specs.Open.{Held, Agrees, IsOpen}
-use Rattle.nb_base.specs.Beginnings.{IsAttached, Attaches}
+use Rattle.nb_base.specs.Beginnings.{IsAttached, Attaches, first_of}
 use Rattle.nb_base.proofs.AttachLaws.{start_broken, start_rest}
+use Rattle.nb_model.proofs.MainLaws.{some_page}
 use Rattle.nb_base.proofs.OwnedLaws.{Holds, owned-alone, frozen_in, bytes-state, bytes-size, shows, base-header, base-state, base-size, base-length}
 
 -- in the normal state the difference file isn't looked at
@@ -59,9 +60,9 @@ main_refused name (Some bytes) d r e = by (not_database bytes) refl
         let rest = start_rest bytes r is e in
         owner-formed name bytes d is ∙ ap (λ n. owner_in n name bytes d) rest.0 ∙ owner_in-applying name bytes d ∙ ap (λ (x : Refusal). Err x) (sym rest.1)
 
-pub start_refused : (S : Type 0) (result : Result Held Fault) (fault : Fault) (old new : World) (name : List ℕ) → IsErr result × IsErrAnd result (λ f. f ≡ fault) → Tested {T = S} (Err fault) (main_cause name (old.files name)) → Attaches result old new name
-start_refused S (Ok value) fault old new name is tested = absurd is.1
-start_refused S (Err e) fault old new name is tested = subst (λ (f : Fault). Attaches (Err f) old new name) (sym is.1) (on fault tested)
+pub start_refused : (S A : Type 0) (result : Result (Held × A) Fault) (fault : Fault) (old new : World) (name : List ℕ) → IsErr result × IsErrAnd result (λ f. f ≡ fault) → Tested {T = S} (Err fault) (main_cause name (old.files name)) → Attaches (first_of result) old new name
+start_refused S A (Ok value) fault old new name is tested = absurd is.1
+start_refused S A (Err e) fault old new name is tested = subst (λ (f : Fault). Attaches (Err f) old new name) (sym is.1) (on fault tested)
   where
     on : (f : Fault) → Tested {T = S} (Err f) (main_cause name (old.files name)) → Attaches (Err f) old new name
     on (Refused r) t = main_refused name (old.files name) (old.files (delta_name name)) r t
@@ -101,10 +102,10 @@ module _ (name bytes : List ℕ) (start : Start) (is : IsStart bytes start) wher
       by zero at = absurd (answer.normal at)
       by (suc k) at = ap (λ n. owner_in n name bytes d) (sym is.state ∙ at) ∙ owner_in-diverted k name bytes d (λ e. absurd (omega (arith, at, e, is.opened))) ∙ refused d (answer.other (omega (arith, at)))
 
-  pub delta_refused : (result : Result Held Fault) (found : Result Known Fault) (fault : Fault) (old new : World) → old.files name ≡ Some bytes → IsErr result × IsErrAnd result (λ f. f ≡ fault)
-      → found ≡ Err fault → AttachesFor start.state start.page_size (delta_name name) (old.files (delta_name name)) found → Attaches result old new name
-  delta_refused (Ok value) found fault old new there failed told answer = absurd failed.1
-  delta_refused (Err e) found fault old new there failed told answer =
+  pub delta_refused : (A : Type 0) (result : Result (Held × A) Fault) (found : Result Known Fault) (fault : Fault) (old new : World) → old.files name ≡ Some bytes → IsErr result × IsErrAnd result (λ f. f ≡ fault)
+      → found ≡ Err fault → AttachesFor start.state start.page_size (delta_name name) (old.files (delta_name name)) found → Attaches (first_of result) old new name
+  delta_refused A (Ok value) found fault old new there failed told answer = absurd failed.1
+  delta_refused A (Err e) found fault old new there failed told answer =
       subst (λ (f : Fault). Attaches (Err f) old new name) (sym failed.1) (on fault (subst (λ (x : Result Known Fault). AttachesFor start.state start.page_size (delta_name name) (old.files (delta_name name)) x) told answer))
     where
       on : (f : Fault) → AttachesFor start.state start.page_size (delta_name name) (old.files (delta_name name)) (Err f) → Attaches (Err f) old new name
@@ -143,16 +144,27 @@ module _ (name bytes : List ℕ) (start : Start) (is : IsStart bytes start) wher
       frozen = frozen_in (image_state main) main;
     }
 
+    -- so they show it, and it has a page 0
+    pub read_shows : (files : Files) → files name ≡ Some bytes → files (delta_name name) ≡ d → ShowsIn name read_base files
+    read_shows files there beside = ap (owner name (files name)) beside ∙ shows name read_base (files name) d (read_holds (files name) there)
+
+    pub read_size : start.page_size ≡ image_size read_base.image
+    read_size = sym size_is ∙ sym (base-size read_base (Some bytes) d (read_holds (Some bytes) refl))
+
+    pub read_some : 0 < length read_base.image
+    read_some = some_page read_base.image (base-header read_base (Some bytes) d (read_holds (Some bytes) refl))
+
     -- what is held of them agrees with them
-    read_agrees : (held : Held) → held.page_size ≡ start.page_size → held.state ≡ start.state → held.count ≡ max (length (image_in bytes)) (behind_entries known.entries) → held.main_count ≡ length (image_in bytes) → held.entries ≡ known.entries
+    read_agrees : (held : Held) → held.page_size ≡ start.page_size → held.state ≡ start.state → held.forced ≡ is_forced read_base.image → held.count ≡ max (length (image_in bytes)) (behind_entries known.entries) → held.main_count ≡ length (image_in bytes) → held.entries ≡ known.entries
         → Agrees held read_base
-    read_agrees held sized stated count main_count entries =
+    read_agrees held sized stated forced count main_count entries =
         let h : Holds read_base (Some bytes) d = read_holds (Some bytes) refl in
         record {
           header = base-header read_base (Some bytes) d h;
           page_size = sized ∙ sym size_is ∙ sym (base-size read_base (Some bytes) d h);
           state = stated ∙ sym state_is ∙ sym (base-state read_base (Some bytes) d h);
           opened = omega (arith, stated, is.opened);
+          forced = forced;
           count = count ∙ sym (base-length read_base (Some bytes) d h);
           main_count = λ stalled. main_count ∙ ap length (sym (h.frozen.stalled (state_is ∙ sym stated ∙ stalled)));
           entries = entries;
@@ -160,10 +172,10 @@ module _ (name bytes : List ℕ) (start : Start) (is : IsStart bytes start) wher
 
     -- Once they are kept for good, each crash leaves them.
     pub read_attached : (held : Held) (old new : World) → old.files name ≡ Some bytes → old.files (delta_name name) ≡ d → new.files ≡ old.files → held.name ≡ name → held.page_size ≡ start.page_size → held.state ≡ start.state
-        → held.count ≡ max (length (image_in bytes)) (behind_entries known.entries) → held.main_count ≡ length (image_in bytes) → held.entries ≡ known.entries → held.drafted ≡ 0
+        → held.forced ≡ is_forced read_base.image → held.count ≡ max (length (image_in bytes)) (behind_entries known.entries) → held.main_count ≡ length (image_in bytes) → held.entries ≡ known.entries → held.drafted ≡ 0
         → IsDurable new name (Some bytes) → (0 < start.state → IsDurable new (delta_name name) d) → IsAttached held old new name
-    read_attached held old new there beside still named sized stated count main_count entries none_drafted durable durable_beside =
-        let now : ShowsIn name read_base old.files = ap (owner name (old.files name)) beside ∙ shows name read_base (old.files name) d (read_holds (old.files name) there) in
+    read_attached held old new there beside still named sized stated forced count main_count entries none_drafted durable durable_beside =
+        let now : ShowsIn name read_base old.files = read_shows old.files there beside in
         record {
           base = read_base;
           stands = now;
@@ -185,7 +197,7 @@ module _ (name bytes : List ℕ) (start : Start) (is : IsStart bytes start) wher
         opened_as : IsOpen new (record held { name = name }) (settled read_base)
         opened_as = record {
           left = λ files left. shows_firm name read_base (files name) (files (delta_name name)) (each files left start.state refl);
-          shows = ap (λ (f : Files). owner name (f name) (f (delta_name name))) still ∙ ap (owner name (old.files name)) beside ∙ shows name read_base (old.files name) d (read_holds (old.files name) there);
-          agrees = read_agrees (record held { name = name }) sized stated count main_count entries;
+          shows = ap (λ (f : Files). owner name (f name) (f (delta_name name))) still ∙ read_shows old.files there beside;
+          agrees = read_agrees (record held { name = name }) sized stated forced count main_count entries;
           drafted = none_drafted;
         }

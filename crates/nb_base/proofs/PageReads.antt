@@ -9,7 +9,7 @@ use Rattle.nb_fields.specs.Table.{page_in, slot_place}
 use Rattle.nb_host.specs.Files.{File, Files, bytes_of}
 use Rattle.nb_delta.specs.Known.{Known}
 use Rattle.nb_host.specs.Calls.{ReadsPage, ReadsBytes}
-use Rattle.nb_model.specs.Image.{Page, Image, page_at, image_size, image_state, image_in}
+use Rattle.nb_model.specs.Image.{Page, Image, page_at, first_page, image_size, image_state, image_in}
 use Rattle.nb_model.specs.Causes.{not_database}
 use Rattle.nb_model.specs.Account.{Base}
 use Rattle.nb_model.specs.Trail.{ShowsIn}
@@ -174,6 +174,14 @@ got_slot size name files now known k_ k got same knows size_is named is =
 -- the same at an equal page size
 pub sized_owned : (a b : ℕ) (main : Image) (delta entries : List ℕ) (p : ℕ) (got : List ℕ) → a ≡ b → got ≡ owned_page a main delta entries p → got ≡ owned_page b main delta entries p
 sized_owned a b main delta entries p got same is = is ∙ ap (λ n. owned_page n main delta entries p) same
+
+-- Page 0 as it was read through what is held of the difference file.
+pub first_read : (files : Files) (name : List ℕ) (known : Known) (b : Base) (got : Page) (size : ℕ) → ShowsIn name b files → known.page_size ≡ image_size b.image → known.entries ≡ b.diverted → 0 < length b.image → size ≡ known.page_size → known.name ≡ delta_name name
+    → ((bytes : List ℕ) → files name ≡ Some bytes → not_database bytes ≡ None → size_of bytes ≡ size → known.name ≡ delta_name name → got ≡ owned_page size (image_in bytes) (bytes_of (files (delta_name name))) known.entries 0)
+    → got ≡ first_page b.image
+first_read files name known b got size opens sized entries low wide named page =
+    let r = base_reads files name known.page_size known.entries b 0 opens sized (ap (entry_for 0) entries) low in
+    sized_owned _ _ _ _ _ _ _ wide (page r.bytes r.there r.formed (r.sized ∙ sym wide) named) ∙ r.page
 
 pub sized_main : (a b : ℕ) (main : Image) (p : ℕ) (got : List ℕ) → a ≡ b → got ≡ main_page a main p → got ≡ main_page b main p
 sized_main a b main p got same is = is ∙ ap (λ n. main_page n main p) same

@@ -6,7 +6,7 @@ use Rattle.nb_fields.specs.Header.{size_of, state_of}
 use Rattle.nb_fields.proofs.PartLemmas.{length-part, part-take}
 use Rattle.nb_host.specs.Files.{File, bytes_of}
 use Rattle.nb_delta.specs.Slots.{HasTable}
-use Rattle.nb_model.specs.Image.{Image, first_page, image_size, image_state, image_scn, image_guid, trimmed}
+use Rattle.nb_model.specs.Image.{Image, first_page, image_size, image_state, image_scn, image_guid, is_forced, trimmed}
 use Rattle.nb_model.specs.Account.{Ask, Base}
 use Rattle.nb_model.specs.Strokes.{controlled, with_control, begin, ends, finish, on_base}
 use Rattle.nb_model.specs.Owner.{owned}
@@ -30,13 +30,14 @@ normal_image b m d h normal =
     h.image ∙ ap (λ (t : List ℕ). owned (image_size h.main) h.main (bytes_of d) t) (h.entries.none normal) ∙ sym (owned-alone (image_size h.main) h.main (bytes_of d))
 
 -- what is held agrees with what the files hold
-pub agrees_by : (held : Held) (b : Base) (m d : File) (h : Holds b m d) → held.page_size ≡ image_size h.main → held.state ≡ image_state h.main → held.count ≡ length b.image → (held.state ≡ 1 → held.main_count ≡ length h.main) → held.entries ≡ b.diverted
+pub agrees_by : (held : Held) (b : Base) (m d : File) (h : Holds b m d) → held.page_size ≡ image_size h.main → held.state ≡ image_state h.main → held.forced ≡ is_forced b.image → held.count ≡ length b.image → (held.state ≡ 1 → held.main_count ≡ length h.main) → held.entries ≡ b.diverted
     → Agrees held b
-agrees_by held b m d h sized stated count main_count entries = record {
+agrees_by held b m d h sized stated forced count main_count entries = record {
   header = base-header b m d h;
   page_size = sized ∙ sym (base-size b m d h);
   state = stated ∙ sym (base-state b m d h);
   opened = omega (arith, stated, h.opened);
+  forced = forced;
   count = count;
   main_count = λ stalled. main_count stalled ∙ ap length (sym (h.frozen.stalled (sym stated ∙ stalled)));
   entries = entries;

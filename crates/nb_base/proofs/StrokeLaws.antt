@@ -12,7 +12,7 @@ use Rattle.nb_change.proofs.ChangesLaws.{weaker_has, composed_within}
 use Rattle.nb_change.proofs.CallLaws.{still_alone}
 use Rattle.nb_change.proofs.SettledLaws.{durable_is}
 use Rattle.nb_delta.specs.Slots.{HasTable}
-use Rattle.nb_model.specs.Image.{Image, image_size, image_state, image_scn}
+use Rattle.nb_model.specs.Image.{Image, image_size, image_state, image_scn, is_forced}
 use Rattle.nb_model.specs.Account.{Ask, Base}
 use Rattle.nb_model.specs.Strokes.{Stroke, begin, ends, finish, on_base}
 use Rattle.nb_model.specs.Owner.{delta_name}
@@ -27,6 +27,7 @@ use Rattle.nb_base.specs.Takes.{StrikesFirm}
 use Rattle.nb_base.proofs.BlockLaws.{to_main, of_main}
 use Rattle.nb_base.proofs.OpenedLaws.{holds_whatever}
 use Rattle.nb_base.proofs.OwnedLaws.{Holds, holds, shows, base-front, base-state, base-size}
+use Rattle.nb_base.proofs.ForcedLaws.{begun_forced}
 use Rattle.nb_base.proofs.StateLaws.{same_main, normal_image, agrees_by, in_state-state, in_state-size, in_state-length, begun_holds}
 use Rattle.nb_base.proofs.WrittenLaws.{one_main}
 use Rattle.nb_base.proofs.WriteLaws.{main_apart, delta_apart}
@@ -69,15 +70,15 @@ module _ (old mid new : World) (name : List ℕ) (t : Trail) (s : Stroke) (befor
     here : Holds (on_base s t.base) (new.files name) (new.files (delta_name name))
     here = go new.files (λ m other. subst (λ (f : File). Leaves mid m f) (sym (block.others_read m other)) (reads m)) is.reads
 
-    pub struck_open : (held : Held) → held.name ≡ name → held.page_size ≡ image_size after → held.state ≡ image_state after → held.count ≡ length (on_base s t.base).image → (held.state ≡ 1 → held.main_count ≡ length after)
+    pub struck_open : (held : Held) → held.name ≡ name → held.page_size ≡ image_size after → held.state ≡ image_state after → held.forced ≡ is_forced (on_base s t.base).image → held.count ≡ length (on_base s t.base).image → (held.state ≡ 1 → held.main_count ≡ length after)
         → held.entries ≡ (on_base s t.base).diverted → held.drafted ≡ 0 → IsOpen new held (after_stroke s t)
-    struck_open held named sized stated count main_count entries none_drafted =
+    struck_open held named sized stated forced count main_count entries none_drafted =
         let one : here.main ≡ after = one_main here.main after (new.files name) here.has (to_main after (new.files name) is.reads) in
         subst (λ (n : List ℕ). IsOpen new (record held { name = n }) (after_stroke s t)) (sym named) (record {
           left = λ files left. stands_after name s t (files name) (files (delta_name name)) settles (go files (λ n other. left_before mid new _ block.others n (files n) other (left n)) (is.left (files name) (left name)));
           shows = shows name (on_base s t.base) (new.files name) (new.files (delta_name name)) here ∙ ap (λ (b : Base). Ok b) (sym (trail_base s t));
           agrees = subst (λ (b : Base). Agrees (record held { name = name }) b) (sym (trail_base s t))
-              (agrees_by (record held { name = name }) (on_base s t.base) (new.files name) (new.files (delta_name name)) here (sized ∙ ap image_size (sym one)) (stated ∙ ap image_state (sym one)) count
+              (agrees_by (record held { name = name }) (on_base s t.base) (new.files name) (new.files (delta_name name)) here (sized ∙ ap image_size (sym one)) (stated ∙ ap image_state (sym one)) forced count
               (λ stalled. main_count stalled ∙ ap length (sym one)) entries);
           drafted = none_drafted;
         })
@@ -159,11 +160,12 @@ module _ (old : World) (held : Held) (t : Trail) (is : IsOpen old held t) where
       unfolding on_base
       begun_none = refl
 
-      pub begin_open : IsImageOf new held.name (in_state 1 (Some guid) h0.main) → ((m : List ℕ) → Leaves mid m (mid.files m)) → (now : Held) → now.name ≡ held.name → now.page_size ≡ held.page_size → now.state ≡ 1 → now.count ≡ held.count
+      pub begin_open : IsImageOf new held.name (in_state 1 (Some guid) h0.main) → ((m : List ℕ) → Leaves mid m (mid.files m)) → (now : Held) → now.name ≡ held.name → now.page_size ≡ held.page_size → now.state ≡ 1 → now.forced ≡ held.forced → now.count ≡ held.count
           → now.main_count ≡ held.count → now.entries ≡ [] → now.drafted ≡ 0 → IsOpen new now (after_stroke (begin guid ask) t)
-      begin_open image reads now named sized one count main_count none none_drafted =
+      begin_open image reads now named sized one forced count main_count none none_drafted =
           let long : length frozen ≡ length h0.main = in_state-length h0.main m0 h0.has 1 (Some guid) (omega arith) sixteen in
           let all : held.count ≡ length h0.main = is.agrees.count ∙ ap length (normal_image t.base m0 d0 h0 zero) in
           struck_open old mid new held.name t (begin guid ask) h0.main frozen so_far block (λ files others was. stays files was) goes (begin-settles t guid ask) image reads now named
           (sized ∙ begin_size ∙ sym (in_state-size h0.main m0 h0.has 1 (Some guid) (omega arith) sixteen)) (one ∙ sym (in_state-state h0.main m0 h0.has 1 (Some guid) (omega arith) sixteen))
+          (forced ∙ is.agrees.forced ∙ sym (begun_forced guid ask t.base is.agrees.header sixteen))
           (count ∙ all ∙ sym long ∙ ap length (sym begun_image)) (λ stalled. main_count ∙ all ∙ sym long) (none ∙ sym begun_none) none_drafted

@@ -24,6 +24,11 @@ pub record IsAttached (held : Held) (old new : World) (name : List ℕ) : Type 0
   pub named : held.name ≡ name
   pub opened : IsOpen new held (settled base)
 
+-- what a call answers, without what it answers beside it
+abbrev pub first_of : {A B : Type 0} → Result (A × B) Fault → Result A Fault
+first_of (Ok value) = Ok value.0
+first_of (Err fault) = Err fault
+
 -- it answers the database, or why there is none to open
 abbrev pub Attaches : Result Held Fault → (old new : World) (name : List ℕ) → Type 0
 Attaches (Ok held) old new name = IsAttached held old new name

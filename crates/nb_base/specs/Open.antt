@@ -1,11 +1,11 @@
 -- The two files of a database that is open.
-use Rattle.std.specs.Prelude.{◌≡◌, ◌⊎◌, ℕ, ◌<◌, ◌≤◌, List, length, take, drop, slice_index, true}
+use Rattle.std.specs.Prelude.{◌≡◌, ◌⊎◌, ℕ, ◌<◌, ◌≤◌, List, length, take, drop, slice_index, Bool, true}
 use Rattle.nb_fields.specs.Header.{is_header}
 use Rattle.nb_fields.specs.Table.{page_in, slot_place}
 use Rattle.nb_host.specs.Files.{Files, bytes_of}
 use Rattle.nb_host.specs.World.{World}
 use Rattle.nb_host.specs.Crash.{LeavesAll}
-use Rattle.nb_model.specs.Image.{Page, Image, page_at, first_page, image_size, image_state, image_in}
+use Rattle.nb_model.specs.Image.{Page, Image, page_at, first_page, image_size, image_state, is_forced, image_in}
 use Rattle.nb_model.specs.Account.{Base}
 use Rattle.nb_model.specs.Owner.{delta_name}
 use Rattle.nb_model.specs.Trail.{Trail, ShowsIn}
@@ -19,6 +19,8 @@ pub record Held : Type 0 where
   pub page_size : ℕ
   -- 0 normal, 1 stalled, 2 merge
   pub state : ℕ
+  -- whether writes are forced
+  pub forced : Bool
   -- how many pages the database has
   pub count : ℕ
   -- how many pages the main file has
@@ -38,6 +40,7 @@ pub record Agrees (held : Held) (b : Base) : Type 0 where
   pub page_size : held.page_size ≡ image_size b.image
   pub state : held.state ≡ image_state b.image
   pub opened : held.state ≤ 2
+  pub forced : held.forced ≡ is_forced b.image
   pub count : held.count ≡ length b.image
   -- in the stalled state the main file is frozen
   pub main_count : held.state ≡ 1 → held.main_count ≡ length b.frozen

@@ -9,12 +9,17 @@ ghost use Rattle.nb_change.specs.Counts.{CountsDevice};
 ghost use Rattle.nb_change.specs.Gave.{GaveNothing};
 ghost use Rattle.nb_page.specs.Quiet.{Quiet};
 ghost use Rattle.nb_model.specs.Account.{base_of};
-ghost use Rattle.nb_base.specs.Beginnings.{CreateLeft, CreateReads, CreatesFile, Attaches, Creates, IsSettled};
+ghost use Rattle.nb_model.specs.Image.{first_page};
+ghost use Rattle.nb_model.specs.Trail.{Trail};
+ghost use Rattle.nb_base.specs.Beginnings.{CreateLeft, CreateReads, CreatesFile, Attaches, Creates, IsSettled, first_of};
+ghost use Rattle.nb_base.specs.Open.{IsOpen};
 ghost use Rattle.nb_base.specs.Reads.{opening_reads};
 
 use crate::TwoFiles;
 use crate::attach::{attach_delta, count_with, find_length, keep_files, read_start};
+use crate::reads::read_owned;
 use nb_delta::Delta;
+use nb_fields::layouts::header;
 use nb_host::{Fault, Host, HostFault, Name, Refusal};
 use nb_page::{fresh, fresh_count, is_free};
 use std::alloc::Global;
@@ -72,31 +77,43 @@ fn create_file<H: Host>(host: &mut H, name: &Name, page: &mut [u8], raw: u32) ->
 impl TwoFiles {
     /// Opens the two files of a database, and takes room for one of its pages. It changes nothing: both files are kept for good before
     /// it answers, so that no later crash takes back what was read of them. It reads the header, the allocation pages of the difference
-    /// file, and from the end of the main file on its pages of zeros and the one before them.
+    /// file, from the end of the main file on its pages of zeros and the one before them, and page 0 of the database, in two parts at most.
+    /// It answers that page too, of which the layers above hold more.
     ///
     /// The refusals are `NoFile`, `NotDatabase`, `Unfinished`, `NoFile` of the difference file and `BadDelta`, in this order.
-    pub fn attach<H: Host>(alloc: Global, host: &mut H, name: &Name) -> Result<TwoFiles, Fault>
+    pub fn attach<H: Host>(
+        alloc: Global,
+        host: &mut H,
+        name: &Name,
+    ) -> Result<(TwoFiles, Vec<u8>), Fault>
         requires name { length name.now ≤ 94 }
-        ensures attaches { IsTrue H.tells → Attaches result (H.world host.old) (H.world host.new) name.now }
+        ensures attaches { IsTrue H.tells → Attaches (first_of result) (H.world host.old) (H.world host.new) name.now }
+        ensures page { (t : Trail) → IsTrue H.tells → IfOk result (λ (files, page). IsOpen (H.world host.new) files t → page.items ≡ first_page t.base.image) }
+        ensures long { IfOk result (λ (files, page). length page.items ≡ files.page_size) }
         ensures quiet { Quiet (H.world host.old) (H.world host.new) }
-        ensures reads { IsTrue H.tells → IfOk result (λ files. (H.world host.new).reads ≤ (H.world host.old).reads + opening_reads ((H.world host.old).files name.now) files) }
+        ensures reads { IsTrue H.tells → IfOk result (λ (files, page). (H.world host.new).reads ≤ (H.world host.old).reads + opening_reads ((H.world host.old).files name.now) files + 2) }
         ensures cause { CountsDevice result (H.faults host.old) (H.faults host.new) }
     {
         let start = read_start(host, name)?;
         let mut page = vec![in alloc; 0; start.page_size as usize]?;
+        let mut first = vec![in alloc; 0; start.page_size as usize]?;
         let beside = name.delta();
         let mut delta = attach_delta(alloc, host, &beside, start)?;
         let main_count = find_length(host, name, start.pages, &mut page)?;
         let count = count_with(host, &mut delta, main_count)?;
         keep_files(host, name, &beside, start.state)?;
-        Ok(TwoFiles {
+        read_owned(host, name, &mut delta, 0, &mut first)?;
+        let forced = header::Forced::get(&first) != 0;
+        let files = TwoFiles {
             name: name.copied(),
             state: start.state,
+            forced,
             count,
             main_count,
             delta,
             page,
-        })
+        };
+        Ok((files, first))
     }
 
     /// Makes a new database with `raw` raw pages, and opens it. The refusal is `FileExists`, where the name is not free; then nothing
@@ -122,6 +139,7 @@ impl TwoFiles {
         Ok(TwoFiles {
             name: name.copied(),
             state: 0,
+            forced: true,
             count,
             main_count: count,
             delta,

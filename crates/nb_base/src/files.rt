@@ -1,5 +1,5 @@
-ghost use Rattle.std.specs.Prelude.{◌≡◌, ◌≢◌, ◌↔◌, ◌<◌, ◌≤◌, ◌+◌, ℕ, [], ◌∷◌, length, IsTrue, IfErr, OnOk, false};
-ghost use Rattle.nb_fields.specs.Bytes.{is_zeros};
+ghost use Rattle.std.specs.Prelude.{◌≡◌, ◌≢◌, ◌↔◌, ◌<◌, ◌≤◌, ◌+◌, ℕ, [], ◌∷◌, length, IsTrue, IfErr, OnOk, false, not, ◌==◌};
+ghost use Rattle.nb_fields.specs.Bytes.{is_zeros, number_in};
 ghost use Rattle.nb_fields.specs.Places.{is_page_size};
 ghost use Rattle.nb_host.specs.Calls.{IsSilent};
 ghost use Rattle.nb_host.specs.Causes.{CountsFault};
@@ -7,7 +7,7 @@ ghost use Rattle.nb_change.specs.Counts.{CountsDevice};
 ghost use Rattle.nb_change.specs.Gave.{GaveNothing};
 ghost use Rattle.nb_page.specs.Quiet.{Quiet};
 ghost use Rattle.nb_model.specs.Account.{Base};
-ghost use Rattle.nb_model.specs.Image.{page_at, image_size, image_state, is_forced};
+ghost use Rattle.nb_model.specs.Image.{page_at, image_size, image_state};
 ghost use Rattle.nb_model.specs.Owner.{entry_for};
 ghost use Rattle.nb_model.specs.Strokes.{page as page_stroke};
 ghost use Rattle.nb_model.specs.Trail.{Trail, settled, ShowsIn};
@@ -22,6 +22,7 @@ use crate::sync::sync_both;
 use crate::writes::{is_synced, write_plain, write_stalled};
 use nb_cases::{Case, Event, case_of};
 use nb_delta::Delta;
+use nb_fields::layouts::header;
 use nb_host::{Fault, Host, HostFault, Name};
 use std::alloc::Global;
 use std::marker::Model;
@@ -40,6 +41,8 @@ pub struct TwoFiles {
     pub(crate) name: Name,
     /// The backup state: 0 normal, 1 stalled, 2 merge.
     pub(crate) state: u16,
+    /// Whether each page write is kept for good before the next.
+    pub(crate) forced: bool,
     /// In pages.
     pub(crate) count: u32,
     pub(crate) main_count: u32,
@@ -56,7 +59,7 @@ impl Model for TwoFiles {
 
     ghost Value = { Held };
 
-    ghost view = { λ f. record { name = f.name; page_size = f.delta.page_size; state = f.state; count = f.count; main_count = f.main_count; entries = f.delta.entries; drafted = f.delta.drafted } };
+    ghost view = { λ f. record { name = f.name; page_size = f.delta.page_size; state = f.state; forced = f.forced; count = f.count; main_count = f.main_count; entries = f.delta.entries; drafted = f.delta.drafted } };
 
     ghost invariant = { λ f. IsTrue (is_page_size f.delta.page_size) × (f.count ≤ 1048576) × (f.main_count ≤ 1048576) × (vec_len f.page ≡ f.delta.page_size) × (length f.name ≤ 94) × (f.delta.name ≡ delta_name f.name) × (f.state ≢ 1 → f.delta.drafted ≡ 0) × (f.state ≤ 2) };
 }
@@ -85,6 +88,13 @@ impl TwoFiles {
         ensures stalled { result ≢ 1 → self.now.drafted ≡ 0 }
     {
         self.state
+    }
+
+    /// Whether each page write is kept for good before the next.
+    pub fn forced(&self) -> bool
+        ensures { result ≡ self.now.forced }
+    {
+        self.forced
     }
 
     /// How many pages the difference file holds; none in the normal state.
@@ -135,13 +145,12 @@ impl TwoFiles {
         host: &mut H,
         number: u32,
         page: &[u8],
-        forced: bool,
     ) -> Result<(), Fault>
         requires size { length page.now ≡ self.old.page_size }
         requires most { number < 1048576 }
         requires some { is_zeros page.now ≡ false }
         requires none_waits { self.old.drafted ≡ 0 }
-        ensures takes { (t : Trail) → IsTrue H.tells → IsOpen (H.world host.old) self.old t → Fits number page.now t.base.image → forced ≡ is_forced t.base.image
+        ensures takes { (t : Trail) → IsTrue H.tells → IsOpen (H.world host.old) self.old t → Fits number page.now t.base.image
             → TakesFirm result (H.world host.old) (H.world host.new) self.old.name (IsOpen (H.world host.new) self.new) t (page_stroke number page.now ∷ []) }
         ensures touches { (t : Trail) → IsTrue H.tells → IsOpen (H.world host.old) self.old t → WritesIn (H.world host.old) (H.world host.new) self.old.state self.old.name }
         ensures merged { (t : Trail) (k : ℕ) → IsTrue H.tells → IsOpen (H.world host.old) self.old t → Fits number page.now t.base.image → self.old.state ≡ 2
@@ -159,10 +168,23 @@ impl TwoFiles {
         ensures on_memory { result ≡ Err Fault.Memory → (self.new ≡ self.old) × (host.new ≡ host.old) }
         ensures takes_none { self.old.state ≢ 1 → IfErr result (λ fault. fault ≢ Fault.Memory) }
     {
-        let synced = is_synced(forced, self.page.len() as u32, self.count, number);
+        let synced = is_synced(self.forced, self.page.len() as u32, self.count, number);
         self.put(host, number, page, synced)?;
         self.count = self.count.max(number + 1);
+        self.take_forced(number, page);
         Ok(())
+    }
+
+    /// Takes over what a page 0 that was written says of forced writes.
+    fn take_forced(&mut self, number: u32, page: &[u8])
+        requires { 80 ≤ length page.now }
+        ensures same { self.new ≡ record self.old { forced = self.new.forced } }
+        ensures first { number ≡ 0 → self.new.forced ≡ not (number_in 64 1 page.now == 0) }
+        ensures other { 0 < number → self.new.forced ≡ self.old.forced }
+    {
+        if number == 0 {
+            self.forced = header::Forced::get(page) != 0;
+        }
     }
 
     /// Writes a page by the state, and keeps it for good where it is to be synced.

@@ -147,7 +147,7 @@ impl Engine {
 
     /// Whether each page write is kept for good before the next.
     pub fn forced(&self) -> bool
-        ensures { result ≡ self.now.forced }
+        ensures { result ≡ self.now.files.forced }
     {
         self.store.forced()
     }

@@ -63,7 +63,7 @@ fn put_flag<H: Host>(
     ensures takes_none { store.old.files.state ≢ 1 → IfErr result (λ fault. fault ≢ Memory) }
     ensures on_memory { (t : Trail) → IsTrue H.tells → IsOpen (H.world host.old) store.old t → result ≡ Err Memory
         → Strikes (H.world host.old) (H.world host.new) (name_of store.old) t [] × IsOpen (H.world host.new) store.new t }
-    ensures forced { (t : Trail) → IsTrue H.tells → IsOpen (H.world host.old) store.old t → store.old.forced ≡ true → result ≡ Err Memory
+    ensures forced { (t : Trail) → IsTrue H.tells → IsOpen (H.world host.old) store.old t → store.old.files.forced ≡ true → result ≡ Err Memory
         → (but_pages store.new ≡ but_pages store.old) × Quiet (H.world host.old) (H.world host.new) }
 {
     read_first(store, host, page)?;
@@ -86,7 +86,7 @@ impl Engine {
         ensures takes_none { self.old.files.state ≢ 1 → IfErr result (λ fault. fault ≢ Memory) }
         ensures on_memory { (t : Trail) → IsTrue H.tells → IsOpen (H.world host.old) self.old t → result ≡ Err Memory
             → Strikes (H.world host.old) (H.world host.new) (name_of self.old) t [] × IsOpen (H.world host.new) self.new t }
-        ensures forced { (t : Trail) → IsTrue H.tells → IsOpen (H.world host.old) self.old t → self.old.forced ≡ true → result ≡ Err Memory
+        ensures forced { (t : Trail) → IsTrue H.tells → IsOpen (H.world host.old) self.old t → self.old.files.forced ≡ true → result ≡ Err Memory
             → (but_pages self.new ≡ but_pages self.old) × Quiet (H.world host.old) (H.world host.new) }
     {
         if self.store.is_read_only() {

@@ -22,7 +22,7 @@ fn on_new_base<T, F: FnOnce(Global, &mut MemHost, &mut Pair) -> Result<T, Fault>
     requires steps { F.IsAlwaysCallable steps }
 {
     Pair::create(alloc, &mut host, &base_name()?, 1024, 8, 1)?;
-    let mut pair = Pair::attach(alloc, &mut host, &base_name()?, cache_pages)?;
+    let (mut pair, _) = Pair::attach(alloc, &mut host, &base_name()?, cache_pages)?;
     steps(alloc, &mut host, &mut pair)
 }
 
@@ -47,7 +47,7 @@ fn put_byte(host: &mut MemHost, pair: &mut Pair, number: u32, byte: u8) -> Resul
     if are_zeros(&page) {
         return Err(Fault::Device);
     }
-    pair.write(host, number, &page, true)
+    pair.write(host, number, &page)
 }
 
 /// How often the host is asked for page `number`, and how many pages are in memory then.
@@ -137,7 +137,7 @@ fn next_state(host: &mut MemHost, pair: &mut Pair) -> Result<(), Fault> {
 
 /// What another reads of page 0.
 fn byte_in_files(alloc: Global, host: &mut MemHost) -> Result<u8, Fault> {
-    let mut other = Pair::attach(alloc, host, &base_name()?, 1)?;
+    let (mut other, _) = Pair::attach(alloc, host, &base_name()?, 1)?;
     byte_of(host, &mut other, 0)
 }
 

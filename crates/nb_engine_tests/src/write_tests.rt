@@ -3,6 +3,7 @@
 use crate::sample::base_name;
 use nb_base::TwoFiles;
 use nb_fields::are_zeros;
+use nb_fields::layouts::header;
 use nb_host::Fault;
 use nb_mem::MemHost;
 use std::alloc::Global;
@@ -14,16 +15,35 @@ fn write(
     files: &mut TwoFiles,
     number: u32,
     byte: u8,
-    forced: bool,
 ) -> Result<(), Fault> {
-    let page = [byte; 1024];
-    if files.page_size() != 1024 || number >= 1_048_576 || are_zeros(&page) {
+    write_page(host, files, number, &[byte; 1024])
+}
+
+/// Writes a page of the database, or adds it at the end.
+fn write_page(
+    host: &mut MemHost,
+    files: &mut TwoFiles,
+    number: u32,
+    page: &[u8; 1024],
+) -> Result<(), Fault> {
+    if files.page_size() != 1024 || number >= 1_048_576 || are_zeros(page) {
         return Err(Fault::Device);
     }
     if files.drafted() != 0 || number > files.count() {
         return Err(Fault::Device);
     }
-    files.write(host, number, &page, forced)
+    files.write(host, number, page)
+}
+
+/// Says in page 0 that writes aren't forced.
+fn let_wait(host: &mut MemHost, files: &mut TwoFiles) -> Result<(), Fault> {
+    if files.page_size() != 1024 {
+        return Err(Fault::Device);
+    }
+    let mut page = [0; 1024];
+    files.read(host, 0, &mut page)?;
+    header::Forced::put(&mut page, 0);
+    write_page(host, files, 0, &page)
 }
 
 /// The last byte of a page of the database.
@@ -41,7 +61,7 @@ fn stall(host: &mut MemHost, files: &mut TwoFiles) -> Result<(), Fault> {
     if files.state() == 0 {
         files.begin(host, &[7; 16])?;
     }
-    write(host, files, 5, 3, true)
+    write(host, files, 5, 3)
 }
 
 /// Brings a database into that state.
@@ -57,8 +77,8 @@ fn bring(host: &mut MemHost, files: &mut TwoFiles, state: u16) -> Result<(), Fau
 
 /// Writes pages 5 and 6, brings the database into that state, and keeps it for good.
 fn prepare(host: &mut MemHost, files: &mut TwoFiles, state: u16) -> Result<(), Fault> {
-    write(host, files, 5, 1, true)?;
-    write(host, files, 6, 2, true)?;
+    write(host, files, 5, 1)?;
+    write(host, files, 6, 2)?;
     bring(host, files, state)?;
     files.sync(host)?;
     Ok(())
@@ -69,10 +89,9 @@ fn calls_to_write(
     host: &mut MemHost,
     files: &mut TwoFiles,
     number: u32,
-    forced: bool,
 ) -> Result<u64, Fault> {
     let before = host.calls();
-    write(host, files, number, 9, forced)?;
+    write(host, files, number, 9)?;
     let calls = host.calls().saturating_sub(before);
     if byte_of(host, files, number)? != 9 {
         return Ok(0);
@@ -84,8 +103,11 @@ fn calls_to_write(
 fn calls_of(alloc: Global, state: u16, number: u32, forced: bool) -> Result<u64, Fault> {
     let mut host = MemHost::new(alloc)?;
     let mut files = TwoFiles::create(alloc, &mut host, &base_name()?, 1024, 3)?;
+    if !forced {
+        let_wait(&mut host, &mut files)?;
+    }
     prepare(&mut host, &mut files, state)?;
-    calls_to_write(&mut host, &mut files, number, forced)
+    calls_to_write(&mut host, &mut files, number)
 }
 
 /// A state, a page, and how many calls a write makes that is forced, and one that isn't. Page 5 is in the difference file from the stalled

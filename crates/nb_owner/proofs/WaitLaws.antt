@@ -40,6 +40,7 @@ agrees_same held a b long first frozen table is = record {
   page_size = is.page_size ∙ ap size_of first;
   state = is.state ∙ ap state_of first;
   opened = is.opened;
+  forced = is.forced ∙ ap (λ (x : Page). not (number_in 64 1 x == 0)) first;
   count = is.count ∙ long;
   main_count = λ stalled. is.main_count stalled ∙ ap length frozen;
   entries = is.entries ∙ table;
@@ -228,13 +229,13 @@ not_true : (a : Bool) → not a ≡ true → a ≡ false
 not_true true e = absurd (true≢false (sym e))
 not_true false e = refl
 
-pub may_wait_parts : (held : Held) (p : ℕ) (forced : Bool) → may_wait held p forced ≡ true → (forced ≡ false) × (held.files.state ≤ 1) × (1 ≤ p) × (p < held.files.count) × (dropped (cache_of held) p ≡ None)
-may_wait_parts held p forced is =
-    let a = and_parts (not forced) (nat_lt held.files.state 2 && (not (p == 0) && (nat_lt p held.files.count && not (is_some (dropped (cache_of held) p))))) is in
+pub may_wait_parts : (held : Held) (p : ℕ) → may_wait held p ≡ true → (held.files.forced ≡ false) × (held.files.state ≤ 1) × (1 ≤ p) × (p < held.files.count) × (dropped (cache_of held) p ≡ None)
+may_wait_parts held p is =
+    let a = and_parts (not held.files.forced) (nat_lt held.files.state 2 && (not (p == 0) && (nat_lt p held.files.count && not (is_some (dropped (cache_of held) p))))) is in
     let b = and_parts (nat_lt held.files.state 2) (not (p == 0) && (nat_lt p held.files.count && not (is_some (dropped (cache_of held) p)))) a.1 in
     let c = and_parts (not (p == 0)) (nat_lt p held.files.count && not (is_some (dropped (cache_of held) p))) b.1 in
     let d = and_parts (nat_lt p held.files.count) (not (is_some (dropped (cache_of held) p))) c.1 in (
-      not_true forced a.0,
+      not_true held.files.forced a.0,
       elim (leb_tells (suc held.files.state) 2) [ inl w ↦ omega (arith, w.1) | inr w ↦ absurd (true≢false (sym b.0 ∙ w.0)) ],
       elim (eqb_tells p 0) [ inl w ↦ absurd (true≢false (sym (sym (not_true (p == 0) c.0) ∙ w.0))) | inr w ↦ some p w.1 ],
       elim (leb_tells (suc p) held.files.count) [ inl w ↦ omega (arith, w.1) | inr w ↦ absurd (true≢false (sym d.0 ∙ w.0)) ],
@@ -395,6 +396,7 @@ module _ (w : World) (held : Held) (t : Trail) (is : IsOpen w held t) (valid : I
       page_size = is.agrees.page_size ∙ sym (ap size_of first);
       state = is.agrees.state ∙ sym (ap state_of first);
       opened = is.agrees.opened;
+      forced = is.agrees.forced ∙ sym (ap (λ (x : Page). not (number_in 64 1 x == 0)) first);
       count = is.agrees.count ∙ sym long;
       main_count = λ stalled. is.agrees.main_count stalled ∙ ap length (sym frozen);
       entries = entries_are;

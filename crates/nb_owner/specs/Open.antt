@@ -81,8 +81,8 @@ cache_of held = record { pages = held.pages; cap = held.cap; page_size = held.fi
 
 -- A write of page p waits: writes aren't forced, the database is in the normal or the stalled state, the page is below the length and isn't
 -- page 0, and to keep it drops no page that waits.
-abbrev pub may_wait : Held → (p : ℕ) → (forced : Bool) → Bool
-may_wait held p forced = not forced && (nat_lt held.files.state 2 && (not (p == 0) && (nat_lt p held.files.count && not (is_some (dropped (cache_of held) p)))))
+abbrev pub may_wait : Held → (p : ℕ) → Bool
+may_wait held p = not held.files.forced && (nat_lt held.files.state 2 && (not (p == 0) && (nat_lt p held.files.count && not (is_some (dropped (cache_of held) p)))))
 
 -- Whatever a crash now leaves is what may be left of what was seen, and what is held agrees with what was seen last, as does each page in
 -- memory. The files read as they have seen it, and lack the pages that wait, and the entries that are drafted.

@@ -4,7 +4,10 @@ ghost use Rattle.nb_fields.specs.Places.{is_page_size};
 ghost use Rattle.nb_fields.specs.Fresh.{fresh};
 ghost use Rattle.nb_change.specs.Counts.{CountsDevice};
 ghost use Rattle.nb_page.specs.Quiet.{Quiet};
-ghost use Rattle.nb_base.specs.Beginnings.{Attaches, Creates};
+ghost use Rattle.nb_model.specs.Image.{first_page};
+ghost use Rattle.nb_model.specs.Trail.{Trail};
+ghost use Rattle.nb_base.specs.Beginnings.{Attaches, Creates, first_of};
+ghost use Rattle.nb_base.specs.Open.{IsOpen as AreOpen};
 ghost use Rattle.nb_base.specs.Reads.{opening_reads};
 ghost use Rattle.nb_owner.specs.Beginnings.{files_of, IsBlank};
 
@@ -16,7 +19,7 @@ use std::alloc::Global;
 
 impl Pair {
     /// Opens the two files of a database, and takes memory for so many of its pages. It changes nothing: both files are kept for good
-    /// before it answers.
+    /// before it answers. It answers page 0 too.
     ///
     /// The refusals are `NoFile`, `NotDatabase`, `Unfinished`, `NoFile` of the difference file and `BadDelta`, in this order.
     pub fn attach<H: Host>(
@@ -24,21 +27,23 @@ impl Pair {
         host: &mut H,
         name: &Name,
         cache_pages: u32,
-    ) -> Result<Pair, Fault>
+    ) -> Result<(Pair, Vec<u8>), Fault>
         requires name { length name.now ≤ 94 }
         requires some { 0 < cache_pages }
         requires few { cache_pages ≤ 4096 }
-        ensures attaches { IsTrue H.tells → Attaches (files_of result) (H.world host.old) (H.world host.new) name.now }
-        ensures blank { IfOk result (IsBlank cache_pages) }
+        ensures attaches { IsTrue H.tells → Attaches (files_of (first_of result)) (H.world host.old) (H.world host.new) name.now }
+        ensures page { (t : Trail) → IsTrue H.tells → IfOk result (λ (pair, page). AreOpen (H.world host.new) pair.files t → page.items ≡ first_page t.base.image) }
+        ensures long { IfOk result (λ (pair, page). length page.items ≡ pair.files.page_size) }
+        ensures blank { IfOk result (λ (pair, page). IsBlank cache_pages pair) }
         ensures quiet { Quiet (H.world host.old) (H.world host.new) }
-        ensures reads { IsTrue H.tells → IfOk result (λ pair. (H.world host.new).reads ≤ (H.world host.old).reads + opening_reads ((H.world host.old).files name.now) pair.files) }
+        ensures reads { IsTrue H.tells → IfOk result (λ (pair, page). (H.world host.new).reads ≤ (H.world host.old).reads + opening_reads ((H.world host.old).files name.now) pair.files + 2) }
         ensures cause { CountsDevice result (H.faults host.old) (H.faults host.new) }
     {
-        let files = TwoFiles::attach(alloc, host, name)?;
+        let (files, first) = TwoFiles::attach(alloc, host, name)?;
         let page_size = files.page_size();
         let cache = Cache::new(alloc, cache_pages, page_size)?;
         let page = vec![in alloc; 0u8; page_size as usize]?;
-        Ok(Pair { files, cache, page })
+        Ok((Pair { files, cache, page }, first))
     }
 
     /// Makes a new database with `raw` raw pages, and opens it. The refusal is `FileExists`, where the name is not free; then nothing

@@ -68,6 +68,13 @@ impl Pair {
         self.files.state()
     }
 
+    /// Whether each page write is kept for good before the next.
+    pub fn forced(&self) -> bool
+        ensures { result ≡ self.now.files.forced }
+    {
+        self.files.forced()
+    }
+
     /// How many pages the difference file holds; none in the normal state.
     pub fn delta_count(&self) -> u32
         ensures value { result ≡ length self.now.files.entries }
@@ -187,21 +194,20 @@ impl Pair {
         host: &mut H,
         number: u32,
         page: &[u8],
-        forced: bool,
     ) -> Result<(), Fault>
         requires size { length page.now ≡ self.old.files.page_size }
         requires most { number < 1048576 }
         requires some { is_zeros page.now ≡ false }
         requires low { number ≤ self.old.files.count }
         requires control_block { number ≡ 0 → IsTrue H.tells → HasBlock (H.world host.old) self.old page.now }
-        ensures takes { (t : Trail) → IsTrue H.tells → IsOpen (H.world host.old) self.old t → forced ≡ is_forced t.base.image
+        ensures takes { (t : Trail) → IsTrue H.tells → IsOpen (H.world host.old) self.old t
             → Takes result (H.world host.old) (H.world host.new) self.old.files.name (IsOpen (H.world host.new) self.new) t (page_stroke number page.now ∷ []) }
         ensures touches { (t : Trail) → IsTrue H.tells → IsOpen (H.world host.old) self.old t → WritesIn (H.world host.old) (H.world host.new) self.old.files.state self.old.files.name }
         ensures merged { (t : Trail) (k : ℕ) → IsTrue H.tells → IsOpen (H.world host.old) self.old t → self.old.files.state ≡ 2
             → AreMerged (H.world host.old) self.old.files k → OnOk result (AreMerged (H.world host.new) self.new.files k) }
-        ensures waits { may_wait self.old number forced ≡ true → (self.old.files.state ≡ 0 → IsOk result) × IfErr result (λ fault. fault ≡ Fault.Memory) × (host.new ≡ host.old) × OnOk result (waits self.new.pages number ≡ true) }
-        ensures others { may_wait self.old number forced ≡ true → (p : ℕ) → p ≢ number → rank_of self.new.pages p ≡ rank_of self.old.pages p }
-        ensures goes_out { may_wait self.old number forced ≡ false → OnOk result (NoneWaits self.new.pages) }
+        ensures waits { may_wait self.old number ≡ true → (self.old.files.state ≡ 0 → IsOk result) × IfErr result (λ fault. fault ≡ Fault.Memory) × (host.new ≡ host.old) × OnOk result (waits self.new.pages number ≡ true) }
+        ensures others { may_wait self.old number ≡ true → (p : ℕ) → p ≢ number → rank_of self.new.pages p ≡ rank_of self.old.pages p }
+        ensures goes_out { may_wait self.old number ≡ false → OnOk result (NoneWaits self.new.pages) }
         ensures used { OnOk result (bare self.new.pages ≡ used (bare self.old.pages) self.old.cap number page.now) }
         ensures failed { OnErr result (bare self.new.pages ≡ bare self.old.pages) }
         ensures longer { self.old.files.count ≤ self.new.files.count }
@@ -221,12 +227,12 @@ impl Pair {
         ensures idle { NoneWaits self.old.pages → self.old.files.drafted ≡ 0 → result ≡ Err Fault.Memory → (self.new ≡ self.old) × (host.new ≡ host.old) }
         ensures takes_none { self.old.files.state ≢ 1 → IfErr result (λ fault. fault ≢ Fault.Memory) }
     {
-        if self.may_wait(number, forced) {
+        if self.may_wait(number) {
             self.hold(host, number, page)?;
             return Ok(());
         }
         self.write_out(host)?;
-        self.write_through(host, number, page, forced)?;
+        self.write_through(host, number, page)?;
         Ok(())
     }
 
@@ -236,14 +242,13 @@ impl Pair {
         host: &mut H,
         number: u32,
         page: &[u8],
-        forced: bool,
     ) -> Result<(), Fault>
         requires size { length page.now ≡ self.old.files.page_size }
         requires most { number < 1048576 }
         requires some { is_zeros page.now ≡ false }
         requires none { NoneWaits self.old.pages }
         requires no_drafts { self.old.files.drafted ≡ 0 }
-        ensures takes { (t : Trail) → IsTrue H.tells → IsOpen (H.world host.old) self.old t → Fits number page.now t.base.image → forced ≡ is_forced t.base.image
+        ensures takes { (t : Trail) → IsTrue H.tells → IsOpen (H.world host.old) self.old t → Fits number page.now t.base.image
             → Takes result (H.world host.old) (H.world host.new) self.old.files.name (IsOpen (H.world host.new) self.new) t (page_stroke number page.now ∷ []) }
         ensures touches { (t : Trail) → IsTrue H.tells → IsOpen (H.world host.old) self.old t → WritesIn (H.world host.old) (H.world host.new) self.old.files.state self.old.files.name }
         ensures merged { (t : Trail) (k : ℕ) → IsTrue H.tells → IsOpen (H.world host.old) self.old t → Fits number page.now t.base.image → self.old.files.state ≡ 2
@@ -265,7 +270,7 @@ impl Pair {
         ensures on_memory { result ≡ Err Fault.Memory → (self.new ≡ self.old) × (host.new ≡ host.old) }
         ensures takes_none { self.old.files.state ≢ 1 → IfErr result (λ fault. fault ≢ Fault.Memory) }
     {
-        self.files.write(host, number, page, forced)?;
+        self.files.write(host, number, page)?;
         self.cache.keep(number, page);
         Ok(())
     }
@@ -302,19 +307,6 @@ impl Pair {
     {
         self.files.sync(host)?;
         Ok(())
-    }
-
-    /// Fills in page 0 from the files, past the pages in memory: for whoever opens a database.
-    pub fn read_first<H: Host>(&mut self, host: &mut H, into: &mut [u8]) -> Result<(), HostFault>
-        requires size { length into.old ≡ self.old.files.page_size }
-        ensures page { (t : Trail) → IsTrue H.tells → IsOpen (H.world host.old) self.old t → 0 < length t.base.image → OnOk result (into.new ≡ page_at t.base.image 0) }
-        ensures open { (t : Trail) → IsTrue H.tells → IsOpen (H.world host.old) self.old t → IsOpen (H.world host.new) self.new t }
-        ensures same { self.new ≡ self.old }
-        ensures quiet { Quiet (H.world host.old) (H.world host.new) }
-        ensures reads { IsTrue H.tells → (H.world host.new).reads ≤ (H.world host.old).reads + 2 }
-        ensures cause { CountsFault result (H.faults host.old) (H.faults host.new) }
-    {
-        self.files.read(host, 0, into)
     }
 
     /// Fills in page `number` of the main file as it is frozen, in the stalled state. It goes past the pages in memory.

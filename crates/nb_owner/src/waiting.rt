@@ -38,11 +38,11 @@ const OTHER_PAGE: u8 = 3;
 
 impl Pair {
     /// Whether a write of page `number` waits.
-    pub(crate) fn may_wait(&self, number: u32, forced: bool) -> bool
-        ensures value { result ≡ may_wait self.now number forced }
+    pub(crate) fn may_wait(&self, number: u32) -> bool
+        ensures value { result ≡ may_wait self.now number }
         ensures valid { IsValid (cache_of self.now) self.now.files.page_size }
     {
-        !forced
+        !self.files.forced()
             && self.files.state() < 2
             && number != 0
             && number < self.files.count()

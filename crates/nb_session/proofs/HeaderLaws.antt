@@ -36,7 +36,7 @@ delta_some b other = ap (λ (t : Bool). elim t as (λ z. ℕ) [ true ↦ 0 | fal
 
 -- what is shown of all that is held
 pub shown : (held : Held) (b : Base) (size pages state scn : ℕ) (guid : List ℕ) (forced : Bool) (access delta : ℕ) → Agrees held.files b → AgreesWith held b
-    → size ≡ held.files.page_size → pages ≡ held.files.count → state ≡ held.files.state → scn ≡ held.scn → guid ≡ held.guid → forced ≡ held.forced → access ≡ flag held.read_only → delta ≡ delta_count b
+    → size ≡ held.files.page_size → pages ≡ held.files.count → state ≡ held.files.state → scn ≡ held.scn → guid ≡ held.guid → forced ≡ held.files.forced → access ≡ flag held.read_only → delta ≡ delta_count b
     → HeaderShown size pages state scn guid forced access delta ≡ header_of b
 shown held b size pages state scn guid forced access delta files agrees a p s n g f c d =
     ap (λ (x : ℕ). HeaderShown x pages state scn guid forced access delta) (a ∙ files.page_size)
@@ -44,6 +44,6 @@ shown held b size pages state scn guid forced access delta files agrees a p s n 
     ∙ ap (λ (x : ℕ). HeaderShown (image_size b.image) (length b.image) x scn guid forced access delta) (s ∙ files.state)
     ∙ ap (λ (x : ℕ). HeaderShown (image_size b.image) (length b.image) (image_state b.image) x guid forced access delta) (n ∙ agrees.scn)
     ∙ ap (λ (x : List ℕ). HeaderShown (image_size b.image) (length b.image) (image_state b.image) (image_scn b.image) x forced access delta) (g ∙ agrees.guid)
-    ∙ ap (λ (x : Bool). HeaderShown (image_size b.image) (length b.image) (image_state b.image) (image_scn b.image) (image_guid b.image) x access delta) (f ∙ agrees.forced)
+    ∙ ap (λ (x : Bool). HeaderShown (image_size b.image) (length b.image) (image_state b.image) (image_scn b.image) (image_guid b.image) x access delta) (f ∙ files.forced)
     ∙ ap (λ (x : ℕ). HeaderShown (image_size b.image) (length b.image) (image_state b.image) (image_scn b.image) (image_guid b.image) (is_forced b.image) x delta) (c ∙ ap flag agrees.read_only)
     ∙ ap (λ (x : ℕ). HeaderShown (image_size b.image) (length b.image) (image_state b.image) (image_scn b.image) (image_guid b.image) (is_forced b.image) (flag (is_read_only b.image)) x) d

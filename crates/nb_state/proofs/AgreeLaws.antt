@@ -6,18 +6,17 @@ use Rattle.nb_fields.specs.Bytes.{number_in, part}
 use Rattle.nb_fields.specs.Header.{is_header, scn_of, guid_of}
 use Rattle.nb_fields.proofs.PartLemmas.{part-take}
 use Rattle.nb_host.specs.World.{World}
-use Rattle.nb_model.specs.Image.{Page, Image, first_page, image_scn, image_guid, with_page}
+use Rattle.nb_model.specs.Image.{Page, Image, first_page, image_scn, image_guid}
 use Rattle.nb_model.specs.Account.{Base}
 use Rattle.nb_model.specs.Strokes.{page, controlled, with_control}
 use Rattle.nb_model.specs.Trail.{Trail, after_stroke}
 use Rattle.nb_model.proofs.ControlLaws.{control_other, control_scn, control_guid}
 use Rattle.nb_model.proofs.HeaderLaws.{header-long, same-number}
 use Rattle.nb_model.proofs.MainLaws.{some_page}
-use Rattle.nb_model.proofs.StrokeLaws.{with_page_same, with_page_other}
-use Rattle.nb_model.proofs.TrailLaws.{trail_base}
 use Rattle.nb_base.specs.Open.{AreMerged, Fits}
 use Rattle.nb_base.proofs.ControlLaws.{with_control-first}
-use Rattle.nb_base.proofs.LeftLaws.{merged_fits, stroke-image, later_front}
+use Rattle.nb_base.proofs.AgreeLaws.{first_written, first_stays}
+use Rattle.nb_base.proofs.LeftLaws.{later_front}
 use Rattle.nb_owner.specs.Open.{IsOpen as PairOpen}
 use Rattle.nb_state.specs.Open.{Held, AgreesWith, IsOpen}
 use Rattle.nb_state.specs.Does.{Goes}
@@ -28,24 +27,20 @@ agrees_front held a b same agrees = record {
   scn = agrees.scn ∙ ap scn_of (sym same);
   four = agrees.four;
   guid = agrees.guid ∙ ap guid_of (sym same);
-  forced = agrees.forced ∙ ap (λ (x : Page). not (number_in 64 1 x == 0)) (sym same);
   read_only = agrees.read_only ∙ ap (λ (x : Page). not (number_in 65 1 x == 0)) (sym same);
 }
 
 -- After another control block: the SCN and the GUID are those of the block, and the flags stay.
 module _ (held now : Held) (before after : Base) (state scn : ℕ) (guid : List ℕ) where
   pub agrees_control : AgreesWith held before → is_header (first_page before.image) ≡ true → length guid ≡ 16 → scn < 4294967296 → after.image ≡ with_control state scn guid before.image
-      → now.scn ≡ scn → now.guid ≡ guid → now.forced ≡ held.forced → now.read_only ≡ held.read_only → AgreesWith now after
-  agrees_control agrees header sixteen low is scn_is guid_is forced read_only =
+      → now.scn ≡ scn → now.guid ≡ guid → now.read_only ≡ held.read_only → AgreesWith now after
+  agrees_control agrees header sixteen low is scn_is guid_is read_only =
       let first : first_page after.image ≡ controlled state scn guid (first_page before.image) = ap first_page is ∙ with_control-first state scn guid before.image (some_page before.image header) in
       let long = header-long (first_page before.image) header in
       record {
         scn = scn_is ∙ sym (ap scn_of first ∙ control_scn state scn guid (first_page before.image) long sixteen low);
         four = subst (λ (n : ℕ). n < 4294967296) (sym scn_is) low;
         guid = guid_is ∙ sym (ap guid_of first ∙ control_guid state scn guid (first_page before.image) long sixteen);
-        forced = forced ∙ agrees.forced
-            ∙ ap (λ n. not (n == 0)) (sym (ap (number_in 64 1) first
-            ∙ control_other state scn guid (first_page before.image) long sixteen 64 1 (inl (omega arith)) (inl (omega arith)) (inl (omega arith)) (inl (omega arith)) (inl (omega arith))));
         read_only = read_only ∙ agrees.read_only
             ∙ ap (λ n. not (n == 0)) (sym (ap (number_in 65 1) first
             ∙ control_other state scn guid (first_page before.image) long sixteen 65 1 (inl (omega arith)) (inl (omega arith)) (inl (omega arith)) (inl (omega arith)) (inl (omega arith))));
@@ -56,17 +51,6 @@ module _ (t : Trail) (p : ℕ) (bytes : Page) (fits : Fits p bytes t.base.image)
   abbrev later : Image
   later = (after_stroke (page p bytes) t).base.image
 
-  written : later ≡ with_page p bytes t.base.image
-  written =
-      ap (λ (b : Base). b.image) (trail_base (page p bytes) t) ∙ stroke-image t.base p bytes
-      ∙ ap (λ (x : Page). with_page p x t.base.image) (merged_fits p bytes t.base.image fits.front)
-
-  first_written : p ≡ 0 → first_page later ≡ bytes
-  first_written e = ap first_page written ∙ ap (λ (n : ℕ). first_page (with_page n bytes t.base.image)) e ∙ with_page_same 0 bytes t.base.image (omega arith)
-
-  first_stays : 0 < p → first_page later ≡ first_page t.base.image
-  first_stays some = ap first_page written ∙ with_page_other p 0 bytes t.base.image fits.low (λ e. absurd (omega (arith, e, some)))
-
   scn_stays : image_scn later ≡ image_scn t.base.image
   scn_stays = same-number (first_page later) (first_page t.base.image) (later_front t p bytes fits) 28 4 (omega arith)
 
@@ -76,7 +60,7 @@ module _ (t : Trail) (p : ℕ) (bytes : Page) (fits : Fits p bytes t.base.image)
   module _ (held : Held) (pair : Rattle.nb_owner.specs.Open.Held) where
     -- what is held, with the flags of the page that was written
     abbrev flagged : Held
-    flagged = record held { files = pair.files; pages = pair.pages; cap = pair.cap; forced = not (number_in 64 1 bytes == 0); read_only = not (number_in 65 1 bytes == 0) }
+    flagged = record held { files = pair.files; pages = pair.pages; cap = pair.cap; read_only = not (number_in 65 1 bytes == 0) }
 
     abbrev same : Held
     same = record held { files = pair.files; pages = pair.pages; cap = pair.cap }
@@ -86,8 +70,7 @@ module _ (t : Trail) (p : ℕ) (bytes : Page) (fits : Fits p bytes t.base.image)
       scn = agrees.scn ∙ sym scn_stays;
       four = agrees.four;
       guid = agrees.guid ∙ sym guid_stays;
-      forced = ap (λ (x : Page). not (number_in 64 1 x == 0)) (sym (first_written e));
-      read_only = ap (λ (x : Page). not (number_in 65 1 x == 0)) (sym (first_written e));
+      read_only = ap (λ (x : Page). not (number_in 65 1 x == 0)) (sym (first_written t p bytes fits e));
     }
 
     agrees_other : 0 < p → AgreesWith held t.base → AgreesWith same (after_stroke (page p bytes) t).base
@@ -95,8 +78,7 @@ module _ (t : Trail) (p : ℕ) (bytes : Page) (fits : Fits p bytes t.base.image)
       scn = agrees.scn ∙ sym scn_stays;
       four = agrees.four;
       guid = agrees.guid ∙ sym guid_stays;
-      forced = agrees.forced ∙ ap (λ (x : Page). not (number_in 64 1 x == 0)) (sym (first_stays some));
-      read_only = agrees.read_only ∙ ap (λ (x : Page). not (number_in 65 1 x == 0)) (sym (first_stays some));
+      read_only = agrees.read_only ∙ ap (λ (x : Page). not (number_in 65 1 x == 0)) (sym (first_stays t p bytes fits some));
     }
 
     -- the database is open after it
@@ -123,7 +105,7 @@ goes_files held pair name size state longer entries cap = record { name = name; 
 
 -- and the flags
 pub goes_written : (p : ℕ) (bytes : Page) (held after : Held) (pair : Rattle.nb_owner.specs.Open.Held)
-    → (p ≡ 0 → after ≡ record held { files = pair.files; pages = pair.pages; cap = pair.cap; forced = not (number_in 64 1 bytes == 0); read_only = not (number_in 65 1 bytes == 0) }) → (0 < p → after ≡ record held { files = pair.files; pages = pair.pages; cap = pair.cap }) → Goes held (record held { files = pair.files; pages = pair.pages; cap = pair.cap })
+    → (p ≡ 0 → after ≡ record held { files = pair.files; pages = pair.pages; cap = pair.cap; read_only = not (number_in 65 1 bytes == 0) }) → (0 < p → after ≡ record held { files = pair.files; pages = pair.pages; cap = pair.cap }) → Goes held (record held { files = pair.files; pages = pair.pages; cap = pair.cap })
     → Goes held after
 goes_written zero bytes held after pair first other goes = subst (λ (h : Held). Goes held h) (sym (first refl)) (record { name = goes.name; page_size = goes.page_size; state = goes.state; longer = goes.longer; entries = goes.entries; running = refl; merged = refl; cap = goes.cap })
 goes_written (suc p) bytes held after pair first other goes = subst (λ (h : Held). Goes held h) (sym (other (omega arith))) goes

@@ -8,7 +8,7 @@ use Rattle.nb_fields.specs.Payloads.{control_block, header_payload}
 use Rattle.nb_fields.specs.Fresh.{fresh_kind, fresh_payload, fresh_page, fresh}
 use Rattle.nb_host.specs.World.{World}
 use Rattle.nb_model.specs.Trail.{Trail, settled}
-use Rattle.nb_model.proofs.FreshImageLaws.{fresh_first, fresh_state, fresh_scn, fresh_forced, fresh_open}
+use Rattle.nb_model.proofs.FreshImageLaws.{fresh_first, fresh_state, fresh_scn, fresh_open}
 use Rattle.nb_model.proofs.MainLaws.{some_page}
 use Rattle.nb_base.specs.Beginnings.{Creates as CreatesFiles, IsAttached as AreAttached}
 use Rattle.nb_model.specs.Image.{Page, Image, first_page}
@@ -33,7 +33,7 @@ unfolding fresh_page fresh_kind fresh_payload page_of head_of padded header_payl
 no_guid size raw = refl
 
 pub created : (pair : Rattle.nb_owner.specs.Open.Held) (old new : World) (name : List ℕ) (size raw : ℕ) → CreatesFiles (Ok pair.files) old new name (fresh size raw) → pair.pages ≡ []
-    → Creates (Ok (record { files = pair.files; scn = 1; guid = replicate 16 0; forced = true; read_only = false; running = None; merged = 0; pages = pair.pages; cap = pair.cap })) old new name (fresh size raw)
+    → Creates (Ok (record { files = pair.files; scn = 1; guid = replicate 16 0; read_only = false; running = None; merged = 0; pages = pair.pages; cap = pair.cap })) old new name (fresh size raw)
 created pair old new name size raw is none =
     let open_ = is.answer.2 in
     let normal = open_.agrees.state ∙ fresh_state size raw in
@@ -48,7 +48,6 @@ created pair old new name size raw is none =
             scn = sym (fresh_scn size raw);
             four = omega arith;
             guid = sym (ap guid_of (fresh_first size raw) ∙ no_guid size raw);
-            forced = sym (fresh_forced size raw);
             read_only = sym (fresh_open size raw);
           };
           merged = λ two. absurd (omega (arith, two, normal));
@@ -72,16 +71,15 @@ attached held pair old mid new name is blank same none opens = record {
 }
 
 -- What is held of page 0 as it was read.
-pub open_read : (w : World) (pair : Rattle.nb_owner.specs.Open.Held) (t : Trail) (bytes : Page) → PairOpen w pair t → bytes ≡ first_page t.base.image → (scn : ℕ) (guid : List ℕ) (forced read_only : Bool) → scn < 4294967296
-    → scn ≡ scn_of bytes → guid ≡ guid_of bytes → forced ≡ not (number_in 64 1 bytes == 0) → read_only ≡ not (number_in 65 1 bytes == 0)
-    → IsOpen w (record { files = pair.files; scn = scn; guid = guid; forced = forced; read_only = read_only; running = None; merged = 0; pages = pair.pages; cap = pair.cap }) t
-open_read w pair t bytes is first scn guid forced read_only four scn_is guid_is forced_is access_is = record {
+pub open_read : (w : World) (pair : Rattle.nb_owner.specs.Open.Held) (t : Trail) (bytes : Page) → PairOpen w pair t → bytes ≡ first_page t.base.image → (scn : ℕ) (guid : List ℕ) (read_only : Bool) → scn < 4294967296
+    → scn ≡ scn_of bytes → guid ≡ guid_of bytes → read_only ≡ not (number_in 65 1 bytes == 0)
+    → IsOpen w (record { files = pair.files; scn = scn; guid = guid; read_only = read_only; running = None; merged = 0; pages = pair.pages; cap = pair.cap }) t
+open_read w pair t bytes is first scn guid read_only four scn_is guid_is access_is = record {
   files = is;
   agrees = record {
     scn = scn_is ∙ ap scn_of first;
     four = four;
     guid = guid_is ∙ ap guid_of first;
-    forced = forced_is ∙ ap (λ (x : Page). not (number_in 64 1 x == 0)) first;
     read_only = access_is ∙ ap (λ (x : Page). not (number_in 65 1 x == 0)) first;
   };
   merged = λ two j none inside. absurd (omega (arith, none));

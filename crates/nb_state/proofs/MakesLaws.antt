@@ -170,4 +170,4 @@ makes_before value result old mid new a b c t xs makes same quiet opens =
 
 -- whose copy or merge runs is no matter of what is open
 pub open_running : (w : World) (held : Held) (t : Trail) (by : Option ℕ) → IsOpen w held t → IsOpen w (record held { running = by }) t
-open_running w held t by is = record { files = is.files; agrees = record { scn = is.agrees.scn; four = is.agrees.four; guid = is.agrees.guid; forced = is.agrees.forced; read_only = is.agrees.read_only }; merged = is.merged; most = is.most }
+open_running w held t by is = record { files = is.files; agrees = record { scn = is.agrees.scn; four = is.agrees.four; guid = is.agrees.guid; read_only = is.agrees.read_only }; merged = is.merged; most = is.most }

@@ -95,7 +95,7 @@ module _ (old new : World) (held : Held) (t : Trail) (is : IsOpen old held t) (p
     open_begun = record {
       files = opened;
       agrees = agrees_control held (record held { files = pair.files; pages = pair.pages; cap = pair.cap; scn = held.scn + 1; guid = guid }) t.base begun 1 (image_scn t.base.image + 1) guid is.agrees header sixteen (omega (arith, low, is.agrees.scn)) begun_is
-          (ap (λ (n : ℕ). n + 1) is.agrees.scn) refl refl refl;
+          (ap (λ (n : ℕ). n + 1) is.agrees.scn) refl refl;
       merged = λ two. absurd (omega (arith, two, stalled));
       most = λ two. absurd (omega (arith, two, stalled));
     }
@@ -114,7 +114,7 @@ module _ (old new : World) (held : Held) (t : Trail) (is : IsOpen old held t) (p
       files = opened;
       agrees = agrees_control held (record held { files = pair.files; pages = pair.pages; cap = pair.cap; scn = scn; running = Some session; merged = 0 }) t.base ended 2 (image_scn t.base.image + 1) (image_guid t.base.image) is.agrees header
           (ap length (sym is.agrees.guid) ∙ sixteen) (omega (arith, end_room, is.agrees.scn)) (ap (λ (b : Base). b.image) (trail_base ends t) ∙ ended_image t.base)
-          (next ∙ ap (λ (n : ℕ). n + 1) is.agrees.scn) is.agrees.guid refl refl;
+          (next ∙ ap (λ (n : ℕ). n + 1) is.agrees.scn) is.agrees.guid refl;
       merged = λ two j none inside. absurd (omega (arith, none));
       most = λ two. omega arith;
     }
@@ -147,7 +147,7 @@ module _ (old new : World) (held : Held) (t : Trail) (is : IsOpen old held t) (p
     open_finished = record {
       files = opened;
       agrees = agrees_control held (record held { files = pair.files; pages = pair.pages; cap = pair.cap; running = None }) cut finished 0 (image_scn t.base.image) (image_guid t.base.image) (agrees_front held t.base cut front is.agrees) cut_header sixteen_there (omega (arith, low, is.agrees.scn)) finished_is is.agrees.scn
-          is.agrees.guid refl refl;
+          is.agrees.guid refl;
       merged = λ two. absurd (omega (arith, two, normal));
       most = λ two. absurd (omega (arith, two, normal));
     }
@@ -156,7 +156,7 @@ module _ (old new : World) (held : Held) (t : Trail) (is : IsOpen old held t) (p
   pub open_more : PairOpen new pair t → pair.files.entries ≡ held.files.entries → held.merged < length held.files.entries → AreMerged new pair.files (held.merged + 1) → IsOpen new (record held { files = pair.files; pages = pair.pages; cap = pair.cap; merged = held.merged + 1 }) t
   open_more opened entries inside merged = record {
     files = opened;
-    agrees = record { scn = is.agrees.scn; four = is.agrees.four; guid = is.agrees.guid; forced = is.agrees.forced; read_only = is.agrees.read_only };
+    agrees = record { scn = is.agrees.scn; four = is.agrees.four; guid = is.agrees.guid; read_only = is.agrees.read_only };
     merged = λ two. merged;
     most = λ two. omega (arith, inside, ap length entries);
   }
@@ -165,7 +165,7 @@ module _ (old new : World) (held : Held) (t : Trail) (is : IsOpen old held t) (p
 pub open_again : (w : World) (held : Held) (t : Trail) (session : ℕ) → IsOpen w held t → IsOpen w (record held { running = Some session; merged = 0 }) t
 open_again w held t session is = record {
   files = is.files;
-  agrees = record { scn = is.agrees.scn; four = is.agrees.four; guid = is.agrees.guid; forced = is.agrees.forced; read_only = is.agrees.read_only };
+  agrees = record { scn = is.agrees.scn; four = is.agrees.four; guid = is.agrees.guid; read_only = is.agrees.read_only };
   merged = λ two j none inside. absurd (omega (arith, none));
   most = λ two. omega arith;
 }
@@ -185,7 +185,7 @@ pub open_out : (old new : World) (held : Held) (pair : Rattle.nb_owner.specs.Ope
 open_out old new held pair t u is base same opened merged = record {
   files = opened;
   agrees = subst (λ (b : Base). AgreesWith (record held { files = pair.files; pages = pair.pages; cap = pair.cap }) b) (sym base)
-      (record { scn = is.agrees.scn; four = is.agrees.four; guid = is.agrees.guid; forced = is.agrees.forced; read_only = is.agrees.read_only });
+      (record { scn = is.agrees.scn; four = is.agrees.four; guid = is.agrees.guid; read_only = is.agrees.read_only });
   merged = λ two. let merges = sym (ap (λ (f : Rattle.nb_base.specs.Open.Held). f.state) same) ∙ two in merged merges (is.merged merges);
   most = λ two. subst (λ (f : Rattle.nb_base.specs.Open.Held). held.merged ≤ length f.entries) (sym same) (is.most (sym (ap (λ (f : Rattle.nb_base.specs.Open.Held). f.state) same) ∙ two));
 }
@@ -195,7 +195,7 @@ pub open_wanting : (old new : World) (held : Held) (pair : Rattle.nb_owner.specs
     → held.files.state ≢ 2 → IsOpen new (record held { files = pair.files; pages = pair.pages; cap = pair.cap }) t
 open_wanting old new held pair t is state opened out = record {
   files = opened;
-  agrees = record { scn = is.agrees.scn; four = is.agrees.four; guid = is.agrees.guid; forced = is.agrees.forced; read_only = is.agrees.read_only };
+  agrees = record { scn = is.agrees.scn; four = is.agrees.four; guid = is.agrees.guid; read_only = is.agrees.read_only };
   merged = λ two. absurd (out (sym state ∙ two));
   most = λ two. absurd (out (sym state ∙ two));
 }

@@ -2,7 +2,7 @@
 use Rattle.std.specs.Prelude.{◌≡◌, ◌<◌, ◌≤◌, ℕ, List, [], length, Option, Bool}
 use Rattle.nb_host.specs.World.{World}
 use Rattle.nb_model.specs.Account.{Base}
-use Rattle.nb_model.specs.Image.{Page, image_scn, image_guid, is_forced, is_read_only}
+use Rattle.nb_model.specs.Image.{Page, image_scn, image_guid, is_read_only}
 use Rattle.nb_model.specs.Trail.{Trail}
 use Rattle.nb_base.specs.Open.{AreMerged}
 use Rattle.nb_cache.specs.Held.{NoneWaits}
@@ -15,8 +15,6 @@ pub record Held : Type 0 where
   -- the current SCN, and the GUID of the last backup
   pub scn : ℕ
   pub guid : List ℕ
-  -- each page write is kept for good before the next
-  pub forced : Bool
   -- no statement may change a page
   pub read_only : Bool
   -- the session whose copy or merge runs
@@ -53,7 +51,6 @@ pub record AgreesWith (held : Held) (b : Base) : Type 0 where
   -- it has four bytes
   pub four : held.scn < 4294967296
   pub guid : held.guid ≡ image_guid b.image
-  pub forced : held.forced ≡ is_forced b.image
   pub read_only : held.read_only ≡ is_read_only b.image
 
 -- The database is open: this was seen of it since its last settled point. Its entries that were merged are equal in both files.

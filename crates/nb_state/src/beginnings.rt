@@ -3,8 +3,9 @@ ghost use Rattle.std.specs.Prelude.{◌≡◌, ◌+◌, ◌<◌, ◌≤◌, None
 ghost use Rattle.nb_fields.specs.Places.{is_page_size};
 ghost use Rattle.nb_fields.specs.Fresh.{fresh};
 ghost use Rattle.nb_change.specs.Counts.{CountsDevice};
-ghost use Rattle.nb_host.specs.Causes.{CountsFault};
+ghost use Rattle.nb_host.specs.World.{World};
 ghost use Rattle.nb_page.specs.Quiet.{Quiet};
+ghost use Rattle.nb_model.specs.Image.{first_page};
 ghost use Rattle.nb_model.specs.Trail.{Trail};
 ghost use Rattle.nb_base.specs.Reads.{opening_reads};
 ghost use Rattle.nb_owner.specs.Open.{IsOpen as AreOpen};
@@ -13,7 +14,7 @@ ghost use Rattle.nb_state.specs.Beginnings.{Attaches, Creates, HoldsNone};
 
 use crate::Store;
 use crate::front::front_of;
-use nb_host::{Fault, Host, HostFault, Name};
+use nb_host::{Fault, Host, Name};
 use nb_owner::Pair;
 use std::alloc::Global;
 
@@ -21,30 +22,26 @@ use std::alloc::Global;
 const FIRST_SCN: u32 = 1;
 
 /// What is held of a database that is open, by its page 0.
-fn open<H: Host>(host: &mut H, pair: Pair, page: &mut [u8]) -> Result<Store, HostFault>
-    requires size { length page.old ≡ pair.files.page_size }
+fn open(pair: Pair, first: &[u8]) -> Store
+    requires size { length first.now ≡ pair.files.page_size }
     requires one_of { IsTrue (is_page_size pair.files.page_size) }
-    ensures opens { (t : Trail) → IsTrue H.tells → AreOpen (H.world host.old) pair t → 0 < length t.base.image → IfOk result (λ store. IsOpen (H.world host.new) store t) }
-    ensures pair { IfOk result (λ store. (store.files ≡ pair.files) × (store.pages ≡ pair.pages) × (store.cap ≡ pair.cap)) }
-    ensures begins { IfOk result (λ store. (store.running ≡ None) × (store.merged ≡ 0)) }
-    ensures scn { IfOk result (λ store. store.scn < 4294967296) }
-    ensures quiet { Quiet (H.world host.old) (H.world host.new) }
-    ensures reads { IsTrue H.tells → (H.world host.new).reads ≤ (H.world host.old).reads + 2 }
-    ensures cause { CountsFault result (H.faults host.old) (H.faults host.new) }
+    ensures opens { (w : World) (t : Trail) → AreOpen w pair t → first.now ≡ first_page t.base.image → IsOpen w result t }
+    ensures files { result.files ≡ pair.files }
+    ensures pages { result.pages ≡ pair.pages }
+    ensures cap { result.cap ≡ pair.cap }
+    ensures running { result.running ≡ None }
+    ensures scn { result.scn < 4294967296 }
 {
-    let mut pair = pair;
-    pair.read_first(host, page)?;
-    let front = front_of(page);
+    let front = front_of(first);
     let guid = front.guid;
-    Ok(Store {
+    Store {
         pair,
         scn: front.scn,
         guid,
-        forced: front.forced,
         read_only: front.read_only,
         running: None,
         merged: 0,
-    })
+    }
 }
 
 impl Store {
@@ -68,10 +65,10 @@ impl Store {
         ensures reads { IsTrue H.tells → IfOk result (λ store. (H.world host.new).reads ≤ (H.world host.old).reads + opening_reads ((H.world host.old).files name.now) store.files + 2) }
         ensures cause { CountsDevice result (H.faults host.old) (H.faults host.new) }
     {
-        let pair = Pair::attach(alloc, host, name, cache_pages)?;
-        let mut page = vec![in alloc; 0; pair.page_size() as usize]?;
-        let store = open(host, pair, &mut page)?;
-        Ok(store)
+        let (pair, first) = Pair::attach(alloc, host, name, cache_pages)?;
+        // Contracts ask for it.
+        let _page_size = pair.page_size();
+        Ok(open(pair, &first))
     }
 
     /// Makes a new database with `raw` raw pages, and opens it. The refusal is `FileExists`, where the name is not free; then nothing
@@ -101,7 +98,6 @@ impl Store {
             pair,
             scn: FIRST_SCN,
             guid: [0; 16],
-            forced: true,
             read_only: false,
             running: None,
             merged: 0,

@@ -11,7 +11,7 @@ pub struct Front {
     pub scn: u32,
     /// The GUID of the last backup.
     pub guid: [u8; 16],
-    pub forced: bool,
+    /// Whether no statement may change a page.
     pub read_only: bool,
 }
 
@@ -21,13 +21,11 @@ pub fn front_of(page: &[u8]) -> Front
     ensures scn { result.scn ≡ scn_of page.now }
     ensures four { result.scn < 4294967296 }
     ensures guid { result.guid ≡ guid_of page.now }
-    ensures forced { result.forced ≡ not (number_in 64 1 page.now == 0) }
     ensures read_only { result.read_only ≡ not (number_in 65 1 page.now == 0) }
 {
     Front {
         scn: header::Scn::get(page) as u32,
         guid: header::Guid::get(page),
-        forced: header::Forced::get(page) != 0,
         read_only: header::Access::get(page) != 0,
     }
 }

@@ -26,7 +26,6 @@ pub struct Store {
     pub(crate) pair: Pair,
     pub(crate) scn: u32,
     pub(crate) guid: [u8; 16],
-    pub(crate) forced: bool,
     pub(crate) read_only: bool,
     pub(crate) running: Option<u32>,
     pub(crate) merged: u32,
@@ -39,7 +38,7 @@ impl Model for Store {
 
     ghost Value = { Held };
 
-    ghost view = { λ s. record { files = s.pair.files; scn = s.scn; guid = s.guid; forced = s.forced; read_only = s.read_only; running = s.running; merged = s.merged; pages = s.pair.pages; cap = s.pair.cap } };
+    ghost view = { λ s. record { files = s.pair.files; scn = s.scn; guid = s.guid; read_only = s.read_only; running = s.running; merged = s.merged; pages = s.pair.pages; cap = s.pair.cap } };
 
     ghost invariant = { λ s. IsTrue (is_page_size s.pair.files.page_size) × (s.scn < 4294967296) };
 }
@@ -85,9 +84,9 @@ impl Store {
 
     /// Whether each page write is kept for good before the next.
     pub fn forced(&self) -> bool
-        ensures { result ≡ self.now.forced }
+        ensures { result ≡ self.now.files.forced }
     {
-        self.forced
+        self.pair.forced()
     }
 
     /// Whether no statement may change a page.
@@ -200,28 +199,26 @@ impl Store {
         ensures reads { (H.world host.new).reads ≡ (H.world host.old).reads }
         ensures cause { CountsDevice result (H.faults host.old) (H.faults host.new) }
         ensures not_refused { IfErr result IsNoRefusal }
-        ensures waits { may_wait (pair_of self.old) number self.old.forced ≡ true → (self.old.files.state ≡ 0 → IsOk result) × IfErr result (λ fault. fault ≡ Fault.Memory) × (host.new ≡ host.old) }
+        ensures waits { may_wait (pair_of self.old) number ≡ true → (self.old.files.state ≡ 0 → IsOk result) × IfErr result (λ fault. fault ≡ Fault.Memory) × (host.new ≡ host.old) }
         ensures on_memory { (t : Trail) → IsTrue H.tells → IsOpen (H.world host.old) self.old t → result ≡ Err Fault.Memory
             → Strikes (H.world host.old) (H.world host.new) (name_of self.old) t [] × IsOpen (H.world host.new) self.new t }
         ensures idle { NoPageWaits self.old → result ≡ Err Fault.Memory → (self.new ≡ self.old) × (host.new ≡ host.old) }
-        ensures forced { (t : Trail) → IsTrue H.tells → IsOpen (H.world host.old) self.old t → self.old.forced ≡ true → result ≡ Err Fault.Memory → (self.new ≡ self.old) × (host.new ≡ host.old) }
+        ensures forced { (t : Trail) → IsTrue H.tells → IsOpen (H.world host.old) self.old t → self.old.files.forced ≡ true → result ≡ Err Fault.Memory → (self.new ≡ self.old) × (host.new ≡ host.old) }
         ensures takes_none { self.old.files.state ≢ 1 → IfErr result (λ fault. fault ≢ Fault.Memory) }
     {
-        self.pair.write(host, number, page, self.forced)?;
-        self.take_flags(number, page);
+        self.pair.write(host, number, page)?;
+        self.take_access(number, page);
         Ok(())
     }
 
-    /// Takes over what a page 0 that was written says after its control block.
-    fn take_flags(&mut self, number: u32, page: &[u8])
+    /// Takes over what a page 0 that was written says of changes.
+    fn take_access(&mut self, number: u32, page: &[u8])
         requires { 80 ≤ length page.now }
-        ensures first { number ≡ 0 → self.new ≡ record self.old { forced = not (number_in 64 1 page.now == 0); read_only = not (number_in 65 1 page.now == 0) } }
+        ensures first { number ≡ 0 → self.new ≡ record self.old { read_only = not (number_in 65 1 page.now == 0) } }
         ensures other { 0 < number → self.new ≡ self.old }
     {
         if number == 0 {
-            let front = front_of(page);
-            self.forced = front.forced;
-            self.read_only = front.read_only;
+            self.read_only = front_of(page).read_only;
         }
     }
 

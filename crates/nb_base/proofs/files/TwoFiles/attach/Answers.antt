@@ -3,17 +3,19 @@ use Rattle.std.specs.Prelude.{max}
 use Rattle.nb_host.specs.Files.{File, Files}
 use Rattle.nb_host.specs.World.{World}
 use Rattle.nb_host.specs.Crash.{IsDurable}
+use Rattle.nb_change.proofs.SettledLaws.{durable_still}
 use Rattle.nb_delta.specs.Known.{Known}
 use Rattle.nb_model.specs.Owner.{delta_name, behind_entries}
 use Rattle.nb_base.specs.declared.attach.Start.{Start}
 use Rattle.nb_base.specs.Reads.{table_reads}
 use Rattle.nb_base.proofs.AttachLaws.{there}
-use Rattle.nb_base.proofs.OpenedLaws.{answer_at, start_refused, delta_refused, read_attached}
+use Rattle.nb_base.proofs.OpenedLaws.{answer_at, start_refused, delta_refused, read_base, read_shows, read_size, read_some, read_attached}
 use Rattle.nb_base.proofs.OpeningReads.{opened_reads}
+use Rattle.nb_base.proofs.PageReads.{first_read}
 use Rattle.nb_base.proofs.files.TwoFiles.attach.Goals as goal
 
 pub returns-in_err-start-clause-attaches : goal.returns-in_err-start-clause-attaches
-returns-in_err-start-clause-attaches g c tells = start_refused Start c.from_residual.result c.in_err-start.field-0.0 _ _ c.args.name.now c.from_residual.ensures (c.in_err-start.ensures.test tells)
+returns-in_err-start-clause-attaches g c tells = start_refused Start _ c.from_residual.result c.in_err-start.field-0.0 _ _ c.args.name.now c.from_residual.ensures (c.in_err-start.ensures.test tells)
 
 pub returns-in_err-delta-clause-attaches : goal.returns-in_err-delta-clause-attaches
 returns-in_err-delta-clause-attaches g c tells =
@@ -21,7 +23,7 @@ returns-in_err-delta-clause-attaches g c tells =
     let file = there c.args.name.now _ (c.in_ok-start.ensures.test tells) in
     let is = c.in_ok-start.ensures.start tells file.bytes file.is in
     let beside = ap (λ (f : Files). f c.delta-beside.result) c.in_ok-start.ensures.quiet.still.files ∙ ap old.files c.delta-beside.ensures in
-    delta_refused c.args.name.now file.bytes c.in_ok-start.start is c.from_residual-in_err-delta.result _ c.in_err-delta.field-0.0 _ _ file.is c.from_residual-in_err-delta.ensures refl
+    delta_refused c.args.name.now file.bytes c.in_ok-start.start is _ c.from_residual-in_err-delta.result _ c.in_err-delta.field-0.0 _ _ file.is c.from_residual-in_err-delta.ensures refl
     (answer_at _ _ _ _ _ _ _ c.delta-beside.ensures beside (c.in_err-delta.ensures.answer tells))
 
 pub returns-clause-attaches : goal.returns-clause-attaches
@@ -29,7 +31,8 @@ returns-clause-attaches g c tells =
     let old : World = g.H.Host.world c.args.host.now in
     let name : List ℕ = c.args.name.now in
     let delta : List ℕ = delta_name name in
-    let new : World = g.H.Host.world c.keep_files.new.host in
+    let kept : World = g.H.Host.world c.keep_files.new.host in
+    let new : World = g.H.Host.world c.read_owned.new.host in
     let file = there name _ (c.in_ok-start.ensures.test tells) in
     let is = c.in_ok-start.ensures.start tells file.bytes file.is in
     let beside = ap (λ (f : Files). f c.delta-beside.result) c.in_ok-start.ensures.quiet.still.files ∙ ap old.files c.delta-beside.ensures in
@@ -39,10 +42,18 @@ returns-clause-attaches g c tells =
     let known = c.in_ok-count.ensures.same in
     let size : length c.deref_mut.result.now ≡ c.in_ok-start.start.page_size = omega (arith, c.deref_mut.ensures.len, c.in_ok-page.ensures.len) in
     let main_count = c.in_ok-main_count.ensures.length tells file.bytes (ap (λ (f : Files). f name) met ∙ file.is) is.formed (sym is.page_size ∙ sym size) (is.pages ∙ ap (λ (k : ℕ). c.in_ok-start.start.pages * k) (sym size)) in
-    read_attached name file.bytes c.in_ok-start.start is (old.files delta) c.in_ok-delta.delta answer _ old new file.is refl (c.in_ok-keep_files.ensures.quiet.still.files ∙ counted) c.copied.ensures
-    (ap (λ (d : Known). d.page_size) known ∙ c.in_ok-delta.ensures.known.page_size) refl (c.in_ok-count.ensures.count ∙ ap (λ (k : ℕ). max k (behind_entries c.in_ok-delta.delta.entries)) main_count) main_count (ap (λ (d : Known). d.entries) known) (ap (λ (d : Known). d.drafted) known ∙ c.in_ok-delta.ensures.known.none_waits)
-    (subst (λ (x : File). IsDurable new name x) (ap (λ (f : Files). f name) counted ∙ file.is) (c.in_ok-keep_files.ensures.main tells))
-    (λ some. subst (λ (x : File). IsDurable new delta x) (ap (λ (f : Files). f delta) counted) (subst (λ (n : List ℕ). IsDurable new n ((g.H.Host.world c.count_with.new.host).files n)) c.delta-beside.ensures (c.in_ok-keep_files.ensures.delta tells some)))
+    let still = c.in_ok-read_owned.ensures.quiet.still in
+    let held = c.in_ok-read_owned.ensures.same ∙ known in
+    let same = c.in_ok-keep_files.ensures.quiet.still.files ∙ counted in
+    let base = read_base name file.bytes c.in_ok-start.start is (old.files delta) c.in_ok-delta.delta answer in
+    let shown = read_shows name file.bytes c.in_ok-start.start is (old.files delta) c.in_ok-delta.delta answer kept.files (ap (λ (f : Files). f name) same ∙ file.is) (ap (λ (f : Files). f delta) same) in
+    let page = first_read kept.files name c.count_with.new.delta base c.read_owned.new.into _ shown
+    (ap (λ (d : Known). d.page_size) known ∙ c.in_ok-delta.ensures.known.page_size ∙ read_size name file.bytes c.in_ok-start.start is (old.files delta) c.in_ok-delta.delta answer)
+    (ap (λ (d : Known). d.entries) known) (read_some name file.bytes c.in_ok-start.start is (old.files delta) c.in_ok-delta.delta answer) ? ? (λ bytes. c.in_ok-read_owned.ensures.page bytes tells) in
+    read_attached name file.bytes c.in_ok-start.start is (old.files delta) c.in_ok-delta.delta answer _ old new file.is refl (still.files ∙ same) c.copied.ensures
+    (ap (λ (d : Known). d.page_size) held ∙ c.in_ok-delta.ensures.known.page_size) refl ? (c.in_ok-count.ensures.count ∙ ap (λ (k : ℕ). max k (behind_entries c.in_ok-delta.delta.entries)) main_count) main_count (ap (λ (d : Known). d.entries) held) (ap (λ (d : Known). d.drafted) held ∙ c.in_ok-delta.ensures.known.none_waits)
+    (durable_still kept new name _ still (subst (λ (x : File). IsDurable kept name x) (ap (λ (f : Files). f name) counted ∙ file.is) (c.in_ok-keep_files.ensures.main tells)))
+    (λ some. durable_still kept new delta _ still (subst (λ (x : File). IsDurable kept delta x) (ap (λ (f : Files). f delta) counted) (subst (λ (n : List ℕ). IsDurable kept n ((g.H.Host.world c.count_with.new.host).files n)) c.delta-beside.ensures (c.in_ok-keep_files.ensures.delta tells some))))
 
 pub returns-clause-reads : goal.returns-clause-reads
 returns-clause-reads g c tells =

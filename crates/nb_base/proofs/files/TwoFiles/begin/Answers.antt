@@ -65,6 +65,6 @@ returns-clause-takes g c t ask tells given low =
     let done = c.in_ok-control_block.ensures.done (h0 old _ t is).main tells image (sym (begin_size old _ t is c.args.guid.now ask c.told-guid normal) ∙ long) (begin_room old _ t is c.args.guid.now ask c.told-guid normal low) in
     record {
       left = subst (λ (h : Held). StrikesFirm old (g.H.Host.world c.control_block.new.host) h.name t (begin c.args.guid.now ask ∷ [])) c.self.view_is (begin_struck old _ t is c.args.guid.now ask c.told-guid normal _ _ so_far empty durable block);
-      done = begin_open old _ t is c.args.guid.now ask c.told-guid normal _ _ so_far empty durable block done (g.met.H.Host.reads_left c.make.new.host tells) _ refl (ap (λ (d : Known). d.page_size) c.make.ensures.known) refl refl refl
+      done = begin_open old _ t is c.args.guid.now ask c.told-guid normal _ _ so_far empty durable block done (g.met.H.Host.reads_left c.make.new.host tells) _ refl (ap (λ (d : Known). d.page_size) c.make.ensures.known) refl refl refl refl
           (ap (λ (d : Known). d.entries) c.make.ensures.known) (ap (λ (d : Known). d.drafted) c.make.ensures.known);
     }

@@ -49,5 +49,5 @@ returns-clause-takes g c t tells given =
     let done = c.in_ok-control_block.ensures.done (h0 old _ t is).main tells image (sym (size old _ t is reads) ∙ long) (end_room old _ t is reads stalled) in
     record {
       left = left;
-      done = end_open old _ t is reads stalled _ _ synced durable block done (g.met.H.Host.reads_left c.sync.new.self tells) _ refl refl refl refl refl is.drafted;
+      done = end_open old _ t is reads stalled _ _ synced durable block done (g.met.H.Host.reads_left c.sync.new.self tells) _ refl refl refl refl refl refl is.drafted;
     }

@@ -80,4 +80,4 @@ returns-in_ok-write_entries-clause-done g c f t waits tells given none =
     let durable = subst (λ (n : List ℕ). IsDurable new n (new.files n)) c.self.invariant.5 (c.in_ok-write_entries.ensures.durable tells some) in
     enter_open old reads (the_view c.self.inside) f t waits goes none new (λ m left. left_before old new _ changes.others c.self.inside.name m (main_apart c.self.inside.name) left)
     (changes.others_read c.self.inside.name (main_apart c.self.inside.name)) all durable _
-    (ap (λ (k : Known). record { name = c.self.inside.name; page_size = k.page_size; state = c.self.inside.state; count = c.self.inside.count; main_count = c.self.inside.main_count; entries = k.entries; drafted = k.drafted }) c.in_ok-write_entries.ensures.done)
+    (ap (λ (k : Known). record { name = c.self.inside.name; page_size = k.page_size; state = c.self.inside.state; forced = c.self.inside.forced; count = c.self.inside.count; main_count = c.self.inside.main_count; entries = k.entries; drafted = k.drafted }) c.in_ok-write_entries.ensures.done)

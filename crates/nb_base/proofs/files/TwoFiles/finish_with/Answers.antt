@@ -48,7 +48,7 @@ returns-clause-takes g c t tells given equal filled =
     let removed = subst (λ (n : List ℕ). Changes (g.H.Host.world c.control_block.new.host) (g.H.Host.world c.clear.new.host) (Only n) (Remade (g.H.Host.world c.control_block.new.host) n (λ file. file ≡ None))) c.self.invariant.5 (c.clear.ensures.changes tells) in
     record {
       left = subst (λ (h : Held). StrikesFirm old (g.H.Host.world c.clear.new.host) h.name t (finish ∷ [])) c.self.view_is (removed_struck old _ t is reads merges merged _ _ synced sync.files.still block _ done (λ (file : File). file ≡ None) removed);
-      done = on_ok c.clear.result (finish_open old _ t is reads merges merged _ _ synced sync.files.still block _ done (λ (file : File). file ≡ None) removed _ refl (ap (λ (d : Known). d.page_size) c.clear.ensures.known) refl filled
+      done = on_ok c.clear.result (finish_open old _ t is reads merges merged _ _ synced sync.files.still block _ done (λ (file : File). file ≡ None) removed _ refl (ap (λ (d : Known). d.page_size) c.clear.ensures.known) refl refl filled
           (ap (λ (d : Known). d.entries) c.clear.ensures.known) (ap (λ (d : Known). d.drafted) c.clear.ensures.known));
     }
 

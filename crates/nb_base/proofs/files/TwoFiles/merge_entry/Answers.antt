@@ -85,7 +85,7 @@ returns-clause-takes g c t tells given =
     let left =
     subst (λ (h : Held). StrikesFirm (g.H.Host.world c.args.host.now) (g.H.Host.world c.write_page.new.self) h.name t []) c.self.view_is
     (subst (λ (h : _). StrikesFirm (g.H.Host.world h) (g.H.Host.world c.write_page.new.self) c.self.inside.name t []) still joined) in
-    let same = ap (λ (d : Known). record { name = c.self.inside.name; page_size = d.page_size; state = c.self.inside.state; count = c.self.inside.count; main_count = c.self.inside.main_count; entries = d.entries; drafted = d.drafted }) (sym (c.in_ok-read_owned.ensures.same ∙ known)) in
+    let same = ap (λ (d : Known). record { name = c.self.inside.name; page_size = d.page_size; state = c.self.inside.state; forced = c.self.inside.forced; count = c.self.inside.count; main_count = c.self.inside.main_count; entries = d.entries; drafted = d.drafted }) (sym (c.in_ok-read_owned.ensures.same ∙ known)) in
     let done =
     hidden_seen t c.in_ok-number.number c.deref.result.now hiding merging c.self.inside.name c.args.k entry mid (g.H.Host.world c.write_page.new.self) (g.met.H.Host.timely _) seen
     (c.in_ok-write_page.ensures.files.files tells) hidden in
@@ -112,7 +112,7 @@ returns-clause-merged g c t tells given so_far =
     let owned =
     read_as first _ t is merges c.args.k inside c.in_ok-number.ensures.apart c.in_ok-number.number names c.in_ok-number.ensures.below c.deref.result.now long _ (sym size)
     (page_is ∙ read ∙ ap (λ (d : Known). owned_page (length c.deref_mut.result.now) (image_in (h0 first _ t is).has.bytes) (bytes_of (first.files (delta_name c.self.inside.name))) d.entries c.in_ok-number.number) known) in
-    let same = ap (λ (d : Known). record { name = c.self.inside.name; page_size = d.page_size; state = c.self.inside.state; count = c.self.inside.count; main_count = c.self.inside.main_count; entries = d.entries; drafted = d.drafted }) (sym (c.in_ok-read_owned.ensures.same ∙ known)) in
+    let same = ap (λ (d : Known). record { name = c.self.inside.name; page_size = d.page_size; state = c.self.inside.state; forced = c.self.inside.forced; count = c.self.inside.count; main_count = c.self.inside.main_count; entries = d.entries; drafted = d.drafted }) (sym (c.in_ok-read_owned.ensures.same ∙ known)) in
     let put =
     subst (λ (f : Files). (g.H.Host.world c.write_page.new.self).files ≡ with_file f c.self.inside.name (with_page (f c.self.inside.name) (c.in_ok-number.number * length c.deref.result.now) c.deref.result.now)) c.in_ok-read_owned.ensures.quiet.still.files
     (c.in_ok-write_page.ensures.files.files tells) in

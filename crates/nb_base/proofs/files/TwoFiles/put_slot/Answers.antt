@@ -47,7 +47,7 @@ returns-in_ok-rewrite-in-Some-clause-put g c f t waits later tells given may as_
     let still = ap g.H.Host.world c.slot_of.ensures.no_call in
     let changes = slot_changes old _ new c.self.inside.name _ c.self.inside.delta slot.k c.args.page.now still c.slot_of.ensures.same c.self.invariant.5 (c.rewrite.ensures.changes tells slot.k place) in
     let put = slot_puts old _ new c.self.inside.name _ c.self.inside.delta slot.k c.args.page.now still c.slot_of.ensures.same c.self.invariant.5 (c.in_ok-rewrite-in-Some.ensures.put tells slot.k place) in
-    subst (λ (d : Known). let h : Held = record { name = c.self.inside.name; page_size = d.page_size; state = c.self.inside.state; count = c.self.inside.count; main_count = c.self.inside.main_count; entries = d.entries; drafted = d.drafted } in GoesIn new h f t later)
+    subst (λ (d : Known). let h : Held = record { name = c.self.inside.name; page_size = d.page_size; state = c.self.inside.state; forced = c.self.inside.forced; count = c.self.inside.count; main_count = c.self.inside.main_count; entries = d.entries; drafted = d.drafted } in GoesIn new h f t later)
     (sym (c.rewrite.ensures.same ∙ c.slot_of.ensures.same))
     (slot_goes old new (the_view c.self.inside) f t waits goes c.args.number slot.k c.args.page.now may (ap (entry_for c.args.number) (sym goes.agrees.entries) ∙ slot.at) changes (g.met.H.Host.timely c.args.host.now) put later as_before)
 

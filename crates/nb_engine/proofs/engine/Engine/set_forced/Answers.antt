@@ -68,4 +68,4 @@ returns-in_err-put_flag-clause-forced g c t tells is forced memory =
     let here = subst (λ (h : Held). IsOpen old h t) (sym c.self.view_is) is in
     let wants = sym (passed_on c.from_residual.result c.in_err-put_flag.field-0.0 c.from_residual.ensures) ∙ memory in
     subst (λ (h : Held). (but_pages c.put_flag.new.store ≡ but_pages h) × Quiet old new) c.self.view_is
-    (c.in_err-put_flag.ensures.forced t tells here (ap (λ (h : Held). h.forced) c.self.view_is ∙ forced) wants)
+    (c.in_err-put_flag.ensures.forced t tells here (ap (λ (h : Held). h.files.forced) c.self.view_is ∙ forced) wants)

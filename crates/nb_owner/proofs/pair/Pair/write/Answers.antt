@@ -21,13 +21,13 @@ use Rattle.nb_owner.proofs.WaitLaws.{may_wait_parts, held_open}
 use Rattle.nb_owner.proofs.pair.Pair.write.Goals as goal
 
 pub hold-requires-clause-early : goal.hold-requires-clause-early
-hold-requires-clause-early g c = (may_wait_parts c.args.self.now c.args.number c.args.forced (sym c.may_wait.ensures.value ∙ c.if-may_wait.true)).1
+hold-requires-clause-early g c = (may_wait_parts c.args.self.now c.args.number (sym c.may_wait.ensures.value ∙ c.if-may_wait.true)).1
 
 pub hold-requires-clause-drops_none : goal.hold-requires-clause-drops_none
-hold-requires-clause-drops_none g c = (may_wait_parts c.args.self.now c.args.number c.args.forced (sym c.may_wait.ensures.value ∙ c.if-may_wait.true)).4
+hold-requires-clause-drops_none g c = (may_wait_parts c.args.self.now c.args.number (sym c.may_wait.ensures.value ∙ c.if-may_wait.true)).4
 
 pub returns-in_err-hold-clause-takes : goal.returns-in_err-hold-clause-takes
-returns-in_err-hold-clause-takes g c t tells is forced =
+returns-in_err-hold-clause-takes g c t tells is =
     let old = g.H.Host.world c.args.host.now in
     let name = c.args.self.now.files.name in
     record {
@@ -37,21 +37,21 @@ returns-in_err-hold-clause-takes g c t tells is forced =
     }
 
 pub returns-then-may_wait-clause-takes : goal.returns-then-may_wait-clause-takes
-returns-then-may_wait-clause-takes g c t tells is forced =
+returns-then-may_wait-clause-takes g c t tells is =
     let w = g.H.Host.world c.args.host.now in
     let name = c.args.self.now.files.name in
-    let parts = may_wait_parts c.args.self.now c.args.number c.args.forced (sym c.may_wait.ensures.value ∙ c.if-may_wait.true) in
+    let parts = may_wait_parts c.args.self.now c.args.number (sym c.may_wait.ensures.value ∙ c.if-may_wait.true) in
     let ok = c.in_ok-hold.ensures in
     record {
       left = subst (λ host. Strikes w (g.H.Host.world host) name t (page c.args.number c.args.page.now ∷ [])) (sym c.hold.ensures.no_call)
           (begun w (OfFiles name) (Reached after_stroke (StandsIn name) t (page c.args.number c.args.page.now ∷ [])) (g.met.H.Host.timely c.args.host.now) (λ files all. inl (is.left files all)));
       done = subst (λ host. IsOpen (g.H.Host.world host) c.hold.new.self (after_stroke (page c.args.number c.args.page.now) t)) (sym c.hold.ensures.no_call)
-          (held_open w c.args.self.now t is c.may_wait.ensures.valid c.args.number c.args.page.now parts.2 parts.3 c.requires.most c.requires.size c.requires.some parts.1 (sym forced ∙ parts.0) parts.4 c.hold.new.self ok.held ok.cap (λ normal. (ok.normal normal).1) ok.drafts);
+          (held_open w c.args.self.now t is c.may_wait.ensures.valid c.args.number c.args.page.now parts.2 parts.3 c.requires.most c.requires.size c.requires.some parts.1 (sym is.agrees.forced ∙ parts.0) parts.4 c.hold.new.self ok.held ok.cap (λ normal. (ok.normal normal).1) ok.drafts);
     }
 
 pub returns-then-may_wait-clause-merged : goal.returns-then-may_wait-clause-merged
 returns-then-may_wait-clause-merged g c t k tells is merges merged =
-    let parts = may_wait_parts c.args.self.now c.args.number c.args.forced (sym c.may_wait.ensures.value ∙ c.if-may_wait.true) in
+    let parts = may_wait_parts c.args.self.now c.args.number (sym c.may_wait.ensures.value ∙ c.if-may_wait.true) in
     absurd (omega (arith, merges, parts.1))
 
 pub returns-then-may_wait-clause-waits : goal.returns-then-may_wait-clause-waits
@@ -71,7 +71,7 @@ returns-then-may_wait-clause-used g c =
     ∙ bare_put c.args.number c.args.self.now.cap (record { bytes = c.args.page.now; rank = rank_of c.args.self.now.pages c.args.number }) c.args.self.now.pages
 
 pub returns-in_err-write_out-clause-takes : goal.returns-in_err-write_out-clause-takes
-returns-in_err-write_out-clause-takes g c t tells is forced = record {
+returns-in_err-write_out-clause-takes g c t tells is = record {
   left = weaker_has (g.H.Host.world c.args.host.now) (g.H.Host.world c.write_out.new.host) (OfFiles c.args.self.now.files.name) _ _ (c.write_out.ensures.takes t tells is).left (λ files so. inl so);
   done = not_done c.from_residual-in_err-write_out.result _ c.from_residual-in_err-write_out.ensures.0;
 }
@@ -80,7 +80,7 @@ pub returns-in_err-write_out-clause-waits : goal.returns-in_err-write_out-clause
 returns-in_err-write_out-clause-waits g c may = absurd (true≢false (sym may ∙ sym c.may_wait.ensures.value ∙ c.if-may_wait.false))
 
 pub returns-in_err-write_through-clause-takes : goal.returns-in_err-write_through-clause-takes
-returns-in_err-write_through-clause-takes g c t tells is forced =
+returns-in_err-write_through-clause-takes g c t tells is =
     let fits = may_write (g.H.Host.world c.args.host.now) c.args.self.now t c.args.number c.args.page.now is c.requires.low (λ first. c.requires.control_block first tells) in
     let old = g.H.Host.world c.args.host.now in
     let mid = g.H.Host.world c.write_out.new.host in
@@ -89,7 +89,7 @@ returns-in_err-write_through-clause-takes g c t tells is forced =
     let first = c.in_ok-write_out.ensures.takes t tells is in
     record {
       left = strokes_composed after_stroke (StandsIn name) (OfFiles name) old mid new t [] (page c.args.number c.args.page.now ∷ []) first.left
-          (subst (λ (n : List ℕ). Strikes mid new n t (page c.args.number c.args.page.now ∷ [])) (ap (λ f. f.name) c.write_out.ensures.files) (c.write_through.ensures.takes t tells first.done fits forced).left);
+          (subst (λ (n : List ℕ). Strikes mid new n t (page c.args.number c.args.page.now ∷ [])) (ap (λ f. f.name) c.write_out.ensures.files) (c.write_through.ensures.takes t tells first.done fits).left);
       done = not_done c.from_residual-in_err-write_through.result _ c.from_residual-in_err-write_through.ensures.0;
     }
 
@@ -97,14 +97,14 @@ pub returns-in_err-write_through-clause-waits : goal.returns-in_err-write_throug
 returns-in_err-write_through-clause-waits g c may = absurd (true≢false (sym may ∙ sym c.may_wait.ensures.value ∙ c.if-may_wait.false))
 
 pub returns-clause-takes : goal.returns-clause-takes
-returns-clause-takes g c t tells is forced =
+returns-clause-takes g c t tells is =
     let fits = may_write (g.H.Host.world c.args.host.now) c.args.self.now t c.args.number c.args.page.now is c.requires.low (λ first. c.requires.control_block first tells) in
     let old = g.H.Host.world c.args.host.now in
     let mid = g.H.Host.world c.write_out.new.host in
     let new = g.H.Host.world c.write_through.new.host in
     let name = c.args.self.now.files.name in
     let first = c.in_ok-write_out.ensures.takes t tells is in
-    let second = c.in_ok-write_through.ensures.takes t tells first.done fits forced in
+    let second = c.in_ok-write_through.ensures.takes t tells first.done fits in
     record {
       left = strokes_composed after_stroke (StandsIn name) (OfFiles name) old mid new t [] (page c.args.number c.args.page.now ∷ []) first.left
           (subst (λ (n : List ℕ). Strikes mid new n t (page c.args.number c.args.page.now ∷ [])) (ap (λ f. f.name) c.write_out.ensures.files) second.left);
@@ -153,7 +153,7 @@ returns-then-may_wait-clause-goes_out g c goes = absurd (true≢false (sym c.if-
 
 pub returns-then-may_wait-clause-others : goal.returns-then-may_wait-clause-others
 returns-then-may_wait-clause-others g c may p other =
-    let parts = may_wait_parts c.args.self.now c.args.number c.args.forced may in
+    let parts = may_wait_parts c.args.self.now c.args.number may in
     let slot : Slot = record { bytes = c.args.page.now; rank = rank_of c.args.self.now.pages c.args.number } in
     ap (λ (ps : Pages). rank_of ps p) c.in_ok-hold.ensures.held
     ∙ rank_marked_other c.args.number p _ (put_entries nat_eq (lru_cache c.args.self.now.pages c.args.self.now.cap) c.args.number slot) other
@@ -190,7 +190,7 @@ returns-clause-touches g c t tells is =
 
 pub returns-in_err-hold-clause-takes_none : goal.returns-in_err-hold-clause-takes_none
 returns-in_err-hold-clause-takes_none g c plain =
-    let parts = may_wait_parts c.args.self.now c.args.number c.args.forced (sym c.may_wait.ensures.value ∙ c.if-may_wait.true) in
+    let parts = may_wait_parts c.args.self.now c.args.number (sym c.may_wait.ensures.value ∙ c.if-may_wait.true) in
     absurd (true≢false (sym (c.in_err-hold.ensures.normal (omega (arith, plain, parts.1))).0))
 
 pub returns-in_err-hold-clause-on_memory : goal.returns-in_err-hold-clause-on_memory

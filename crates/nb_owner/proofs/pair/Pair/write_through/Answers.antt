@@ -13,14 +13,14 @@ use Rattle.nb_owner.proofs.WaitLaws.{files_open, open_settled}
 use Rattle.nb_owner.proofs.pair.Pair.write_through.Goals as goal
 
 pub returns-in_err-write-clause-takes : goal.returns-in_err-write-clause-takes
-returns-in_err-write-clause-takes g c t tells given fits forced =
+returns-in_err-write-clause-takes g c t tells given fits =
     let old = g.H.Host.world c.args.host.now in
     let new = g.H.Host.world c.write.new.host in
     let is = subst (λ (h : Held). IsOpen old h t) (sym c.self.view_is) given in
     let none = subst (λ (h : Held). NoneWaits h.pages) (sym c.self.view_is) c.requires.none in
     record {
       left = subst (λ (h : Held). Strikes old new h.files.name t (page c.args.number c.args.page.now ∷ [])) c.self.view_is
-          (strikes_left old new c.self.inside.files.name t (page c.args.number c.args.page.now ∷ []) (c.write.ensures.takes t tells (files_open old (the_view c.self.inside) t none is) fits forced).left);
+          (strikes_left old new c.self.inside.files.name t (page c.args.number c.args.page.now ∷ []) (c.write.ensures.takes t tells (files_open old (the_view c.self.inside) t none is) fits).left);
       done = not_done c.from_residual.result _ c.from_residual.ensures.0;
     }
 
@@ -37,12 +37,12 @@ invariant_of-self-2 g c =
     )
 
 pub returns-clause-takes : goal.returns-clause-takes
-returns-clause-takes g c t tells given fits forced =
+returns-clause-takes g c t tells given fits =
     let old = g.H.Host.world c.args.host.now in
     let new = g.H.Host.world c.write.new.host in
     let is = subst (λ (h : Held). IsOpen old h t) (sym c.self.view_is) given in
     let none = subst (λ (h : Held). NoneWaits h.pages) (sym c.self.view_is) c.requires.none in
-    let takes = c.in_ok-write.ensures.takes t tells (files_open old (the_view c.self.inside) t none is) fits forced in
+    let takes = c.in_ok-write.ensures.takes t tells (files_open old (the_view c.self.inside) t none is) fits in
     let kept = kept_pages c.self.inside.cache c.keep.new.self c.self.inside.files.page_size c.self.inside.files.page_size c.self.invariant.0 refl c.args.number _ c.keep.ensures in
     let now : Held = record { files = c.write.new.self; pages = c.keep.new.self.pages; cap = c.keep.new.self.cap } in
     record {

@@ -27,7 +27,7 @@ returns-in_err-write-clause-makes g c t tells given =
     let is = subst (λ (h : Held). IsOpen old h t) (sym c.self.view_is) given in
     let wrote = c.write.ensures in
     let after : Held = record c.args.self.now { files = c.write.new.self.files; pages = c.write.new.self.pages; cap = c.write.new.self.cap } in
-    let left = subst (λ (h : Held). Strikes old new (name_of h) t (page c.args.number c.args.page.now ∷ [])) c.self.view_is (wrote.takes t tells is.files is.agrees.forced).left in
+    let left = subst (λ (h : Held). Strikes old new (name_of h) t (page c.args.number c.args.page.now ∷ [])) c.self.view_is (wrote.takes t tells is.files).left in
     let goes = subst (λ (h : Held). Goes h (record h { files = c.write.new.self.files; pages = c.write.new.self.pages; cap = c.write.new.self.cap })) c.self.view_is (goes_files _ c.write.new.self wrote.name wrote.page_size wrote.state wrote.longer wrote.entries wrote.cap) in
     subst (λ (h : Held). Makes {T = Unit {0}} c.from_residual.result old new c.args.self.now h t (page c.args.number c.args.page.now ∷ [])) (sym (ap (λ (h : Held). record h { files = c.write.new.self.files; pages = c.write.new.self.pages; cap = c.write.new.self.cap }) c.self.view_is))
     (subst (λ r. Makes {T = Unit {0}} r old new c.args.self.now after t (page c.args.number c.args.page.now ∷ [])) (sym (passed_on c.from_residual.result c.in_err-write.field-0.0 c.from_residual.ensures)) (record {
@@ -37,8 +37,8 @@ returns-in_err-write-clause-makes g c t tells given =
       gave = wrote.gave;
     }))
 
-pub take_flags-requires : goal.take_flags-requires
-take_flags-requires g c = let size = size_facts c.self.inside.pair.files.page_size c.self.invariant.0 in omega (arith, size.at_least, c.requires.size, ap (λ (h : Held). h.files.page_size) c.self.view_is)
+pub take_access-requires : goal.take_access-requires
+take_access-requires g c = let size = size_facts c.self.inside.pair.files.page_size c.self.invariant.0 in omega (arith, size.at_least, c.requires.size, ap (λ (h : Held). h.files.page_size) c.self.view_is)
 
 pub returns-clause-makes : goal.returns-clause-makes
 returns-clause-makes g c t tells given =
@@ -47,15 +47,15 @@ returns-clause-makes g c t tells given =
     let new : World = g.H.Host.world c.write.new.host in
     let is = subst (λ (h : Held). IsOpen old h t) (sym c.self.view_is) given in
     let wrote = c.in_ok-write.ensures in
-    let takes = wrote.takes t tells is.files is.agrees.forced in
+    let takes = wrote.takes t tells is.files in
     let pair = c.write.new.self in
-    let first = c.take_flags.ensures.first in
-    let other = c.take_flags.ensures.other in
+    let first = c.take_access.ensures.first in
+    let other = c.take_access.ensures.other in
     record {
       left = subst (λ (h : Held). Strikes old new (name_of h) t (page c.args.number c.args.page.now ∷ [])) c.self.view_is takes.left;
-      opened = open_written t c.args.number c.args.page.now fits _ pair old new c.take_flags.new.self first other is wrote.state wrote.entries takes.done (λ two. wrote.merged t _ tells is.files two (is.merged two));
-      goes = subst (λ (h : Held). Goes h c.take_flags.new.self) c.self.view_is
-          (goes_written c.args.number c.args.page.now _ c.take_flags.new.self pair first other (goes_files _ pair wrote.name wrote.page_size wrote.state wrote.longer wrote.entries wrote.cap));
+      opened = open_written t c.args.number c.args.page.now fits _ pair old new c.take_access.new.self first other is wrote.state wrote.entries takes.done (λ two. wrote.merged t _ tells is.files two (is.merged two));
+      goes = subst (λ (h : Held). Goes h c.take_access.new.self) c.self.view_is
+          (goes_written c.args.number c.args.page.now _ c.take_access.new.self pair first other (goes_files _ pair wrote.name wrote.page_size wrote.state wrote.longer wrote.entries wrote.cap));
       gave = wrote.gave;
     }
 
@@ -82,7 +82,7 @@ pub returns-in_err-write-clause-forced : goal.returns-in_err-write-clause-forced
 returns-in_err-write-clause-forced g c t tells given forced memory =
     let is = subst (λ (h : Held). IsOpen (g.H.Host.world c.args.host.now) h t) (sym c.self.view_is) given in
     let wants = sym (passed_on c.from_residual.result c.in_err-write.field-0.0 c.from_residual.ensures) ∙ memory in
-    let same = c.in_err-write.ensures.forced t tells is.files (sym given.agrees.forced ∙ forced) wants in
+    let same = c.in_err-write.ensures.forced t tells is.files (sym given.files.agrees.forced ∙ forced) wants in
     (ap (λ (p : Rattle.nb_owner.specs.Open.Held). record (the_view c.self.inside) { files = p.files; pages = p.pages; cap = p.cap }) same.0 ∙ c.self.view_is, same.1)
 
 pub returns-in_err-write-clause-touches : goal.returns-in_err-write-clause-touches

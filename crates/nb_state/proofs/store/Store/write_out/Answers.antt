@@ -40,7 +40,7 @@ returns-clause-at_settled g c t tells given none =
     let is = subst (λ (h : Held). IsOpen (g.H.Host.world c.args.host.now) h t) (sym c.self.view_is) given in
     let same = c.in_ok-write_out.ensures.at_settled t tells is.files none in (
       refl,
-      ap (λ (p : Rattle.nb_owner.specs.Open.Held). record { files = p.files; scn = c.self.inside.scn; guid = c.self.inside.guid; forced = c.self.inside.forced; read_only = c.self.inside.read_only; running = c.self.inside.running; merged = c.self.inside.merged; pages = p.pages; cap = p.cap })
+      ap (λ (p : Rattle.nb_owner.specs.Open.Held). record { files = p.files; scn = c.self.inside.scn; guid = c.self.inside.guid; read_only = c.self.inside.read_only; running = c.self.inside.running; merged = c.self.inside.merged; pages = p.pages; cap = p.cap })
           same.1 ∙ c.self.view_is,
       same.2,
     )
