@@ -140,12 +140,7 @@ impl TwoFiles {
     /// the stalled state the main file isn't.
     ///
     /// It wants memory in the stalled state alone, and then nothing has changed.
-    pub fn write<H: Host>(
-        &mut self,
-        host: &mut H,
-        number: u32,
-        page: &[u8],
-    ) -> Result<(), Fault>
+    pub fn write<H: Host>(&mut self, host: &mut H, number: u32, page: &[u8]) -> Result<(), Fault>
         requires size { length page.now ≡ self.old.page_size }
         requires most { number < 1048576 }
         requires some { is_zeros page.now ≡ false }

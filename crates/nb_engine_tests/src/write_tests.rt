@@ -10,12 +10,7 @@ use std::alloc::Global;
 use std::test::Fail;
 
 /// Writes a page of which each byte is the same.
-fn write(
-    host: &mut MemHost,
-    files: &mut TwoFiles,
-    number: u32,
-    byte: u8,
-) -> Result<(), Fault> {
+fn write(host: &mut MemHost, files: &mut TwoFiles, number: u32, byte: u8) -> Result<(), Fault> {
     write_page(host, files, number, &[byte; 1024])
 }
 
@@ -85,11 +80,7 @@ fn prepare(host: &mut MemHost, files: &mut TwoFiles, state: u16) -> Result<(), F
 }
 
 /// How many calls a write makes, and 0 where it isn't read back.
-fn calls_to_write(
-    host: &mut MemHost,
-    files: &mut TwoFiles,
-    number: u32,
-) -> Result<u64, Fault> {
+fn calls_to_write(host: &mut MemHost, files: &mut TwoFiles, number: u32) -> Result<u64, Fault> {
     let before = host.calls();
     write(host, files, number, 9)?;
     let calls = host.calls().saturating_sub(before);

@@ -189,12 +189,7 @@ impl Pair {
     ///
     /// It wants memory in the stalled state alone, and has changed no page then. It has made no call then but to write out what waited, so none
     /// where writes are forced.
-    pub fn write<H: Host>(
-        &mut self,
-        host: &mut H,
-        number: u32,
-        page: &[u8],
-    ) -> Result<(), Fault>
+    pub fn write<H: Host>(&mut self, host: &mut H, number: u32, page: &[u8]) -> Result<(), Fault>
         requires size { length page.now ≡ self.old.files.page_size }
         requires most { number < 1048576 }
         requires some { is_zeros page.now ≡ false }

@@ -1,9 +1,15 @@
-use Rattle.std.proofs.Common.{◌≡◌, ℕ, ◌+◌, ◌*◌, ◌≤◌, List, length, refl, sym, ap, subst, ◌∙◌, arith}
-use Rattle.std.specs.Prelude.{max}
+use Rattle.std.proofs.Common.{◌≡◌, ℕ, ◌+◌, ◌*◌, ◌≤◌, ◌++◌, List, length, take, refl, sym, ap, subst, ◌∙◌, arith}
+use Rattle.std.proofs.lemmas.List.{take_at}
+use Rattle.std.specs.Prelude.{max, not, ◌==◌}
+use Rattle.nb_fields.specs.Bytes.{number_in}
 use Rattle.nb_host.specs.Files.{File, Files}
 use Rattle.nb_host.specs.World.{World}
 use Rattle.nb_host.specs.Crash.{IsDurable}
 use Rattle.nb_change.proofs.SettledLaws.{durable_still}
+use Rattle.nb_page.specs.Quiet.{Quiet}
+use Rattle.nb_page.proofs.QuietLemmas.{quiet_joined}
+use Rattle.nb_model.specs.Trail.{ShowsIn}
+use Rattle.nb_model.proofs.MainLaws.{some_page}
 use Rattle.nb_delta.specs.Known.{Known}
 use Rattle.nb_model.specs.Owner.{delta_name, behind_entries}
 use Rattle.nb_base.specs.declared.attach.Start.{Start}
@@ -13,6 +19,10 @@ use Rattle.nb_base.proofs.OpenedLaws.{answer_at, start_refused, delta_refused, r
 use Rattle.nb_base.proofs.OpeningReads.{opened_reads}
 use Rattle.nb_base.proofs.PageReads.{first_read}
 use Rattle.nb_base.proofs.files.TwoFiles.attach.Goals as goal
+
+-- a slice of all the elements of a vector, behind which it has room
+vec_whole : (deref items rest : List ℕ) (n : ℕ) → deref ≡ take n (items ++ rest) → length items ≡ n → deref ≡ items
+vec_whole deref items rest n is long = is ∙ take_at items rest n long
 
 pub returns-in_err-start-clause-attaches : goal.returns-in_err-start-clause-attaches
 returns-in_err-start-clause-attaches g c tells = start_refused Start _ c.from_residual.result c.in_err-start.field-0.0 _ _ c.args.name.now c.from_residual.ensures (c.in_err-start.ensures.test tells)
@@ -49,9 +59,11 @@ returns-clause-attaches g c tells =
     let shown = read_shows name file.bytes c.in_ok-start.start is (old.files delta) c.in_ok-delta.delta answer kept.files (ap (λ (f : Files). f name) same ∙ file.is) (ap (λ (f : Files). f delta) same) in
     let page = first_read kept.files name c.count_with.new.delta base c.read_owned.new.into _ shown
     (ap (λ (d : Known). d.page_size) known ∙ c.in_ok-delta.ensures.known.page_size ∙ read_size name file.bytes c.in_ok-start.start is (old.files delta) c.in_ok-delta.delta answer)
-    (ap (λ (d : Known). d.entries) known) (read_some name file.bytes c.in_ok-start.start is (old.files delta) c.in_ok-delta.delta answer) ? ? (λ bytes. c.in_ok-read_owned.ensures.page bytes tells) in
+    (ap (λ (d : Known). d.entries) known) (read_some name file.bytes c.in_ok-start.start is (old.files delta) c.in_ok-delta.delta answer) (omega (arith, c.deref_mut-2.ensures.len, c.in_ok-first.ensures.len, ap (λ (d : Known). d.page_size) known, c.in_ok-delta.ensures.known.page_size)) (ap (λ (d : Known). d.name) known ∙ c.in_ok-delta.ensures.known.name ∙ c.delta-beside.ensures) (λ bytes. c.in_ok-read_owned.ensures.page bytes tells) in
+    let read : c.deref.result.now ≡ c.read_owned.new.into = vec_whole _ c.read_owned.new.into _ _ c.deref.ensures.value (omega (arith, c.read_owned.auto.into, c.deref_mut-2.ensures.len)) in
+    let forced = ap (λ (n : ℕ). not (n == 0)) (c.get-forced.ensures.value ∙ ap (number_in 64 1) (read ∙ page)) in
     read_attached name file.bytes c.in_ok-start.start is (old.files delta) c.in_ok-delta.delta answer _ old new file.is refl (still.files ∙ same) c.copied.ensures
-    (ap (λ (d : Known). d.page_size) held ∙ c.in_ok-delta.ensures.known.page_size) refl ? (c.in_ok-count.ensures.count ∙ ap (λ (k : ℕ). max k (behind_entries c.in_ok-delta.delta.entries)) main_count) main_count (ap (λ (d : Known). d.entries) held) (ap (λ (d : Known). d.drafted) held ∙ c.in_ok-delta.ensures.known.none_waits)
+    (ap (λ (d : Known). d.page_size) held ∙ c.in_ok-delta.ensures.known.page_size) refl forced (c.in_ok-count.ensures.count ∙ ap (λ (k : ℕ). max k (behind_entries c.in_ok-delta.delta.entries)) main_count) main_count (ap (λ (d : Known). d.entries) held) (ap (λ (d : Known). d.drafted) held ∙ c.in_ok-delta.ensures.known.none_waits)
     (durable_still kept new name _ still (subst (λ (x : File). IsDurable kept name x) (ap (λ (f : Files). f name) counted ∙ file.is) (c.in_ok-keep_files.ensures.main tells)))
     (λ some. durable_still kept new delta _ still (subst (λ (x : File). IsDurable kept delta x) (ap (λ (f : Files). f delta) counted) (subst (λ (n : List ℕ). IsDurable kept n ((g.H.Host.world c.count_with.new.host).files n)) c.delta-beside.ensures (c.in_ok-keep_files.ensures.delta tells some))))
 
@@ -70,7 +82,36 @@ returns-clause-reads g c tells =
     let last = c.in_ok-main_count.ensures.reads tells in
     let made : (g.H.Host.world c.keep_files.new.host).reads ≡ (g.H.Host.world c.find_length.new.host).reads =
     c.in_ok-keep_files.ensures.reads ∙ ap (λ (h : _). (g.H.Host.world h).reads) c.in_ok-count.ensures.no_call in
-    let entries = sym (ap (λ (d : Known). d.entries) known) in
+    let held = c.in_ok-read_owned.ensures.same ∙ known in
+    let entries = sym (ap (λ (d : Known). d.entries) held) in
     let table_held = subst (λ (es : List ℕ). (g.H.Host.world c.attach_delta.new.host).reads ≤ (g.H.Host.world c.read_start.new.host).reads + table_reads start.state start.page_size es) entries table in
-    opened_reads (old.files name) file.bytes start _ c.in_ok-main_count.main_count old.reads _ _ _ _ _ is c.in_ok-start.ensures.size file.is main_count c.in_ok-main_count.ensures.most (ap (λ (d : Known). d.page_size) known ∙ c.in_ok-delta.ensures.known.page_size)
-    (c.in_ok-start.ensures.reads tells) table_held last made
+    let opened =
+    opened_reads (old.files name) file.bytes start c.read_owned.new.delta.page_size c.in_ok-main_count.main_count old.reads _ _ _ _ c.read_owned.new.delta.entries is c.in_ok-start.ensures.size file.is main_count c.in_ok-main_count.ensures.most (ap (λ (d : Known). d.page_size) held ∙ c.in_ok-delta.ensures.known.page_size)
+    (c.in_ok-start.ensures.reads tells) table_held last made in
+    omega (arith, opened, c.in_ok-read_owned.ensures.first_reads tells)
+
+pub returns-in_err-read_owned-clause-quiet : goal.returns-in_err-read_owned-clause-quiet
+returns-in_err-read_owned-clause-quiet g c =
+    let old : World = g.H.Host.world c.args.host.now in
+    let found = quiet_joined _ _ _ (quiet_joined _ _ _ c.in_ok-start.ensures.quiet c.in_ok-delta.ensures.quiet) c.in_ok-main_count.ensures.quiet in
+    let counted = subst (λ (h : _). Quiet old (g.H.Host.world h)) (sym c.in_ok-count.ensures.no_call) found in
+    quiet_joined _ _ _ (quiet_joined _ _ _ counted c.in_ok-keep_files.ensures.quiet) c.in_err-read_owned.ensures.quiet
+
+pub returns-clause-quiet : goal.returns-clause-quiet
+returns-clause-quiet g c =
+    let old : World = g.H.Host.world c.args.host.now in
+    let found = quiet_joined _ _ _ (quiet_joined _ _ _ c.in_ok-start.ensures.quiet c.in_ok-delta.ensures.quiet) c.in_ok-main_count.ensures.quiet in
+    let counted = subst (λ (h : _). Quiet old (g.H.Host.world h)) (sym c.in_ok-count.ensures.no_call) found in
+    quiet_joined _ _ _ (quiet_joined _ _ _ counted c.in_ok-keep_files.ensures.quiet) c.in_ok-read_owned.ensures.quiet
+
+pub returns-clause-page : goal.returns-clause-page
+returns-clause-page g c t tells opened =
+    let kept : World = g.H.Host.world c.keep_files.new.host in
+    let new : World = g.H.Host.world c.read_owned.new.host in
+    let known = c.in_ok-count.ensures.same in
+    let same = sym c.in_ok-read_owned.ensures.same in
+    let shown = subst (λ (f : Files). ShowsIn c.args.name.now t.base f) c.in_ok-read_owned.ensures.quiet.still.files (subst (λ (n : List ℕ). ShowsIn n t.base new.files) c.copied.ensures opened.shows) in
+    vec_whole _ c.read_owned.new.into _ c.in_ok-first.first.len refl (omega (arith, c.read_owned.auto.into, c.deref_mut-2.ensures.len))
+    ∙ first_read kept.files c.args.name.now c.count_with.new.delta t.base c.read_owned.new.into _ shown (ap (λ (d : Known). d.page_size) same ∙ opened.agrees.page_size) (ap (λ (d : Known). d.entries) same ∙ opened.agrees.entries)
+    (some_page t.base.image opened.agrees.header) (omega (arith, c.deref_mut-2.ensures.len, c.in_ok-first.ensures.len, ap (λ (d : Known). d.page_size) known, c.in_ok-delta.ensures.known.page_size))
+    (ap (λ (d : Known). d.name) known ∙ c.in_ok-delta.ensures.known.name ∙ c.delta-beside.ensures) (λ bytes. c.in_ok-read_owned.ensures.page bytes tells)
