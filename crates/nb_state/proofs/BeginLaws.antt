@@ -1,6 +1,6 @@
 -- A database is created or opened, as it is held.
-use Rattle.std.proofs.Common.{◌≡◌, ℕ, ◌<◌, List, [], length, subst, replicate, refl, sym, ap, ◌∙◌, arith}
-use Rattle.std.specs.Prelude.{Bool, true, false, not, ◌==◌, None, Ok}
+use Rattle.std.proofs.Common.{◌≡◌, ℕ, ◌<◌, List, [], subst, replicate, refl, sym, ap, ◌∙◌, arith}
+use Rattle.std.specs.Prelude.{Bool, false, not, ◌==◌, None, Ok}
 use Rattle.nb_fields.specs.Bytes.{bytes_of, padded, number_in}
 use Rattle.nb_fields.specs.Header.{scn_of, guid_of}
 use Rattle.nb_fields.specs.Page.{head_of, page_of}
@@ -9,8 +9,8 @@ use Rattle.nb_fields.specs.Fresh.{fresh_kind, fresh_payload, fresh_page, fresh}
 use Rattle.nb_host.specs.World.{World}
 use Rattle.nb_model.specs.Trail.{Trail, settled}
 use Rattle.nb_model.proofs.FreshImageLaws.{fresh_first, fresh_state, fresh_scn, fresh_open}
-use Rattle.nb_model.proofs.MainLaws.{some_page}
 use Rattle.nb_base.specs.Beginnings.{Creates as CreatesFiles, IsAttached as AreAttached}
+use Rattle.nb_base.specs.Open.{IsOpen as FilesOpen}
 use Rattle.nb_model.specs.Image.{Page, Image, first_page}
 use Rattle.nb_model.specs.Account.{base_of}
 use Rattle.nb_cache.specs.Held.{NoneWaits}
@@ -60,14 +60,15 @@ created pair old new name size raw is none =
       taken = is.taken;
     }
 
-pub attached : (held : Held) (pair : Rattle.nb_owner.specs.Open.Held) (old mid new : World) (name : List ℕ) → AreAttached pair.files old mid name → pair.pages ≡ [] → held.files ≡ pair.files → held.running ≡ None
-    → ((t : Trail) → PairOpen mid pair t → 0 < length t.base.image → IsOpen new held t) → IsAttached held old new name
-attached held pair old mid new name is blank same none opens = record {
+-- What opens of the files as they were read is the database that they were.
+pub attached : (held : Held) (pair : Rattle.nb_owner.specs.Open.Held) (old new : World) (name : List ℕ) → AreAttached pair.files old new name → pair.pages ≡ [] → held.files ≡ pair.files → held.running ≡ None
+    → ((t : Trail) → FilesOpen new pair.files t → PairOpen new pair t → IsOpen new held t) → IsAttached held old new name
+attached held pair old new name is blank same none opens = record {
   base = is.base;
   stands = is.stands;
   named = ap (λ (f : Rattle.nb_base.specs.Open.Held). f.name) same ∙ is.named;
   nothing_runs = none;
-  opened = opens (settled is.base) (open_settled mid pair (settled is.base) (none_wait pair.pages blank) is.opened (of_none is.base.image pair.pages blank)) (some_page is.base.image is.opened.agrees.header);
+  opened = opens (settled is.base) is.opened (open_settled new pair (settled is.base) (none_wait pair.pages blank) is.opened (of_none is.base.image pair.pages blank));
 }
 
 -- What is held of page 0 as it was read.

@@ -1,4 +1,4 @@
-use Rattle.std.proofs.Common.{◌≡◌, ℕ, ◌+◌, ◌*◌, ◌≤◌, ◌++◌, List, length, take, refl, sym, ap, subst, ◌∙◌, arith}
+use Rattle.std.proofs.Common.{◌≡◌, ℕ, ◌+◌, ◌*◌, ◌≤◌, List, length, refl, sym, ap, subst, ◌∙◌, arith}
 use Rattle.std.proofs.lemmas.List.{take_at}
 use Rattle.std.specs.Prelude.{max, not, ◌==◌}
 use Rattle.nb_fields.specs.Bytes.{number_in}
@@ -19,10 +19,6 @@ use Rattle.nb_base.proofs.OpenedLaws.{answer_at, start_refused, delta_refused, r
 use Rattle.nb_base.proofs.OpeningReads.{opened_reads}
 use Rattle.nb_base.proofs.PageReads.{first_read}
 use Rattle.nb_base.proofs.files.TwoFiles.attach.Goals as goal
-
--- a slice of all the elements of a vector, behind which it has room
-vec_whole : (deref items rest : List ℕ) (n : ℕ) → deref ≡ take n (items ++ rest) → length items ≡ n → deref ≡ items
-vec_whole deref items rest n is long = is ∙ take_at items rest n long
 
 pub returns-in_err-start-clause-attaches : goal.returns-in_err-start-clause-attaches
 returns-in_err-start-clause-attaches g c tells = start_refused Start _ c.from_residual.result c.in_err-start.field-0.0 _ _ c.args.name.now c.from_residual.ensures (c.in_err-start.ensures.test tells)
@@ -60,7 +56,7 @@ returns-clause-attaches g c tells =
     let page = first_read kept.files name c.count_with.new.delta base c.read_owned.new.into _ shown
     (ap (λ (d : Known). d.page_size) known ∙ c.in_ok-delta.ensures.known.page_size ∙ read_size name file.bytes c.in_ok-start.start is (old.files delta) c.in_ok-delta.delta answer)
     (ap (λ (d : Known). d.entries) known) (read_some name file.bytes c.in_ok-start.start is (old.files delta) c.in_ok-delta.delta answer) (omega (arith, c.deref_mut-2.ensures.len, c.in_ok-first.ensures.len, ap (λ (d : Known). d.page_size) known, c.in_ok-delta.ensures.known.page_size)) (ap (λ (d : Known). d.name) known ∙ c.in_ok-delta.ensures.known.name ∙ c.delta-beside.ensures) (λ bytes. c.in_ok-read_owned.ensures.page bytes tells) in
-    let read : c.deref.result.now ≡ c.read_owned.new.into = vec_whole _ c.read_owned.new.into _ _ c.deref.ensures.value (omega (arith, c.read_owned.auto.into, c.deref_mut-2.ensures.len)) in
+    let read : c.deref.result.now ≡ c.read_owned.new.into = c.deref.ensures.value ∙ take_at c.read_owned.new.into _ c.in_ok-first.first.len (omega (arith, c.read_owned.auto.into, c.deref_mut-2.ensures.len)) in
     let forced = ap (λ (n : ℕ). not (n == 0)) (c.get-forced.ensures.value ∙ ap (number_in 64 1) (read ∙ page)) in
     read_attached name file.bytes c.in_ok-start.start is (old.files delta) c.in_ok-delta.delta answer _ old new file.is refl (still.files ∙ same) c.copied.ensures
     (ap (λ (d : Known). d.page_size) held ∙ c.in_ok-delta.ensures.known.page_size) refl forced (c.in_ok-count.ensures.count ∙ ap (λ (k : ℕ). max k (behind_entries c.in_ok-delta.delta.entries)) main_count) main_count (ap (λ (d : Known). d.entries) held) (ap (λ (d : Known). d.drafted) held ∙ c.in_ok-delta.ensures.known.none_waits)
@@ -111,7 +107,7 @@ returns-clause-page g c t tells opened =
     let known = c.in_ok-count.ensures.same in
     let same = sym c.in_ok-read_owned.ensures.same in
     let shown = subst (λ (f : Files). ShowsIn c.args.name.now t.base f) c.in_ok-read_owned.ensures.quiet.still.files (subst (λ (n : List ℕ). ShowsIn n t.base new.files) c.copied.ensures opened.shows) in
-    vec_whole _ c.read_owned.new.into _ c.in_ok-first.first.len refl (omega (arith, c.read_owned.auto.into, c.deref_mut-2.ensures.len))
+    take_at c.read_owned.new.into _ c.in_ok-first.first.len (omega (arith, c.read_owned.auto.into, c.deref_mut-2.ensures.len))
     ∙ first_read kept.files c.args.name.now c.count_with.new.delta t.base c.read_owned.new.into _ shown (ap (λ (d : Known). d.page_size) same ∙ opened.agrees.page_size) (ap (λ (d : Known). d.entries) same ∙ opened.agrees.entries)
     (some_page t.base.image opened.agrees.header) (omega (arith, c.deref_mut-2.ensures.len, c.in_ok-first.ensures.len, ap (λ (d : Known). d.page_size) known, c.in_ok-delta.ensures.known.page_size))
     (ap (λ (d : Known). d.name) known ∙ c.in_ok-delta.ensures.known.name ∙ c.delta-beside.ensures) (λ bytes. c.in_ok-read_owned.ensures.page bytes tells)
