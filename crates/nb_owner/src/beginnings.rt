@@ -34,6 +34,7 @@ impl Pair {
         ensures attaches { IsTrue H.tells → Attaches (files_of (first_of result)) (H.world host.old) (H.world host.new) name.now }
         ensures page { (t : Trail) → IsTrue H.tells → IfOk result (λ (pair, page). AreOpen (H.world host.new) pair.files t → page.items ≡ first_page t.base.image) }
         ensures long { IfOk result (λ (pair, page). length page.items ≡ pair.files.page_size) }
+        ensures page_size { IfOk result (λ (pair, page). IsTrue (is_page_size pair.files.page_size)) }
         ensures blank { IfOk result (λ (pair, page). IsBlank cache_pages pair) }
         ensures quiet { Quiet (H.world host.old) (H.world host.new) }
         ensures reads { IsTrue H.tells → IfOk result (λ (pair, page). (H.world host.new).reads ≤ (H.world host.old).reads + opening_reads ((H.world host.old).files name.now) pair.files + 2) }

@@ -1,15 +1,10 @@
 // A database is created or opened.
-ghost use Rattle.std.specs.Prelude.{◌≡◌, ◌+◌, ◌<◌, ◌≤◌, None, IsTrue, IfOk, length};
+ghost use Rattle.std.specs.Prelude.{◌≡◌, ◌+◌, ◌<◌, ◌≤◌, IsTrue, IfOk, length};
 ghost use Rattle.nb_fields.specs.Places.{is_page_size};
 ghost use Rattle.nb_fields.specs.Fresh.{fresh};
 ghost use Rattle.nb_change.specs.Counts.{CountsDevice};
-ghost use Rattle.nb_host.specs.World.{World};
 ghost use Rattle.nb_page.specs.Quiet.{Quiet};
-ghost use Rattle.nb_model.specs.Image.{first_page};
-ghost use Rattle.nb_model.specs.Trail.{Trail};
 ghost use Rattle.nb_base.specs.Reads.{opening_reads};
-ghost use Rattle.nb_owner.specs.Open.{IsOpen as AreOpen};
-ghost use Rattle.nb_state.specs.Open.{IsOpen};
 ghost use Rattle.nb_state.specs.Beginnings.{Attaches, Creates, HoldsNone};
 
 use crate::Store;
@@ -20,29 +15,6 @@ use std::alloc::Global;
 
 /// The SCN of a database on which no backup has begun.
 const FIRST_SCN: u32 = 1;
-
-/// What is held of a database that is open, by its page 0.
-fn open(pair: Pair, first: &[u8]) -> Store
-    requires size { length first.now ≡ pair.files.page_size }
-    requires one_of { IsTrue (is_page_size pair.files.page_size) }
-    ensures opens { (w : World) (t : Trail) → AreOpen w pair t → first.now ≡ first_page t.base.image → IsOpen w result t }
-    ensures files { result.files ≡ pair.files }
-    ensures pages { result.pages ≡ pair.pages }
-    ensures cap { result.cap ≡ pair.cap }
-    ensures running { result.running ≡ None }
-    ensures scn { result.scn < 4294967296 }
-{
-    let front = front_of(first);
-    let guid = front.guid;
-    Store {
-        pair,
-        scn: front.scn,
-        guid,
-        read_only: front.read_only,
-        running: None,
-        merged: 0,
-    }
-}
 
 impl Store {
     /// Opens a database, and takes memory for so many of its pages. It changes nothing: its files are kept for good before it answers.
@@ -66,9 +38,16 @@ impl Store {
         ensures cause { CountsDevice result (H.faults host.old) (H.faults host.new) }
     {
         let (pair, first) = Pair::attach(alloc, host, name, cache_pages)?;
-        // Contracts ask for it.
-        let _page_size = pair.page_size();
-        Ok(open(pair, &first))
+        let front = front_of(&first);
+        let guid = front.guid;
+        Ok(Store {
+            pair,
+            scn: front.scn,
+            guid,
+            read_only: front.read_only,
+            running: None,
+            merged: 0,
+        })
     }
 
     /// Makes a new database with `raw` raw pages, and opens it. The refusal is `FileExists`, where the name is not free; then nothing
