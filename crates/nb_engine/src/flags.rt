@@ -10,7 +10,7 @@ ghost use Rattle.nb_model.specs.Trail.{Trail};
 ghost use Rattle.nb_model.specs.Outcomes.{Seen};
 ghost use Rattle.nb_model.specs.Pages.{byte_strokes, forced_turn, access_turn};
 ghost use Rattle.nb_base.specs.Takes.{Strikes};
-ghost use Rattle.nb_state.specs.Open.{IsOpen, HasBlock, but_pages, name_of};
+ghost use Rattle.nb_state.specs.Open.{IsOpen, HasBlock, NoPageWaits, but_pages, name_of};
 ghost use Rattle.nb_state.specs.Does.{Goes, Does};
 ghost use Rattle.nb_alloc.specs.Tries.{Tries};
 ghost use Rattle.nb_alloc.specs.Put.{Reads};
@@ -32,6 +32,7 @@ fn read_first<H: Host>(store: &mut Store, host: &mut H, page: &mut [u8]) -> Resu
     ensures header { OnOk result (is_header page.new ≡ true) }
     ensures control_block { IsTrue H.tells → OnOk result (HasBlock (H.world host.new) store.new page.new) }
     ensures open { (t : Trail) → IsTrue H.tells → IsOpen (H.world host.old) store.old t → IsOpen (H.world host.new) store.new t }
+    ensures none_waits { NoPageWaits store.old → NoPageWaits store.new }
     ensures same { but_pages store.new ≡ but_pages store.old }
     ensures quiet { Quiet (H.world host.old) (H.world host.new) }
     ensures cause { CountsDevice result (H.faults host.old) (H.faults host.new) }
@@ -63,6 +64,7 @@ fn put_flag<H: Host>(
     ensures takes_none { store.old.files.state ≢ 1 → IfErr result (λ fault. fault ≢ Memory) }
     ensures on_memory { (t : Trail) → IsTrue H.tells → IsOpen (H.world host.old) store.old t → result ≡ Err Memory
         → Strikes (H.world host.old) (H.world host.new) (name_of store.old) t [] × IsOpen (H.world host.new) store.new t }
+    ensures idle { NoPageWaits store.old → result ≡ Err Memory → (but_pages store.new ≡ but_pages store.old) × Quiet (H.world host.old) (H.world host.new) }
     ensures forced { (t : Trail) → IsTrue H.tells → IsOpen (H.world host.old) store.old t → store.old.files.forced ≡ true → result ≡ Err Memory
         → (but_pages store.new ≡ but_pages store.old) × Quiet (H.world host.old) (H.world host.new) }
 {
@@ -74,7 +76,7 @@ fn put_flag<H: Host>(
 
 impl Engine {
     /// Forces writes from now on, or lets them wait for a sync. It is kept for good. It wants memory in the stalled state alone, and has
-    /// changed no page then; where writes are forced it has made no call then but to read.
+    /// changed no page then; where no page waits, as where writes are forced, it has made no call then but to read.
     ///
     /// The refusals are `Access`, where no statement may change a page, and `NotDatabase` of page 0, where the host gives another
     /// page for it than the header that it was. A refused call changes nothing.
@@ -86,6 +88,7 @@ impl Engine {
         ensures takes_none { self.old.files.state ≢ 1 → IfErr result (λ fault. fault ≢ Memory) }
         ensures on_memory { (t : Trail) → IsTrue H.tells → IsOpen (H.world host.old) self.old t → result ≡ Err Memory
             → Strikes (H.world host.old) (H.world host.new) (name_of self.old) t [] × IsOpen (H.world host.new) self.new t }
+        ensures idle { NoPageWaits self.old → result ≡ Err Memory → (but_pages self.new ≡ but_pages self.old) × Quiet (H.world host.old) (H.world host.new) }
         ensures forced { (t : Trail) → IsTrue H.tells → IsOpen (H.world host.old) self.old t → self.old.files.forced ≡ true → result ≡ Err Memory
             → (but_pages self.new ≡ but_pages self.old) × Quiet (H.world host.old) (H.world host.new) }
     {

@@ -106,8 +106,8 @@ impl Pair {
     }
 
     /// Fills in page `number` of the database, from memory or from the file that holds it, page 0 with the control block that `write` asks
-    /// for. It then is the page in memory that was used last; but where it would drop a page that waits, nothing in memory changes. Of the
-    /// host a page in memory asks nothing, page 0 at most two reads, and every other page at most one.
+    /// for. It then is the page in memory that was used last; but where it would drop a page that waits, nothing in memory changes. It lets no
+    /// page wait that didn't. Of the host a page in memory asks nothing, page 0 at most two reads, and every other page at most one.
     pub fn read<H: Host>(
         &mut self,
         host: &mut H,
@@ -120,6 +120,7 @@ impl Pair {
         ensures open { (t : Trail) → IsTrue H.tells → IsOpen (H.world host.old) self.old t → IsOpen (H.world host.new) self.new t }
         ensures used { number < self.old.files.count → dropped (cache_of self.old) number ≡ None → OnOk result (bare self.new.pages ≡ used (bare self.old.pages) self.old.cap number into.new) }
         ensures ranks { (p : ℕ) → rank_of self.new.pages p ≡ rank_of self.old.pages p }
+        ensures none_waits { NoneWaits self.old.pages → NoneWaits self.new.pages }
         ensures full { IsSome (dropped (cache_of self.old) number) → self.new ≡ self.old }
         ensures failed { OnErr result (self.new ≡ self.old) }
         ensures same { self.new ≡ record self.old { pages = self.new.pages } }
@@ -150,6 +151,7 @@ impl Pair {
         ensures open { (t : Trail) → IsTrue H.tells → IsOpen (H.world host.old) self.old t → IsOpen (H.world host.new) self.new t }
         ensures used { number < self.old.files.count → dropped (cache_of self.old) number ≡ None → OnOk result (bare self.new.pages ≡ used (bare self.old.pages) self.old.cap number into.new) }
         ensures ranks { (p : ℕ) → rank_of self.new.pages p ≡ rank_of self.old.pages p }
+        ensures none_waits { NoneWaits self.old.pages → NoneWaits self.new.pages }
         ensures full { IsSome (dropped (cache_of self.old) number) → self.new ≡ self.old }
         ensures failed { OnErr result (self.new ≡ self.old) }
         ensures same { self.new ≡ record self.old { pages = self.new.pages } }
@@ -169,6 +171,7 @@ impl Pair {
         requires absent { slot_of self.old.pages number ≡ None }
         ensures used { number < self.old.files.count → dropped (cache_of self.old) number ≡ None
             → self.new ≡ record self.old { pages = put_entries nat_eq (lru_cache self.old.pages self.old.cap) number (record { bytes = page.now; rank = None }) } }
+        ensures none_waits { NoneWaits self.old.pages → NoneWaits self.new.pages }
         ensures full { IsSome (dropped (cache_of self.old) number) → self.new ≡ self.old }
         ensures either { (self.new ≡ self.old)
             ⊎ ((number < self.old.files.count) × (dropped (cache_of self.old) number ≡ None) × (self.new ≡ record self.old { pages = put_entries nat_eq (lru_cache self.old.pages self.old.cap) number (record { bytes = page.now; rank = None }) })) }

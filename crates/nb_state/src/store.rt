@@ -151,6 +151,7 @@ impl Store {
         ensures page { (t : Trail) → IsTrue H.tells → IsOpen (H.world host.old) self.old t → number < length t.base.image → OnOk result (into.new ≡ page_at t.base.image number) }
         ensures open { (t : Trail) → IsTrue H.tells → IsOpen (H.world host.old) self.old t → IsOpen (H.world host.new) self.new t }
         ensures control_block { number ≡ 0 → IsTrue H.tells → OnOk result (HasBlock (H.world host.new) self.new into.new) }
+        ensures none_waits { NoPageWaits self.old → NoPageWaits self.new }
         ensures same { but_pages self.new ≡ but_pages self.old }
         ensures in_memory { IsSome (slot_of self.old.pages number) → IsOk result × (host.new ≡ host.old) }
         ensures quiet { Quiet (H.world host.old) (H.world host.new) }

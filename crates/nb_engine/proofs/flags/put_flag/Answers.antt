@@ -71,3 +71,10 @@ returns-in_err-write-clause-forced g c t tells is forced memory =
     let wants = sym (passed_on c.from_residual-in_err-write.result c.in_err-write.field-0.0 c.from_residual-in_err-write.ensures) ∙ memory in
     let same = c.in_err-write.ensures.forced t tells (read.open t tells is) (ap (λ (h : Held). h.files.forced) read.same ∙ forced) wants in
     (ap but_pages same.0 ∙ read.same, subst (λ host. Quiet (g.H.Host.world c.args.host.now) (g.H.Host.world host)) (sym same.1) read.quiet)
+
+pub returns-in_err-write-clause-idle : goal.returns-in_err-write-clause-idle
+returns-in_err-write-clause-idle g c none memory =
+    let read = c.in_ok-read_first.ensures in
+    let wants = sym (passed_on c.from_residual-in_err-write.result c.in_err-write.field-0.0 c.from_residual-in_err-write.ensures) ∙ memory in
+    let same = c.in_err-write.ensures.idle (read.none_waits none) wants in
+    (ap but_pages same.0 ∙ read.same, subst (λ host. Quiet (g.H.Host.world c.args.host.now) (g.H.Host.world host)) (sym same.1) read.quiet)

@@ -10,7 +10,7 @@ use Rattle.nb_model.specs.Outcomes.{Seen}
 use Rattle.nb_model.specs.Pages.{byte_strokes, forced_turn}
 use Rattle.nb_change.proofs.ResultLaws.{passed_on}
 use Rattle.nb_base.specs.Takes.{Strikes}
-use Rattle.nb_state.specs.Open.{Held, IsOpen, but_pages, name_of}
+use Rattle.nb_state.specs.Open.{Held, IsOpen, NoPageWaits, but_pages, name_of}
 use Rattle.nb_alloc.specs.Tries.{Tries}
 use Rattle.nb_engine.specs.Replies.{done}
 use Rattle.nb_alloc.proofs.DoesLaws.{seeing, if_err, tries_passed, tries_failed, tries_does}
@@ -69,3 +69,9 @@ returns-in_err-put_flag-clause-forced g c t tells is forced memory =
     let wants = sym (passed_on c.from_residual.result c.in_err-put_flag.field-0.0 c.from_residual.ensures) ∙ memory in
     subst (λ (h : Held). (but_pages c.put_flag.new.store ≡ but_pages h) × Quiet old new) c.self.view_is
     (c.in_err-put_flag.ensures.forced t tells here (ap (λ (h : Held). h.files.forced) c.self.view_is ∙ forced) wants)
+
+pub returns-in_err-put_flag-clause-idle : goal.returns-in_err-put_flag-clause-idle
+returns-in_err-put_flag-clause-idle g c none memory =
+    let wants = sym (passed_on c.from_residual.result c.in_err-put_flag.field-0.0 c.from_residual.ensures) ∙ memory in
+    subst (λ (h : Held). (but_pages c.put_flag.new.store ≡ but_pages h) × Quiet (g.H.Host.world c.args.host.now) (g.H.Host.world c.put_flag.new.host)) c.self.view_is
+    (c.in_err-put_flag.ensures.idle (subst NoPageWaits (sym c.self.view_is) none) wants)

@@ -3,7 +3,7 @@ use Rattle.std.specs.Prelude.{None, is_some}
 use Rattle.nb_host.specs.Files.{Files}
 use Rattle.nb_model.specs.Trail.{ShowsIn}
 use Rattle.nb_model.proofs.MainLaws.{some_page}
-use Rattle.nb_cache.specs.Held.{slot_of, rank_of, dropped}
+use Rattle.nb_cache.specs.Held.{slot_of, rank_of, dropped, NoneWaits}
 use Rattle.nb_owner.specs.Open.{Held, IsOpen, AreOf, IsValid, cache_of, bare, used}
 use Rattle.nb_owner.specs.contracts.pair.Pair.{the_view}
 use Rattle.nb_owner.proofs.OpenLaws.{bare_put, put_page, first_block}
@@ -79,3 +79,6 @@ returns-clause-ranks g c p =
     (λ (same : c.keep_read.new.self ≡ now). ap (λ (h : Held). rank_of h.pages p) same ∙ ap (λ (h : Held). rank_of h.pages p) c.self.view_is)
     (λ kept. ap (λ (h : Held). rank_of h.pages p) kept.2 ∙ kept_ranks now valid c.args.number c.read.new.into absent kept.1 p ∙ ap (λ (h : Held). rank_of h.pages p) c.self.view_is)
     c.keep_read.ensures.either
+
+pub returns-clause-none_waits : goal.returns-clause-none_waits
+returns-clause-none_waits g c none = c.keep_read.ensures.none_waits (subst (λ (h : Held). NoneWaits h.pages) (sym c.self.view_is) none)

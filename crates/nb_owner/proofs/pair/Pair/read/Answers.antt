@@ -1,6 +1,6 @@
 use Rattle.std.proofs.Common.{◌≡◌, ◌<◌, refl, ap, sym, subst, ◌∙◌}
 use Rattle.std.specs.Prelude.{None, IsSome}
-use Rattle.nb_cache.specs.Held.{dropped}
+use Rattle.nb_cache.specs.Held.{dropped, NoneWaits}
 use Rattle.nb_owner.specs.Open.{Held, Pages, IsOpen, AreOf, cache_of, bare, used}
 use Rattle.nb_owner.specs.contracts.pair.Pair.{the_view}
 use Rattle.nb_owner.proofs.RankLaws.{rank_promoted}
@@ -134,3 +134,15 @@ returns-clause-ranks g c p =
     let missed = missed_same c.self.inside.cache c.look.new.self c.self.inside.files.page_size c.self.inside.files.page_size c.self.invariant.0 refl c.args.number c.look.ensures.moved none in
     let same = ap (λ (k : Rattle.nb_cache.specs.Held.Held). let h : Held = record { files = c.self.inside.files; pages = k.pages; cap = k.cap } in h) missed ∙ c.self.view_is in
     c.fetch.ensures.ranks p ∙ ap (λ (h : Held). Rattle.nb_cache.specs.Held.rank_of h.pages p) same
+
+pub returns-then-look-clause-none_waits : goal.returns-then-look-clause-none_waits
+returns-then-look-clause-none_waits g c none =
+    looked_none c.self.inside.cache c.look.new.self c.args.number c.look.ensures.moved c.self.invariant.0.once (subst (λ (h : Held). NoneWaits h.pages) (sym c.self.view_is) none)
+
+pub returns-in_err-fetch-clause-none_waits : goal.returns-in_err-fetch-clause-none_waits
+returns-in_err-fetch-clause-none_waits g c none =
+    c.fetch.ensures.none_waits (looked_none c.self.inside.cache c.look.new.self c.args.number c.look.ensures.moved c.self.invariant.0.once (subst (λ (h : Held). NoneWaits h.pages) (sym c.self.view_is) none))
+
+pub returns-clause-none_waits : goal.returns-clause-none_waits
+returns-clause-none_waits g c none =
+    c.fetch.ensures.none_waits (looked_none c.self.inside.cache c.look.new.self c.args.number c.look.ensures.moved c.self.invariant.0.once (subst (λ (h : Held). NoneWaits h.pages) (sym c.self.view_is) none))
