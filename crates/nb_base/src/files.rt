@@ -136,8 +136,8 @@ impl TwoFiles {
     }
 
     /// Replaces page `number` of the database, or adds it at the end. It is kept for good where writes are forced, where it makes the
-    /// database longer, and where it is page 0 or an SCN inventory page. In the normal state the difference file isn't touched, and in
-    /// the stalled state the main file isn't.
+    /// database longer, and where it is page 0 or an SCN inventory page. A page 0 says whether the writes after it are forced. In the
+    /// normal state the difference file isn't touched, and in the stalled state the main file isn't.
     ///
     /// It wants memory in the stalled state alone, and then nothing has changed.
     pub fn write<H: Host>(&mut self, host: &mut H, number: u32, page: &[u8]) -> Result<(), Fault>
