@@ -10,6 +10,7 @@ pub mod FirstLaws
 pub mod RoomedLaws
 pub mod FileStartLaws
 pub mod InUseLaws
+pub mod AsideLaws
 pub mod BesideLaws
 pub mod StartLaws
 pub mod RoomStartLaws

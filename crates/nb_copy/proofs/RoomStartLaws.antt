@@ -36,7 +36,7 @@ use Rattle.nb_engine.specs.Tries.{Tries}
 use Rattle.nb_engine.specs.Turns.{starting_cause}
 use Rattle.nb_alloc.proofs.CauseLaws.{first_none, first_next}
 use Rattle.nb_alloc.proofs.DoesLaws.{unless_none, unless_some, tries_opened}
-use Rattle.nb_engine.proofs.StaysLaws.{open_aside}
+use Rattle.nb_copy.proofs.AsideLaws.{open_aside}
 use Rattle.nb_engine.proofs.WalkLaws.{history_least}
 use Rattle.nb_copy.specs.Starting.{Backed, StartMakes, HasNotBegun, StartsBackup, IsStarted, BeginsFor, earlier_cause, file_cause, ask_in, ask_by, turn_since}
 use Rattle.nb_copy.specs.declared.since.Since.{Since}

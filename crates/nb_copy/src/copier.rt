@@ -1,6 +1,5 @@
 ghost use Rattle.std.specs.Prelude.{◌≡◌, ◌⊎◌, ◌+◌, ◌-◌, ◌<◌, ◌≤◌, ℕ, length, [], ◌∷◌, Option, Some, List, true, IsTrue, IfOk, OnOk};
 ghost use Rattle.nb_fields.specs.Places.{is_page_size};
-ghost use Rattle.nb_change.specs.Changes.{NoNames, Only};
 ghost use Rattle.nb_change.specs.Counts.{CountsDevice};
 ghost use Rattle.nb_change.specs.Gave.{GaveNothing};
 ghost use Rattle.nb_page.specs.Free.{is_free_name};
@@ -16,7 +15,6 @@ ghost use Rattle.nb_base.specs.Open.{OfFiles};
 ghost use Rattle.nb_state.specs.Open.{IsOpen, but_pages};
 ghost use Rattle.nb_state.specs.Does.{Goes, Tested};
 ghost use Rattle.nb_state.specs.Turns.{GaveAtMost};
-ghost use Rattle.nb_engine.specs.Stays.{StaysOpen};
 ghost use Rattle.nb_copy.specs.FileCopying.{file_count, file_next, file_written};
 ghost use Rattle.nb_gather.specs.Making.{IsMade};
 ghost use Rattle.nb_copy.specs.Reading.{asked_scn, page_reads};
@@ -125,7 +123,6 @@ fn begin<H: Host>(
     ensures begins { (t : Trail) (guid : List ℕ) (ask : Option Ask) → IsTrue H.tells → IsOpen (H.world host.old) engine.old t → GaveAtMost (H.world host.old) (H.world host.new) guid
         → BeginsFor result (H.world host.old) (H.world host.new) engine.old engine.new t guid ask session head.now }
     ensures asks { IsTrue H.tells → (guid : List ℕ) × (length guid ≡ 16) × GaveAtMost (H.world host.old) (H.world host.new) guid }
-    ensures stays_open { (t : Trail) → IsTrue H.tells → IsOpen (H.world host.old) engine.old t → StaysOpen result (H.world host.old) (H.world host.new) engine.old engine.new t NoNames }
     ensures takes_none { IsNotMemory result }
     ensures level { IfOk result (λ begun. begun.level ≡ head.now.level) }
     ensures previous_scn { IfOk result (λ begun. begun.previous_scn ≡ head.now.previous_scn) }
@@ -162,8 +159,6 @@ fn start_from<H: Host>(
         → StartsBackup result (H.world host.old) (H.world host.new) engine.old engine.new t name.now (next_guid s.given) (turn_since s session since name.now) }
     ensures asks { (t : Trail) → IsTrue H.tells → IsOpen (H.world host.old) engine.old t → (guid : List ℕ) × (length guid ≡ 16) × GaveAtMost (H.world host.old) (H.world host.new) guid }
     ensures stays { engine.old.files.state ≡ 2 → engine.new ≡ engine.old }
-    ensures stays_open { (t : Trail) → IsTrue H.tells → IsOpen (H.world host.old) engine.old t → (name.now ≡ delta_name engine.old.files.name → ⊥)
-        → StaysOpen result (H.world host.old) (H.world host.new) engine.old engine.new t (Only name.now) }
     ensures made_first { (t : Trail) → IsTrue H.tells → IsOpen (H.world host.old) engine.old t → (name.now ≡ delta_name engine.old.files.name → ⊥)
         → (GaveNothing (H.world host.old) (H.world host.new) × Goes engine.old engine.new) ⊎ (IsMade (H.world host.new) name.now × IsNotMemory result) }
     ensures free { IsTrue H.tells → OnOk result (is_free_name (H.world host.old).files name.now ≡ true) }
@@ -214,11 +209,7 @@ impl Copier {
         ensures asks { (t : Trail) → IsTrue H.tells → IsOpen (H.world host.old) engine.old t → (guid : List ℕ) × (length guid ≡ 16) × GaveAtMost (H.world host.old) (H.world host.new) guid }
         ensures stays { engine.old.files.state ≡ 2 → engine.new ≡ engine.old }
 
-        // Whatever stands in the database: only its two files and that of the backup are touched, and it is open after that.
-        ensures stays_open { (t : Trail) → IsTrue H.tells → IsOpen (H.world host.old) engine.old t → (name.now ≡ delta_name engine.old.files.name → ⊥)
-            → StaysOpen result (H.world host.old) (H.world host.new) engine.old engine.new t (Only name.now) }
-
-        // And however it ends, no GUID was taken and the state stays, or the file was made; the former where memory is short.
+        // However it ends, no GUID was taken and the state stays, or the file was made; the former where memory is short.
         ensures made_first { (t : Trail) → IsTrue H.tells → IsOpen (H.world host.old) engine.old t → (name.now ≡ delta_name engine.old.files.name → ⊥)
             → (GaveNothing (H.world host.old) (H.world host.new) × Goes engine.old engine.new) ⊎ (IsMade (H.world host.new) name.now × IsNotMemory result) }
         ensures free { IsTrue H.tells → OnOk result (is_free_name (H.world host.old).files name.now ≡ true) }
@@ -249,11 +240,7 @@ impl Copier {
         ensures asks { (t : Trail) → IsTrue H.tells → IsOpen (H.world host.old) engine.old t → (guid : List ℕ) × (length guid ≡ 16) × GaveAtMost (H.world host.old) (H.world host.new) guid }
         ensures stays { engine.old.files.state ≡ 2 → engine.new ≡ engine.old }
 
-        // Whatever stands in the database: only its two files and that of the backup are touched, and it is open after that.
-        ensures stays_open { (t : Trail) → IsTrue H.tells → IsOpen (H.world host.old) engine.old t → (name.now ≡ delta_name engine.old.files.name → ⊥)
-            → StaysOpen result (H.world host.old) (H.world host.new) engine.old engine.new t (Only name.now) }
-
-        // And however it ends, no GUID was taken and the state stays, or the file was made; the former where memory is short.
+        // However it ends, no GUID was taken and the state stays, or the file was made; the former where memory is short.
         ensures made_first { (t : Trail) → IsTrue H.tells → IsOpen (H.world host.old) engine.old t → (name.now ≡ delta_name engine.old.files.name → ⊥)
             → (GaveNothing (H.world host.old) (H.world host.new) × Goes engine.old engine.new) ⊎ (IsMade (H.world host.new) name.now × IsNotMemory result) }
         ensures free { IsTrue H.tells → OnOk result (is_free_name (H.world host.old).files name.now ≡ true) }
@@ -310,7 +297,6 @@ impl Copier {
             → GaveTimeAtMost (H.world host.old) (H.world host.new) (next_time s.given)
             → Closes result (H.world host.old) (H.world host.new) engine.old engine.new t (next_time s.given) (close_backup s self.now.backing).strokes }
         ensures asks { (t : Trail) → IsTrue H.tells → IsOpen (H.world host.old) engine.old t → self.now.backing.page < length t.base.image → (time : ℕ) × GaveTimeAtMost (H.world host.old) (H.world host.new) time }
-        ensures stays_open { (t : Trail) → IsTrue H.tells → IsOpen (H.world host.old) engine.old t → StaysOpen result (H.world host.old) (H.world host.new) engine.old engine.new t NoNames }
         ensures goes { Goes engine.old engine.new }
         ensures cause { CountsDevice result (H.faults host.old) (H.faults host.new) }
     {
@@ -344,10 +330,6 @@ impl Copier {
         // earlier backup by its SCN entry. `laws` has the sum of all turns.
         ensures reads { (t : Trail) → IsTrue H.tells → IsOpen (H.world host.old) engine.old t → engine.old.files.state ≡ 1 → IsBackingUp (H.world host.old) self.old t.base.frozen → file_next self.old.file < file_count self.old.file
             → (H.world host.new).reads ≤ (H.world host.old).reads + page_reads (asked_scn self.old.backing.ask) t.base.frozen (file_next self.old.file) }
-
-        // Whatever stands in the database and in the file: only they are touched, and the database is open after that.
-        ensures stays_open { (t : Trail) → IsTrue H.tells → IsOpen (H.world host.old) engine.old t → (OfFiles engine.old.files.name self.old.backing.name → ⊥)
-            → StaysOpen result (H.world host.old) (H.world host.new) engine.old engine.new t (Only self.old.backing.name) }
         ensures same { self.new ≡ record self.old { file = self.new.file } }
         ensures counts { BackupCounts result self.old self.new }
         ensures twice { IsTrue H.tells → ReadsTwo result (H.world host.old) (H.world host.new) }

@@ -3,7 +3,7 @@ ghost use Rattle.std.specs.Prelude.{◌≡◌, ◌+◌, ◌-◌, ◌≤◌, IsTr
 ghost use Rattle.nb_host.specs.Calls.{IsSilent};
 ghost use Rattle.nb_host.specs.Causes.{CountsFault};
 ghost use Rattle.nb_host.specs.declared.faults.Fault.{Fault};
-ghost use Rattle.nb_change.specs.Changes.{Changes, NoNames, Only, Remade};
+ghost use Rattle.nb_change.specs.Changes.{Changes, Only, Remade};
 ghost use Rattle.nb_change.specs.Counts.{CountsDevice};
 ghost use Rattle.nb_change.specs.Gave.{GaveNothing};
 ghost use Rattle.nb_page.specs.Free.{is_free_name};
@@ -16,7 +16,6 @@ ghost use Rattle.nb_base.specs.Open.{OfFiles};
 ghost use Rattle.nb_state.specs.Does.{Tested};
 ghost use Rattle.nb_state.specs.Open.{IsOpen};
 ghost use Rattle.nb_state.specs.declared.turns.Progress.{Progress};
-ghost use Rattle.nb_engine.specs.Stays.{StaysOpen};
 ghost use Rattle.nb_copy.specs.Copying.{IsCopying};
 ghost use Rattle.nb_copy.specs.FileCopies.{CopiesFile, IsCopyingTo, KnowsUnused, StartsCopy, copy_cause};
 ghost use Rattle.nb_gather.specs.Making.{IsBlank};
@@ -87,9 +86,6 @@ impl FileCopier {
     ) -> Result<FileCopier, Fault>
         ensures turn { (s : Seen) (t : Trail) → IsTrue H.tells → t.base ≡ s.base → engine.old.running ≡ s.running → IsOpen (H.world host.old) engine.old t → KnowsUnused (H.world host.old).files s name.now
             → StartsCopy result (H.world host.old) (H.world host.new) engine.old engine.new t name.now (copy_turn s session name.now) }
-
-        // Whatever stands in the database.
-        ensures stays_open { (t : Trail) → IsTrue H.tells → IsOpen (H.world host.old) engine.old t → StaysOpen result (H.world host.old) (H.world host.new) engine.old engine.new t NoNames }
         ensures free { IsTrue H.tells → OnOk result (is_free_name (H.world host.old).files name.now ≡ true) }
         ensures named { IfOk result (λ copy. copy.name ≡ name.now) }
         ensures size { IfOk result (λ copy. copy.size ≡ engine.old.files.page_size) }
@@ -146,10 +142,6 @@ impl FileCopier {
         requires size { self.old.size ≡ engine.old.files.page_size }
         ensures turn { (t : Trail) → IsTrue H.tells → IsOpen (H.world host.old) engine.old t → engine.old.files.state ≡ 1 → IsCopyingTo (H.world host.old) self.old t.base.frozen
             → (OfFiles engine.old.files.name self.old.name → ⊥) → CopiesFile result (H.world host.old) (H.world host.new) engine.old engine.new self.old self.new t }
-
-        // Whatever stands in the database and in the file: the file alone is touched, and the database stays open, also where the turn fails.
-        ensures stays_open { (answer : Result Progress Fault) (t : Trail) → IsTrue H.tells → IsOpen (H.world host.old) engine.old t → (OfFiles engine.old.files.name self.old.name → ⊥)
-            → StaysOpen answer (H.world host.old) (H.world host.new) engine.old engine.new t (Only self.old.name) }
         ensures counts { CopyCounts result self.old self.new }
         ensures size { self.new.size ≡ self.old.size }
         ensures engine { engine.new ≡ engine.old }

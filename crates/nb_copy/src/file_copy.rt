@@ -11,7 +11,6 @@ ghost use Rattle.nb_copy.specs.FileCopying.{file_name, file_page_size, file_coun
 ghost use Rattle.nb_copy.specs.FileStarting.{IsNewFile, IsStartedFile};
 ghost use Rattle.nb_gather.specs.Making.{IsUnfinishedOr};
 ghost use Rattle.nb_copy.specs.Reading.{earlier_scn, page_reads};
-ghost use Rattle.nb_base.specs.Touches.{Touches};
 
 use crate::level_copy::LevelCopy;
 use crate::page_copy::PageCopy;
@@ -89,7 +88,6 @@ impl FileCopy {
             → FileTurn result (H.world host.new) self.old self.new t.base.frozen }
         ensures reads { (t : Trail) → IsTrue H.tells → IsOpen (H.world host.old) engine.old t → engine.old.files.state ≡ 1 → IsFileCopying (H.world host.old) self.old t.base.frozen
             → (H.world host.new).reads ≤ (H.world host.old).reads + page_reads (earlier_scn self.old) t.base.frozen (file_next self.old) }
-        ensures touches { IsTrue H.tells → Touches (H.world host.old) (H.world host.new) (Only (file_name self.old)) }
         ensures same { (frozen : Image) → OnOk result (IsSameFile self.old self.new frozen) }
         ensures counts { FileCounts result self.old self.new }
         ensures name { file_name self.new ≡ file_name self.old }

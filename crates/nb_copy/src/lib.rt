@@ -7,8 +7,7 @@
 //! takes it for a backup, or whole; and once a copier has answered that it is finished, the file has exactly the bytes of its backup
 //! and is kept for good. `Copier` is the backup from its begin to its row in the history, which is written only after that; what
 //! it is refused is tested before anything is written, and its file is made before it begins, so that a file that can't be made leaves the
-//! database in the normal state. `FileCopier` is a copy that the history doesn't note, which makes its file in its first turn. Whatever
-//! stands in the database and in the file, a copier touches them alone, and leaves the database open.
+//! database in the normal state. `FileCopier` is a copy that the history doesn't note, which makes its file in its first turn.
 #![tactic(auto)]
 
 mod copier;

@@ -13,4 +13,3 @@ pub mod GrowLaws
 pub mod RoomLaws
 pub mod KeepLaws
 pub mod DataLaws
-pub mod StaysLaws

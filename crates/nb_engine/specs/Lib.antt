@@ -10,4 +10,3 @@ pub mod Turns
 pub mod Replies
 pub mod History
 pub mod Room
-pub mod Stays

@@ -10,8 +10,6 @@ pub mod ReadyLaws
 pub mod ToldLaws
 pub mod EventLaws
 pub mod OthersLaws
-pub mod StayLaws
-pub mod AskerStays
 pub mod TurnLaws
 pub mod KeepLaws
 pub mod ActLaws
@@ -29,7 +27,6 @@ pub mod SceneLaws
 pub mod AnyLaws
 pub mod EndLaws
 pub mod WholeLaws
-pub mod SceneStays
 pub mod OutLaws
 pub mod HeaderLaws
 pub mod ByTurnsLaws

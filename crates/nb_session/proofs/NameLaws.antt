@@ -11,19 +11,19 @@ use Rattle.nb_model.specs.declared.reply.Reply.{Reply}
 use Rattle.nb_model.specs.declared.statement.Statement.{Statement}
 use Rattle.nb_model.specs.declared.statement.Statement.TheVariants.{Backup, BackupSince, CopyTo}
 use Rattle.nb_model.specs.Backups.{room_in, close_backup, close_copy}
-use Rattle.nb_model.specs.Going.{AreNamed, IsGoing}
 use Rattle.nb_model.specs.Image.{Image}
 use Rattle.nb_model.specs.Making.{MadeFile, making}
 use Rattle.nb_model.specs.Outcomes.{Turn, Begins, Copies, ClosesBackup, ClosesCopy, Ends, Merges, Finishes, Seen, Outcome}
 use Rattle.nb_model.specs.Pages.{ends_by}
 use Rattle.nb_model.specs.Run.{Now, base_now, outcome, stands_then, one_turn, play, files_made, begun}
 use Rattle.nb_model.specs.Turns.{first_turn, turn}
-use Rattle.nb_model.proofs.GoingLaws.{one_cases, own_todo, other_todo, going_turn, named_turn}
-use Rattle.nb_model.proofs.MakingLaws.{made_append, made_among}
+use Rattle.nb_model.proofs.GoingLaws.{one_cases, own_todo, other_todo}
+use Rattle.nb_model.proofs.MakingLaws.{event_makes, made_append, turn_makes}
 use Rattle.nb_model.proofs.TurnCases.{statement_cases, begin_either, end_either, backup_either, since_either, copy_either, pages_once}
 use Rattle.nb_script.specs.Asked.{IsFurther, IsAskable}
 use Rattle.nb_script.specs.Fits.{FitsAsked, IsFile}
 use Rattle.nb_script.specs.Scripts.{Plan}
+use Rattle.nb_session.specs.MadeNames.{AnyAsks, AnySessionAsks, Asks, ScriptMakes}
 use Rattle.nb_session.proofs.AllLaws.{all_append}
 
 -- P holds of the name of the file that a turn makes, or leaves to be made
@@ -79,9 +79,9 @@ module _ (P : List ℕ → Type 0) where
     next_names Merges named = tt
     next_names (Finishes reply) named = tt
 
-  one_names : {sound : Bool} (session : ℕ) (now : Now) → IsGoing sound now → HaveNames P now → HaveNames P (one_turn session now).1
+  one_names : (session : ℕ) (now : Now) → HaveNames P now → HaveNames P (one_turn session now).1
   unfolding outcome
-  one_names session now going named = one_cases (λ p. HaveNames P p.1) session now named (λ u rest is place.
+  one_names session now named = one_cases (λ p. HaveNames P p.1) session now named (λ u rest is place.
       let o : Outcome = outcome session u now in
       let here : Named (u ∷ rest) = subst Named is (named (session - 1)) in
       elim (eqb_tells place (session - 1)) [
@@ -103,15 +103,24 @@ module _ (P : List ℕ → Type 0) where
   making_names frozen (Merges ∷ ts) all f there = making_names frozen ts all.1 f there
   making_names frozen (Finishes reply ∷ ts) all f there = making_names frozen ts all.1 f there
 
-  -- so P holds of the names of all files that turns make
-  pub made_named : {sound : Bool} (order : List ℕ) (now : Now) → AreNamed now → IsGoing sound now → HaveNames P now → (f : MadeFile) → Contains (files_made (play order now).0) f → P f.0
+  -- so P holds of the name of the file that a turn makes
+  turn_made : (session : ℕ) (now : Now) → HaveNames P now → (f : MadeFile) → Contains (files_made (one_turn session now).0) f → P f.0
+  unfolding files_made
+  turn_made session now named = one_cases (λ p. (f : MadeFile) → Contains (files_made p.0) f → P f.0) session now (λ f none. absurd (omega (arith, none.1)))
+      (λ u rest is f there.
+      let all : Named (u ∷ rest) = subst Named is (named (session - 1)) in
+      making_names (base_now now).frozen (u ∷ []) (all.0, tt) f
+      (subst (λ (files : List MadeFile). Contains files f) (event_makes session u (outcome session u now) ∙ turn_makes u session now) there))
+
+  -- and of those of all files that turns make
+  pub made_named : (order : List ℕ) (now : Now) → HaveNames P now → (f : MadeFile) → Contains (files_made (play order now).0) f → P f.0
   unfolding play files_made
-  made_named [] now are going named f there = absurd (omega (arith, there.1))
-  made_named (x ∷ xs) now are going named f there =
+  made_named [] now named f there = absurd (omega (arith, there.1))
+  made_named (x ∷ xs) now named f there =
       elim (Contains-append_cases (files_made (one_turn x now).0) (files_made (play xs (one_turn x now).1).0) f
       (subst (λ (files : List MadeFile). Contains files f) (made_append (one_turn x now).0 (play xs (one_turn x now).1).0) there)) [
-        | inl one ↦ making_names (base_now now).frozen (get_or now.todo (x - 1) []) (named (x - 1)) f (made_among x now going f one)
-        | inr later ↦ made_named xs (one_turn x now).1 (named_turn x now are going) (going_turn x now are going) (one_names x now going named) f later
+        | inl one ↦ turn_made x now named f one
+        | inr later ↦ made_named xs (one_turn x now).1 (one_names x now named) f later
       ]
 
 -- a name that a user may give is that of no difference file
@@ -122,19 +131,48 @@ given_plain name is = by (is_delta name) (and_parts _ (not (is_delta name)) is).
     by false h = refl
     by true h = sym h
 
+-- what a script's statements name its turns do, before the first of them
+module _ (P : List ℕ → Type 0) where
+  begun_turns : (statements : List Statement) → AllByRecursion (λ s. HasName P (Begins s)) statements → AllByRecursion (HasName P) (map Begins statements)
+  begun_turns [] all = tt
+  begun_turns (s ∷ statements) all = (all.0, begun_turns statements all.1)
+
+  pub begun_names : (sessions : List (List Statement)) (now : Now) → now.todo ≡ begun sessions → ((place : ℕ) → AllByRecursion (λ s. HasName P (Begins s)) (get_or sessions place [])) → HaveNames P now
+  begun_names sessions now todo all place =
+      subst (AllByRecursion (HasName P)) (sym (ap (λ (x : List (List Turn)). get_or x place []) todo ∙ get_or-map (map Begins) sessions place [])) (begun_turns (get_or sessions place []) (all place))
+
 asked_plain : (statement : Statement) → FitsAsked statement → HasName (λ name. is_delta name ≡ false) (Begins statement)
 asked_plain (Backup level name) fits = given_plain name fits.1
 asked_plain (BackupSince guid name) fits = given_plain name fits
 asked_plain (CopyTo name) fits = given_plain name fits
 asked_plain other fits = tt
 
-all_plain : (statements : List Statement) → AllByRecursion IsFurther statements → AllByRecursion (HasName (λ name. is_delta name ≡ false)) (map Begins statements)
+all_plain : (statements : List Statement) → AllByRecursion IsFurther statements → AllByRecursion (λ s. HasName (λ name. is_delta name ≡ false) (Begins s)) statements
 all_plain [] all = tt
 all_plain (s ∷ statements) all = (asked_plain s all.0.fits, all_plain statements all.1)
 
 -- so none of those that a script names is
 pub begun_plain : (plan : Plan) → IsAskable plan → (now : Now) → now.todo ≡ begun plan.sessions → HaveNames (λ name. is_delta name ≡ false) now
-begun_plain plan askable now todo i =
-    let same : i + 1 - 1 ≡ i = omega arith in
-    subst (AllByRecursion (HasName (λ name. is_delta name ≡ false))) (sym (ap (λ (x : List (List Turn)). get_or x i []) todo ∙ get_or-map (map Begins) plan.sessions i []))
-    (all_plain (get_or plan.sessions i []) (subst (λ (k : ℕ). AllByRecursion IsFurther (get_or plan.sessions k [])) same (askable.further (i + 1))))
+begun_plain plan askable now todo = begun_names (λ name. is_delta name ≡ false) plan.sessions now todo (λ place.
+    let same : place + 1 - 1 ≡ place = omega arith in
+    all_plain (get_or plan.sessions place []) (subst (λ (k : ℕ). AllByRecursion IsFurther (get_or plan.sessions k [])) same (askable.further (place + 1))))
+
+-- and each is the name of a file that the script asks for
+asked_own : (P : List ℕ → Type 0) (statement : Statement) → ((m : List ℕ) → Asks statement m → P m) → HasName P (Begins statement)
+asked_own P (Backup level name) asks = asks name refl
+asked_own P (BackupSince guid name) asks = asks name refl
+asked_own P (CopyTo name) asks = asks name refl
+asked_own P other asks = tt
+
+all_own : (P : List ℕ → Type 0) (statements : List Statement) → ((m : List ℕ) → AnyAsks statements m → P m) → AllByRecursion (λ s. HasName P (Begins s)) statements
+all_own P [] asks = tt
+all_own P (s ∷ statements) asks = (asked_own P s (λ m one. asks m (inl one)), all_own P statements (λ m later. asks m (inr later)))
+
+in_sessions : (sessions : List (List Statement)) (place : ℕ) (m : List ℕ) → AnyAsks (get_or sessions place []) m → AnySessionAsks sessions m
+in_sessions [] zero m asks = absurd asks
+in_sessions [] (suc place) m asks = absurd asks
+in_sessions (statements ∷ others) zero m asks = inl asks
+in_sessions (statements ∷ others) (suc place) m asks = inr (in_sessions others place m asks)
+
+pub begun_asked : (plan : Plan) (now : Now) → now.todo ≡ begun plan.sessions → HaveNames (ScriptMakes plan) now
+begun_asked plan now todo = begun_names (ScriptMakes plan) plan.sessions now todo (λ place. all_own (ScriptMakes plan) (get_or plan.sessions place []) (in_sessions plan.sessions place))

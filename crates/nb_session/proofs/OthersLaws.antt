@@ -6,14 +6,11 @@ use Rattle.nb_host.specs.Files.{Files}
 use Rattle.nb_host.specs.World.{World}
 use Rattle.nb_host.specs.Crash.{LeavesAll}
 use Rattle.nb_host.specs.Moments.{IsTimely, AtEachMoment}
-use Rattle.nb_host.specs.declared.refusals.Refusal.{Refusal}
 use Rattle.nb_change.specs.Changes.{Names, Changes}
 use Rattle.nb_change.proofs.ChangesLaws.{rested}
 use Rattle.nb_change.proofs.MomentLaws.{joined, weaker, left_before, untouched_joined, untouched_fewer}
 use Rattle.nb_page.specs.Quiet.{Quiet}
-use Rattle.nb_model.specs.declared.reply.Reply.TheVariants.{Refused}
-use Rattle.nb_model.specs.Lines.{line_text}
-use Rattle.nb_session.specs.Others.{IsAdded, OthersLeft, LeavesOthers, SaysRefusal}
+use Rattle.nb_session.specs.Others.{IsAdded, OthersLeft, LeavesOthers}
 use Rattle.nb_session.specs.Says.{SaysLine}
 
 -- nothing more was said
@@ -75,37 +72,4 @@ leaves_among old new few many are leaves = record {
   others = untouched_fewer old new _ _ leaves.others (λ m other one. other (are m one));
   others_read = λ m other. leaves.others_read m (λ one. other (are m one));
   added = leaves.added;
-}
-
--- The line of a refusal was said, and more after it, or before it.
-pub refusal_said : (old new : World) (session : ℕ) (refusal : Refusal) → new.said ≡ old.said ++ line_text session (Refused refusal) → SaysRefusal old new
-refusal_said old new session refusal said = record {
-  session = session;
-  refusal = refusal;
-  before = [];
-  behind = [];
-  is = said ∙ ap (λ (l : List ℕ). old.said ++ l) (sym (append-nil (line_text session (Refused refusal))));
-}
-
-pub refusal_then : (old mid new : World) → SaysRefusal old mid → IsAdded mid new.said → SaysRefusal old new
-refusal_then old mid new says more =
-    let line : List ℕ = line_text says.session (Refused says.refusal) in
-    record {
-      session = says.session;
-      refusal = says.refusal;
-      before = says.before;
-      behind = says.behind ++ more.part;
-      is = more.is ∙ ap (λ (l : List ℕ). l ++ more.part) says.is ∙ append_assoc old.said (says.before ++ (line ++ says.behind)) more.part
-          ∙ ap (λ (l : List ℕ). old.said ++ l) (append_assoc says.before (line ++ says.behind) more.part ∙ ap (λ (l : List ℕ). says.before ++ l) (append_assoc line says.behind more.part));
-    }
-
-pub then_refusal : (old mid new : World) → IsAdded old mid.said → SaysRefusal mid new → SaysRefusal old new
-then_refusal old mid new first says = record {
-  session = says.session;
-  refusal = says.refusal;
-  before = first.part ++ says.before;
-  behind = says.behind;
-  is = says.is ∙ ap (λ (l : List ℕ). l ++ (says.before ++ (line_text says.session (Refused says.refusal) ++ says.behind))) first.is
-      ∙ append_assoc old.said first.part (says.before ++ (line_text says.session (Refused says.refusal) ++ says.behind))
-      ∙ ap (λ (l : List ℕ). old.said ++ l) (sym (append_assoc first.part says.before (line_text says.session (Refused says.refusal) ++ says.behind)));
 }

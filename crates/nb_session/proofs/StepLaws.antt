@@ -31,9 +31,6 @@ use Rattle.nb_session.specs.Ready.{IsReady, TaskGoes}
 use Rattle.nb_session.specs.Replies.{only_told}
 use Rattle.nb_session.specs.Acts.{shown_by}
 use Rattle.nb_session.specs.Steps.{as_played, shown_first, shown_next, begun_in, begun_first, touching, touching_by, GoesFurther, Turns, TakesNext, Steps}
-use Rattle.nb_session.specs.MadeNames.{AnyAsks, Asks, MayMake, TaskMakes}
-use Rattle.nb_session.specs.StillOpen.{AskerTurnStays, IsStillOpen, TaskStays, TurnStays}
-use Rattle.nb_session.proofs.AskerStays.{asker_failed, asker_taken}
 use Rattle.nb_session.specs.Stops.{Plays}
 use Rattle.nb_session.specs.Told.{told_turns}
 use Rattle.nb_session.proofs.EventLaws.{one_told}
@@ -144,24 +141,19 @@ beginning : (asker : Asker) (statement : Statement) (rest : List Statement) → 
 beginning asker statement rest is first = ap (λ (x : Option Task). task_todo x ++ map Begins asker.statements) is ∙ ap (map Begins) first
 
 module _ (tells : Bool) (old new : World) (faults faults' : ℕ) (a b : Held) (asker moved : Asker) (others : KeepsOthers asker.number a b) (kept : moved.told ≡ asker.told) where
-  -- what it leaves whatever stands in the database
-  abbrev Staying : (refused : Bool) → Result (Unit {0}) Fault → Type 0
-  Staying refused answer = IsTrue tells → IsStillOpen old a → TaskStays a asker.task → AskerTurnStays refused answer old new a b asker moved
-
   module _ {T : Type 0} (refused : T → Bool) (task : T → Option Task) (turn : Turn) (tail : List Turn) (rest : List Statement) (here : todo_of asker ≡ turn ∷ (tail ++ map Begins rest)) where
     -- what the turn did, where the session comes to it
     abbrev Turned : Result T Fault → Type 0
     Turned result = (now : Now) (t : Trail) → IsTrue tells → IsReady old a t now → IsMaking now → slice_index_or now.todo (asker.number - 1) [] ≡ turn ∷ (tail ++ map Begins rest) → TaskGoes asker.number old a t.base.frozen asker.task
         → Turns asker.told refused task result old new a b t now asker.number turn tail (map Begins rest)
 
-    step_failed : (fault : Fault) (answer : Result (Unit {0}) Fault) → IsErr answer × IsErrAnd answer (λ e. e ≡ fault) → Turned (Err fault) → Staying false answer → CountsDevice {T = T} (Err fault) faults faults' → IsNoRefusal fault
+    step_failed : (fault : Fault) (answer : Result (Unit {0}) Fault) → IsErr answer × IsErrAnd answer (λ e. e ≡ fault) → Turned (Err fault) → CountsDevice {T = T} (Err fault) faults faults' → IsNoRefusal fault
         → Steps tells answer old new faults faults' a b asker moved
-    step_failed fault answer handed turned stays counts none = record {
+    step_failed fault answer handed turned counts none = record {
       refused = false;
       noted = on_handed answer handed;
       told = kept;
       takes = λ now t told ready going has goes. takes_none refused task old new a b t now asker moved turn tail rest here has fault answer false handed (turned now t told ready going (has ∙ here) goes);
-      stays_open = stays;
       others = others;
       cause = counts_handed fault T answer faults faults' handed counts;
       not_refused = none_handed fault answer handed none;
@@ -171,15 +163,14 @@ module _ (tells : Bool) (old new : World) (faults faults' : ℕ) (a b : Held) (a
         on_handed (Ok done) is = absurd is.1
         on_handed (Err e) is = tt
 
-    step_taken : (value : T) → moved ≡ record { number = asker.number; told = asker.told; statements = rest; task = task value; refused = asker.refused || refused value } → Turned (Ok value) → Staying (refused value) (Ok tt) → faults' ≡ faults
+    step_taken : (value : T) → moved ≡ record { number = asker.number; told = asker.told; statements = rest; task = task value; refused = asker.refused || refused value } → Turned (Ok value) → faults' ≡ faults
         → Steps tells (Ok tt) old new faults faults' a b asker moved
-    step_taken value same turned stays counts = record {
+    step_taken value same turned counts = record {
       refused = refused value;
       noted = ap (λ (x : Asker). x.refused) same;
       told = kept;
       takes = λ now t told ready going has goes.
           takes_turn refused task old new a b t now asker moved turn tail rest here has value (asker.refused || refused value) same (turned now t told ready going (has ∙ here) goes);
-      stays_open = stays;
       others = others;
       cause = counts;
       not_refused = tt;
@@ -195,28 +186,21 @@ module _ (tells : Bool) (old new : World) (faults faults' : ℕ) (a b : Held) (a
         subst (λ (x : Option Task). GoesFurther asker.told x now_task result old new a b t now asker.number (map Begins asker.statements)) is (went now t (map Begins asker.statements) told ready going) at
         (subst (TaskGoes asker.number old a t.base.frozen) is goes)
 
-    abbrev WentOn : Result Left Fault → Type 0
-    WentOn result = IsTrue tells → IsStillOpen old a → TaskStays a asker.task → TurnStays left_refused (left_task now_task) result old new a b (TaskMakes asker.task)
-
-    pub went_failed : (fault : Fault) (answer : Result (Unit {0}) Fault) → IsErr answer × IsErrAnd answer (λ e. e ≡ fault) → Went (Err fault) → WentOn (Err fault) → CountsDevice {T = Left} (Err fault) faults faults' → IsNoRefusal fault
+    pub went_failed : (fault : Fault) (answer : Result (Unit {0}) Fault) → IsErr answer × IsErrAnd answer (λ e. e ≡ fault) → Went (Err fault) → CountsDevice {T = Left} (Err fault) faults faults' → IsNoRefusal fault
         → Steps tells answer old new faults faults' a b asker moved
-    went_failed fault answer handed went on counts none =
-        step_failed left_refused (left_task now_task) (task_first task) (task_rest task) asker.statements (going_on asker task is) fault answer handed (came (Err fault) went)
-        (λ told still goes. asker_failed old new a b asker moved left_refused (left_task now_task) (TaskMakes asker.task) (λ m makes. inl makes) answer false (Err fault) handed.0 (on told still goes))
-        counts none
+    went_failed fault answer handed went counts none =
+        step_failed left_refused (left_task now_task) (task_first task) (task_rest task) asker.statements (going_on asker task is) fault answer handed (came (Err fault) went) counts none
 
-    went_taken : (left : Left) → moved ≡ record { number = asker.number; told = asker.told; statements = asker.statements; task = left_task now_task left; refused = asker.refused || left_refused left } → Went (Ok left) → WentOn (Ok left) → faults' ≡ faults
+    went_taken : (left : Left) → moved ≡ record { number = asker.number; told = asker.told; statements = asker.statements; task = left_task now_task left; refused = asker.refused || left_refused left } → Went (Ok left) → faults' ≡ faults
         → Steps tells (Ok tt) old new faults faults' a b asker moved
-    went_taken left same went on counts =
-        step_taken left_refused (left_task now_task) (task_first task) (task_rest task) asker.statements (going_on asker task is) left same (came (Ok left) went)
-        (λ told still goes. asker_taken old new a b asker moved left_refused (left_task now_task) (TaskMakes asker.task) (λ m makes. inl makes) left asker.statements (asker.refused || left_refused left) same
-        (λ m asks. inr asks) (on told still goes)) counts
+    went_taken left same went counts =
+        step_taken left_refused (left_task now_task) (task_first task) (task_rest task) asker.statements (going_on asker task is) left same (came (Ok left) went) counts
 
     -- the same is under way: nothing more is noted
-    pub went_same : (left : Left) → left ≡ Same → moved ≡ record { number = asker.number; told = asker.told; statements = asker.statements; task = now_task; refused = asker.refused } → Went (Ok left) → WentOn (Ok left) → faults' ≡ faults
+    pub went_same : (left : Left) → left ≡ Same → moved ≡ record { number = asker.number; told = asker.told; statements = asker.statements; task = now_task; refused = asker.refused } → Went (Ok left) → faults' ≡ faults
         → Steps tells (Ok tt) old new faults faults' a b asker moved
-    went_same left is same went on counts =
-        went_taken left (same ∙ ap {A = Bool} {B = Asker} (λ noted. record { number = asker.number; told = asker.told; statements = asker.statements; task = now_task; refused = noted }) (or_false asker.refused) ∙ of_left (sym is)) went on counts
+    went_same left is same went counts =
+        went_taken left (same ∙ ap {A = Bool} {B = Asker} (λ noted. record { number = asker.number; told = asker.told; statements = asker.statements; task = now_task; refused = noted }) (or_false asker.refused) ∙ of_left (sym is)) went counts
       where
         or_false : (b : Bool) → b ≡ (b || false)
         or_false true = refl
@@ -228,11 +212,11 @@ module _ (tells : Bool) (old new : World) (faults faults' : ℕ) (a b : Held) (a
 
     -- or something else is
     pub went_other : (left : Left) (taken : Taken) → left ≡ Other taken → moved ≡ record { number = asker.number; told = asker.told; statements = asker.statements; task = taken.task; refused = asker.refused || taken.refused } → Went (Ok left)
-        → WentOn (Ok left) → faults' ≡ faults → Steps tells (Ok tt) old new faults faults' a b asker moved
-    went_other left taken is same went on counts =
+        → faults' ≡ faults → Steps tells (Ok tt) old new faults faults' a b asker moved
+    went_other left taken is same went counts =
         went_taken left
         (same ∙ ap {A = Left} {B = Asker} (λ l. record { number = asker.number; told = asker.told; statements = asker.statements; task = left_task now_task l; refused = asker.refused || left_refused l }) (sym is))
-        went on counts
+        went counts
 
   -- the first turn of a statement
   module _ (statement : Statement) (rest : List Statement) (is : asker.task ≡ None) (first : asker.statements ≡ statement ∷ rest) where
@@ -240,28 +224,15 @@ module _ (tells : Bool) (old new : World) (faults faults' : ℕ) (a b : Held) (a
     Began result = (now : Now) (t : Trail) (more : List Turn) → IsTrue tells → IsReady old a t now → IsMaking now → slice_index_or now.todo (asker.number - 1) [] ≡ Begins statement ∷ more
         → Turns asker.told (λ (x : Taken). x.refused) (λ (x : Taken). x.task) result old new a b t now asker.number (Begins statement) [] more
 
-    abbrev BeganOn : Result Taken Fault → Type 0
-    BeganOn result = IsTrue tells → IsStillOpen old a → TurnStays (λ (x : Taken). x.refused) (λ (x : Taken). x.task) result old new a b (Asks statement)
-
-    asked : (m : List ℕ) → Asks statement m → MayMake asker m
-    asked m asks = inr (subst (λ (ss : List Statement). AnyAsks ss m) (sym first) (inl asks))
-
-    asked_later : (m : List ℕ) → AnyAsks rest m → MayMake asker m
-    asked_later m asks = inr (subst (λ (ss : List Statement). AnyAsks ss m) (sym first) (inr asks))
-
-    pub began_failed : (fault : Fault) (answer : Result (Unit {0}) Fault) → IsErr answer × IsErrAnd answer (λ e. e ≡ fault) → Began (Err fault) → BeganOn (Err fault) → CountsDevice {T = Taken} (Err fault) faults faults' → IsNoRefusal fault
+    pub began_failed : (fault : Fault) (answer : Result (Unit {0}) Fault) → IsErr answer × IsErrAnd answer (λ e. e ≡ fault) → Began (Err fault) → CountsDevice {T = Taken} (Err fault) faults faults' → IsNoRefusal fault
         → Steps tells answer old new faults faults' a b asker moved
-    began_failed fault answer handed began on counts none =
-        step_failed (λ (x : Taken). x.refused) (λ (x : Taken). x.task) (Begins statement) [] rest (beginning asker statement rest is first) fault answer handed (λ now t told ready going at goes. began now t (map Begins rest) told ready going at)
-        (λ told still goes. asker_failed old new a b asker moved (λ (x : Taken). x.refused) (λ (x : Taken). x.task) (Asks statement) asked answer false (Err fault) handed.0 (on told still))
-        counts none
+    began_failed fault answer handed began counts none =
+        step_failed (λ (x : Taken). x.refused) (λ (x : Taken). x.task) (Begins statement) [] rest (beginning asker statement rest is first) fault answer handed (λ now t told ready going at goes. began now t (map Begins rest) told ready going at) counts none
 
-    pub began_taken : (taken : Taken) → moved ≡ record { number = asker.number; told = asker.told; statements = rest; task = taken.task; refused = asker.refused || taken.refused } → Began (Ok taken) → BeganOn (Ok taken) → faults' ≡ faults
+    pub began_taken : (taken : Taken) → moved ≡ record { number = asker.number; told = asker.told; statements = rest; task = taken.task; refused = asker.refused || taken.refused } → Began (Ok taken) → faults' ≡ faults
         → Steps tells (Ok tt) old new faults faults' a b asker moved
-    began_taken taken same began on counts =
-        step_taken (λ (x : Taken). x.refused) (λ (x : Taken). x.task) (Begins statement) [] rest (beginning asker statement rest is first) taken same (λ now t told ready going at goes. began now t (map Begins rest) told ready going at)
-        (λ told still goes. asker_taken old new a b asker moved (λ (x : Taken). x.refused) (λ (x : Taken). x.task) (Asks statement) asked taken rest (asker.refused || taken.refused) same asked_later
-        (on told still)) counts
+    began_taken taken same began counts =
+        step_taken (λ (x : Taken). x.refused) (λ (x : Taken). x.task) (Begins statement) [] rest (beginning asker statement rest is first) taken same (λ now t told ready going at goes. began now t (map Begins rest) told ready going at) counts
 
 -- a session that has not finished, with nothing under way, has a statement left
 pub begun_within : (asker : Asker) (all : List Statement) (next : ℕ) → (IsDone (left_of asker) → ⊥) → asker.statements ≡ drop next all → asker.task ≡ None → next < length all

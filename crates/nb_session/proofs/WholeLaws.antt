@@ -99,7 +99,7 @@ made_apart : (w : World) (held : Held) (t : Trail) (now : Now) → IsReady w hel
 made_apart w held t now ready making plain order n bytes there (inl own) =
     own_in_use now making.going (subst (λ (m : List ℕ). is_free_entry (now.account.entry m) ≡ true) (own ∙ ready.named)
     (free_play order now making.named making.going (n, bytes) (among_left (files_made (play order now).0) (under_way (play order now).1) (n, bytes) there)))
-made_apart w held t now ready making plain order n bytes there (inr delta) = no_main (name_of held) n (made_named (λ name. is_delta name ≡ false) order now making.named making.going plain (n, bytes) there) (sym delta)
+made_apart w held t now ready making plain order n bytes there (inr delta) = no_main (name_of held) n (made_named (λ name. is_delta name ≡ false) order now plain (n, bytes) there) (sym delta)
 
 module _ {H : Type 0} (tells : Bool) (told : IsTrue tells) (world : H → World) (faults : H → ℕ) (old : H) (before : Held) (how : Told) (plan : Plan) (askable : IsAskable plan) (how_often : ℕ) (timely : IsTimely (world old)) where
   abbrev order : List ℕ

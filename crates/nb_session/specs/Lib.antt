@@ -11,5 +11,4 @@ pub mod Acts
 pub mod Steps
 pub mod Others
 pub mod MadeNames
-pub mod StillOpen
 pub mod ByTurns

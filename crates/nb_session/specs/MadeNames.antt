@@ -1,12 +1,9 @@
 -- The names of the files that sessions may make.
-use Rattle.std.specs.Prelude.{◌≡◌, ◌⊎◌, List, [], ◌∷◌, Option, Some, None}
+use Rattle.std.specs.Prelude.{◌≡◌, ◌⊎◌, List, [], ◌∷◌}
 use Rattle.nb_change.specs.Changes.{Names}
 use Rattle.nb_model.specs.declared.statement.Statement.{Statement}
 use Rattle.nb_model.specs.declared.statement.Statement.TheVariants.{Backup as BackupTo, BackupSince, CopyTo}
 use Rattle.nb_script.specs.Scripts.{Plan}
-use Rattle.nb_session.specs.Askers.{Asker}
-use Rattle.nb_session.specs.declared.task.Task.{Task}
-use Rattle.nb_session.specs.declared.task.Task.TheVariants.{Backup, Copy, End, Merge}
 
 -- a statement asks for a backup, or for a copy, into a file of that name
 abbrev pub Asks : Statement → Names
@@ -25,18 +22,6 @@ abbrev pub AnySessionAsks : List (List Statement) → Names
 AnySessionAsks [] m = ⊥
 AnySessionAsks (statements ∷ others) m = AnyAsks statements m ⊎ AnySessionAsks others m
 
--- what is under way makes a file of that name
-abbrev pub TaskMakes : Option Task → Names
-TaskMakes None m = ⊥
-TaskMakes (Some (Backup c)) m = m ≡ c.backing.name
-TaskMakes (Some (Copy c)) m = m ≡ c.name
-TaskMakes (Some (End reply)) m = ⊥
-TaskMakes (Some (Merge merging)) m = ⊥
-
--- a session makes it, or may make it later
-abbrev pub MayMake : Asker → Names
-MayMake asker m = TaskMakes asker.task m ⊎ AnyAsks asker.statements m
-
--- a session of a script may
+-- one of the statements of a script does
 abbrev pub ScriptMakes : Plan → Names
 ScriptMakes plan = AnySessionAsks plan.sessions

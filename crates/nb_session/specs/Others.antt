@@ -4,10 +4,7 @@ use Rattle.nb_host.specs.Files.{Files}
 use Rattle.nb_host.specs.World.{World}
 use Rattle.nb_host.specs.Crash.{Leaves, Untouched}
 use Rattle.nb_host.specs.Moments.{AtEachMoment}
-use Rattle.nb_host.specs.declared.refusals.Refusal.{Refusal}
 use Rattle.nb_change.specs.Changes.{Names, Other}
-use Rattle.nb_model.specs.declared.reply.Reply.TheVariants.{Refused}
-use Rattle.nb_model.specs.Lines.{line_text}
 
 -- what was said stays said, and more may follow
 pub record IsAdded (old : World) (said : List ℕ) : Type 0 where
@@ -26,11 +23,3 @@ pub record LeavesOthers (old new : World) (names : Names) : Type 0 where
   pub others : Untouched old new (Other names)
   pub others_read : (m : List ℕ) → Other names m → new.files m ≡ old.files m
   pub added : IsAdded old new.said
-
--- Among what was said is the line of a refusal.
-pub record SaysRefusal (old new : World) : Type 0 where
-  pub session : ℕ
-  pub refusal : Refusal
-  pub before : List ℕ
-  pub behind : List ℕ
-  pub is : new.said ≡ old.said ++ (before ++ (line_text session (Refused refusal) ++ behind))

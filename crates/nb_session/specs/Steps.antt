@@ -24,7 +24,6 @@ use Rattle.nb_session.specs.declared.told.Told.{Told}
 use Rattle.nb_session.specs.Askers.{Asker, HasTodo, KeepsOthers, left_refused, left_task, task_first, task_rest, task_todo, todo_of}
 use Rattle.nb_session.specs.Ready.{IsReady, TaskGoes}
 use Rattle.nb_session.specs.Replies.{only_told}
-use Rattle.nb_session.specs.StillOpen.{AskerTurnStays, IsStillOpen, TaskStays}
 use Rattle.nb_session.specs.Stops.{Plays}
 use Rattle.nb_session.specs.Told.{told_turns}
 
@@ -103,8 +102,6 @@ pub record Steps (tells : Bool) (result : Result (Unit {0}) Fault) (old new : Wo
   pub told : moved.told ≡ asker.told
   pub takes : (now : Now) (t : Trail) → IsTrue tells → IsReady old before t now → IsMaking now → HasTodo asker now → TaskGoes asker.number old before t.base.frozen asker.task
       → TakesNext refused result old new before after t now asker moved
-  -- whatever stands in the database
-  pub stays_open : IsTrue tells → IsStillOpen old before → TaskStays before asker.task → AskerTurnStays refused result old new before after asker moved
   pub others : KeepsOthers asker.number before after
   pub cause : CountsDevice result faults faults'
   pub not_refused : IfErr result IsNoRefusal

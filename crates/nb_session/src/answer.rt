@@ -1,7 +1,6 @@
 // A statement and the line of its reply.
 ghost use Rattle.std.specs.Prelude.{◌≡◌, ℕ, ◌-◌, List, [], ◌∷◌, None, Some, IsTrue, IfErr};
 ghost use Rattle.std.specs.List.{slice_index_or};
-ghost use Rattle.nb_change.specs.Changes.{NoNames};
 ghost use Rattle.nb_change.specs.Counts.{CountsDevice};
 ghost use Rattle.nb_change.specs.Gave.{GaveNothing};
 ghost use Rattle.nb_model.specs.Going.{IsMaking};
@@ -16,7 +15,6 @@ ghost use Rattle.nb_session.specs.Ready.{IsReady};
 ghost use Rattle.nb_session.specs.Replies.{is_refusal};
 ghost use Rattle.nb_session.specs.Says.{SaysLine};
 ghost use Rattle.nb_session.specs.Steps.{Turns};
-ghost use Rattle.nb_session.specs.StillOpen.{IsStillOpen, TurnStays};
 ghost use Rattle.nb_session.specs.Told.{told_line, told_reply};
 
 use crate::statement::{do_statement, reply_to};
@@ -85,8 +83,6 @@ pub fn answer<H: Host>(
     ensures turn { (now : Now) (t : Trail) (more : List Turn) → IsTrue H.tells → IsReady (H.world host.old) engine.old t now → IsMaking now
         → slice_index_or now.todo (session - 1) [] ≡ Begins statement.now ∷ more
         → Turns told (λ refused. refused) (λ refused. None) result (H.world host.old) (H.world host.new) engine.old engine.new t now session (Begins statement.now) [] more }
-    ensures stays_open { IsTrue H.tells → IsStillOpen (H.world host.old) engine.old
-        → TurnStays (λ refused. refused) (λ refused. None) result (H.world host.old) (H.world host.new) engine.old engine.new NoNames }
     ensures others { (number : ℕ) → KeepsOthers number engine.old engine.new }
     ensures cause { CountsDevice result (H.faults host.old) (H.faults host.new) }
     ensures not_refused { IfErr result IsNoRefusal }

@@ -1,12 +1,9 @@
 // A statement that checks the database, or that gives its leaked pages back, which is done in one turn.
-ghost use Rattle.std.specs.Prelude.{◌≡◌, ℕ, [], IsTrue};
-ghost use Rattle.nb_change.specs.Changes.{NoNames};
+ghost use Rattle.std.specs.Prelude.{ℕ, [], IsTrue};
 ghost use Rattle.nb_change.specs.Counts.{CountsDevice};
 ghost use Rattle.nb_model.specs.Outcomes.{Begins};
 ghost use Rattle.nb_model.specs.Run.{Now};
 ghost use Rattle.nb_model.specs.Trail.{Trail};
-ghost use Rattle.nb_state.specs.Open.{IsOpen};
-ghost use Rattle.nb_engine.specs.Stays.{StaysOpen};
 ghost use Rattle.nb_session.specs.Acts.{MayAct};
 ghost use Rattle.nb_session.specs.Askers.{IsCheck, KeepsOthers};
 ghost use Rattle.nb_session.specs.Ready.{IsReady};
@@ -28,7 +25,6 @@ pub(crate) fn do_checks<H: Host>(
     requires { IsCheck statement.now }
     ensures turn { (now : Now) (t : Trail) (session : ℕ) → IsTrue H.tells → IsReady (H.world host.old) engine.old t now
         → MayAct some_said result (H.world host.old) (H.world host.new) engine.old engine.new t now session (Begins statement.now) [] }
-    ensures stays_open { (t : Trail) → IsTrue H.tells → IsOpen (H.world host.old) engine.old t → StaysOpen result (H.world host.old) (H.world host.new) engine.old engine.new t NoNames }
     ensures others { (session : ℕ) → KeepsOthers session engine.old engine.new }
     ensures cause { CountsDevice result (H.faults host.old) (H.faults host.new) }
 {

@@ -1,10 +1,8 @@
 // Backups and copies of the frozen file, which take a turn for each page.
-ghost use Rattle.std.specs.Prelude.{◌≡◌, ◌≢◌, ◌<◌, length, ℕ, ◌-◌, List, [], ◌∷◌, ◌++◌, None, Some, true, false, IsTrue, IfOk, IfErr, OnOk};
+ghost use Rattle.std.specs.Prelude.{◌≡◌, ◌≢◌, ◌<◌, length, ℕ, ◌-◌, List, [], ◌∷◌, ◌++◌, None, Some, false, IsTrue, IfOk, IfErr};
 ghost use Rattle.std.specs.List.{slice_index_or};
 ghost use Rattle.nb_host.specs.Names.{is_delta};
-ghost use Rattle.nb_change.specs.Changes.{Only};
 ghost use Rattle.nb_change.specs.Counts.{CountsDevice};
-ghost use Rattle.nb_page.specs.Free.{is_free_name};
 ghost use Rattle.nb_model.specs.declared.statement.Statement.TheVariants.{CopyTo};
 ghost use Rattle.nb_model.specs.Going.{IsMaking};
 ghost use Rattle.nb_model.specs.Outcomes.{Begins, Seen, Turn, next_guid};
@@ -16,15 +14,12 @@ ghost use Rattle.nb_base.specs.Takes.{IsNoRefusal};
 ghost use Rattle.nb_script.specs.Asked.{IsFurther};
 ghost use Rattle.nb_state.specs.Open.{IsOpen};
 ghost use Rattle.nb_state.specs.Turns.{GaveAtMost};
-ghost use Rattle.nb_engine.specs.Stays.{StaysOpen};
 ghost use Rattle.nb_copy.specs.Starting.{KnowsFree, StartsBackup};
 ghost use Rattle.nb_session.specs.Askers.{IsBackup, file_asked, KeepsOthers, TaskFits, left_refused, left_task, task_first, task_rest, task_left};
 ghost use Rattle.nb_session.specs.declared.task.Task.TheVariants.{Backup, Copy};
 ghost use Rattle.nb_session.specs.declared.told.Told.{Told};
 ghost use Rattle.nb_session.specs.Ready.{IsReady, TaskGoes};
 ghost use Rattle.nb_session.specs.Steps.{Turns};
-ghost use Rattle.nb_session.specs.MadeNames.{Asks, TaskMakes};
-ghost use Rattle.nb_session.specs.StillOpen.{IsAside, IsStillOpen, TurnStays};
 
 use crate::answer::tell;
 use crate::merges::say_refused;
@@ -75,10 +70,6 @@ fn start<H: Host>(
         → StartsBackup result (H.world host.old) (H.world host.new) engine.old engine.new t (file_asked statement.now) (next_guid s.given) (first_turn s session statement.now) }
     ensures asks { (t : Trail) → IsTrue H.tells → IsOpen (H.world host.old) engine.old t → (guid : List ℕ) × (length guid ≡ 16) × GaveAtMost (H.world host.old) (H.world host.new) guid }
     ensures stays { engine.old.files.state ≡ 2 → engine.new ≡ engine.old }
-    ensures stays_open { (t : Trail) → IsTrue H.tells → IsOpen (H.world host.old) engine.old t → (file_asked statement.now ≡ delta_name engine.old.files.name → ⊥)
-        → StaysOpen result (H.world host.old) (H.world host.new) engine.old engine.new t (Only (file_asked statement.now)) }
-    ensures free { IsTrue H.tells → OnOk result (is_free_name (H.world host.old).files (file_asked statement.now) ≡ true) }
-    ensures named { IfOk result (λ copier. copier.backing.name ≡ file_asked statement.now) }
     ensures size { IfOk result (λ copier. copier.page_size ≡ engine.old.files.page_size) }
     ensures page_size { engine.new.files.page_size ≡ engine.old.files.page_size }
     ensures cap { engine.new.cap ≡ engine.old.cap }
@@ -108,8 +99,6 @@ pub fn begin_backup<H: Host>(
     ensures turn { (told : Told) (now : Now) (t : Trail) (more : List Turn) → IsTrue H.tells → IsReady (H.world host.old) engine.old t now → IsMaking now
         → slice_index_or now.todo (session - 1) [] ≡ Begins statement.now ∷ more
         → Turns told (λ taken. taken.refused) (λ taken. taken.task) result (H.world host.old) (H.world host.new) engine.old engine.new t now session (Begins statement.now) [] more }
-    ensures stays_open { IsTrue H.tells → IsStillOpen (H.world host.old) engine.old
-        → TurnStays (λ taken. taken.refused) (λ taken. taken.task) result (H.world host.old) (H.world host.new) engine.old engine.new (Asks statement.now) }
     ensures fits { IfOk result (λ taken. TaskFits session taken.task engine.new) }
     ensures others { KeepsOthers session engine.old engine.new }
     ensures cause { CountsDevice result (H.faults host.old) (H.faults host.new) }
@@ -135,8 +124,6 @@ pub fn begin_copy<H: Host>(
     ensures turn { (told : Told) (now : Now) (t : Trail) (more : List Turn) → IsTrue H.tells → IsReady (H.world host.old) engine.old t now → IsMaking now
         → slice_index_or now.todo (session - 1) [] ≡ Begins (CopyTo name.now) ∷ more
         → Turns told (λ taken. taken.refused) (λ taken. taken.task) result (H.world host.old) (H.world host.new) engine.old engine.new t now session (Begins (CopyTo name.now)) [] more }
-    ensures stays_open { IsTrue H.tells → IsStillOpen (H.world host.old) engine.old
-        → TurnStays (λ taken. taken.refused) (λ taken. taken.task) result (H.world host.old) (H.world host.new) engine.old engine.new (Asks (CopyTo name.now)) }
     ensures fits { IfOk result (λ taken. TaskFits session taken.task engine.new) }
     ensures others { KeepsOthers session engine.old engine.new }
     ensures cause { CountsDevice result (H.faults host.old) (H.faults host.new) }
@@ -162,8 +149,6 @@ pub fn back_up_on<H: Host>(
     ensures turn { (told : Told) (now : Now) (t : Trail) (more : List Turn) → IsTrue H.tells → IsReady (H.world host.old) engine.old t now → IsMaking now
         → slice_index_or now.todo (session - 1) [] ≡ task_first (Backup copier.old) ∷ (task_rest (Backup copier.old) ++ more) → TaskGoes session (H.world host.old) engine.old t.base.frozen (Some (Backup copier.old))
         → Turns told left_refused (left_task (Some (Backup copier.new))) result (H.world host.old) (H.world host.new) engine.old engine.new t now session (task_first (Backup copier.old)) (task_rest (Backup copier.old)) more }
-    ensures stays_open { IsTrue H.tells → IsStillOpen (H.world host.old) engine.old → IsAside engine.old copier.old.backing.name
-        → TurnStays left_refused (left_task (Some (Backup copier.new))) result (H.world host.old) (H.world host.new) engine.old engine.new (TaskMakes (Some (Backup copier.old))) }
     ensures falls { IfOk result (λ left. task_left (left_task (Some (Backup copier.new)) left) < task_left (Some (Backup copier.old))) }
     ensures fits { IfOk result (λ left. TaskFits session (left_task (Some (Backup copier.new)) left) engine.new) }
     ensures others { KeepsOthers session engine.old engine.new }
@@ -200,8 +185,6 @@ pub fn copy_on<H: Host>(
     ensures turn { (now : Now) (t : Trail) (more : List Turn) → IsTrue H.tells → IsReady (H.world host.old) engine.old t now → IsMaking now
         → slice_index_or now.todo (session - 1) [] ≡ task_first (Copy copier.old) ∷ (task_rest (Copy copier.old) ++ more) → TaskGoes session (H.world host.old) engine.old t.base.frozen (Some (Copy copier.old))
         → Turns told left_refused (left_task (Some (Copy copier.new))) result (H.world host.old) (H.world host.new) engine.old engine.new t now session (task_first (Copy copier.old)) (task_rest (Copy copier.old)) more }
-    ensures stays_open { IsTrue H.tells → IsStillOpen (H.world host.old) engine.old → IsAside engine.old copier.old.name
-        → TurnStays left_refused (left_task (Some (Copy copier.new))) result (H.world host.old) (H.world host.new) engine.old engine.new (TaskMakes (Some (Copy copier.old))) }
     ensures falls { IfOk result (λ left. task_left (left_task (Some (Copy copier.new)) left) < task_left (Some (Copy copier.old))) }
     ensures fits { IfOk result (λ left. TaskFits session (left_task (Some (Copy copier.new)) left) engine.new) }
     ensures others { KeepsOthers session engine.old engine.new }

@@ -1,7 +1,6 @@
 // The end of a backup, which takes many turns: one that ends the stalled state, one for each page that is merged, and a last one.
 ghost use Rattle.std.specs.Prelude.{◌≡◌, ◌<◌, ◌-◌, List, [], ◌∷◌, ◌++◌, length, None, Some, true, false, IsTrue, IfOk, IfErr};
 ghost use Rattle.std.specs.List.{slice_index_or};
-ghost use Rattle.nb_change.specs.Changes.{NoNames};
 ghost use Rattle.nb_change.specs.Counts.{CountsDevice};
 ghost use Rattle.nb_change.specs.Gave.{GaveNothing};
 ghost use Rattle.nb_model.specs.declared.reply.Reply.TheVariants.{Refused as RefusedReply};
@@ -18,7 +17,6 @@ ghost use Rattle.nb_session.specs.declared.told.Told.{Told};
 ghost use Rattle.nb_session.specs.Ready.{IsReady, TaskGoes};
 ghost use Rattle.nb_session.specs.Says.{SaysLine};
 ghost use Rattle.nb_session.specs.Steps.{Turns};
-ghost use Rattle.nb_session.specs.StillOpen.{IsStillOpen, TurnStays};
 
 use crate::answer::{say, tell};
 use crate::task::{Left, Merging, Taken, Task};
@@ -73,8 +71,6 @@ pub fn begin_merge<H: Host>(
     ensures turn { (told : Told) (now : Now) (t : Trail) (more : List Turn) → IsTrue H.tells → IsReady (H.world host.old) engine.old t now → IsMaking now
         → slice_index_or now.todo (session - 1) [] ≡ Begins EndBackup ∷ more
         → Turns told (λ taken. taken.refused) (λ taken. taken.task) result (H.world host.old) (H.world host.new) engine.old engine.new t now session (Begins EndBackup) [] more }
-    ensures stays_open { IsTrue H.tells → IsStillOpen (H.world host.old) engine.old
-        → TurnStays (λ taken. taken.refused) (λ taken. taken.task) result (H.world host.old) (H.world host.new) engine.old engine.new NoNames }
     ensures fits { IfOk result (λ taken. TaskFits session taken.task engine.new) }
     ensures others { KeepsOthers session engine.old engine.new }
     ensures cause { CountsDevice result (H.faults host.old) (H.faults host.new) }
@@ -100,8 +96,6 @@ pub fn end_backup<H: Host>(
     ensures turn { (told : Told) (now : Now) (t : Trail) (more : List Turn) → IsTrue H.tells → IsReady (H.world host.old) engine.old t now → IsMaking now
         → slice_index_or now.todo (session - 1) [] ≡ task_first (End reply.old) ∷ (task_rest (End reply.old) ++ more) → TaskGoes session (H.world host.old) engine.old t.base.frozen (Some (End reply.old))
         → Turns told left_refused (left_task (Some (End reply.new))) result (H.world host.old) (H.world host.new) engine.old engine.new t now session (task_first (End reply.old)) (task_rest (End reply.old)) more }
-    ensures stays_open { IsTrue H.tells → IsStillOpen (H.world host.old) engine.old
-        → TurnStays left_refused (left_task (Some (End reply.new))) result (H.world host.old) (H.world host.new) engine.old engine.new NoNames }
     ensures falls { IfOk result (λ left. task_left (left_task (Some (End reply.new)) left) < task_left (Some (End reply.old))) }
     ensures fits { IfOk result (λ left. TaskFits session (left_task (Some (End reply.new)) left) engine.new) }
     ensures others { KeepsOthers session engine.old engine.new }
@@ -134,8 +128,6 @@ pub fn merge_on<H: Host>(
     ensures turn { (now : Now) (t : Trail) (more : List Turn) → IsTrue H.tells → IsReady (H.world host.old) engine.old t now → IsMaking now
         → slice_index_or now.todo (session - 1) [] ≡ task_first (Merge merging.old) ∷ (task_rest (Merge merging.old) ++ more)
         → Turns told left_refused (left_task (Some (Merge merging.new))) result (H.world host.old) (H.world host.new) engine.old engine.new t now session (task_first (Merge merging.old)) (task_rest (Merge merging.old)) more }
-    ensures stays_open { IsTrue H.tells → IsStillOpen (H.world host.old) engine.old
-        → TurnStays left_refused (left_task (Some (Merge merging.new))) result (H.world host.old) (H.world host.new) engine.old engine.new NoNames }
     ensures falls { IfOk result (λ left. task_left (left_task (Some (Merge merging.new)) left) < task_left (Some (Merge merging.old))) }
     ensures fits { IfOk result (λ left. TaskFits session (left_task (Some (Merge merging.new)) left) engine.new) }
     ensures others { KeepsOthers session engine.old engine.new }

@@ -8,11 +8,9 @@ ghost use Rattle.nb_model.specs.Run.{Now};
 ghost use Rattle.nb_model.specs.Trail.{Trail};
 ghost use Rattle.nb_base.specs.Takes.{IsNoRefusal};
 ghost use Rattle.nb_script.specs.Asked.{IsFurther};
-ghost use Rattle.nb_session.specs.Askers.{TaskFits, KeepsOthers, left_task, task_left, left_refused};
+ghost use Rattle.nb_session.specs.Askers.{TaskFits, KeepsOthers, left_task, task_left};
 ghost use Rattle.nb_session.specs.Ready.{IsReady};
 ghost use Rattle.nb_session.specs.Steps.{GoesFurther, Turns};
-ghost use Rattle.nb_session.specs.MadeNames.{Asks, TaskMakes};
-ghost use Rattle.nb_session.specs.StillOpen.{IsStillOpen, TaskStays, TurnStays};
 
 use crate::answer::answer;
 use crate::copies::{back_up_on, begin_backup, begin_copy, copy_on};
@@ -63,8 +61,6 @@ fn begin_statement<H: Host>(
     ensures turn { (now : Now) (t : Trail) (more : List Turn) → IsTrue H.tells → IsReady (H.world host.old) engine.old t now → IsMaking now
         → slice_index_or now.todo (session - 1) [] ≡ Begins statement.now ∷ more
         → Turns told (λ taken. taken.refused) (λ taken. taken.task) result (H.world host.old) (H.world host.new) engine.old engine.new t now session (Begins statement.now) [] more }
-    ensures stays_open { IsTrue H.tells → IsStillOpen (H.world host.old) engine.old
-        → TurnStays (λ taken. taken.refused) (λ taken. taken.task) result (H.world host.old) (H.world host.new) engine.old engine.new (Asks statement.now) }
     ensures fits { IfOk result (λ taken. TaskFits session taken.task engine.new) }
     ensures others { KeepsOthers session engine.old engine.new }
     ensures cause { CountsDevice result (H.faults host.old) (H.faults host.new) }
@@ -99,8 +95,6 @@ fn go_on<H: Host>(
     requires fits { TaskFits session task.old engine.old }
     ensures turn { (now : Now) (t : Trail) (more : List Turn) → IsTrue H.tells → IsReady (H.world host.old) engine.old t now → IsMaking now
         → GoesFurther told task.old task.new result (H.world host.old) (H.world host.new) engine.old engine.new t now session more }
-    ensures stays_open { IsTrue H.tells → IsStillOpen (H.world host.old) engine.old → TaskStays engine.old task.old
-        → TurnStays left_refused (left_task task.new) result (H.world host.old) (H.world host.new) engine.old engine.new (TaskMakes task.old) }
     ensures falls { IfOk result (λ left. task_left (left_task task.new left) < task_left task.old) }
     ensures fits { IfOk result (λ left. TaskFits session (left_task task.new left) engine.new) }
     ensures others { KeepsOthers session engine.old engine.new }

@@ -10,7 +10,6 @@ ghost use Rattle.nb_session.specs.Acts.{Grows};
 ghost use Rattle.nb_session.specs.Askers.{first_askers, any_refused as some_refused};
 ghost use Rattle.nb_session.specs.Causes.{CountsStop};
 ghost use Rattle.nb_session.specs.Ready.{IsReady};
-ghost use Rattle.nb_session.specs.StillOpen.{IsStillOpen, ScriptStays};
 ghost use Rattle.nb_session.specs.Todo.{PlaysInTurn};
 
 use crate::Stop;
@@ -68,7 +67,6 @@ fn play<H: Host>(
     ensures plays { IsTrue H.tells → (shown : List ℕ) × ((now : Now) (t : Trail) → IsReady (H.world host.old) engine.old t now → now.todo ≡ begun script.now.sessions → IsMaking now
         → Foretells now.given shown (H.world host.old) (H.world host.new)
         → PlaysInTurn H.world result host.old host.new engine.old engine.new t told now script.now.schedule) }
-    ensures stays_open { IsTrue H.tells → IsStillOpen (H.world host.old) engine.old → ScriptStays result (H.world host.old) (H.world host.new) engine.old engine.new script.now }
     ensures grows { (now : Now) (t : Trail) → IsTrue H.tells → IsReady (H.world host.old) engine.old t now → now.todo ≡ begun script.now.sessions → IsMaking now
         → Grows (H.world host.old) (H.world host.new) }
     ensures cause { CountsStop result (H.faults host.old) (H.faults host.new) }
@@ -100,10 +98,6 @@ pub fn take_turns<H: Host>(
         → Foretells now.given shown (H.world host.old) (H.world host.new)
         → PlaysInTurn H.world result host.old host.new engine.old engine.new t told now script.now.schedule) }
     ensures none_waits { IfOk result (λ refused. NoPageWaits engine.new) }
-
-    // Whatever stands in the database, and with no account: no file but its two and those that the statements ask for is touched, and where a
-    // statement was refused, that was said.
-    ensures stays_open { IsTrue H.tells → IsStillOpen (H.world host.old) engine.old → ScriptStays result (H.world host.old) (H.world host.new) engine.old engine.new script.now }
     ensures grows { (now : Now) (t : Trail) → IsTrue H.tells → IsReady (H.world host.old) engine.old t now → now.todo ≡ begun script.now.sessions → IsMaking now
         → Grows (H.world host.old) (H.world host.new) }
     ensures cause { CountsStop result (H.faults host.old) (H.faults host.new) }

@@ -1,11 +1,9 @@
 // A statement that is done in one turn.
 ghost use Rattle.std.specs.Prelude.{◌≡◌, ℕ, [], IsTrue, IfErr, OnOk, IfOk, Option, Some};
-ghost use Rattle.nb_change.specs.Changes.{NoNames};
 ghost use Rattle.nb_change.specs.Counts.{CountsDevice};
 ghost use Rattle.nb_base.specs.Open.{Agrees};
 ghost use Rattle.nb_model.specs.Account.{Base};
-ghost use Rattle.nb_state.specs.Open.{AgreesWith, IsOpen};
-ghost use Rattle.nb_engine.specs.Stays.{StaysOpen};
+ghost use Rattle.nb_state.specs.Open.{AgreesWith};
 ghost use Rattle.nb_model.specs.declared.reply.Reply.{Reply};
 ghost use Rattle.nb_model.specs.Outcomes.{Begins};
 ghost use Rattle.nb_model.specs.Run.{Now};
@@ -71,8 +69,6 @@ pub fn do_statement<H: Host>(
     requires single { IsOneTurn statement.now }
     ensures turn { (now : Now) (t : Trail) (session : ℕ) → IsTrue H.tells → IsReady (H.world host.old) engine.old t now
         → MayAct some_said result (H.world host.old) (H.world host.new) engine.old engine.new t now session (Begins statement.now) [] }
-    // Whatever stands in the database: only its two files are touched, and it is open after that.
-    ensures stays_open { (t : Trail) → IsTrue H.tells → IsOpen (H.world host.old) engine.old t → StaysOpen result (H.world host.old) (H.world host.new) engine.old engine.new t NoNames }
     ensures others { (session : ℕ) → KeepsOthers session engine.old engine.new }
     ensures cause { CountsDevice result (H.faults host.old) (H.faults host.new) }
 {

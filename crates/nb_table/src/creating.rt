@@ -1,6 +1,5 @@
 // A table is made.
 ghost use Rattle.std.specs.Prelude.{◌≡◌, ◌<◌, ◌≤◌, true, IsTrue, IfOk, IfSome, length};
-ghost use Rattle.nb_change.specs.Changes.{NoNames};
 ghost use Rattle.nb_change.specs.Counts.{CountsDevice};
 ghost use Rattle.nb_page.specs.Quiet.{Quiet};
 ghost use Rattle.nb_model.specs.Chains.{Catalogue, found_pages, free_spot, last_of, spots};
@@ -12,7 +11,6 @@ ghost use Rattle.nb_model.specs.Tables.{create_turn};
 ghost use Rattle.nb_model.specs.Trail.{Trail};
 ghost use Rattle.nb_engine.specs.Data.{unmade};
 ghost use Rattle.nb_engine.specs.Replies.{done};
-ghost use Rattle.nb_engine.specs.Stays.{StaysOpen};
 ghost use Rattle.nb_engine.specs.Tries.{Tries};
 ghost use Rattle.nb_state.specs.Open.{IsOpen, but_pages};
 ghost use Rattle.nb_state.specs.Does.{Tested, Does, Goes};
@@ -77,7 +75,6 @@ fn create_in<H: Host>(
     requires placed { IsPlaced engine.old.files.page_size place }
     ensures tries { (t : Trail) → IsTrue H.tells → IsOpen (H.world host.old) engine.old t → IsOfSize (image_size t.base.image) t.base.image → is_kind t.base.image 5 place.page ≡ true
         → Tries result (H.world host.old) (H.world host.new) engine.old engine.new t (unmade t.base.image (created_in t.base.image table.now place)) (created_in t.base.image table.now place).strokes }
-    ensures stays_open { (t : Trail) → IsTrue H.tells → IsOpen (H.world host.old) engine.old t → StaysOpen result (H.world host.old) (H.world host.new) engine.old engine.new t NoNames }
     ensures goes { Goes engine.old engine.new }
     ensures cause { CountsDevice result (H.faults host.old) (H.faults host.new) }
 {
@@ -104,7 +101,6 @@ fn create_behind<H: Host>(
     requires high { last < 1048576 }
     ensures tries { (t : Trail) → IsTrue H.tells → IsOpen (H.world host.old) engine.old t → IsOfSize (image_size t.base.image) t.base.image → IsLastOf t.base.image last
         → Tries result (H.world host.old) (H.world host.new) engine.old engine.new t (unmade t.base.image (created_behind t.base.image table.now)) (created_behind t.base.image table.now).strokes }
-    ensures stays_open { (t : Trail) → IsTrue H.tells → IsOpen (H.world host.old) engine.old t → StaysOpen result (H.world host.old) (H.world host.new) engine.old engine.new t NoNames }
     ensures goes { Goes engine.old engine.new }
     ensures cause { CountsDevice result (H.faults host.old) (H.faults host.new) }
 {
@@ -123,9 +119,6 @@ fn create_behind<H: Host>(
 pub fn create<H: Host>(host: &mut H, engine: &mut Engine, table: &TableName) -> Result<(), Fault>
     ensures turn { (s : Seen) (t : Trail) → IsTrue H.tells → t.base ≡ s.base → IsOpen (H.world host.old) engine.old t → IsOfSize (image_size s.base.image) s.base.image
         → Does done result (H.world host.old) (H.world host.new) engine.old engine.new t (create_turn s table.now) }
-
-    // Whatever is in the database: only its two files are touched, and it is open after that.
-    ensures stays_open { (t : Trail) → IsTrue H.tells → IsOpen (H.world host.old) engine.old t → StaysOpen result (H.world host.old) (H.world host.new) engine.old engine.new t NoNames }
     ensures goes { Goes engine.old engine.new }
     ensures cause { CountsDevice result (H.faults host.old) (H.faults host.new) }
 {

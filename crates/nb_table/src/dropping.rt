@@ -2,7 +2,6 @@
 ghost use Rattle.std.specs.Prelude.{◌≡◌, ◌++◌, ℕ, List, IsTrue, IfOk, Ok, Some, None, length};
 ghost use Rattle.std.specs.List.{AllByRecursion};
 ghost use Rattle.nb_fields.specs.Places.{is_page_size};
-ghost use Rattle.nb_change.specs.Changes.{NoNames};
 ghost use Rattle.nb_change.specs.Counts.{CountsDevice};
 ghost use Rattle.nb_host.specs.declared.refusals.Refusal.TheVariants.{NotDatabase};
 ghost use Rattle.nb_model.specs.Chains.{RowsFrom, first_in, next_in, pages_of};
@@ -19,7 +18,6 @@ ghost use Rattle.nb_engine.specs.Data.{not_data};
 ghost use Rattle.nb_engine.specs.Find.{need_cause};
 ghost use Rattle.nb_engine.specs.Mark.{mark_cause};
 ghost use Rattle.nb_engine.specs.Replies.{done};
-ghost use Rattle.nb_engine.specs.Stays.{StaysOpen};
 ghost use Rattle.nb_engine.specs.Tries.{Tries};
 ghost use Rattle.nb_page.specs.Quiet.{Quiet};
 ghost use Rattle.nb_state.specs.Open.{IsOpen, but_pages};
@@ -161,7 +159,6 @@ fn give_back<H: Host>(
     ensures tries { (t : Trail) → IsTrue H.tells → IsOpen (H.world host.old) engine.old t → not_data t.base.image owner number ≡ None
         → Tries result (H.world host.old) (H.world host.new) engine.old engine.new t (mark_cause t.base.image number) (give_page number (drafted t.base.image)).strokes }
     ensures next { (t : Trail) → IsTrue H.tells → IsOpen (H.world host.old) engine.old t → IfOk result (λ next. next ≡ next_in (page_at t.base.image number)) }
-    ensures stays_open { (t : Trail) → IsTrue H.tells → IsOpen (H.world host.old) engine.old t → StaysOpen result (H.world host.old) (H.world host.new) engine.old engine.new t NoNames }
     ensures goes { Goes engine.old engine.new }
     ensures cause { CountsDevice result (H.faults host.old) (H.faults host.new) }
 {
@@ -182,7 +179,6 @@ fn give_all_back<H: Host>(
     requires room { length page.old ≡ engine.old.files.page_size }
     ensures tries { (t : Trail) (pages : List ℕ) → IsTrue H.tells → IsOpen (H.world host.old) engine.old t → IsShaped t.base.image → pages_of (RowsFrom first) t.base.image ≡ Ok pages → AllByRecursion (IsGivable t.base.image) pages
         → Tries result (H.world host.old) (H.world host.new) engine.old engine.new t None (all_given pages (drafted t.base.image)).strokes }
-    ensures stays_open { (t : Trail) → IsTrue H.tells → IsOpen (H.world host.old) engine.old t → StaysOpen result (H.world host.old) (H.world host.new) engine.old engine.new t NoNames }
     ensures goes { Goes engine.old engine.new }
     ensures cause { CountsDevice result (H.faults host.old) (H.faults host.new) }
 {
@@ -214,7 +210,6 @@ fn drop_rows<H: Host>(
     requires first { rows.now.first ≡ first_in rows.now.table.bytes }
     ensures tries { (t : Trail) (table : List ℕ) → IsTrue H.tells → IsOpen (H.world host.old) engine.old t → IsOfSize (image_size t.base.image) t.base.image → IsWholeTable t.base.image table (spot_of rows.now.table)
         → Tries result (H.world host.old) (H.world host.new) engine.old engine.new t (not_of_form (dropped t.base.image (spot_of rows.now.table))) (dropped t.base.image (spot_of rows.now.table)).strokes }
-    ensures stays_open { (t : Trail) → IsTrue H.tells → IsOpen (H.world host.old) engine.old t → StaysOpen result (H.world host.old) (H.world host.new) engine.old engine.new t NoNames }
     ensures goes { Goes engine.old engine.new }
     ensures cause { CountsDevice result (H.faults host.old) (H.faults host.new) }
 {
@@ -235,9 +230,6 @@ pub fn drop_table<H: Host>(
 ) -> Result<(), Fault>
     ensures turn { (s : Seen) (t : Trail) → IsTrue H.tells → t.base ≡ s.base → IsOpen (H.world host.old) engine.old t → IsOfSize (image_size s.base.image) s.base.image
         → Does done result (H.world host.old) (H.world host.new) engine.old engine.new t (drop_turn s table.now) }
-
-    // Whatever is in the database: only its two files are touched, and it is open after that.
-    ensures stays_open { (t : Trail) → IsTrue H.tells → IsOpen (H.world host.old) engine.old t → StaysOpen result (H.world host.old) (H.world host.new) engine.old engine.new t NoNames }
     ensures goes { Goes engine.old engine.new }
     ensures cause { CountsDevice result (H.faults host.old) (H.faults host.new) }
 {

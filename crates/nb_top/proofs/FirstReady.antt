@@ -144,14 +144,15 @@ module _ (plan : Plan) (askable : IsAskable plan) (now : Now) (todo : now.todo �
       main_state : image_state (base_now now).image ≡ image_state parts.main
       main_state = base-state (base_now now) (w.files (name_of held)) (w.files (delta_name (name_of held))) parts
 
-  -- The files that they make are neither a difference file nor the database.
-  module _ (making : IsMaking now) (order : List ℕ) where
-    pub plain_play : (f : MadeFile) → Contains (files_made (play order now).0) f → is_delta f.0 ≡ false
-    plain_play = made_named IsPlain order now making.named making.going (begun_plain plan askable now todo)
+  -- The files that they make are neither a difference file
+  pub plain_play : (order : List ℕ) (f : MadeFile) → Contains (files_made (play order now).0) f → is_delta f.0 ≡ false
+  plain_play order = made_named IsPlain order now (begun_plain plan askable now todo)
 
+  -- nor the database.
+  module _ (making : IsMaking now) (order : List ℕ) where
     pub apart_play : (name bytes : List ℕ) → Contains (files_made (play order now).0) (name, bytes) → OfFiles now.name name → ⊥
     apart_play name bytes there (inl own) =
         let p : Played = play order now in
         own_in_use now making.going
         (ap (λ (n : List ℕ). is_free_entry (now.account.entry n)) (sym own) ∙ free_play order now making.named making.going (name, bytes) (Contains-append_left (files_made p.0) (under_way p.1) (name, bytes) there))
-    apart_play name bytes there (inr beside) = true≢false (sym (delta_named now.name) ∙ ap is_delta (sym beside) ∙ plain_play (name, bytes) there)
+    apart_play name bytes there (inr beside) = true≢false (sym (delta_named now.name) ∙ ap is_delta (sym beside) ∙ plain_play order (name, bytes) there)

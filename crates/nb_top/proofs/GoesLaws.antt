@@ -1,5 +1,5 @@
 -- What is done of what is asked for, put together.
-use Rattle.std.proofs.Common.{◌≡◌, List, [], ℕ, refl, sym, subst}
+use Rattle.std.proofs.Common.{◌≡◌, List, [], ℕ, sym, subst}
 use Rattle.std.specs.Prelude.{Bool, IsTrue, Result, Ok, Err, IsErr, IfErr, IfOk}
 use Rattle.nb_host.specs.Files.{Files}
 use Rattle.nb_host.specs.World.{World}
@@ -10,7 +10,6 @@ use Rattle.nb_host.specs.declared.faults.Fault.TheVariants.{Refused as RefusedFa
 use Rattle.nb_host.specs.declared.refusals.Refusal.{Refusal}
 use Rattle.nb_change.specs.Gave.{GaveNothing}
 use Rattle.nb_page.specs.Quiet.{Quiet}
-use Rattle.nb_page.proofs.QuietLemmas.{quiet_begun}
 use Rattle.nb_model.specs.declared.reply.Reply.{Reply}
 use Rattle.nb_model.specs.declared.reply.Reply.TheVariants.{Refused as RefusedReply}
 use Rattle.nb_model.specs.Account.{Account}
@@ -20,23 +19,20 @@ use Rattle.nb_model.specs.Output.{status_after}
 use Rattle.nb_session.specs.declared.stop.Stop.{Stop}
 use Rattle.nb_session.specs.Says.{SaysLine}
 use Rattle.nb_session.proofs.GiftLaws.{grows_none, grows_joined}
-use Rattle.nb_session.proofs.OthersLaws.{leaves_quiet}
 use Rattle.nb_top.specs.declared.status.Status.{Status}
 use Rattle.nb_top.specs.declared.status.Status.TheVariants.{Done, Device, Memory}
 use Rattle.nb_top.specs.ByTurns.{AskedByTurns, EndsEarly}
 use Rattle.nb_top.specs.Goes.{Goes, IsDone, IsRun}
 use Rattle.nb_top.specs.Numbers.{number_of}
-use Rattle.nb_top.specs.OneTurn.{OfName, OneTurn, one_turn}
+use Rattle.nb_top.specs.OneTurn.{OneTurn, one_turn}
 use Rattle.nb_top.specs.Performed.{GoesTo, KnowsAsked}
 use Rattle.nb_top.specs.Requests.{Request, Deed, Asked, Runs, Does}
-use Rattle.nb_top.specs.Served.{IsTaken, TurnsTo, reply_told, status_told}
-use Rattle.nb_top.specs.Touched.{MayTouch, OfAsked, TouchesOnly}
+use Rattle.nb_top.specs.Served.{Serves, TurnsTo, reply_told, status_told}
 use Rattle.nb_top.proofs.ByTurnsLaws.{early_err, run_quietly, run_undone}
 use Rattle.nb_top.proofs.JobRuns.{job_refused, performs_device, performs_ended, performs_memory, undone_goes}
 use Rattle.nb_top.proofs.QuietRuns.{foretold_from, knows_quietly, quiet_gave, runs_quietly}
 use Rattle.nb_top.proofs.RequestLaws.{CanBeMet}
 use Rattle.nb_top.proofs.ScriptRuns.{runs_err}
-use Rattle.nb_top.proofs.TouchLaws.{only_done, only_err, only_refused, only_said, only_stopped, touches_quietly, touches_then}
 use Rattle.nb_top.proofs.Turns.{turn_done, turn_fails, turn_quietly, turn_refused, turn_unsaid}
 
 -- a run that begins with calls that change nothing
@@ -55,9 +51,6 @@ goes_quietly world tells old mid new asked result quiet goes = record {
   grows = λ account told knows.
       grows_joined (world old) (world mid) (world new) (grows_none (world old) (world mid) (quiet_gave (world old) (world mid) quiet))
       (goes.grows account told (knows_quietly (world old) (world mid) account asked quiet knows));
-  touches = λ told.
-      touches_then (world old) (world mid) (world new) asked (leaves_quiet (world old) (world mid) (MayTouch asked) quiet) result asked (λ m may. may)
-      (goes.touches told);
 }
 
 -- What is asked for is another thing, where the host tells, of which all of this is known.
@@ -69,8 +62,6 @@ goes_same world tells old new asked known result same goes = record {
         ((goes.does told).1 account given (subst (λ (a : Asked). KnowsAsked (world old).files account a) (same told) knows) may foretold),
   );
   grows = λ account told knows. goes.grows account told (subst (λ (a : Asked). KnowsAsked (world old).files account a) (same told) knows);
-  touches = λ told. subst (λ (a : Asked). TouchesOnly result (world old) (world new) (OfAsked (world old).files a)) (sym (same told))
-      (goes.touches told);
 }
 
 -- nothing was done
@@ -84,7 +75,6 @@ goes_undone world tells old new asked result can failed quiet = record {
     },
   );
   grows = λ account told knows. grows_none (world old) (world new) (quiet_gave (world old) (world new) quiet);
-  touches = λ told. only_err (world old) (world new) (OfAsked (world old).files asked) result failed (leaves_quiet (world old) (world new) (OfAsked (world old).files asked) quiet);
 }
   where
     turns_undone : (account : Account) (given : Given) (a : Asked) → AskedByTurns world (EndsEarly result) old new a account given
@@ -92,10 +82,9 @@ goes_undone world tells old new asked result can failed quiet = record {
     turns_undone account given (Does deed) = tt
 
 -- a refusal is said to session 0, and that is all
-pub goes_refused : {H : Type 0} (world : H → World) (tells : Bool) (old new : H) (asked : Result Request Refusal) (refusal : Refusal) (result : Result Status Stop) → asked ≡ Err refusal → IsTimely (world old) → IsTimely (world new)
-    → (IsTrue tells → LeavesAll (world new) (world new).files) → GaveNothing (world old) (world new) → (IsTrue tells → SaysLine result (world old) (world new) (line_text 0 (RefusedReply refusal)))
+pub goes_refused : {H : Type 0} (world : H → World) (tells : Bool) (old new : H) (asked : Result Request Refusal) (refusal : Refusal) (result : Result Status Stop) → asked ≡ Err refusal → GaveNothing (world old) (world new) → (IsTrue tells → SaysLine result (world old) (world new) (line_text 0 (RefusedReply refusal)))
     → (IsTrue tells → IfOk result (λ status. number_of status ≡ status_after (RefusedReply refusal))) → Goes world tells result old new (Runs asked)
-goes_refused world tells old new asked refusal result is begun timely reads gave says number = record {
+goes_refused world tells old new asked refusal result is gave says number = record {
   does = λ tell. (
     [],
     λ account given knows may foretold. record {
@@ -104,21 +93,19 @@ goes_refused world tells old new asked refusal result is begun timely reads gave
     },
   );
   grows = λ account tell knows. grows_none (world old) (world new) gave;
-  touches = λ tell. only_refused (world old) (world old) (world new) (MayTouch asked) (leaves_quiet (world old) (world old) (MayTouch asked) (quiet_begun (world old) begun)) timely (reads tell) result 0 refusal (says tell);
 }
 
 -- a job of one turn
 pub turn_goes : {H : Type 0} (world : H → World) (tells : Bool) (old new : H) (deed : Deed) (result : Result Status Stop)
-    → ((account : Account) → IsTrue tells → (one_turn (world old).files deed).knows account → TurnsTo result (world old) (world new) (one_turn (world old).files deed) account)
-    → (IsTrue tells → TouchesOnly result (world old) (world new) (OfName (one_turn (world old).files deed).name)) → Goes world tells result old new (Does deed)
-turn_goes world tells old new deed result turns touches = record {
+    → ((account : Account) → IsTrue tells → (one_turn (world old).files deed).knows account → TurnsTo result (world old) (world new) (one_turn (world old).files deed) account) → Goes world tells result old new (Does deed)
+turn_goes world tells old new deed result turns = record {
   does = λ told. ([], λ account given knows may foretold. record { whole = turns account told knows; turns = tt });
   grows = λ account told knows. grows_none (world old) (world new) (turns account told knows).gave;
-  touches = λ told. touches told;
 }
 
 -- Its turn was taken.
-module _ {H : Type 0} (world : H → World) (tells : Bool) (old mid : H) (deed : Deed) (taken : Result Reply Fault) (is : IsTaken tells taken (world old) (world mid) deed) where
+module _ {H : Type 0} (world : H → World) (tells : Bool) (old mid : H) (deed : Deed) (taken : Result Reply Fault)
+    (serves : (account : Account) → IsTrue tells → (one_turn (world old).files deed).knows account → Serves taken (world old) (world mid) (one_turn (world old).files deed) ((one_turn (world old).files deed).turn account)) where
   abbrev its_job : OneTurn
   its_job = one_turn (world old).files deed
 
@@ -126,8 +113,7 @@ module _ {H : Type 0} (world : H → World) (tells : Bool) (old mid : H) (deed :
   pub taken_fails : (result : Result Status Stop) → IsErr result → Goes world tells result old mid (Does deed)
   taken_fails result failed =
       turn_goes world tells old mid deed result
-      (λ account told knows. runs_err result failed (λ r. TurnsTo r (world old) (world mid) its_job account) (turn_fails (world old) (world mid) its_job account taken (is.serves account told knows)))
-      (λ told. only_err (world old) (world mid) (OfName its_job.name) result failed (is.others told))
+      (λ account told knows. runs_err result failed (λ r. TurnsTo r (world old) (world mid) its_job account) (turn_fails (world old) (world mid) its_job account taken (serves account told knows)))
 
   -- its reply is said, or its refusal
   pub taken_said : (new : H) → IsTimely (world new) → (IsTrue tells → LeavesAll (world new) (world new).files) → (answer : Result Reply Refusal) → IfOk answer (λ reply. taken ≡ Ok reply) → IfErr answer (λ refusal. taken ≡ Err (RefusedFault refusal))
@@ -135,18 +121,13 @@ module _ {H : Type 0} (world : H → World) (tells : Bool) (old mid : H) (deed :
   taken_said new timely reads (Ok reply) same none (Ok status) says ended =
       subst (λ (s : Status). Goes world tells (Ok s) old new (Does deed)) (sym ended)
       (turn_goes world tells old new deed (Ok Done)
-      (λ account told knows. turn_done (world old) (world mid) its_job account taken (is.serves account told knows) reply same (world new) timely (reads told) (Ok status) (says told) (says told).said)
-      (λ told.
-      only_done (world old) (world new) (OfName its_job.name) Done refl
-      (only_said (world old) (world mid) (world new) (OfName its_job.name) (is.others told) timely (reads told) (Ok status) (line_text 1 reply) (says told))))
+      (λ account told knows. turn_done (world old) (world mid) its_job account taken (serves account told knows) reply same (world new) timely (reads told) (Ok status) (says told) (says told).said))
   taken_said new timely reads (Ok reply) same none (Err e) says ended =
       turn_goes world tells old new deed (Err e)
-      (λ account told knows. turn_unsaid (world old) (world mid) its_job account taken (is.serves account told knows) reply same (world new) timely (reads told) (Err e) (says told) e)
-      (λ told. record { leaves = only_said (world old) (world mid) (world new) (OfName its_job.name) (is.others told) timely (reads told) (Err e) (line_text 1 reply) (says told); says = tt })
+      (λ account told knows. turn_unsaid (world old) (world mid) its_job account taken (serves account told knows) reply same (world new) timely (reads told) (Err e) (says told) e)
   taken_said new timely reads (Err refusal) none same result says ended =
       turn_goes world tells old new deed result
-      (λ account told knows. turn_refused (world old) (world mid) its_job account taken (is.serves account told knows) refusal same (world new) timely (reads told) result (says told) result ended (says told).said)
-      (λ told. only_refused (world old) (world mid) (world new) (OfName its_job.name) (is.others told) timely (reads told) result 1 refusal (says told))
+      (λ account told knows. turn_refused (world old) (world mid) its_job account taken (serves account told knows) refusal same (world new) timely (reads told) result (says told) result ended (says told).said)
 
 -- The files that a job of one turn reads are those that stood before calls that change nothing.
 pub goes_turn_quietly : {H : Type 0} (world : H → World) (tells : Bool) (old mid new : H) (deed : Deed) (result : Result Status Stop) → Quiet (world old) (world mid) → Goes world tells result mid new (Does deed) → Goes world tells result old new (Does deed)
@@ -163,9 +144,6 @@ goes_turn_quietly world tells old mid new deed result quiet goes = record {
   );
   grows = λ account told knows.
       grows_joined (world old) (world mid) (world new) (grows_none (world old) (world mid) (quiet_gave (world old) (world mid) quiet)) (goes.grows account told (subst (λ (f : Files). (job f).knows account) (sym same) knows));
-  touches = λ told.
-      touches_quietly (world old) (world mid) (world new) (OfName (job (world old).files).name) result (leaves_quiet (world old) (world mid) (OfName (job (world old).files).name) quiet)
-      (subst (λ (f : Files). TouchesOnly result (world mid) (world new) (OfName (job f).name)) same (goes.touches told));
 }
   where
     job : Files → OneTurn
@@ -186,7 +164,6 @@ module _ {H : Type 0} (world : H → World) (tells : Bool) (old new : H) (asked 
           record { whole = performs_ended (world old) (world new) account given may (before told) timely (reads told) asked can status done.whole; turns = done.turns },
     );
     grows = goes.grows;
-    touches = goes.touches;
   }
 
   pub run_device : (stop : Stop) → Goes world tells (Err stop) old new asked → IsRun world tells Device old new asked
@@ -198,7 +175,6 @@ module _ {H : Type 0} (world : H → World) (tells : Bool) (old new : H) (asked 
           record { whole = performs_device (world old) (world new) account given may (before told) timely (reads told) asked can stop done.whole; turns = done.turns },
     );
     grows = goes.grows;
-    touches = λ told. only_stopped (world old) (world new) (OfAsked (world old).files asked) stop Device refl (goes.touches told);
   }
 
   pub run_memory : (stop : Stop) → Goes world tells (Err stop) old new asked → IsRun world tells Memory old new asked
@@ -210,5 +186,4 @@ module _ {H : Type 0} (world : H → World) (tells : Bool) (old new : H) (asked 
           record { whole = performs_memory (world old) (world new) account given may (before told) timely (reads told) asked can stop done.whole; turns = done.turns },
     );
     grows = goes.grows;
-    touches = λ told. only_stopped (world old) (world new) (OfAsked (world old).files asked) stop Memory refl (goes.touches told);
   }

@@ -30,6 +30,7 @@ pub mod SureRuns
 pub mod JobRuns
 pub mod RequestLaws
 pub mod KnownLaws
+pub mod OthersStay
 pub mod NamesStay
 pub mod NextRuns
 pub mod CountedGuids
@@ -42,7 +43,6 @@ pub mod FixTurns
 pub mod GeneratedRuns
 pub mod GeneratedEvents
 pub mod GeneratedSure
-pub mod TouchLaws
 pub mod Turns
 pub mod TurnsStand
 pub mod Restored

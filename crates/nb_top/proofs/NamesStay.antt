@@ -11,7 +11,7 @@ use Rattle.nb_host.specs.Moments.{AtEachMoment}
 use Rattle.nb_host.specs.declared.refusals.Refusal.{Refusal}
 use Rattle.nb_host.specs.declared.refusals.Refusal.TheVariants.{Usage}
 use Rattle.nb_change.specs.Changes.{Names, Other}
-use Rattle.nb_change.proofs.MomentLaws.{left_before, weaker}
+use Rattle.nb_change.proofs.MomentLaws.{weaker}
 use Rattle.nb_model.specs.declared.job.Job.{Job}
 use Rattle.nb_model.specs.declared.job.Job.TheVariants.{Run, Stat, Check, Reclaim, Gen, Backup, BackupSince, Restore, Apply, Lock, LockWithSize, Unlock, Fixup, Fold, Plan as PlanOf}
 use Rattle.nb_model.specs.declared.statement.Statement.{Statement}
@@ -27,10 +27,10 @@ use Rattle.nb_script.specs.Fits.{FitsFirst}
 use Rattle.nb_script.specs.Scripts.{Plan, script_of}
 use Rattle.nb_script.proofs.AskedLemmas.{answer_is_askable}
 use Rattle.nb_session.specs.MadeNames.{AnyAsks, AnySessionAsks, Asks, ScriptMakes}
-use Rattle.nb_session.specs.Others.{LeavesOthers}
+use Rattle.nb_top.specs.declared.status.Status.{Status}
 use Rattle.nb_top.specs.Performed.{target_named}
 use Rattle.nb_top.specs.Requests.{Asked, FitsJob, Runs, request_asked, request_of, script_in, to_plan, to_run}
-use Rattle.nb_top.specs.Touched.{OfAsked, OfTarget, ReadMakes}
+use Rattle.nb_top.specs.Touched.{OfAsked, OfTarget, ReadMakes, TouchesOnly}
 use Rattle.nb_top.specs.Worlds.{HaveNames, LeaveNames, StartsFrom}
 use Rattle.nb_top.proofs.FirstReady.{base_name, named_further}
 use Rattle.nb_top.proofs.RequestLaws.{askable_in, backup_askable, begin_askable, check_askable, end_askable, fits_words, reclaim_askable, since_askable, stat_askable}
@@ -145,7 +145,7 @@ module _ (files : Files) where
       by (Some job) is own = job_named job (fits_words words job is) m own
 
 -- Where only files of such names are touched, all files have such names.
-module _ (old new : World) (names : Names) (named : (m : List ℕ) → names m → is_name m ≡ true) (leaves : LeavesOthers old new names) (before : LeaveNames old) where
+module _ (status : Status) (old new : World) (names : Names) (named : (m : List ℕ) → names m → is_name m ≡ true) (touches : TouchesOnly status old new names) (before : LeaveNames old) where
   named_or : (m : List ℕ) → (Other names m → is_name m ≡ true) → is_name m ≡ true
   named_or m off = by (is_name m) refl
     where
@@ -154,10 +154,10 @@ module _ (old new : World) (names : Names) (named : (m : List ℕ) → names m �
       by false is = off (λ own. true≢false (sym (named m own) ∙ is))
 
   pub names_then : LeaveNames new
-  names_then name bytes left = named_or name (λ off. before name bytes (left_before old new _ leaves.others name (Some bytes) off left))
+  names_then name bytes left = named_or name (λ off. before name bytes (touches.left name (Some bytes) off left))
 
   pub names_at : AtEachMoment old new (λ files said. HaveNames files)
-  names_at = weaker old new _ _ leaves.moments (λ files said left name bytes there. named_or name (λ off. before name bytes (subst (Leaves old name) there (left.others name off))))
+  names_at = weaker old new _ _ touches.moments (λ files said left name bytes there. named_or name (λ off. before name bytes (subst (Leaves old name) there (left.others name off))))
 
 -- a host that starts from such files leaves such names
 pub names_from : (w : World) (files : Files) → HaveNames files → StartsFrom w files → LeaveNames w

@@ -135,7 +135,7 @@ module _ (account : Account) (plan : Plan) (askable : IsAskable plan) (o : Openi
       let free : is_free_entry (now.account.entry file.0) ≡ true = free_play order now making.named making.going file (Contains-append_left (files_made p.0) (under_way p.1) file there) in
       let apart : file.0 ≢ name = λ same. own_in_use now making.going (subst (λ (n : List ℕ). is_free_entry (now.account.entry n) ≡ true) (same ∙ sym name_is) free) in
       record {
-        new = record { plain = plain_play plan askable now todo making order file there; free = sym (ap is_free_entry (ap (λ (a : Account). a.entry file.0) account_is ∙ others file.0 apart)) ∙ free };
+        new = record { plain = plain_play plan askable now todo order file there; free = sym (ap is_free_entry (ap (λ (a : Account). a.entry file.0) account_is ∙ others file.0 apart)) ∙ free };
         apart = apart;
         whole = inl (play_of_kept order account.kept (settled b) now (sym base) well going making.named recorded file there);
       }

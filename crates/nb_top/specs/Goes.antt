@@ -10,7 +10,6 @@ use Rattle.nb_top.specs.declared.status.Status.{Status}
 use Rattle.nb_top.specs.ByTurns.{AskedByTurns, EndsEarly}
 use Rattle.nb_top.specs.Performed.{GoesTo, KnowsAsked, MayBeGiven, Performs}
 use Rattle.nb_top.specs.Requests.{Asked}
-use Rattle.nb_top.specs.Touched.{OfAsked, TouchesOnly}
 
 -- It was done: what is said of all of it, and of each turn.
 pub record IsDone {H : Type 0} (world : H → World) (result : Result Status Stop) (old new : H) (asked : Asked) (account : Account) (given : Given) (done : Type 0) : Type 0 where
@@ -25,8 +24,6 @@ pub record DoesAsked {H : Type 0} (world : H → World) (tells : Bool) (result :
       → IsDone world result old new asked account given (done account given))
   -- there are such GUIDs and times
   pub grows : (account : Account) → IsTrue tells → KnowsAsked (world old).files account asked → Grows (world old) (world new)
-  -- whatever stands in the files, and with no account
-  pub touches : IsTrue tells → TouchesOnly result (world old) (world new) (OfAsked (world old).files asked)
 
 -- what is done within a run
 abbrev pub Goes : {H : Type 0} → (world : H → World) → (tells : Bool) → (result : Result Status Stop) → (old new : H) → Asked → Type 0

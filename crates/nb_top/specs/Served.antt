@@ -1,5 +1,5 @@
 -- What the call does that takes the turn of a job, before its reply is said.
-use Rattle.std.specs.Prelude.{◌≡◌, ◌≢◌, Bool, IsTrue, Some, Result, Ok, Err, IfOk, true, false}
+use Rattle.std.specs.Prelude.{◌≡◌, ◌≢◌, Some, Result, Ok, Err, IfOk, true, false}
 use Rattle.nb_host.specs.World.{World}
 use Rattle.nb_host.specs.Crash.{Leaves}
 use Rattle.nb_host.specs.Moments.{AtEachMoment}
@@ -16,12 +16,10 @@ use Rattle.nb_model.specs.Account.{Account}
 use Rattle.nb_model.specs.Jobs.{only_refusal}
 use Rattle.nb_model.specs.Output.{status_after}
 use Rattle.nb_model.specs.Run.{Event}
-use Rattle.nb_session.specs.Others.{LeavesOthers}
 use Rattle.nb_session.specs.declared.stop.Stop.{Stop}
 use Rattle.nb_top.specs.declared.status.Status.{Status}
 use Rattle.nb_top.specs.declared.status.Status.TheVariants.{Done as DoneStatus, Refused as RefusedStatus}
-use Rattle.nb_top.specs.Requests.{Deed}
-use Rattle.nb_top.specs.OneTurn.{OneTurn, one_turn, OfName, IsDoneFor, IsOnItsWay, Read, TurnEnded, TurnLeft, leaves_all}
+use Rattle.nb_top.specs.OneTurn.{OneTurn, OfName, IsDoneFor, IsOnItsWay, Read, TurnEnded, TurnLeft, leaves_all}
 
 -- The turn says this reply to session 1, which is no refusal; where it changes its file, that was done for good.
 pub record IsServed (reply : Reply) (new : World) (job : OneTurn) (turn : Event) : Type 0 where
@@ -49,12 +47,6 @@ pub record Serves (result : Result Reply Fault) (old new : World) (job : OneTurn
   pub gave : GaveNothing old new
   -- where the turn leaves all nothing changes, also where the device fails
   pub idle : leaves_all turn ≡ true → Quiet old new
-
--- The turn of the deed was taken so since the world in which it was begun: it is served, for every account that knows what the job asks for, and
--- other files are left alone.
-pub record IsTaken (tells : Bool) (result : Result Reply Fault) (begun now : World) (deed : Deed) : Type 0 where
-  pub serves : (account : Account) → IsTrue tells → (one_turn begun.files deed).knows account → Serves result begun now (one_turn begun.files deed) ((one_turn begun.files deed).turn account)
-  pub others : IsTrue tells → LeavesOthers begun now (OfName (one_turn begun.files deed).name)
 
 -- what is said of a turn that was taken
 abbrev pub reply_told : Result Reply Refusal → Reply

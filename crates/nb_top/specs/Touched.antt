@@ -1,15 +1,18 @@
 -- What a run leaves alone, whatever stands in the files.
-use Rattle.std.specs.Prelude.{◌≡◌, ◌⊎◌, Bool, true, false, Option, None, Some, Result, Ok, Err, IfOk}
-use Rattle.nb_host.specs.Files.{Files}
+use Rattle.std.specs.Prelude.{◌≡◌, ◌⊎◌, ℕ, List, ◌++◌, Bool, true, false, Option, None, Some, Result, Ok, Err}
+use Rattle.nb_host.specs.Files.{File, Files}
 use Rattle.nb_host.specs.World.{World}
+use Rattle.nb_host.specs.Crash.{Leaves}
+use Rattle.nb_host.specs.Moments.{AtEachMoment}
 use Rattle.nb_host.specs.declared.refusals.Refusal.{Refusal}
-use Rattle.nb_change.specs.Changes.{Names}
+use Rattle.nb_change.specs.Changes.{Names, Other}
+use Rattle.nb_model.specs.declared.reply.Reply.TheVariants.{Refused as RefusedReply}
 use Rattle.nb_model.specs.Generated.{generated}
+use Rattle.nb_model.specs.Lines.{line_text}
 use Rattle.nb_base.specs.Open.{OfFiles}
 use Rattle.nb_script.specs.Scripts.{Plan, script_of}
 use Rattle.nb_session.specs.MadeNames.{ScriptMakes}
-use Rattle.nb_session.specs.Others.{LeavesOthers, SaysRefusal}
-use Rattle.nb_session.specs.declared.stop.Stop.{Stop}
+use Rattle.nb_session.specs.Others.{IsAdded, OthersLeft}
 use Rattle.nb_top.specs.declared.status.Status.{Status}
 use Rattle.nb_top.specs.declared.status.Status.TheVariants.{Refused as RefusedStatus, Usage as UsageStatus}
 use Rattle.nb_top.specs.Requests.{Request, ToRun, ToGenerate, Asked, Runs, Does}
@@ -36,23 +39,30 @@ abbrev pub MayTouch : Result Request Refusal → Names
 MayTouch (Err refusal) m = ⊥
 MayTouch (Ok request) m = OfTarget (target_asked request) m ⊎ AsksToMake request m
 
+-- All files that what is asked for may touch: those of a run, or the one of a job of one turn, if it has one.
+abbrev pub OfAsked : Files → Asked → Names
+OfAsked files (Runs asked) m = MayTouch asked m
+OfAsked files (Does deed) m = OfName (one_turn files deed).name m
+
 -- a run that ends so has refused something
 abbrev pub ends_refused : Status → Bool
 ends_refused RefusedStatus = true
 ends_refused UsageStatus = true
 ends_refused other = false
 
--- Whatever stands in the files: at each moment, and now, of every file but those of these names a crash leaves what it would have left before, and
--- it reads as it did. Where the run ends as one that has refused something, a line said so.
-pub record TouchesOnly (result : Result Status Stop) (old new : World) (names : Names) : Type 0 where
-  pub leaves : LeavesOthers old new names
-  pub says : IfOk result (λ status. ends_refused status ≡ true → SaysRefusal old new)
+-- Among what was said is the line of a refusal.
+pub record SaysRefusal (old new : World) : Type 0 where
+  pub session : ℕ
+  pub refusal : Refusal
+  pub before : List ℕ
+  pub behind : List ℕ
+  pub is : new.said ≡ old.said ++ (before ++ (line_text session (RefusedReply refusal) ++ behind))
 
--- a run touches what it may
-abbrev pub TouchesAsked : (result : Result Status Stop) (old new : World) → Result Request Refusal → Type 0
-TouchesAsked result old new asked = TouchesOnly result old new (MayTouch asked)
-
--- All files that what is asked for may touch: those of a run, or the one of a job of one turn, if it has one.
-abbrev pub OfAsked : Files → Asked → Names
-OfAsked files (Runs asked) m = MayTouch asked m
-OfAsked files (Does deed) m = OfName (one_turn files deed).name m
+-- At each moment of a run, and after it, of every file but those of these names a crash leaves what it would have left before, and it reads as it did.
+-- What was said stays said, and where the run ends as one that has refused something, a line said so.
+pub record TouchesOnly (status : Status) (old new : World) (names : Names) : Type 0 where
+  pub moments : AtEachMoment old new (OthersLeft old names)
+  pub left : (m : List ℕ) (file : File) → Other names m → Leaves new m file → Leaves old m file
+  pub reads : (m : List ℕ) → Other names m → new.files m ≡ old.files m
+  pub added : IsAdded old new.said
+  pub says : ends_refused status ≡ true → SaysRefusal old new

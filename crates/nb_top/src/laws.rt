@@ -1,6 +1,6 @@
 // Laws of the whole program: each is a public function with an empty body, whose contract is the law. They show that what a run is
 // promised on holds where a first run begins and where the next one begins after a crash, and that a job is what it asks for.
-ghost use Rattle.std.specs.Prelude.{◌≡◌, ℕ, ◌+◌, ◌^◌, ◌<◌, List, [], Some, Result, Contains, false};
+ghost use Rattle.std.specs.Prelude.{◌≡◌, ℕ, ◌+◌, ◌^◌, ◌<◌, List, [], Some, Result, Contains, IsTrue, false};
 ghost use Rattle.nb_host.specs.Files.{Files, with_file};
 ghost use Rattle.nb_host.specs.Crash.{LeavesAll};
 ghost use Rattle.nb_host.specs.Moments.{AtEachMoment};
@@ -15,13 +15,13 @@ ghost use Rattle.nb_model.specs.Outcomes.{Given};
 ghost use Rattle.nb_model.specs.Run.{Event};
 ghost use Rattle.nb_model.specs.Stands.{Stands};
 ghost use Rattle.nb_model.specs.declared.job.Job.{Job};
-ghost use Rattle.nb_session.specs.Others.{LeavesOthers};
 ghost use Rattle.nb_top.specs.declared.status.Status.{Status};
+ghost use Rattle.nb_top.specs.Goes.{IsRun};
 ghost use Rattle.nb_top.specs.OneTurn.{DoesTurn, leaves_all, one_turn};
 ghost use Rattle.nb_top.specs.Performed.{IsPerformed, IsSure, KnowsAsked, PerformsRun};
 ghost use Rattle.nb_top.specs.Requests.{Deed, Does, Request, Runs, request_asked, request_of, run_of};
 ghost use Rattle.nb_top.specs.Standing.{HoldsKept, NextMayBegin, StandsFor};
-ghost use Rattle.nb_top.specs.Touched.{OfAsked};
+ghost use Rattle.nb_top.specs.Touched.{OfAsked, TouchesOnly};
 ghost use Rattle.nb_top.specs.Worlds.{AreCopies, ArePlain, HaveNames, LeaveNames, NameNone, StartsFrom, account_of, empty, no_files};
 
 use nb_host::Host;
@@ -50,12 +50,21 @@ pub fn a_next_run_may_begin_at_once<H: Host>(_before: &H, _behind: &H)
         → (leaves_all ((one_turn (H.world _before.now).files deed).turn account) ≡ false → (one_turn (H.world _before.now).files deed).takes account.kept) → NextMayBegin (H.world _behind.now) account }
 {}
 
+/// A run leaves other files alone, whatever stands in the files, and however it ends: at each moment of it and after it, a crash leaves of every file
+/// what it would have left before, and it reads as it did, but for the two of the database that the words ask for and those that the job is to make, which
+/// are the files of the backups and copies that its statements name, and that of a script which it writes; or but for the one file of a job of one turn.
+/// Its status is Refused or Usage only where the line of a refusal was said.
+pub fn other_files_stay<H: Host>(_before: &H, _behind: &H)
+    ensures { (status : Status) (words : List (List ℕ)) → IsTrue H.tells → IsRun H.world H.tells status _before.now _behind.now (request_asked (H.world _before.now).files words)
+        → TouchesOnly status (H.world _before.now) (H.world _behind.now) (OfAsked (H.world _before.now).files (request_asked (H.world _before.now).files words)) }
+{}
+
 /// Files keep names that a host may give them: where all that a crash may leave has such names as a run begins, it has at each moment of the run and
 /// after it, whatever its words ask for and whatever stands in the files. A host that starts from such files leaves such names.
 pub fn names_stay_names<H: Host>(_before: &H, _behind: &H)
-    ensures moments { (words : List (List ℕ)) → LeavesOthers (H.world _before.now) (H.world _behind.now) (OfAsked (H.world _before.now).files (request_asked (H.world _before.now).files words)) → LeaveNames (H.world _before.now)
+    ensures moments { (status : Status) (words : List (List ℕ)) → IsTrue H.tells → IsRun H.world H.tells status _before.now _behind.now (request_asked (H.world _before.now).files words) → LeaveNames (H.world _before.now)
         → AtEachMoment (H.world _before.now) (H.world _behind.now) (λ files said. HaveNames files) }
-    ensures behind { (words : List (List ℕ)) → LeavesOthers (H.world _before.now) (H.world _behind.now) (OfAsked (H.world _before.now).files (request_asked (H.world _before.now).files words)) → LeaveNames (H.world _before.now)
+    ensures behind { (status : Status) (words : List (List ℕ)) → IsTrue H.tells → IsRun H.world H.tells status _before.now _behind.now (request_asked (H.world _before.now).files words) → LeaveNames (H.world _before.now)
         → LeaveNames (H.world _behind.now) }
     ensures starts { (files : Files) → HaveNames files → StartsFrom (H.world _behind.now) files → LeaveNames (H.world _behind.now) }
 {}

@@ -297,10 +297,9 @@ pub fn run<H: Host>(alloc: Global, words: &[String], host: &mut H) -> Status
     // Turn by turn (`turns`, `AskedByTurns`): each turn leaves alone every file but the database's two and those that this turn may touch, from the host
     // at which the one before it ended, and one that only tells something, as a refusal, leaves all files as they read before it, byte for byte.
     //
-    // Whatever stands in the files, and with no account (`touches`): at each moment, and at the end, no file is other than a crash would have left
-    // it before, or reads otherwise, but the two of the database that the words ask for and those that the job is to make: the files of the
-    // backups and copies that its statements name, and that of a script which it writes. The answer is Refused or Usage only where a line of a refusal
-    // was said.
+    // For any files there is an account that knows what they tell. So whatever stands in them, no file is touched but the two of the database that the
+    // words ask for and those that the job is to make, and Refused or Usage is answered only where the line of a refusal was said
+    // (`laws::other_files_stay`).
     ensures performs { IsRun H.world H.tells result host.old host.new (request_asked (H.world host.old).files (map string_bytes words.now)) }
 {
     let mut broken = None;

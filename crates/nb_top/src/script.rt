@@ -22,7 +22,6 @@ ghost use Rattle.nb_session.specs.Acts.{Grows};
 ghost use Rattle.nb_session.specs.Causes.{CountsStop};
 ghost use Rattle.nb_session.specs.Ready.{IsReady};
 ghost use Rattle.nb_session.specs.Says.{SaysLine};
-ghost use Rattle.nb_session.specs.StillOpen.{IsStillOpen, ScriptStays};
 ghost use Rattle.nb_session.specs.Told.{told_events};
 ghost use Rattle.nb_top.specs.ByTurns.{RunsOpened, TakesTold};
 ghost use Rattle.nb_top.specs.Performed.{cache_asked, first_event, is_all, opened_reply, told_first, told_later};
@@ -165,7 +164,6 @@ fn take_told<H: Host>(
         → Foretells now.given shown (H.world host.old) (H.world host.new)
         → TakesTold H.world result host.old host.new engine.old engine.new t telling engine.old.files.count now script.now.schedule) }
     ensures none_waits { IfOk result (λ refused. NoPageWaits engine.new) }
-    ensures stays_open { IsTrue H.tells → IsStillOpen (H.world host.old) engine.old → ScriptStays result (H.world host.old) (H.world host.new) engine.old engine.new script.now }
     ensures grows { (now : Now) (t : Trail) → IsTrue H.tells → IsReady (H.world host.old) engine.old t now → now.todo ≡ begun script.now.sessions → IsMaking now
         → Grows (H.world host.old) (H.world host.new) }
     ensures cause { CountsStop result (H.faults host.old) (H.faults host.new) }
@@ -190,7 +188,6 @@ fn run_opened<H: Host>(
         → RunsOpened H.world result host.old host.new engine.old engine.new start
         (told_first telling (first_event script.now.first_session strokes (opened_reply script.now.first engine.old.files.count engine.old.files.state))) telling engine.old.files.count now script.now) }
     ensures none_waits { IfOk result (λ refused. NoPageWaits engine.new) }
-    ensures stays_open { IsTrue H.tells → IsStillOpen (H.world host.old) engine.old → ScriptStays result (H.world host.old) (H.world host.new) engine.old engine.new script.now }
     ensures grows { (now : Now) → IsTrue H.tells → IsReady (H.world host.old) engine.old (settled_trail (base_now now)) now → now.todo ≡ begun script.now.sessions → IsMaking now
         → Grows (H.world host.old) (H.world host.new) }
     ensures cause { CountsStop result (H.faults host.old) (H.faults host.new) }

@@ -1,6 +1,5 @@
 // Jobs of one turn: a call of a crate below takes the turn, and its reply is said.
 ghost use Rattle.std.specs.Prelude.{◌≡◌, ◌⊎◌, ◌<◌, ◌≤◌, ◌^◌, length, Some, IsTrue, IfOk};
-ghost use Rattle.nb_change.specs.Changes.{NoNames, Only};
 ghost use Rattle.nb_change.specs.Counts.{CountsDevice};
 ghost use Rattle.nb_catalog.specs.Turns.{plan_turn};
 ghost use Rattle.nb_fold.specs.Verdict.{fold_turn};
@@ -8,9 +7,8 @@ ghost use Rattle.nb_model.specs.Account.{Account};
 ghost use Rattle.nb_model.specs.Jobs.{apply_turn, fixup_turn, restore_turn};
 ghost use Rattle.nb_model.specs.Lines.{line_text};
 ghost use Rattle.nb_session.specs.Causes.{CountsStop};
-ghost use Rattle.nb_session.specs.Others.{LeavesOthers};
 ghost use Rattle.nb_session.specs.Says.{SaysLine};
-ghost use Rattle.nb_top.specs.OneTurn.{OfName, fixing, folding, merging, one_turn, planning, restoring};
+ghost use Rattle.nb_top.specs.OneTurn.{fixing, folding, merging, one_turn, planning, restoring};
 ghost use Rattle.nb_top.specs.Goes.{Goes};
 ghost use Rattle.nb_top.specs.Requests.{Deed, Does, FitsJob, ToPlan, deed_of};
 ghost use Rattle.nb_top.specs.Served.{Serves, reply_told, status_told};
@@ -34,7 +32,6 @@ fn restored<H: Host>(alloc: Global, host: &mut H, db: &Name, files: &[Name]) -> 
     requires few { length files.now ≤ 10 }
     ensures serves { (account : Account) → IsTrue H.tells → (restoring (H.world host.old).files db.now files.now).knows account
         → Serves result (H.world host.old) (H.world host.new) (restoring (H.world host.old).files db.now files.now) (restore_turn (H.world host.old).files account db.now files.now) }
-    ensures others { IsTrue H.tells → LeavesOthers (H.world host.old) (H.world host.new) (Only db.now) }
     ensures cause { CountsDevice result (H.faults host.old) (H.faults host.new) }
 {
     let pages = restore(alloc, host, db, files)?;
@@ -45,7 +42,6 @@ fn restored<H: Host>(alloc: Global, host: &mut H, db: &Name, files: &[Name]) -> 
 fn fixed<H: Host>(host: &mut H, db: &Name) -> Result<Reply, Fault>
     requires { length db.now ≤ 94 }
     ensures serves { IsTrue H.tells → Serves result (H.world host.old) (H.world host.new) (fixing (H.world host.old).files db.now) (fixup_turn (H.world host.old).files db.now) }
-    ensures others { IsTrue H.tells → LeavesOthers (H.world host.old) (H.world host.new) (Only db.now) }
     ensures cause { CountsDevice result (H.faults host.old) (H.faults host.new) }
 {
     fix_up(host, db)?;
@@ -56,7 +52,6 @@ fn fixed<H: Host>(host: &mut H, db: &Name) -> Result<Reply, Fault>
 fn merged<H: Host>(alloc: Global, host: &mut H, db: &Name, file: &Name) -> Result<Reply, Fault>
     ensures serves { IsTrue H.tells
         → Serves result (H.world host.old) (H.world host.new) (merging (H.world host.old).files db.now file.now) (apply_turn (H.world host.old).files db.now file.now) }
-    ensures others { IsTrue H.tells → LeavesOthers (H.world host.old) (H.world host.new) (Only db.now) }
     ensures cause { CountsDevice result (H.faults host.old) (H.faults host.new) }
 {
     let pages = apply(alloc, host, db, file)?;
@@ -76,7 +71,6 @@ fn folded<H: Host>(alloc: Global, host: &mut H, out: &Name, files: &[Name]) -> R
     requires few { length files.now ≤ 9 }
     ensures serves { (account : Account) → IsTrue H.tells → (folding (H.world host.old).files out.now files.now).knows account
         → Serves result (H.world host.old) (H.world host.new) (folding (H.world host.old).files out.now files.now) (fold_turn (H.world host.old).files account out.now files.now) }
-    ensures others { IsTrue H.tells → LeavesOthers (H.world host.old) (H.world host.new) (Only out.now) }
     ensures cause { CountsDevice result (H.faults host.old) (H.faults host.new) }
 {
     let made = fold(alloc, host, files, out)?;
@@ -94,7 +88,6 @@ fn planned<H: Host>(alloc: Global, host: &mut H, keep: u32, files: &[Name]) -> R
     requires few { length files.now < 2 ^ 32 }
     ensures serves { IsTrue H.tells
         → Serves result (H.world host.old) (H.world host.new) (planning (H.world host.old).files keep files.now) (plan_turn (H.world host.old).files files.now keep) }
-    ensures others { IsTrue H.tells → LeavesOthers (H.world host.old) (H.world host.new) NoNames }
     ensures cause { CountsDevice result (H.faults host.old) (H.faults host.new) }
 {
     let plan = plan_files(alloc, host, files, keep)?;
@@ -113,7 +106,6 @@ fn take_turn<H: Host>(alloc: Global, host: &mut H, job: &Job) -> Result<Reply, F
     requires fits { FitsJob job.now }
     ensures serves { (deed : Deed) (account : Account) → deed_of job.now ≡ Some deed → IsTrue H.tells → (one_turn (H.world host.old).files deed).knows account
         → Serves result (H.world host.old) (H.world host.new) (one_turn (H.world host.old).files deed) ((one_turn (H.world host.old).files deed).turn account) }
-    ensures others { (deed : Deed) → deed_of job.now ≡ Some deed → IsTrue H.tells → LeavesOthers (H.world host.old) (H.world host.new) (OfName (one_turn (H.world host.old).files deed).name) }
     ensures cause { CountsDevice result (H.faults host.old) (H.faults host.new) }
 {
     match job {

@@ -1,5 +1,5 @@
 use Rattle.std.proofs.Common.{◌≡◌, ℕ, List, [], ◌∷◌, length, sym, ap, subst, ◌∙◌}
-use Rattle.std.specs.Prelude.{Some, Result, None}
+use Rattle.std.specs.Prelude.{Some, Result}
 use Rattle.nb_host.specs.declared.faults.Fault.{Fault}
 use Rattle.nb_level.specs.declared.head.LevelHead.{LevelHead}
 use Rattle.nb_model.specs.Image.{image_scn}
@@ -11,7 +11,6 @@ use Rattle.nb_state.proofs.TurnLaws.{given_guid}
 use Rattle.nb_alloc.proofs.DoesLaws.{tries_passed}
 use Rattle.nb_copy.specs.Starting.{BeginsFor}
 use Rattle.nb_copy.proofs.BegunLaws.{begin_failed, begun_guid}
-use Rattle.nb_engine.proofs.StaysLaws.{stays_starts, stays_passed, stays_running}
 use Rattle.nb_copy.proofs.copier.begin.Goals as goal
 
 pub returns-in_err-begin-clause-begins : goal.returns-in_err-begin-clause-begins
@@ -44,13 +43,3 @@ returns-clause-begins g c t guid ask tells is given =
       running = ap (λ (h : Held). h.running) c.set_running.ensures;
       name = ap (λ (h : Held). h.files.name) c.set_running.ensures ∙ starts.name;
     }
-
-pub returns-in_err-begin-clause-stays_open : goal.returns-in_err-begin-clause-stays_open
-returns-in_err-begin-clause-stays_open g c t tells is =
-    let asks = c.in_err-begin.ensures.asks tells in
-    stays_passed _ _ _ _ _ ℕ LevelHead _ c.in_err-begin.field-0.0 c.from_residual.ensures (stays_starts _ _ _ _ _ t asks.0 None _ is (c.in_err-begin.ensures.starts t asks.0 None tells is asks.2))
-
-pub returns-clause-stays_open : goal.returns-clause-stays_open
-returns-clause-stays_open g c t tells is =
-    let asks = c.in_ok-begin.ensures.asks tells in
-    stays_running _ _ _ _ _ c.in_ok-begin.field-0 _ (Some c.args.session) _ c.set_running.ensures (stays_starts _ _ _ _ _ t asks.0 None _ is (c.in_ok-begin.ensures.starts t asks.0 None tells is asks.2))

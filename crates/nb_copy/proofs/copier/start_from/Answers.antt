@@ -1,8 +1,8 @@
-use Rattle.std.proofs.Common.{◌≡◌, inl, inr, ⊎_elim, ◌≤◌, ℕ, List, length, replicate, refl, sym, ap, subst, ◌∙◌}
-use Rattle.std.specs.Prelude.{Result, Ok, Err, Some}
+use Rattle.std.proofs.Common.{◌≡◌, inl, inr, ◌≤◌, ℕ, List, length, replicate, refl, sym, ap, subst, ◌∙◌}
+use Rattle.std.specs.Prelude.{Result, Ok, Err, None, Some}
 use Rattle.nb_host.specs.declared.faults.Fault.{Fault}
 use Rattle.nb_host.specs.declared.faults.Fault.TheVariants.{Device, Memory}
-use Rattle.nb_change.specs.Changes.{NoNames, Only}
+use Rattle.nb_change.specs.Changes.{Only}
 use Rattle.nb_change.specs.Gave.{GaveNothing}
 use Rattle.nb_change.proofs.CallLaws.{remade_alone}
 use Rattle.nb_model.specs.Account.{Base}
@@ -29,8 +29,7 @@ use Rattle.nb_state.specs.Open.{name_of}
 use Rattle.nb_state.proofs.MakesLaws.{goes_nowhere, goes_on}
 use Rattle.nb_state.proofs.SizeLaws.{open_sized}
 use Rattle.nb_copy.proofs.BesideLaws.{made_kept}
-use Rattle.nb_engine.proofs.StaysLaws.{open_aside, stays_still, stays_after, stays_among, stays_aside, stays_passed, stays_some, stays_then, stays_valued}
-use Rattle.nb_level.specs.declared.head.LevelHead.{LevelHead}
+use Rattle.nb_copy.proofs.AsideLaws.{open_aside}
 use Rattle.nb_copy.proofs.copier.start_from.Goals as goal
 
 pub returns-in_err-head-clause-turn : goal.returns-in_err-head-clause-turn
@@ -209,70 +208,6 @@ returns-clause-turn g c s t tells same runs is free plain given =
 pub returns-clause-its_level : goal.returns-clause-its_level
 returns-clause-its_level g c = subst (IsItsLevel c.args.since) (sym c.in_ok-head-2.ensures.level) c.in_ok-head.ensures.its_level
 
-pub returns-in_err-head-clause-stays_open : goal.returns-in_err-head-clause-stays_open
-returns-in_err-head-clause-stays_open g c t tells is plain = let check = c.in_err-head.ensures in stays_still _ _ _ _ _ t _ check.same check.quiet is (check.open t tells is)
-
-pub returns-in_err-file-clause-stays_open : goal.returns-in_err-file-clause-stays_open
-returns-in_err-file-clause-stays_open g c t tells is plain = let check = c.in_ok-head.ensures in stays_still _ _ _ _ _ t _ check.same check.quiet is (check.open t tells is)
-
-pub returns-in_err-room-clause-stays_open : goal.returns-in_err-room-clause-stays_open
-returns-in_err-room-clause-stays_open g c t tells is plain =
-    let check = c.in_ok-head.ensures in
-    let opened = check.open t tells is in
-    stays_after _ _ _ _ _ _ _ t _ check.same check.quiet is opened (stays_passed _ _ _ _ _ Room Backed _ c.in_err-room.field-0.0 c.from_residual-in_err-room.ensures (stays_some _ _ _ _ _ t _ (c.in_err-room.ensures.some t tells opened)))
-
-pub returns-in_err-make-clause-stays_open : goal.returns-in_err-make-clause-stays_open
-returns-in_err-make-clause-stays_open g c t tells is plain =
-    let check = c.in_ok-head.ensures in
-    let opened = check.open t tells is in
-    let a = c.args.engine.now in
-    let b = c.history_room.new.self in
-    let name : List ℕ = c.args.name.now in
-    let make = c.in_err-make.ensures in
-    let some = c.in_ok-room.ensures.some t tells opened in
-    let file = remade_alone _ _ (g.H.Host.world c.history_room.new.host) (g.H.Host.world c.make.new.self) name _ IsEmpty tells (g.met.H.Host.timely _) make.files make.log.said make.time refl in
-    let own = some.makes.goes.name ∙ ap name_of check.same in
-    let apart = free_apart (g.H.Host.world c.args.host.now) a t name is (check.free tells) plain in
-    stays_after _ _ _ _ _ _ _ t _ check.same check.quiet is opened
-    (stays_then c.in_ok-room.room _ _ _ _ _ _ _ _ (stays_some _ _ _ _ _ t _ some)
-    (λ u here. stays_aside _ _ b u here (λ m. g.met.H.Host.reads_left _ tells m) (Only name) (λ m same its. apart (subst (λ (n : List ℕ). OfFiles n name) own (subst (OfFiles (name_of b)) same its))) _ file _ b refl))
-
-pub returns-in_err-head-2-clause-stays_open : goal.returns-in_err-head-2-clause-stays_open
-returns-in_err-head-2-clause-stays_open g c t tells is plain =
-    let check = c.in_ok-head.ensures in
-    let opened = check.open t tells is in
-    let a = c.args.engine.now in
-    let b = c.history_room.new.self in
-    let name : List ℕ = c.args.name.now in
-    let make = c.in_ok-make.ensures in
-    let some = c.in_ok-room.ensures.some t tells opened in
-    let file = remade_alone _ _ (g.H.Host.world c.history_room.new.host) (g.H.Host.world c.make.new.self) name _ IsEmpty tells (g.met.H.Host.timely _) make.files make.log.said make.time refl in
-    let own = some.makes.goes.name ∙ ap name_of check.same in
-    let apart = free_apart (g.H.Host.world c.args.host.now) a t name is (check.free tells) plain in
-    stays_after _ _ _ _ _ _ _ t _ check.same check.quiet is opened
-    (stays_then c.in_ok-room.room _ _ _ _ _ _ _ _ (stays_some _ _ _ _ _ t _ some)
-    (λ u here. stays_then {S = Unit {0}} tt _ _ _ _ _ _ _ _
-    (stays_aside _ _ b u here (λ m. g.met.H.Host.reads_left _ tells m) (Only name) (λ m same its. apart (subst (λ (n : List ℕ). OfFiles n name) own (subst (OfFiles (name_of b)) same its))) _ file (Ok tt) b refl)
-    (λ v there. stays_among _ _ _ _ _ NoNames (Only name) (λ m nothing. absurd nothing) (stays_passed _ _ _ _ _ LevelHead Backed _ c.in_err-head-2.field-0.0 c.from_residual-in_err-head-2.ensures (c.in_err-head-2.ensures.stays_open v tells there)))))
-
-pub returns-clause-stays_open : goal.returns-clause-stays_open
-returns-clause-stays_open g c t tells is plain =
-    let check = c.in_ok-head.ensures in
-    let opened = check.open t tells is in
-    let a = c.args.engine.now in
-    let b = c.history_room.new.self in
-    let name : List ℕ = c.args.name.now in
-    let make = c.in_ok-make.ensures in
-    let some = c.in_ok-room.ensures.some t tells opened in
-    let file = remade_alone _ _ (g.H.Host.world c.history_room.new.host) (g.H.Host.world c.make.new.self) name _ IsEmpty tells (g.met.H.Host.timely _) make.files make.log.said make.time refl in
-    let own = some.makes.goes.name ∙ ap name_of check.same in
-    let apart = free_apart (g.H.Host.world c.args.host.now) a t name is (check.free tells) plain in
-    stays_after _ _ _ _ _ _ _ t _ check.same check.quiet is opened
-    (stays_then c.in_ok-room.room _ _ _ _ _ _ _ _ (stays_some _ _ _ _ _ t _ some)
-    (λ u here. stays_then {S = Unit {0}} tt _ _ _ _ _ _ _ _
-    (stays_aside _ _ b u here (λ m. g.met.H.Host.reads_left _ tells m) (Only name) (λ m same its. apart (subst (λ (n : List ℕ). OfFiles n name) own (subst (OfFiles (name_of b)) same its))) _ file (Ok tt) b refl)
-    (λ v there. stays_among _ _ _ _ _ NoNames (Only name) (λ m nothing. absurd nothing) (stays_valued _ _ _ _ _ c.in_ok-head-2.head _ (c.in_ok-head-2.ensures.stays_open v tells there)))))
-
 pub returns-in_err-head-clause-made_first : goal.returns-in_err-head-clause-made_first
 returns-in_err-head-clause-made_first g c t tells is plain = let check = c.in_err-head.ensures in inl (quiet_gave _ _ check.quiet, goes_nowhere _ _ check.same)
 
@@ -306,7 +241,8 @@ returns-in_err-head-2-clause-made_first g c t tells is plain =
     let opened = open_aside _ _ b _ makes.opened (λ m. g.met.H.Host.reads_left _ tells m) (Only name) (λ m same its. apart (subst (OfFiles (name_of b)) same its)) _ file in
     let fault = c.in_err-head-2.field-0.0 in
     let sure = subst (λ (r : Result Backed Fault). IsNotMemory r) (sym (passed_on c.from_residual-in_err-head-2.result fault c.from_residual-in_err-head-2.ensures)) c.in_err-head-2.ensures.takes_none in
-    inr (made_kept _ _ _ _ name (c.in_err-head-2.ensures.stays_open _ tells opened).touched (λ its. ⊎_elim apart (λ none. none) its) (is_made _ _ _ _ name tells make.files), sure)
+    let asks = c.begin.ensures.asks tells in
+    inr (made_kept _ _ _ _ name (c.in_err-head-2.ensures.begins _ asks.0 None tells opened asks.2).left apart (is_made _ _ _ _ name tells make.files), sure)
 
 pub returns-clause-made_first : goal.returns-clause-made_first
 returns-clause-made_first g c t tells is plain =
@@ -320,4 +256,5 @@ returns-clause-made_first g c t tells is plain =
     let own = makes.goes.name ∙ ap name_of check.same in
     let apart : OfFiles (name_of b) name → ⊥ = λ its. free_apart (g.H.Host.world c.args.host.now) a t name is (check.free tells) plain (subst (λ (n : List ℕ). OfFiles n name) own its) in
     let opened = open_aside _ _ b _ makes.opened (λ m. g.met.H.Host.reads_left _ tells m) (Only name) (λ m same its. apart (subst (OfFiles (name_of b)) same its)) _ file in
-    inr (made_kept _ _ _ _ name (c.in_ok-head-2.ensures.stays_open _ tells opened).touched (λ its. ⊎_elim apart (λ none. none) its) (is_made _ _ _ _ name tells make.files), tt)
+    let asks = c.begin.ensures.asks tells in
+    inr (made_kept _ _ _ _ name (c.in_ok-head-2.ensures.begins _ asks.0 None tells opened asks.2).left apart (is_made _ _ _ _ name tells make.files), tt)

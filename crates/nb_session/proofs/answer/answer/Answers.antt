@@ -1,4 +1,4 @@
-use Rattle.std.proofs.Common.{◌≡◌, [], sym, subst, refl, ◌∙◌}
+use Rattle.std.proofs.Common.{◌≡◌, [], sym, subst}
 use Rattle.std.specs.Prelude.{if◌then◌else◌, Bool, None}
 use Rattle.nb_model.specs.Output.{status_after}
 use Rattle.nb_session.specs.Replies.{some_said}
@@ -6,8 +6,6 @@ use Rattle.nb_session.proofs.EventLaws.{marks_none}
 use Rattle.nb_session.proofs.KeepLaws.{one_single}
 use Rattle.nb_session.proofs.TouchingLaws.{begins_touch, one_turn_plain}
 use Rattle.nb_session.proofs.TurnLaws.{turns_failed, turns_unsaid, turns_said, status_told, single_behind}
-use Rattle.nb_change.specs.Changes.{NoNames}
-use Rattle.nb_session.proofs.StayLaws.{refusal_told, turn_failed, turn_said, turn_unsaid}
 use Rattle.nb_session.proofs.answer.answer.Goals as goal
 
 pub returns-in_err-reply-clause-turn : goal.returns-in_err-reply-clause-turn
@@ -37,30 +35,3 @@ returns-clause-turn g c now t more tells ready makes here =
     c.is_refusal-refused.result (c.in_ok-tell.ensures.line tells).said
     (λ is. subst (λ (b : Bool). status_after c.in_ok-reply.reply ≡ (if b then 1 else 0)) (sym c.is_refusal-refused.ensures) (status_told c.args.session c.args.statement.now now c.in_ok-reply.reply is))
     (λ told. single_behind new _ c.args.session c.args.statement.now now (one_single c.args.statement.now c.requires.single))
-
-pub returns-in_err-reply-clause-stays_open : goal.returns-in_err-reply-clause-stays_open
-returns-in_err-reply-clause-stays_open g c tells still =
-    let old = g.H.Host.world c.args.host.now in
-    let mid = g.H.Host.world c.do_statement.new.host in
-    turn_failed old mid c.args.engine.now c.do_statement.new.engine NoNames still _ (c.do_statement.ensures.stays_open still.trail tells still.opened) (λ (refused : Bool). refused) (λ (refused : Bool). None)
-    c.from_residual.result c.from_residual.ensures.0
-
-pub returns-in_err-tell-clause-stays_open : goal.returns-in_err-tell-clause-stays_open
-returns-in_err-tell-clause-stays_open g c tells still =
-    let old = g.H.Host.world c.args.host.now in
-    let mid = g.H.Host.world c.do_statement.new.host in
-    let b = c.do_statement.new.engine in
-    turn_unsaid old mid c.args.engine.now b NoNames still _ (c.do_statement.ensures.stays_open still.trail tells still.opened) (λ (refused : Bool). refused) (λ (refused : Bool). None)
-    (g.H.Host.world c.tell.new.host) c.tell.result _ (g.met.H.Host.timely c.tell.new.host) (g.met.H.Host.reads_left c.tell.new.host tells) (c.tell.ensures.line tells) b refl
-    c.from_residual-in_err-tell.result c.from_residual-in_err-tell.ensures.0
-
-pub returns-clause-stays_open : goal.returns-clause-stays_open
-returns-clause-stays_open g c tells still =
-    let old = g.H.Host.world c.args.host.now in
-    let mid = g.H.Host.world c.do_statement.new.host in
-    let new = g.H.Host.world c.tell.new.host in
-    let b = c.do_statement.new.engine in
-    turn_said old mid c.args.engine.now b NoNames still _ (c.do_statement.ensures.stays_open still.trail tells still.opened) (λ (refused : Bool). refused) (λ (refused : Bool). None)
-    new c.tell.result _ (g.met.H.Host.timely c.tell.new.host) (g.met.H.Host.reads_left c.tell.new.host tells) (c.tell.ensures.line tells) b refl
-    c.is_refusal-refused.result c.in_ok-reply.ensures.ended tt (λ m none. none)
-    (λ yes. refusal_told c.args.told c.args.session c.in_ok-reply.reply mid new (sym c.is_refusal-refused.ensures ∙ yes) (c.in_ok-tell.ensures.line tells).said)

@@ -1,13 +1,9 @@
-use Rattle.std.proofs.Common.{ℕ, [], refl, ap, sym}
-use Rattle.std.specs.Prelude.{Ok, Some, Err, None}
-use Rattle.nb_change.specs.Changes.{NoNames}
-use Rattle.nb_model.specs.declared.reply.Reply.{Reply}
+use Rattle.std.proofs.Common.{[], refl, ap, sym}
+use Rattle.std.specs.Prelude.{Some}
 use Rattle.nb_model.specs.declared.reply.Reply.TheVariants.{Leaked, Freed}
 use Rattle.nb_model.specs.Turns.{first_turn}
-use Rattle.nb_engine.proofs.StaysLaws.{stays_does, stays_passed, stays_still, stays_valued}
 use Rattle.nb_session.specs.Replies.{some_said}
 use Rattle.nb_session.proofs.ActLaws.{some_by, does_acts, may_passed, may_then_memory, may_value}
-use Rattle.nb_session.proofs.StayLaws.{seen_of}
 use Rattle.nb_session.proofs.TurnLaws.{seen_now}
 use Rattle.nb_session.proofs.checks.do_checks.Goals as goal
 
@@ -45,24 +41,3 @@ returns-in_ok-pages-in-Reclaim-clause-turn g c now t session tells ready =
     let s = seen_now now in
     may_value (some_by Freed) some_said _ _ _ _ t now session _ [] c.in_ok-pages-in-Reclaim.pages (Freed c.in_ok-pages-in-Reclaim.pages) refl
     (does_acts Freed _ _ _ _ _ t now session c.args.statement.now _ c.in-Reclaim.is refl refl refl _ refl ready (c.in_ok-pages-in-Reclaim.ensures.turn s t tells ready.base ready.opened))
-
-pub returns-in_err-report-in-Check-clause-stays_open : goal.returns-in_err-report-in-Check-clause-stays_open
-returns-in_err-report-in-Check-clause-stays_open g c t tells is =
-    let found = c.in_err-report-in-Check.ensures in stays_still _ _ _ _ _ t NoNames found.same found.quiet is (found.open t tells is)
-
-pub returns-in_err-pages-in-Check-clause-stays_open : goal.returns-in_err-pages-in-Check-clause-stays_open
-returns-in_err-pages-in-Check-clause-stays_open g c t tells is =
-    let found = c.in_ok-report-in-Check.ensures in stays_still _ _ _ _ _ t NoNames found.same found.quiet is (found.open t tells is)
-
-pub returns-in_ok-pages-in-Check-clause-stays_open : goal.returns-in_ok-pages-in-Check-clause-stays_open
-returns-in_ok-pages-in-Check-clause-stays_open g c t tells is =
-    let found = c.in_ok-report-in-Check.ensures in stays_still _ _ _ _ _ t NoNames found.same found.quiet is (found.open t tells is)
-
-pub returns-in_err-pages-in-Reclaim-clause-stays_open : goal.returns-in_err-pages-in-Reclaim-clause-stays_open
-returns-in_err-pages-in-Reclaim-clause-stays_open g c t tells is =
-    stays_passed _ _ _ _ NoNames ℕ Reply c.from_residual-in_err-pages-in-Reclaim.result c.in_err-pages-in-Reclaim.field-0.0 c.from_residual-in_err-pages-in-Reclaim.ensures
-    (stays_does (Err c.in_err-pages-in-Reclaim.field-0.0) _ _ _ _ t NoNames Freed _ (c.in_err-pages-in-Reclaim.ensures.turn (seen_of t None) t tells refl is))
-
-pub returns-in_ok-pages-in-Reclaim-clause-stays_open : goal.returns-in_ok-pages-in-Reclaim-clause-stays_open
-returns-in_ok-pages-in-Reclaim-clause-stays_open g c t tells is =
-    stays_valued _ _ _ _ NoNames c.in_ok-pages-in-Reclaim.pages (Freed c.in_ok-pages-in-Reclaim.pages) (stays_does (Ok c.in_ok-pages-in-Reclaim.pages) _ _ _ _ t NoNames Freed _ (c.in_ok-pages-in-Reclaim.ensures.turn (seen_of t None) t tells refl is))

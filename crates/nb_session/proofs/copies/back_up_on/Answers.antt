@@ -1,5 +1,5 @@
-use Rattle.std.proofs.Common.{◌≡◌, ◌-◌, ℕ, refl, sym, ap, subst, ◌∙◌}
-use Rattle.std.specs.Prelude.{Ok, Err, None, Some}
+use Rattle.std.proofs.Common.{◌≡◌, ◌-◌, ℕ, refl, sym, ap, subst}
+use Rattle.std.specs.Prelude.{Ok, Err, None}
 use Rattle.nb_host.specs.declared.faults.Fault.{Fault}
 use Rattle.nb_host.specs.declared.faults.Fault.TheVariants.{Refused, Device, Memory}
 use Rattle.nb_model.specs.declared.reply.Reply.TheVariants.{Level}
@@ -18,14 +18,6 @@ use Rattle.nb_session.proofs.BackupLaws.{seen_with, MayGoOn, may_go_on, backup_f
 use Rattle.nb_session.proofs.CopyLaws.{apart_one}
 use Rattle.nb_session.proofs.EventLaws.{marks_made}
 use Rattle.nb_session.proofs.TurnLaws.{turns_failed, turns_quiet, turns_never}
-use Rattle.nb_change.specs.Changes.{Only}
-use Rattle.nb_engine.proofs.StaysLaws.{stays_among}
-use Rattle.nb_engine.specs.Stays.{StaysOpen}
-use Rattle.nb_session.proofs.StayLaws.{aside_named, turn_failed, turn_said, turn_unheard, turn_unsaid}
-use Rattle.nb_session.specs.MadeNames.{TaskMakes}
-use Rattle.nb_session.specs.StillOpen.{TaskStays}
-use Rattle.nb_session.specs.declared.task.Task.TheVariants.{Backup}
-use Rattle.nb_session.proofs.OthersLaws.{refusal_said}
 use Rattle.nb_session.proofs.copies.back_up_on.Goals as goal
 
 pub returns-in-Ok-More-clause-turn : goal.returns-in-Ok-More-clause-turn
@@ -148,81 +140,3 @@ returns-in-Err-Memory-clause-turn g c how now t more tells ready makes here goes
     (turn_acts old mid a b t now session copier later ready goes.0 goes.1 c.in-Err-Memory.ensures.goes (g.met.H.Host.reads_left c.args.host.now tells copier.backing.name) (Err Memory) turns asked.0 asked.1 tt)
     (marks_made (λ progress. None) (Err Memory) old mid a b t now session (copy_first rest (ClosesBackup copier.backing)) _ (apart_one a copier.backing.name _ goes.1) (g.met.H.Host.reads_left c.turn.new.host tells))
     (Err Memory) refl
-
-pub returns-in-Ok-More-clause-stays_open : goal.returns-in-Ok-More-clause-stays_open
-returns-in-Ok-More-clause-stays_open g c tells still aside =
-    let old = g.H.Host.world c.args.host.now in
-    let mid = g.H.Host.world c.turn.new.host in
-    let a = c.args.engine.now in
-    let b = c.turn.new.engine in
-    let t = still.trail in
-    let copier : Backed = c.args.copier.now in
-    let later : Backed = c.turn.new.self in
-    let stays = stays_among old mid a b (Ok More) (Only copier.backing.name) (TaskMakes (Some (Backup copier))) (λ m is. is)
-    (subst (λ (p : Progress). StaysOpen (Ok p) old mid a b t (Only copier.backing.name)) c.in-Ok-More.field-0-is (c.in-Ok-More.ensures.stays_open t tells still.opened aside)) in
-    let same = ap (λ (x : Backed). x.backing.name) c.in-Ok-More.ensures.same in
-    turn_unheard old mid a b (TaskMakes (Some (Backup copier))) still (Ok More) stays left_refused (left_task _) Same b tt refl (aside_named a b copier.backing.name later.backing.name stays.name same aside) (λ m makes. makes ∙ same) refl
-
-pub returns-in-Ok-Finished-clause-stays_open : goal.returns-in-Ok-Finished-clause-stays_open
-returns-in-Ok-Finished-clause-stays_open g c tells still aside =
-    let old = g.H.Host.world c.args.host.now in
-    let mid = g.H.Host.world c.turn.new.host in
-    let a = c.args.engine.now in
-    let b = c.turn.new.engine in
-    let t = still.trail in
-    let copier : Backed = c.args.copier.now in
-    turn_unheard old mid a b (TaskMakes (Some (Backup copier))) still (Ok Finished) (stays_among old mid a b (Ok Finished) (Only copier.backing.name) (TaskMakes (Some (Backup copier))) (λ m is. is)
-    (subst (λ (p : Progress). StaysOpen (Ok p) old mid a b t (Only copier.backing.name)) c.in-Ok-Finished.field-0-is (c.in-Ok-Finished.ensures.stays_open t tells still.opened aside))) left_refused (left_task _) (Other c.under_way.result) b tt refl
-    (subst (λ (x : Taken). TaskStays b x.task) (sym c.under_way.ensures) tt) (λ m makes. absurd (subst (λ (x : Taken). TaskMakes x.task m) c.under_way.ensures makes)) (ap (λ (x : Taken). x.refused) c.under_way.ensures)
-
-pub returns-in_err-say_refused-in-Err-Refused-clause-stays_open : goal.returns-in_err-say_refused-in-Err-Refused-clause-stays_open
-returns-in_err-say_refused-in-Err-Refused-clause-stays_open g c tells still aside =
-    let old = g.H.Host.world c.args.host.now in
-    let mid = g.H.Host.world c.turn.new.host in
-    let a = c.args.engine.now in
-    let b = c.turn.new.engine in
-    let t = still.trail in
-    let copier : Backed = c.args.copier.now in
-    let refusal = c.in-Err-Refused.refusal in
-    turn_unsaid old mid a b (TaskMakes (Some (Backup copier))) still (Err (Refused refusal)) (stays_among old mid a b (Err (Refused refusal)) (Only copier.backing.name) (TaskMakes (Some (Backup copier))) (λ m is. is)
-    (subst (λ (f : Fault). StaysOpen {T = Progress} (Err f) old mid a b t (Only copier.backing.name)) c.in-Err-Refused.field-0-is (c.in-Err-Refused.ensures.stays_open t tells still.opened aside))) left_refused (left_task _)
-    (g.H.Host.world c.say_refused.new.host) c.say_refused.result _ (g.met.H.Host.timely c.say_refused.new.host) (g.met.H.Host.reads_left c.say_refused.new.host tells) (c.say_refused.ensures.line tells) c.stop_running.new.engine c.stop_running.ensures.same c.from_residual.result c.from_residual.ensures.0
-
-pub returns-in_ok-say_refused-in-Err-Refused-clause-stays_open : goal.returns-in_ok-say_refused-in-Err-Refused-clause-stays_open
-returns-in_ok-say_refused-in-Err-Refused-clause-stays_open g c tells still aside =
-    let old = g.H.Host.world c.args.host.now in
-    let mid = g.H.Host.world c.turn.new.host in
-    let a = c.args.engine.now in
-    let b = c.turn.new.engine in
-    let t = still.trail in
-    let copier : Backed = c.args.copier.now in
-    let refusal = c.in-Err-Refused.refusal in
-    let d = c.stop_running.new.engine in
-    let taken = c.in_ok-say_refused-in-Err-Refused.ensures.taken in
-    turn_said old mid a b (TaskMakes (Some (Backup copier))) still (Err (Refused refusal)) (stays_among old mid a b (Err (Refused refusal)) (Only copier.backing.name) (TaskMakes (Some (Backup copier))) (λ m is. is)
-    (subst (λ (f : Fault). StaysOpen {T = Progress} (Err f) old mid a b t (Only copier.backing.name)) c.in-Err-Refused.field-0-is (c.in-Err-Refused.ensures.stays_open t tells still.opened aside))) left_refused (left_task _)
-    (g.H.Host.world c.say_refused.new.host) c.say_refused.result _ (g.met.H.Host.timely c.say_refused.new.host) (g.met.H.Host.reads_left c.say_refused.new.host tells) (c.say_refused.ensures.line tells) d c.stop_running.ensures.same (Other c.in_ok-say_refused-in-Err-Refused.field-0) tt
-    (subst (λ (x : Taken). TaskStays d x.task) (sym taken) tt) (λ m makes. absurd (subst (λ (x : Taken). TaskMakes x.task m) taken makes))
-    (λ yes. refusal_said mid (g.H.Host.world c.say_refused.new.host) c.args.session refusal (c.in_ok-say_refused-in-Err-Refused.ensures.line tells).said)
-
-pub returns-in-Err-Device-clause-stays_open : goal.returns-in-Err-Device-clause-stays_open
-returns-in-Err-Device-clause-stays_open g c tells still aside =
-    let old = g.H.Host.world c.args.host.now in
-    let mid = g.H.Host.world c.turn.new.host in
-    let a = c.args.engine.now in
-    let b = c.turn.new.engine in
-    let t = still.trail in
-    let copier : Backed = c.args.copier.now in
-    turn_failed old mid a b (TaskMakes (Some (Backup copier))) still (Err Device) (stays_among old mid a b (Err Device) (Only copier.backing.name) (TaskMakes (Some (Backup copier))) (λ m is. is)
-    (subst (λ (f : Fault). StaysOpen {T = Progress} (Err f) old mid a b t (Only copier.backing.name)) c.in-Err-Device.field-0-is (c.in-Err-Device.ensures.stays_open t tells still.opened aside))) left_refused (left_task _) (Err Device) refl
-
-pub returns-in-Err-Memory-clause-stays_open : goal.returns-in-Err-Memory-clause-stays_open
-returns-in-Err-Memory-clause-stays_open g c tells still aside =
-    let old = g.H.Host.world c.args.host.now in
-    let mid = g.H.Host.world c.turn.new.host in
-    let a = c.args.engine.now in
-    let b = c.turn.new.engine in
-    let t = still.trail in
-    let copier : Backed = c.args.copier.now in
-    turn_failed old mid a b (TaskMakes (Some (Backup copier))) still (Err Memory) (stays_among old mid a b (Err Memory) (Only copier.backing.name) (TaskMakes (Some (Backup copier))) (λ m is. is)
-    (subst (λ (f : Fault). StaysOpen {T = Progress} (Err f) old mid a b t (Only copier.backing.name)) c.in-Err-Memory.field-0-is (c.in-Err-Memory.ensures.stays_open t tells still.opened aside))) left_refused (left_task _) (Err Memory) refl

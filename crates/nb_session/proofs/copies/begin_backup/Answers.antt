@@ -1,4 +1,4 @@
-use Rattle.std.proofs.Common.{[], refl, sym, ap, subst, ◌∙◌}
+use Rattle.std.proofs.Common.{[], refl, sym, ap, subst}
 use Rattle.std.specs.Prelude.{Ok, Err, None}
 use Rattle.nb_host.specs.declared.faults.Fault.{Fault}
 use Rattle.nb_host.specs.declared.faults.Fault.TheVariants.{Refused, Device, Memory}
@@ -14,12 +14,6 @@ use Rattle.nb_session.proofs.BackupLaws.{file_plain, no_delta, seen_with, knows_
 use Rattle.nb_session.proofs.EventLaws.{marks_made}
 use Rattle.nb_session.proofs.TouchingLaws.{start_touch}
 use Rattle.nb_session.proofs.TurnLaws.{turns_failed, turns_quiet, turns_refused, status_told}
-use Rattle.nb_change.specs.Changes.{Only}
-use Rattle.nb_engine.proofs.StaysLaws.{stays_among}
-use Rattle.nb_engine.specs.Stays.{StaysOpen}
-use Rattle.nb_session.proofs.StayLaws.{asks_file, aside_then, turn_failed, turn_refused, turn_unheard}
-use Rattle.nb_session.specs.MadeNames.{Asks, TaskMakes}
-use Rattle.nb_session.specs.StillOpen.{TaskStays}
 use Rattle.nb_session.proofs.copies.begin_backup.Goals as goal
 
 pub returns-in-Ok-clause-turn : goal.returns-in-Ok-clause-turn
@@ -94,53 +88,3 @@ returns-in-Err-Memory-clause-turn g c how now t more tells ready makes here =
     (c.in-Err-Memory.ensures.turn (seen_with now given) t tells ready.base ready.running ready.opened (knows_free old a t now (file_asked it) ready makes.going plain) (no_delta a (file_asked it) plain) most) in
     turns_failed how (λ copier. None) (Err Memory) (λ (taken : Taken). taken.refused) (λ (taken : Taken). taken.task) old mid mid a b t now session (Begins it) [] more (begun_in session (Begins it) now) (start_touch session it now) makes here
     (start_acts old mid a b t now session it asks ready (Err Memory) starts asked.0 asked.2 asked.1 c.start.ensures.cap) (marks_made (λ (copier : Backed). None) (Err Memory) old mid a b t now session (Begins it) (begun_in session (Begins it) now) (start_apart old mid a b t now session it asks ready plain) (λ m. g.met.H.Host.reads_left c.start.new.host tells m)) (Err Memory) refl
-
-pub returns-in-Ok-clause-stays_open : goal.returns-in-Ok-clause-stays_open
-returns-in-Ok-clause-stays_open g c tells still =
-    let old = g.H.Host.world c.args.host.now in
-    let mid = g.H.Host.world c.start.new.host in
-    let a = c.args.engine.now in
-    let b = c.start.new.engine in
-    let t = still.trail in
-    let it = c.args.statement.now in
-    let stays = stays_among old mid a b (Ok c.in-Ok.copier) (Only (file_asked it)) (Asks it) (λ m same. asks_file it m c.requires.backup same) (c.in-Ok.ensures.stays_open t tells still.opened (no_delta a (file_asked it) (file_plain it c.requires.backup c.requires.asked.fits))) in
-    let named = c.in-Ok.ensures.named in
-    let plain = file_plain it c.requires.backup c.requires.asked.fits in
-    turn_unheard old mid a b (Asks it) still (Ok c.in-Ok.copier) stays (λ (taken : Taken). taken.refused) (λ (taken : Taken). taken.task) c.under_way.result b tt refl
-    (subst (λ (x : Taken). TaskStays b x.task) (sym c.under_way.ensures) (aside_then old a b t (file_asked it) c.in-Ok.copier.backing.name still.opened (c.in-Ok.ensures.free tells) plain named stays.name))
-    (λ m makes. asks_file it m c.requires.backup (subst (λ (x : Taken). TaskMakes x.task m) c.under_way.ensures makes ∙ named)) (ap (λ (x : Taken). x.refused) c.under_way.ensures)
-
-pub returns-in-Err-Refused-clause-stays_open : goal.returns-in-Err-Refused-clause-stays_open
-returns-in-Err-Refused-clause-stays_open g c tells still =
-    let old = g.H.Host.world c.args.host.now in
-    let mid = g.H.Host.world c.start.new.host in
-    let a = c.args.engine.now in
-    let b = c.start.new.engine in
-    let t = still.trail in
-    let it = c.args.statement.now in
-    let refusal = c.in-Err-Refused.refusal in
-    turn_refused old mid a b (Asks it) still (Err (Refused refusal)) (stays_among old mid a b (Err (Refused refusal)) (Only (file_asked it)) (Asks it) (λ m same. asks_file it m c.requires.backup same)
-    (subst (λ (f : Fault). StaysOpen {T = Backed} (Err f) old mid a b t (Only (file_asked it))) c.in-Err-Refused.field-0-is (c.in-Err-Refused.ensures.stays_open t tells still.opened (no_delta a (file_asked it) (file_plain it c.requires.backup c.requires.asked.fits)))))
-    (g.H.Host.world c.say_refused.new.host) c.args.session refusal c.say_refused.result (g.met.H.Host.timely c.say_refused.new.host) (g.met.H.Host.reads_left c.say_refused.new.host tells) tt b refl (c.say_refused.ensures.line tells) c.say_refused.ensures.taken
-
-pub returns-in-Err-Device-clause-stays_open : goal.returns-in-Err-Device-clause-stays_open
-returns-in-Err-Device-clause-stays_open g c tells still =
-    let old = g.H.Host.world c.args.host.now in
-    let mid = g.H.Host.world c.start.new.host in
-    let a = c.args.engine.now in
-    let b = c.start.new.engine in
-    let t = still.trail in
-    let it = c.args.statement.now in
-    turn_failed old mid a b (Asks it) still (Err Device) (stays_among old mid a b (Err Device) (Only (file_asked it)) (Asks it) (λ m same. asks_file it m c.requires.backup same)
-    (subst (λ (f : Fault). StaysOpen {T = Backed} (Err f) old mid a b t (Only (file_asked it))) c.in-Err-Device.field-0-is (c.in-Err-Device.ensures.stays_open t tells still.opened (no_delta a (file_asked it) (file_plain it c.requires.backup c.requires.asked.fits))))) (λ (taken : Taken). taken.refused) (λ (taken : Taken). taken.task) (Err Device) refl
-
-pub returns-in-Err-Memory-clause-stays_open : goal.returns-in-Err-Memory-clause-stays_open
-returns-in-Err-Memory-clause-stays_open g c tells still =
-    let old = g.H.Host.world c.args.host.now in
-    let mid = g.H.Host.world c.start.new.host in
-    let a = c.args.engine.now in
-    let b = c.start.new.engine in
-    let t = still.trail in
-    let it = c.args.statement.now in
-    turn_failed old mid a b (Asks it) still (Err Memory) (stays_among old mid a b (Err Memory) (Only (file_asked it)) (Asks it) (λ m same. asks_file it m c.requires.backup same)
-    (subst (λ (f : Fault). StaysOpen {T = Backed} (Err f) old mid a b t (Only (file_asked it))) c.in-Err-Memory.field-0-is (c.in-Err-Memory.ensures.stays_open t tells still.opened (no_delta a (file_asked it) (file_plain it c.requires.backup c.requires.asked.fits))))) (λ (taken : Taken). taken.refused) (λ (taken : Taken). taken.task) (Err Memory) refl

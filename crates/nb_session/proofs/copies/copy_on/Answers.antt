@@ -1,6 +1,5 @@
 use Rattle.std.proofs.Common.{◌≡◌, ◌-◌, ◌≤◌, ℕ, refl, sym, ap, subst, ◌∙◌, arith}
-use Rattle.std.specs.Prelude.{Ok, Err, None, Some, false}
-use Rattle.std.proofs.lemmas.Bool.{true≢false}
+use Rattle.std.specs.Prelude.{Ok, Err, None}
 use Rattle.nb_host.specs.declared.faults.Fault.TheVariants.{Device}
 use Rattle.nb_model.specs.declared.reply.Reply.TheVariants.{Pages}
 use Rattle.nb_model.specs.Outcomes.{ClosesCopy}
@@ -10,17 +9,12 @@ use Rattle.nb_state.specs.declared.turns.Progress.TheVariants.{More, Finished}
 use Rattle.nb_copy.specs.Copying.{Copying}
 use Rattle.nb_copy.specs.FileCopies.{CopiesFile}
 use Rattle.nb_copy.specs.Turns.{CopyCounts}
-use Rattle.nb_session.specs.declared.task.Left.TheVariants.{Same, Other}
+use Rattle.nb_session.specs.declared.task.Left.TheVariants.{Same}
 use Rattle.nb_session.specs.Askers.{copy_first, copy_rest, left_refused, left_task}
 use Rattle.nb_session.proofs.CopyLaws.{stopped_is, copy_said, said_pages, copy_files, copy_fails, copy_more, copy_ends, more_behind, end_behind, copying_stalled, apart_one}
 use Rattle.nb_session.proofs.EventLaws.{marks_made}
 use Rattle.nb_session.proofs.ReadyLaws.{apart_files}
 use Rattle.nb_session.proofs.TurnLaws.{turns_failed, turns_quiet, turns_unsaid, turns_said}
-use Rattle.nb_change.specs.Changes.{Only}
-use Rattle.nb_engine.proofs.StaysLaws.{stays_among}
-use Rattle.nb_session.proofs.StayLaws.{aside_named, turn_failed, turn_said, turn_unheard, turn_unsaid}
-use Rattle.nb_session.specs.MadeNames.{TaskMakes}
-use Rattle.nb_session.specs.declared.task.Task.TheVariants.{Copy}
 use Rattle.nb_session.proofs.copies.copy_on.Goals as goal
 
 pub returns-in_err-turn-clause-turn : goal.returns-in_err-turn-clause-turn
@@ -113,51 +107,3 @@ returns-in_ok-tell-in-Finished-clause-turn g c now t more tells ready makes here
     (marks_made (copy_said pages) (Ok Finished) old mid a d t now c.args.session (copy_first left (ClosesCopy copy.name)) _ (apart_one a copy.name _ goes.1) (λ m. g.met.H.Host.reads_left c.turn.new.host tells m))
     tt (Pages pages) (said_pages pages Finished) c.tell.result (c.tell.ensures.line tells) ready _ (c.in_ok-tell-in-Finished.ensures.line tells).said (λ is. refl)
     (λ told. end_behind old mid a d t now c.args.session copy later pages ready goes.1 reads new left none)
-
-pub returns-in_err-turn-clause-stays_open : goal.returns-in_err-turn-clause-stays_open
-returns-in_err-turn-clause-stays_open g c tells still aside =
-    let old = g.H.Host.world c.args.host.now in
-    let mid = g.H.Host.world c.turn.new.host in
-    let a = c.args.engine.now in
-    let b = c.turn.new.engine in
-    let t = still.trail in
-    let copy : Copying = c.args.copier.now in
-    turn_failed old mid a b (TaskMakes (Some (Copy copy))) still (Err Device) (stays_among old mid a b (Err Device) (Only copy.name) (TaskMakes (Some (Copy copy))) (λ m is. is) (c.in_err-turn.ensures.stays_open (Err Device) t tells still.opened aside)) left_refused (left_task _) c.from_residual.result c.from_residual.ensures.0
-
-pub returns-in-More-clause-stays_open : goal.returns-in-More-clause-stays_open
-returns-in-More-clause-stays_open g c tells still aside =
-    let old = g.H.Host.world c.args.host.now in
-    let mid = g.H.Host.world c.turn.new.host in
-    let a = c.args.engine.now in
-    let b = c.turn.new.engine in
-    let t = still.trail in
-    let copy : Copying = c.args.copier.now in
-    let later : Copying = c.turn.new.self in
-    let stays = stays_among old mid a b (Ok More) (Only copy.name) (TaskMakes (Some (Copy copy))) (λ m is. is) (c.in_ok-turn.ensures.stays_open (Ok More) t tells still.opened aside) in
-    let counts = subst (λ (p : Progress). CopyCounts (Ok p) copy later) c.in-More.is c.in_ok-turn.ensures.counts in
-    let same : later.name ≡ copy.name = ap (λ (x : Copying). x.name) counts.1 in
-    turn_unheard old mid a b (TaskMakes (Some (Copy copy))) still (Ok More) stays left_refused (left_task _) Same b tt refl (aside_named a b copy.name later.name stays.name same aside) (λ m makes. makes ∙ same) refl
-
-pub returns-in_err-tell-in-Finished-clause-stays_open : goal.returns-in_err-tell-in-Finished-clause-stays_open
-returns-in_err-tell-in-Finished-clause-stays_open g c tells still aside =
-    let old = g.H.Host.world c.args.host.now in
-    let mid = g.H.Host.world c.turn.new.host in
-    let a = c.args.engine.now in
-    let b = c.turn.new.engine in
-    let t = still.trail in
-    let copy : Copying = c.args.copier.now in
-    turn_unsaid old mid a b (TaskMakes (Some (Copy copy))) still (Ok Finished) (stays_among old mid a b (Ok Finished) (Only copy.name) (TaskMakes (Some (Copy copy))) (λ m is. is) (c.in_ok-turn.ensures.stays_open (Ok Finished) t tells still.opened aside)) left_refused (left_task _)
-    (g.H.Host.world c.tell.new.host) c.tell.result _ (g.met.H.Host.timely c.tell.new.host) (g.met.H.Host.reads_left c.tell.new.host tells) (c.tell.ensures.line tells) c.stop_running.new.engine c.stop_running.ensures.same
-    c.from_residual-in_err-tell-in-Finished.result c.from_residual-in_err-tell-in-Finished.ensures.0
-
-pub returns-in_ok-tell-in-Finished-clause-stays_open : goal.returns-in_ok-tell-in-Finished-clause-stays_open
-returns-in_ok-tell-in-Finished-clause-stays_open g c tells still aside =
-    let old = g.H.Host.world c.args.host.now in
-    let mid = g.H.Host.world c.turn.new.host in
-    let a = c.args.engine.now in
-    let b = c.turn.new.engine in
-    let t = still.trail in
-    let copy : Copying = c.args.copier.now in
-    turn_said old mid a b (TaskMakes (Some (Copy copy))) still (Ok Finished) (stays_among old mid a b (Ok Finished) (Only copy.name) (TaskMakes (Some (Copy copy))) (λ m is. is) (c.in_ok-turn.ensures.stays_open (Ok Finished) t tells still.opened aside)) left_refused (left_task _)
-    (g.H.Host.world c.tell.new.host) c.tell.result _ (g.met.H.Host.timely c.tell.new.host) (g.met.H.Host.reads_left c.tell.new.host tells) (c.tell.ensures.line tells) c.stop_running.new.engine c.stop_running.ensures.same
-    (Other (record { task = None; refused = false })) tt tt (λ m none. absurd none) (λ yes. absurd (true≢false (sym yes)))

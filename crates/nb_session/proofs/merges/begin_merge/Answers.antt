@@ -13,11 +13,6 @@ use Rattle.nb_session.proofs.EventLaws.{marks_none}
 use Rattle.nb_session.proofs.TouchingLaws.{begins_touch}
 use Rattle.nb_session.proofs.MergeLaws.{end_acts, end_behind, end_refused}
 use Rattle.nb_session.proofs.TurnLaws.{seen_now, turns_failed, turns_quiet, turns_refused, status_told}
-use Rattle.nb_change.specs.Changes.{NoNames}
-use Rattle.nb_engine.proofs.StaysLaws.{stays_ends}
-use Rattle.nb_session.proofs.StayLaws.{seen_of, turn_failed, turn_refused, turn_unheard}
-use Rattle.nb_session.specs.MadeNames.{TaskMakes}
-use Rattle.nb_session.specs.StillOpen.{TaskStays}
 use Rattle.nb_session.proofs.merges.begin_merge.Goals as goal
 
 pub returns-in-Ok-clause-turn : goal.returns-in-Ok-clause-turn
@@ -64,50 +59,3 @@ returns-in-Err-Memory-clause-turn g c how now t more tells ready makes here =
     let does = subst (λ (f : Fault). DoesEnd (Err f) old mid a b t (end_scn t.base.image) (end_turn (seen_now now) c.args.session)) c.in-Err-Memory.field-0-is (c.in-Err-Memory.ensures.turn (seen_now now) t tells ready.base ready.running ready.opened) in
     turns_failed how (λ scn. None) (Err Memory) (λ (taken : Taken). taken.refused) (λ (taken : Taken). taken.task) old mid mid a b t now c.args.session _ [] more [] (begins_touch c.args.session EndBackup now (λ asks. asks)) makes here
     (end_acts old mid a b t now c.args.session ready (Err Memory) c.end.ensures.cap does) (λ acts. marks_none old mid a) (Err Memory) refl
-
-pub returns-in-Ok-clause-stays_open : goal.returns-in-Ok-clause-stays_open
-returns-in-Ok-clause-stays_open g c tells still =
-    let old = g.H.Host.world c.args.host.now in
-    let mid = g.H.Host.world c.end.new.host in
-    let a = c.args.engine.now in
-    let b = c.end.new.self in
-    let t = still.trail in
-    let s = seen_of t a.running in
-    turn_unheard old mid a b NoNames still (Ok c.in-Ok.scn) (stays_ends (Ok c.in-Ok.scn) old mid a b t (end_scn t.base.image) s c.args.session NoNames (c.in-Ok.ensures.turn s t tells refl refl still.opened))
-    (λ (taken : Taken). taken.refused) (λ (taken : Taken). taken.task) c.merge_of.result b tt refl (subst (λ (x : Taken). TaskStays b x.task) (sym c.merge_of.ensures) tt)
-    (λ m makes. subst (λ (x : Taken). TaskMakes x.task m) c.merge_of.ensures makes) (ap (λ (x : Taken). x.refused) c.merge_of.ensures)
-
-pub returns-in-Err-Refused-clause-stays_open : goal.returns-in-Err-Refused-clause-stays_open
-returns-in-Err-Refused-clause-stays_open g c tells still =
-    let old = g.H.Host.world c.args.host.now in
-    let mid = g.H.Host.world c.end.new.host in
-    let a = c.args.engine.now in
-    let b = c.end.new.self in
-    let t = still.trail in
-    let s = seen_of t a.running in
-    let refusal = c.in-Err-Refused.refusal in
-    turn_refused old mid a b NoNames still (Err (Refused refusal)) (stays_ends (Err (Refused refusal)) old mid a b t (end_scn t.base.image) s c.args.session NoNames
-    (subst (λ (f : Fault). DoesEnd (Err f) old mid a b t (end_scn t.base.image) (end_turn s c.args.session)) c.in-Err-Refused.field-0-is (c.in-Err-Refused.ensures.turn s t tells refl refl still.opened)))
-    (g.H.Host.world c.say_refused.new.host) c.args.session refusal c.say_refused.result (g.met.H.Host.timely c.say_refused.new.host) (g.met.H.Host.reads_left c.say_refused.new.host tells) tt b refl (c.say_refused.ensures.line tells) c.say_refused.ensures.taken
-
-pub returns-in-Err-Device-clause-stays_open : goal.returns-in-Err-Device-clause-stays_open
-returns-in-Err-Device-clause-stays_open g c tells still =
-    let old = g.H.Host.world c.args.host.now in
-    let mid = g.H.Host.world c.end.new.host in
-    let a = c.args.engine.now in
-    let b = c.end.new.self in
-    let t = still.trail in
-    let s = seen_of t a.running in
-    turn_failed old mid a b NoNames still (Err Device) (stays_ends (Err Device) old mid a b t (end_scn t.base.image) s c.args.session NoNames
-    (subst (λ (f : Fault). DoesEnd (Err f) old mid a b t (end_scn t.base.image) (end_turn s c.args.session)) c.in-Err-Device.field-0-is (c.in-Err-Device.ensures.turn s t tells refl refl still.opened))) (λ (taken : Taken). taken.refused) (λ (taken : Taken). taken.task) (Err Device) refl
-
-pub returns-in-Err-Memory-clause-stays_open : goal.returns-in-Err-Memory-clause-stays_open
-returns-in-Err-Memory-clause-stays_open g c tells still =
-    let old = g.H.Host.world c.args.host.now in
-    let mid = g.H.Host.world c.end.new.host in
-    let a = c.args.engine.now in
-    let b = c.end.new.self in
-    let t = still.trail in
-    let s = seen_of t a.running in
-    turn_failed old mid a b NoNames still (Err Memory) (stays_ends (Err Memory) old mid a b t (end_scn t.base.image) s c.args.session NoNames
-    (subst (λ (f : Fault). DoesEnd (Err f) old mid a b t (end_scn t.base.image) (end_turn s c.args.session)) c.in-Err-Memory.field-0-is (c.in-Err-Memory.ensures.turn s t tells refl refl still.opened))) (λ (taken : Taken). taken.refused) (λ (taken : Taken). taken.task) (Err Memory) refl

@@ -1,7 +1,7 @@
 use Rattle.std.proofs.Common.{[], length, refl, sym, ap, subst}
 use Rattle.std.specs.Prelude.{Ok, Err, Some, None}
 use Rattle.nb_host.specs.declared.faults.Fault.{Fault}
-use Rattle.nb_host.specs.declared.faults.Fault.TheVariants.{Device, Memory, Refused}
+use Rattle.nb_host.specs.declared.faults.Fault.TheVariants.{Device, Memory}
 use Rattle.nb_model.specs.declared.reply.Reply.{Reply}
 use Rattle.nb_model.specs.Outcomes.{Ends}
 use Rattle.nb_model.specs.Pages.{end_turn, end_scn}
@@ -15,12 +15,6 @@ use Rattle.nb_session.proofs.EventLaws.{marks_none}
 use Rattle.nb_session.proofs.TouchingLaws.{ends_touch}
 use Rattle.nb_session.proofs.MergeLaws.{ends_acts, ends_behind, ends_quiet, ends_unrefused}
 use Rattle.nb_session.proofs.TurnLaws.{seen_now, turns_failed, turns_quiet, turns_never}
-use Rattle.nb_change.specs.Changes.{NoNames}
-use Rattle.nb_engine.proofs.StaysLaws.{stays_ends}
-use Rattle.nb_session.proofs.StayLaws.{seen_of, turn_failed, turn_said, turn_unheard, turn_unsaid}
-use Rattle.nb_session.proofs.OthersLaws.{refusal_said}
-use Rattle.nb_session.specs.MadeNames.{TaskMakes}
-use Rattle.nb_session.specs.StillOpen.{TaskStays}
 use Rattle.nb_session.proofs.merges.end_backup.Goals as goal
 
 pub returns-in-Ok-clause-turn : goal.returns-in-Ok-clause-turn
@@ -79,66 +73,3 @@ returns-in-Err-Memory-clause-turn g c how now t more tells ready makes here runs
     let does = subst (λ (f : Fault). DoesEnd (Err f) old mid a b t (end_scn t.base.image) (end_turn (seen_now now) c.args.session)) c.in-Err-Memory.field-0-is (c.in-Err-Memory.ensures.turn (seen_now now) t tells ready.base ready.running ready.opened) in
     turns_failed how (λ scn. None) (Err Memory) left_refused (left_task _) old mid mid a b t now c.args.session (Ends c.args.reply.now) [] more [] (ends_touch c.args.session c.args.reply.now now) makes here
     (ends_acts old mid a b t now c.args.session ready c.args.reply.now quiet (Err Memory) c.end.ensures.cap does) (λ acts. marks_none old mid a) (Err Memory) refl
-
-pub returns-in-Ok-clause-stays_open : goal.returns-in-Ok-clause-stays_open
-returns-in-Ok-clause-stays_open g c tells still =
-    let old = g.H.Host.world c.args.host.now in
-    let mid = g.H.Host.world c.end.new.host in
-    let a = c.args.engine.now in
-    let b = c.end.new.self in
-    let t = still.trail in
-    let s = seen_of t a.running in
-    turn_unheard old mid a b NoNames still (Ok c.in-Ok.field-0) (stays_ends (Ok c.in-Ok.field-0) old mid a b t (end_scn t.base.image) s c.args.session NoNames (c.in-Ok.ensures.turn s t tells refl refl still.opened))
-    left_refused (left_task _) (Other c.merge_of.result) b tt refl (subst (λ (x : Taken). TaskStays b x.task) (sym c.merge_of.ensures) tt)
-    (λ m makes. subst (λ (x : Taken). TaskMakes x.task m) c.merge_of.ensures makes) (ap (λ (x : Taken). x.refused) c.merge_of.ensures)
-
-pub returns-in_err-say_refused-in-Err-Refused-clause-stays_open : goal.returns-in_err-say_refused-in-Err-Refused-clause-stays_open
-returns-in_err-say_refused-in-Err-Refused-clause-stays_open g c tells still =
-    let old = g.H.Host.world c.args.host.now in
-    let mid = g.H.Host.world c.end.new.host in
-    let a = c.args.engine.now in
-    let b = c.end.new.self in
-    let t = still.trail in
-    let s = seen_of t a.running in
-    let refusal = c.in-Err-Refused.refusal in
-    turn_unsaid old mid a b NoNames still (Err (Refused refusal)) (stays_ends (Err (Refused refusal)) old mid a b t (end_scn t.base.image) s c.args.session NoNames
-    (subst (λ (f : Fault). DoesEnd (Err f) old mid a b t (end_scn t.base.image) (end_turn s c.args.session)) c.in-Err-Refused.field-0-is (c.in-Err-Refused.ensures.turn s t tells refl refl still.opened))) left_refused (left_task _)
-    (g.H.Host.world c.say_refused.new.host) c.say_refused.result _ (g.met.H.Host.timely c.say_refused.new.host) (g.met.H.Host.reads_left c.say_refused.new.host tells) (c.say_refused.ensures.line tells) b refl c.from_residual.result c.from_residual.ensures.0
-
-pub returns-in_ok-say_refused-in-Err-Refused-clause-stays_open : goal.returns-in_ok-say_refused-in-Err-Refused-clause-stays_open
-returns-in_ok-say_refused-in-Err-Refused-clause-stays_open g c tells still =
-    let old = g.H.Host.world c.args.host.now in
-    let mid = g.H.Host.world c.end.new.host in
-    let a = c.args.engine.now in
-    let b = c.end.new.self in
-    let t = still.trail in
-    let s = seen_of t a.running in
-    let refusal = c.in-Err-Refused.refusal in
-    let taken = c.in_ok-say_refused-in-Err-Refused.ensures.taken in
-    turn_said old mid a b NoNames still (Err (Refused refusal)) (stays_ends (Err (Refused refusal)) old mid a b t (end_scn t.base.image) s c.args.session NoNames
-    (subst (λ (f : Fault). DoesEnd (Err f) old mid a b t (end_scn t.base.image) (end_turn s c.args.session)) c.in-Err-Refused.field-0-is (c.in-Err-Refused.ensures.turn s t tells refl refl still.opened))) left_refused (left_task _)
-    (g.H.Host.world c.say_refused.new.host) c.say_refused.result _ (g.met.H.Host.timely c.say_refused.new.host) (g.met.H.Host.reads_left c.say_refused.new.host tells) (c.say_refused.ensures.line tells) b refl (Other c.in_ok-say_refused-in-Err-Refused.field-0) tt
-    (subst (λ (x : Taken). TaskStays b x.task) (sym taken) tt) (λ m makes. subst (λ (x : Taken). TaskMakes x.task m) taken makes)
-    (λ yes. refusal_said mid (g.H.Host.world c.say_refused.new.host) c.args.session refusal (c.in_ok-say_refused-in-Err-Refused.ensures.line tells).said)
-
-pub returns-in-Err-Device-clause-stays_open : goal.returns-in-Err-Device-clause-stays_open
-returns-in-Err-Device-clause-stays_open g c tells still =
-    let old = g.H.Host.world c.args.host.now in
-    let mid = g.H.Host.world c.end.new.host in
-    let a = c.args.engine.now in
-    let b = c.end.new.self in
-    let t = still.trail in
-    let s = seen_of t a.running in
-    turn_failed old mid a b NoNames still (Err Device) (stays_ends (Err Device) old mid a b t (end_scn t.base.image) s c.args.session NoNames
-    (subst (λ (f : Fault). DoesEnd (Err f) old mid a b t (end_scn t.base.image) (end_turn s c.args.session)) c.in-Err-Device.field-0-is (c.in-Err-Device.ensures.turn s t tells refl refl still.opened))) left_refused (left_task _) (Err Device) refl
-
-pub returns-in-Err-Memory-clause-stays_open : goal.returns-in-Err-Memory-clause-stays_open
-returns-in-Err-Memory-clause-stays_open g c tells still =
-    let old = g.H.Host.world c.args.host.now in
-    let mid = g.H.Host.world c.end.new.host in
-    let a = c.args.engine.now in
-    let b = c.end.new.self in
-    let t = still.trail in
-    let s = seen_of t a.running in
-    turn_failed old mid a b NoNames still (Err Memory) (stays_ends (Err Memory) old mid a b t (end_scn t.base.image) s c.args.session NoNames
-    (subst (λ (f : Fault). DoesEnd (Err f) old mid a b t (end_scn t.base.image) (end_turn s c.args.session)) c.in-Err-Memory.field-0-is (c.in-Err-Memory.ensures.turn s t tells refl refl still.opened))) left_refused (left_task _) (Err Memory) refl

@@ -1,5 +1,5 @@
-use Rattle.std.proofs.Common.{[], ◌++◌, refl, sym, ap, subst, ◌∙◌}
-use Rattle.std.specs.Prelude.{Ok, Err, Some, None, false}
+use Rattle.std.proofs.Common.{[], ◌++◌, refl, ap, subst, ◌∙◌}
+use Rattle.std.specs.Prelude.{Ok, Err, Some}
 use Rattle.nb_model.specs.declared.reply.Reply.{Reply}
 use Rattle.nb_session.specs.Says.{SaysLine}
 use Rattle.nb_session.specs.Told.{told_line, told_reply}
@@ -7,15 +7,11 @@ use Rattle.nb_state.specs.Turns.{Merges, GoesOn}
 use Rattle.nb_state.specs.declared.turns.Progress.{Progress}
 use Rattle.nb_state.specs.declared.turns.Progress.TheVariants.{More, Finished}
 use Rattle.nb_session.specs.Askers.{left_refused, left_task}
-use Rattle.nb_session.specs.declared.task.Left.TheVariants.{Same, Other}
+use Rattle.nb_session.specs.declared.task.Left.TheVariants.{Same}
 use Rattle.nb_session.proofs.EventLaws.{marks_none}
 use Rattle.nb_session.proofs.TouchingLaws.{merges_touch}
 use Rattle.nb_session.proofs.MergeLaws.{merge_said, merge_acts, more_behind, finished_behind}
 use Rattle.nb_session.proofs.TurnLaws.{turns_failed, turns_quiet, turns_unsaid, turns_said, status_none}
-use Rattle.nb_change.specs.Changes.{NoNames}
-use Rattle.nb_engine.proofs.StaysLaws.{stays_merges}
-use Rattle.nb_session.proofs.StayLaws.{turn_failed, turn_said, turn_unheard, turn_unsaid}
-use Rattle.std.proofs.lemmas.Bool.{true≢false}
 use Rattle.nb_session.proofs.merges.merge_on.Goals as goal
 
 pub returns-in_err-merge_turn-clause-turn : goal.returns-in_err-merge_turn-clause-turn
@@ -68,46 +64,3 @@ returns-in_ok-tell-in-Finished-clause-turn g c now t more tells ready makes here
     (merge_acts old mid a b t now c.args.session m.reply ready c.merge_turn.ensures.cap (Ok Finished) tt m.left c.requires.fits.0 merges) (λ acts. marks_none old mid a)
     tt m.reply (λ said is. is) c.tell.result (subst (λ (r : Reply). SaysLine c.tell.result mid (g.H.Host.world c.tell.new.host) (told_line c.args.session (told_reply c.args.told (Some r)))) c.replace-reply.ensures.value (c.tell.ensures.line tells)) ready _ ((c.in_ok-tell-in-Finished.ensures.line tells).said ∙ ap (λ (r : Reply). mid.said ++ told_line c.args.session (told_reply c.args.told (Some r))) c.replace-reply.ensures.value) (λ is. status_none m.reply c.requires.fits.1)
     (λ told. finished_behind c.args.session m.reply a b new now m.left c.requires.fits.0 goes)
-
-pub returns-in_err-merge_turn-clause-stays_open : goal.returns-in_err-merge_turn-clause-stays_open
-returns-in_err-merge_turn-clause-stays_open g c tells still =
-    let old = g.H.Host.world c.args.host.now in
-    let mid = g.H.Host.world c.merge_turn.new.host in
-    let a = c.args.engine.now in
-    let b = c.merge_turn.new.self in
-    let t = still.trail in
-    let fault = c.in_err-merge_turn.field-0.0 in
-    let merges = c.in_err-merge_turn.ensures.merges t tells still.opened in
-    turn_failed old mid a b NoNames still (Err fault) (stays_merges (Err fault) old mid a b t NoNames c.in_err-merge_turn.ensures.not_refused merges) left_refused (left_task _) c.from_residual.result c.from_residual.ensures.0
-
-pub returns-in-More-clause-stays_open : goal.returns-in-More-clause-stays_open
-returns-in-More-clause-stays_open g c tells still =
-    let old = g.H.Host.world c.args.host.now in
-    let mid = g.H.Host.world c.merge_turn.new.host in
-    let a = c.args.engine.now in
-    let b = c.merge_turn.new.self in
-    let t = still.trail in
-    let merges = subst (λ (p : Progress). Merges (Ok p) old mid a b t) c.in-More.is (c.in_ok-merge_turn.ensures.merges t tells still.opened) in
-    turn_unheard old mid a b NoNames still (Ok More) (stays_merges (Ok More) old mid a b t NoNames tt merges) left_refused (left_task _) Same b tt refl tt (λ m none. none) refl
-
-pub returns-in_err-tell-in-Finished-clause-stays_open : goal.returns-in_err-tell-in-Finished-clause-stays_open
-returns-in_err-tell-in-Finished-clause-stays_open g c tells still =
-    let old = g.H.Host.world c.args.host.now in
-    let mid = g.H.Host.world c.merge_turn.new.host in
-    let a = c.args.engine.now in
-    let b = c.merge_turn.new.self in
-    let t = still.trail in
-    let merges = subst (λ (p : Progress). Merges (Ok p) old mid a b t) c.in-Finished.is (c.in_ok-merge_turn.ensures.merges t tells still.opened) in
-    turn_unsaid old mid a b NoNames still (Ok Finished) (stays_merges (Ok Finished) old mid a b t NoNames tt merges) left_refused (left_task _)
-    (g.H.Host.world c.tell.new.host) c.tell.result _ (g.met.H.Host.timely c.tell.new.host) (g.met.H.Host.reads_left c.tell.new.host tells) (c.tell.ensures.line tells) b refl c.from_residual-in_err-tell-in-Finished.result c.from_residual-in_err-tell-in-Finished.ensures.0
-
-pub returns-in_ok-tell-in-Finished-clause-stays_open : goal.returns-in_ok-tell-in-Finished-clause-stays_open
-returns-in_ok-tell-in-Finished-clause-stays_open g c tells still =
-    let old = g.H.Host.world c.args.host.now in
-    let mid = g.H.Host.world c.merge_turn.new.host in
-    let a = c.args.engine.now in
-    let b = c.merge_turn.new.self in
-    let t = still.trail in
-    let merges = subst (λ (p : Progress). Merges (Ok p) old mid a b t) c.in-Finished.is (c.in_ok-merge_turn.ensures.merges t tells still.opened) in
-    turn_said old mid a b NoNames still (Ok Finished) (stays_merges (Ok Finished) old mid a b t NoNames tt merges) left_refused (left_task _)
-    (g.H.Host.world c.tell.new.host) c.tell.result _ (g.met.H.Host.timely c.tell.new.host) (g.met.H.Host.reads_left c.tell.new.host tells) (c.tell.ensures.line tells) b refl (Other (record { task = None; refused = false })) tt tt (λ m none. none) (λ yes. absurd (true≢false (sym yes)))

@@ -1,5 +1,5 @@
 use Rattle.std.proofs.Common.{◌≡◌, ℕ, ◌-◌, List, [], ◌∷◌, sym, subst}
-use Rattle.std.specs.Prelude.{Result, Bool, None, Ok}
+use Rattle.std.specs.Prelude.{Result, Bool, None}
 use Rattle.std.specs.List.{slice_index_or}
 use Rattle.nb_host.specs.World.{World}
 use Rattle.nb_host.specs.declared.faults.Fault.{Fault}
@@ -13,10 +13,6 @@ use Rattle.nb_session.specs.declared.told.Told.{Told}
 use Rattle.nb_session.specs.Askers.{TaskFits}
 use Rattle.nb_session.specs.Steps.{Turns}
 use Rattle.nb_session.proofs.TurnLaws.{handed_turns, handed_none, handed_counts, handed_failure}
-use Rattle.nb_change.specs.Changes.{NoNames}
-use Rattle.nb_session.proofs.StayLaws.{turn_among, turn_handed}
-use Rattle.nb_session.specs.MadeNames.{Asks}
-use Rattle.nb_session.specs.StillOpen.{TurnStays}
 use Rattle.nb_session.proofs.session.begin_statement.Goals as goal
 
 -- the first turn of a statement
@@ -44,12 +40,6 @@ returns-in_err-refused-in_default g c =
       turn = λ now t more tells ready makes here.
           handed_turns fault answer handed c.args.told (λ (refused : Bool). refused) (λ (refused : Bool). None) (g.H.Host.world c.args.host.now) (g.H.Host.world c.answer.new.host) c.args.engine.now c.answer.new.engine t now c.args.session (Begins c.args.statement.now) [] more
           (c.in_err-refused-in_default.ensures.turn now t more tells ready makes here);
-      stays_open = λ tells still.
-          let old = g.H.Host.world c.args.host.now in
-          let new = g.H.Host.world c.answer.new.host in
-          turn_among old new c.args.engine.now c.answer.new.engine (λ (x : Taken). x.refused) (λ (x : Taken). x.task) answer NoNames (Asks c.args.statement.now) (λ m none. absurd none)
-          (turn_handed old new c.args.engine.now c.answer.new.engine (λ (refused : Bool). refused) (λ (x : Taken). x.refused) (λ (refused : Bool). None) (λ (x : Taken). x.task) fault answer NoNames handed.0
-          (c.in_err-refused-in_default.ensures.stays_open tells still));
       fits = handed_none fault answer handed (λ (taken : Taken). TaskFits c.args.session taken.task c.answer.new.engine);
       others = c.answer.ensures.others c.args.session;
       cause = handed_counts fault answer handed Bool _ _ c.in_err-refused-in_default.ensures.cause;
@@ -61,26 +51,8 @@ returns-in_ok-refused-in_default g c = record {
   turn = λ now t more tells ready makes here.
       let turns = c.in_ok-refused-in_default.ensures.turn now t more tells ready makes here in
       record { grows = turns.grows; plays = turns.plays; unchanged = turns.unchanged; behind = turns.behind };
-  stays_open = λ tells still.
-      let old = g.H.Host.world c.args.host.now in
-      let new = g.H.Host.world c.answer.new.host in
-      let turn = c.in_ok-refused-in_default.ensures.stays_open tells still in
-      turn_among old new c.args.engine.now c.answer.new.engine (λ (x : Taken). x.refused) (λ (x : Taken). x.task) (Ok (record { task = None; refused = c.in_ok-refused-in_default.refused })) NoNames (Asks c.args.statement.now)
-      (λ m none. absurd none) (record { leaves = turn.leaves; name = turn.name; opened = turn.opened; goes = tt; makes = λ m none. none; says = turn.says });
   fits = tt;
   others = c.answer.ensures.others c.args.session;
   cause = c.in_ok-refused-in_default.ensures.cause;
   not_refused = tt;
 }
-
-pub returns-in-EndBackup-clause-stays_open : goal.returns-in-EndBackup-clause-stays_open
-returns-in-EndBackup-clause-stays_open g c tells still =
-    turn_among (g.H.Host.world c.args.host.now) (g.H.Host.world c.begin_merge.new.host) c.args.engine.now c.begin_merge.new.engine (λ (x : Taken). x.refused) (λ (x : Taken). x.task) c.begin_merge.result NoNames (Asks c.args.statement.now) (λ m none. absurd none)
-    (c.begin_merge.ensures.stays_open tells still)
-
-pub returns-in-Backup-clause-stays_open : goal.returns-in-Backup-clause-stays_open
-returns-in-Backup-clause-stays_open g c tells still = c.begin_backup.ensures.stays_open tells still
-
-pub returns-in-CopyTo-clause-stays_open : goal.returns-in-CopyTo-clause-stays_open
-returns-in-CopyTo-clause-stays_open g c tells still =
-    subst (λ (x : Statement). TurnStays (λ (x : Taken). x.refused) (λ (x : Taken). x.task) c.begin_copy.result (g.H.Host.world c.args.host.now) (g.H.Host.world c.begin_copy.new.host) c.args.engine.now c.begin_copy.new.engine (Asks x)) (sym c.in-CopyTo.is) (c.begin_copy.ensures.stays_open tells still)

@@ -1,4 +1,4 @@
-use Rattle.std.proofs.Common.{ap, refl, subst, sym, ◌++◌}
+use Rattle.std.proofs.Common.{ap, refl, subst, sym}
 use Rattle.std.specs.Prelude.{Bool, Ok, Err}
 use Rattle.nb_host.specs.declared.faults.Fault.TheVariants.{Refused, Device, Memory}
 use Rattle.nb_sched.specs.Turns.{scene}
@@ -6,9 +6,6 @@ use Rattle.nb_session.specs.declared.stop.Stop.TheVariants.{Device as DeviceStop
 use Rattle.nb_session.specs.Askers.{first_askers}
 use Rattle.nb_session.specs.Todo.{PlaysInTurn}
 use Rattle.nb_session.proofs.WholeLaws.{turns_as, first_ready, whole_shown, whole_played, whole_failed, whole_grows, whole_counts, never_refused}
-use Rattle.nb_model.specs.Run.{rounds}
-use Rattle.nb_session.specs.StillOpen.{ScriptStays}
-use Rattle.nb_session.proofs.SceneStays.{script_failed, script_stays}
 use Rattle.nb_session.proofs.sessions.play.Goals as goal
 
 pub take_turns-requires-clause-ready : goal.take_turns-requires-clause-ready
@@ -88,22 +85,3 @@ unreachable-requires g c =
     let whole = c.in-Err-Refused.ensures.turns in
     never_refused g.H.Host.tells g.H.Host.world g.H.Host.faults _ _ (scene c.take_turns.new.agents c.take_turns.new.host c.take_turns.new.shared) c.in-Err-Refused.field-0-0
     (turns_as g.H.Host.tells g.H.Host.world g.H.Host.faults c.args.script.now.schedule _ (first_askers c.args.told c.args.script.now) _ whole.0 c.args.host.now c.args.engine.now (Err (Refused c.in-Err-Refused.field-0-0)) _ _ c.schedule.ensures c.sessions_of-all.ensures (ap Err c.in-Err-Refused.field-0-is) whole.1)
-
-pub returns-in-Ok-clause-stays_open : goal.returns-in-Ok-clause-stays_open
-returns-in-Ok-clause-stays_open g c tells still =
-    let whole = c.in-Ok.ensures.turns in
-    subst (λ (b : Bool). ScriptStays (Ok b) (g.H.Host.world c.args.host.now) (g.H.Host.world c.take_turns.new.host) c.args.engine.now c.take_turns.new.shared c.args.script.now) (sym c.any_refused.ensures)
-    (script_stays g.H.Host.tells tells g.H.Host.world g.H.Host.faults c.args.host.now c.args.engine.now c.args.script.now c.args.told (g.met.H.Host.timely c.args.host.now) still (c.args.script.now.schedule ++ rounds whole.0)
-    (scene c.take_turns.new.agents c.take_turns.new.host c.take_turns.new.shared) (turns_as g.H.Host.tells g.H.Host.world g.H.Host.faults c.args.script.now.schedule _ (first_askers c.args.told c.args.script.now) _ whole.0 c.args.host.now c.args.engine.now (Ok tt) _ _ c.schedule.ensures c.sessions_of-all.ensures refl whole.1))
-
-pub returns-in-Err-Device-clause-stays_open : goal.returns-in-Err-Device-clause-stays_open
-returns-in-Err-Device-clause-stays_open g c tells still =
-    let whole = c.in-Err-Device.ensures.turns in
-    script_failed g.H.Host.tells tells g.H.Host.world g.H.Host.faults c.args.host.now c.args.engine.now c.args.script.now c.args.told (g.met.H.Host.timely c.args.host.now) still (c.args.script.now.schedule ++ rounds whole.0)
-    (scene c.take_turns.new.agents c.take_turns.new.host c.take_turns.new.shared) Device DeviceStop (turns_as g.H.Host.tells g.H.Host.world g.H.Host.faults c.args.script.now.schedule _ (first_askers c.args.told c.args.script.now) _ whole.0 c.args.host.now c.args.engine.now (Err Device) _ _ c.schedule.ensures c.sessions_of-all.ensures (ap Err c.in-Err-Device.field-0-is) whole.1)
-
-pub returns-in-Err-Memory-clause-stays_open : goal.returns-in-Err-Memory-clause-stays_open
-returns-in-Err-Memory-clause-stays_open g c tells still =
-    let whole = c.in-Err-Memory.ensures.turns in
-    script_failed g.H.Host.tells tells g.H.Host.world g.H.Host.faults c.args.host.now c.args.engine.now c.args.script.now c.args.told (g.met.H.Host.timely c.args.host.now) still (c.args.script.now.schedule ++ rounds whole.0)
-    (scene c.take_turns.new.agents c.take_turns.new.host c.take_turns.new.shared) Memory MemoryStop (turns_as g.H.Host.tells g.H.Host.world g.H.Host.faults c.args.script.now.schedule _ (first_askers c.args.told c.args.script.now) _ whole.0 c.args.host.now c.args.engine.now (Err Memory) _ _ c.schedule.ensures c.sessions_of-all.ensures (ap Err c.in-Err-Memory.field-0-is) whole.1)

@@ -1,7 +1,6 @@
-use Rattle.std.proofs.Common.{ap, []}
+use Rattle.std.proofs.Common.{ap}
 use Rattle.nb_session.proofs.GiftLaws.{grows_none, grows_joined, foretold_still}
 use Rattle.nb_session.proofs.OutLaws.{whole_out, whole_passed, whole_stopped}
-use Rattle.nb_session.proofs.SceneStays.{script_out, script_stopped}
 use Rattle.nb_session.proofs.sessions.take_turns.Goals as goal
 
 pub returns-in_err-refused-clause-plays : goal.returns-in_err-refused-clause-plays
@@ -51,16 +50,3 @@ pub returns-in-Err-clause-grows : goal.returns-in-Err-clause-grows
 returns-in-Err-clause-grows g c now t tells ready begins making =
     grows_joined (g.H.Host.world c.args.host.now) (g.H.Host.world c.play.new.host) (g.H.Host.world c.write_out.new.host) (c.play.ensures.grows now t tells ready begins making)
     (grows_none (g.H.Host.world c.play.new.host) (g.H.Host.world c.write_out.new.host) c.write_out.ensures.gave)
-
-pub returns-in-Ok-clause-stays_open : goal.returns-in-Ok-clause-stays_open
-returns-in-Ok-clause-stays_open g c tells still =
-    let first = c.in_ok-refused.ensures.stays_open tells still in
-    let takes = c.in-Ok.ensures.takes first.opened.trail tells first.opened.opened in
-    script_out (g.H.Host.world c.args.host.now) (g.H.Host.world c.play.new.host) (g.H.Host.world c.write_out.new.host) c.args.engine.now c.play.new.engine c.write_out.new.self c.args.script.now c.in_ok-refused.refused
-    first [] takes.left c.in-Ok.ensures.same takes.done
-
-pub returns-in-Err-clause-stays_open : goal.returns-in-Err-clause-stays_open
-returns-in-Err-clause-stays_open g c tells still =
-    let first = c.in_ok-refused.ensures.stays_open tells still in
-    script_stopped (g.H.Host.world c.args.host.now) (g.H.Host.world c.play.new.host) (g.H.Host.world c.write_out.new.host) c.args.engine.now c.play.new.engine c.write_out.new.self c.args.script.now c.in_ok-refused.refused
-    first [] (c.in-Err.ensures.takes first.opened.trail tells first.opened.opened).left c.in-Err.ensures.same _

@@ -1,5 +1,5 @@
 use Rattle.std.proofs.Common.{ℕ, [], refl, ap, sym, ◌∙◌}
-use Rattle.std.specs.Prelude.{Ok, Some, Err, None}
+use Rattle.std.specs.Prelude.{Ok, Some}
 use Rattle.nb_host.specs.declared.faults.Fault.TheVariants.{Device}
 use Rattle.nb_model.specs.declared.reply.Reply.TheVariants.{Done, PageMade, Value, Scn, ImageShown, CacheShown}
 use Rattle.nb_model.specs.Pages.{write_turn, header_turn}
@@ -13,11 +13,6 @@ use Rattle.nb_session.proofs.HeaderLaws.{header_does}
 use Rattle.nb_session.proofs.ReadyLaws.{ready_sized}
 use Rattle.nb_session.proofs.TurnLaws.{seen_now}
 use Rattle.nb_state.proofs.TurnLaws.{no_call}
-use Rattle.nb_change.specs.Changes.{NoNames}
-use Rattle.nb_model.specs.declared.reply.Reply.{Reply}
-use Rattle.nb_page.proofs.QuietLemmas.{quiet_begun}
-use Rattle.nb_engine.proofs.StaysLaws.{stays_does, stays_passed, stays_some, stays_starts, stays_still, stays_valued}
-use Rattle.nb_session.proofs.StayLaws.{seen_of, stays_out}
 use Rattle.nb_session.proofs.statement.do_statement.Goals as goal
 
 pub returns-in_err-page_write-in-Write-clause-turn : goal.returns-in_err-page_write-in-Write-clause-turn
@@ -185,99 +180,3 @@ returns-in_ok-sha256-in-ShowImage-clause-turn g c now t session tells ready =
     may_value (some_by (image_shown c.args.engine.now.files.count)) some_said _ _ _ _ t now session _ [] c.in_ok-sha256-in-ShowImage.sha256 (ImageShown c.count.result c.in_ok-sha256-in-ShowImage.sha256)
     (ap (λ (n : ℕ). Some (ImageShown n c.in_ok-sha256-in-ShowImage.sha256)) (sym pages))
     (does_acts (image_shown c.args.engine.now.files.count) _ _ _ _ _ t now session c.args.statement.now _ c.in-ShowImage.is refl refl refl _ refl ready (shown.turn s t tells ready.base ready.opened))
-
-pub returns-in_err-page_write-in-Write-clause-stays_open : goal.returns-in_err-page_write-in-Write-clause-stays_open
-returns-in_err-page_write-in-Write-clause-stays_open g c t tells is =
-    stays_passed _ _ _ _ NoNames (Unit {0}) Reply c.from_residual.result c.in_err-page_write-in-Write.field-0.0 c.from_residual.ensures (stays_does (Err c.in_err-page_write-in-Write.field-0.0) _ _ _ _ t NoNames done _ (c.in_err-page_write-in-Write.ensures.turn (seen_of t None) t tells refl is))
-
-pub returns-in_ok-page_write-in-Write-clause-stays_open : goal.returns-in_ok-page_write-in-Write-clause-stays_open
-returns-in_ok-page_write-in-Write-clause-stays_open g c t tells is =
-    stays_valued _ _ _ _ NoNames c.in_ok-page_write-in-Write.field-0 Done (stays_does (Ok c.in_ok-page_write-in-Write.field-0) _ _ _ _ t NoNames done _ (c.in_ok-page_write-in-Write.ensures.turn (seen_of t None) t tells refl is))
-
-pub returns-in_err-text-in-Read-clause-stays_open : goal.returns-in_err-text-in-Read-clause-stays_open
-returns-in_err-text-in-Read-clause-stays_open g c t tells is =
-    let found = c.in_err-text-in-Read.ensures in stays_still _ _ _ _ _ t NoNames found.same found.quiet is (found.open t tells is)
-
-pub returns-in_err-new-in-Read-clause-stays_open : goal.returns-in_err-new-in-Read-clause-stays_open
-returns-in_err-new-in-Read-clause-stays_open g c t tells is =
-    let found = c.in_ok-text-in-Read.ensures in stays_still _ _ _ _ _ t NoNames found.same found.quiet is (found.open t tells is)
-
-pub returns-in_ok-new-in-Read-clause-stays_open : goal.returns-in_ok-new-in-Read-clause-stays_open
-returns-in_ok-new-in-Read-clause-stays_open g c t tells is =
-    let found = c.in_ok-text-in-Read.ensures in stays_still _ _ _ _ _ t NoNames found.same found.quiet is (found.open t tells is)
-
-pub returns-in_err-page-in-PageNew-clause-stays_open : goal.returns-in_err-page-in-PageNew-clause-stays_open
-returns-in_err-page-in-PageNew-clause-stays_open g c t tells is =
-    stays_passed _ _ _ _ NoNames ℕ Reply c.from_residual-in_err-page-in-PageNew.result c.in_err-page-in-PageNew.field-0.0 c.from_residual-in_err-page-in-PageNew.ensures (stays_some (Err c.in_err-page-in-PageNew.field-0.0) _ _ _ _ t NoNames (c.in_err-page-in-PageNew.ensures.some t tells is))
-
-pub returns-in_ok-page-in-PageNew-clause-stays_open : goal.returns-in_ok-page-in-PageNew-clause-stays_open
-returns-in_ok-page-in-PageNew-clause-stays_open g c t tells is =
-    stays_valued _ _ _ _ NoNames c.in_ok-page-in-PageNew.page (PageMade c.in_ok-page-in-PageNew.page) (stays_some (Ok c.in_ok-page-in-PageNew.page) _ _ _ _ t NoNames (c.in_ok-page-in-PageNew.ensures.some t tells is))
-
-pub returns-in_err-page_free-in-Free-clause-stays_open : goal.returns-in_err-page_free-in-Free-clause-stays_open
-returns-in_err-page_free-in-Free-clause-stays_open g c t tells is =
-    stays_passed _ _ _ _ NoNames (Unit {0}) Reply c.from_residual-in_err-page_free-in-Free.result c.in_err-page_free-in-Free.field-0.0 c.from_residual-in_err-page_free-in-Free.ensures (stays_does (Err c.in_err-page_free-in-Free.field-0.0) _ _ _ _ t NoNames done _ (c.in_err-page_free-in-Free.ensures.turn (seen_of t None) t tells refl is))
-
-pub returns-in_ok-page_free-in-Free-clause-stays_open : goal.returns-in_ok-page_free-in-Free-clause-stays_open
-returns-in_ok-page_free-in-Free-clause-stays_open g c t tells is =
-    stays_valued _ _ _ _ NoNames c.in_ok-page_free-in-Free.field-0 Done (stays_does (Ok c.in_ok-page_free-in-Free.field-0) _ _ _ _ t NoNames done _ (c.in_ok-page_free-in-Free.ensures.turn (seen_of t None) t tells refl is))
-
-pub returns-in_err-set_forced-in-Forced-clause-stays_open : goal.returns-in_err-set_forced-in-Forced-clause-stays_open
-returns-in_err-set_forced-in-Forced-clause-stays_open g c t tells is =
-    stays_passed _ _ _ _ NoNames (Unit {0}) Reply c.from_residual-in_err-set_forced-in-Forced.result c.in_err-set_forced-in-Forced.field-0.0 c.from_residual-in_err-set_forced-in-Forced.ensures (stays_does (Err c.in_err-set_forced-in-Forced.field-0.0) _ _ _ _ t NoNames done _ (c.in_err-set_forced-in-Forced.ensures.turn (seen_of t None) t tells refl is))
-
-pub returns-in_ok-set_forced-in-Forced-clause-stays_open : goal.returns-in_ok-set_forced-in-Forced-clause-stays_open
-returns-in_ok-set_forced-in-Forced-clause-stays_open g c t tells is =
-    stays_valued _ _ _ _ NoNames c.in_ok-set_forced-in-Forced.field-0 Done (stays_does (Ok c.in_ok-set_forced-in-Forced.field-0) _ _ _ _ t NoNames done _ (c.in_ok-set_forced-in-Forced.ensures.turn (seen_of t None) t tells refl is))
-
-pub returns-in_err-set_access-in-Access-clause-stays_open : goal.returns-in_err-set_access-in-Access-clause-stays_open
-returns-in_err-set_access-in-Access-clause-stays_open g c t tells is =
-    stays_passed _ _ _ _ NoNames (Unit {0}) Reply c.from_residual-in_err-set_access-in-Access.result c.in_err-set_access-in-Access.field-0.0 c.from_residual-in_err-set_access-in-Access.ensures (stays_does (Err c.in_err-set_access-in-Access.field-0.0) _ _ _ _ t NoNames done _ (c.in_err-set_access-in-Access.ensures.turn (seen_of t None) t tells refl is))
-
-pub returns-in_ok-set_access-in-Access-clause-stays_open : goal.returns-in_ok-set_access-in-Access-clause-stays_open
-returns-in_ok-set_access-in-Access-clause-stays_open g c t tells is =
-    stays_valued _ _ _ _ NoNames c.in_ok-set_access-in-Access.field-0 Done (stays_does (Ok c.in_ok-set_access-in-Access.field-0) _ _ _ _ t NoNames done _ (c.in_ok-set_access-in-Access.ensures.turn (seen_of t None) t tells refl is))
-
-pub returns-in_err-scn-in-BeginBackup-clause-stays_open : goal.returns-in_err-scn-in-BeginBackup-clause-stays_open
-returns-in_err-scn-in-BeginBackup-clause-stays_open g c t tells is =
-    let asked = c.in_err-scn-in-BeginBackup.ensures.asks tells in
-    stays_passed _ _ _ _ NoNames ℕ Reply c.from_residual-in_err-scn-in-BeginBackup.result c.in_err-scn-in-BeginBackup.field-0.0 c.from_residual-in_err-scn-in-BeginBackup.ensures (stays_starts (Err c.in_err-scn-in-BeginBackup.field-0.0) _ _ _ _ t asked.0 None NoNames is (c.in_err-scn-in-BeginBackup.ensures.starts t asked.0 None tells is asked.2))
-
-pub returns-in_ok-scn-in-BeginBackup-clause-stays_open : goal.returns-in_ok-scn-in-BeginBackup-clause-stays_open
-returns-in_ok-scn-in-BeginBackup-clause-stays_open g c t tells is =
-    let asked = c.in_ok-scn-in-BeginBackup.ensures.asks tells in
-    stays_valued _ _ _ _ NoNames c.in_ok-scn-in-BeginBackup.scn (Scn c.in_ok-scn-in-BeginBackup.scn) (stays_starts (Ok c.in_ok-scn-in-BeginBackup.scn) _ _ _ _ t asked.0 None NoNames is (c.in_ok-scn-in-BeginBackup.ensures.starts t asked.0 None tells is asked.2))
-
-pub returns-in_ok-sync-in-Sync-clause-stays_open : goal.returns-in_ok-sync-in-Sync-clause-stays_open
-returns-in_ok-sync-in-Sync-clause-stays_open g c t tells is =
-    let out = c.in_ok-sync-in-Sync.ensures in
-    let takes = out.takes t tells is in stays_out (Ok Done) _ _ _ _ t NoNames out.same takes.left takes.done
-
-pub returns-in_err-sync-in-Sync-clause-stays_open : goal.returns-in_err-sync-in-Sync-clause-stays_open
-returns-in_err-sync-in-Sync-clause-stays_open g c t tells is =
-    let out = c.in_err-sync-in-Sync.ensures in
-    stays_passed _ _ _ _ NoNames (Unit {0}) Reply c.from_residual-in_err-sync-in-Sync.result Device c.from_residual-in_err-sync-in-Sync.ensures (stays_out {T = Unit {0}} (Err Device) _ _ _ _ t NoNames out.same (out.takes t tells is).left tt)
-
-pub returns-in-ShowHeader-clause-stays_open : goal.returns-in-ShowHeader-clause-stays_open
-returns-in-ShowHeader-clause-stays_open g c t tells is =
-    stays_still _ _ _ _ _ t NoNames refl (quiet_begun _ (g.met.H.Host.timely c.args.host.now)) is is
-
-pub returns-in-ShowCache-clause-stays_open : goal.returns-in-ShowCache-clause-stays_open
-returns-in-ShowCache-clause-stays_open g c t tells is =
-    stays_still _ _ _ _ _ t NoNames refl (quiet_begun _ (g.met.H.Host.timely c.args.host.now)) is is
-
-pub returns-in_err-counts-in-ShowPages-clause-stays_open : goal.returns-in_err-counts-in-ShowPages-clause-stays_open
-returns-in_err-counts-in-ShowPages-clause-stays_open g c t tells is =
-    let found = c.in_err-counts-in-ShowPages.ensures in stays_still _ _ _ _ _ t NoNames found.same found.quiet is (found.open t tells is)
-
-pub returns-in_ok-counts-in-ShowPages-clause-stays_open : goal.returns-in_ok-counts-in-ShowPages-clause-stays_open
-returns-in_ok-counts-in-ShowPages-clause-stays_open g c t tells is =
-    let found = c.in_ok-counts-in-ShowPages.ensures in stays_still _ _ _ _ _ t NoNames found.same found.quiet is (found.open t tells is)
-
-pub returns-in_err-sha256-in-ShowImage-clause-stays_open : goal.returns-in_err-sha256-in-ShowImage-clause-stays_open
-returns-in_err-sha256-in-ShowImage-clause-stays_open g c t tells is =
-    let found = c.in_err-sha256-in-ShowImage.ensures in stays_still _ _ _ _ _ t NoNames found.same found.quiet is (found.open t tells is)
-
-pub returns-in_ok-sha256-in-ShowImage-clause-stays_open : goal.returns-in_ok-sha256-in-ShowImage-clause-stays_open
-returns-in_ok-sha256-in-ShowImage-clause-stays_open g c t tells is =
-    let found = c.in_ok-sha256-in-ShowImage.ensures in stays_still _ _ _ _ _ t NoNames found.same found.quiet is (found.open t tells is)

@@ -8,9 +8,6 @@ use Rattle.nb_session.specs.Replies.{some_said}
 use Rattle.nb_session.proofs.ActLaws.{some_by, does_acts, may_passed, may_then_memory, may_value}
 use Rattle.nb_session.proofs.ReadyLaws.{ready_sized}
 use Rattle.nb_session.proofs.TurnLaws.{seen_now}
-use Rattle.nb_change.specs.Changes.{NoNames}
-use Rattle.nb_model.specs.declared.reply.Reply.{Reply}
-use Rattle.nb_engine.proofs.StaysLaws.{stays_passed, stays_still, stays_valued}
 use Rattle.nb_session.proofs.tables.do_on_tables.Goals as goal
 
 pub returns-in_err-create-in-CreateTable-clause-turn : goal.returns-in_err-create-in-CreateTable-clause-turn
@@ -133,63 +130,3 @@ returns-in_ok-rows-in-Scan-clause-turn g c now t session tells ready =
     may_value (some_by Rows) some_said _ _ _ _ t now session _ [] c.in_ok-rows-in-Scan.rows (Rows c.in_ok-rows-in-Scan.rows) refl
     (does_acts Rows _ _ _ _ _ t now session c.args.statement.now _ c.in-Scan.is refl refl refl _ refl ready
     (c.in_ok-rows-in-Scan.ensures.turn s t tells ready.base ready.opened))
-
-pub returns-in_err-create-in-CreateTable-clause-stays_open : goal.returns-in_err-create-in-CreateTable-clause-stays_open
-returns-in_err-create-in-CreateTable-clause-stays_open g c t tells is =
-    stays_passed _ _ _ _ NoNames (Unit {0}) Reply c.from_residual.result c.in_err-create-in-CreateTable.field-0.0 c.from_residual.ensures (c.in_err-create-in-CreateTable.ensures.stays_open t tells is)
-
-pub returns-in_ok-create-in-CreateTable-clause-stays_open : goal.returns-in_ok-create-in-CreateTable-clause-stays_open
-returns-in_ok-create-in-CreateTable-clause-stays_open g c t tells is =
-    stays_valued _ _ _ _ NoNames c.in_ok-create-in-CreateTable.field-0 Done (c.in_ok-create-in-CreateTable.ensures.stays_open t tells is)
-
-pub returns-in_err-drop_table-in-DropTable-clause-stays_open : goal.returns-in_err-drop_table-in-DropTable-clause-stays_open
-returns-in_err-drop_table-in-DropTable-clause-stays_open g c t tells is =
-    stays_passed _ _ _ _ NoNames (Unit {0}) Reply c.from_residual-in_err-drop_table-in-DropTable.result c.in_err-drop_table-in-DropTable.field-0.0 c.from_residual-in_err-drop_table-in-DropTable.ensures (c.in_err-drop_table-in-DropTable.ensures.stays_open t tells is)
-
-pub returns-in_ok-drop_table-in-DropTable-clause-stays_open : goal.returns-in_ok-drop_table-in-DropTable-clause-stays_open
-returns-in_ok-drop_table-in-DropTable-clause-stays_open g c t tells is =
-    stays_valued _ _ _ _ NoNames c.in_ok-drop_table-in-DropTable.field-0 Done (c.in_ok-drop_table-in-DropTable.ensures.stays_open t tells is)
-
-pub returns-in_err-insert-in-Insert-clause-stays_open : goal.returns-in_err-insert-in-Insert-clause-stays_open
-returns-in_err-insert-in-Insert-clause-stays_open g c t tells is =
-    stays_passed _ _ _ _ NoNames (Unit {0}) Reply c.from_residual-in_err-insert-in-Insert.result c.in_err-insert-in-Insert.field-0.0 c.from_residual-in_err-insert-in-Insert.ensures (c.in_err-insert-in-Insert.ensures.stays_open t tells is)
-
-pub returns-in_ok-insert-in-Insert-clause-stays_open : goal.returns-in_ok-insert-in-Insert-clause-stays_open
-returns-in_ok-insert-in-Insert-clause-stays_open g c t tells is =
-    stays_valued _ _ _ _ NoNames c.in_ok-insert-in-Insert.field-0 Done (c.in_ok-insert-in-Insert.ensures.stays_open t tells is)
-
-pub returns-in_err-update-in-Update-clause-stays_open : goal.returns-in_err-update-in-Update-clause-stays_open
-returns-in_err-update-in-Update-clause-stays_open g c t tells is =
-    stays_passed _ _ _ _ NoNames (Unit {0}) Reply c.from_residual-in_err-update-in-Update.result c.in_err-update-in-Update.field-0.0 c.from_residual-in_err-update-in-Update.ensures (c.in_err-update-in-Update.ensures.stays_open t tells is)
-
-pub returns-in_ok-update-in-Update-clause-stays_open : goal.returns-in_ok-update-in-Update-clause-stays_open
-returns-in_ok-update-in-Update-clause-stays_open g c t tells is =
-    stays_valued _ _ _ _ NoNames c.in_ok-update-in-Update.field-0 Done (c.in_ok-update-in-Update.ensures.stays_open t tells is)
-
-pub returns-in_err-delete-in-Delete-clause-stays_open : goal.returns-in_err-delete-in-Delete-clause-stays_open
-returns-in_err-delete-in-Delete-clause-stays_open g c t tells is =
-    stays_passed _ _ _ _ NoNames (Unit {0}) Reply c.from_residual-in_err-delete-in-Delete.result c.in_err-delete-in-Delete.field-0.0 c.from_residual-in_err-delete-in-Delete.ensures (c.in_err-delete-in-Delete.ensures.stays_open t tells is)
-
-pub returns-in_ok-delete-in-Delete-clause-stays_open : goal.returns-in_ok-delete-in-Delete-clause-stays_open
-returns-in_ok-delete-in-Delete-clause-stays_open g c t tells is =
-    stays_valued _ _ _ _ NoNames c.in_ok-delete-in-Delete.field-0 Done (c.in_ok-delete-in-Delete.ensures.stays_open t tells is)
-
-pub returns-in_err-text-in-Get-clause-stays_open : goal.returns-in_err-text-in-Get-clause-stays_open
-returns-in_err-text-in-Get-clause-stays_open g c t tells is =
-    let found = c.in_err-text-in-Get.ensures in stays_still _ _ _ _ _ t NoNames found.same found.quiet is (found.open t tells is)
-
-pub returns-in_err-new-in-Get-clause-stays_open : goal.returns-in_err-new-in-Get-clause-stays_open
-returns-in_err-new-in-Get-clause-stays_open g c t tells is =
-    let found = c.in_ok-text-in-Get.ensures in stays_still _ _ _ _ _ t NoNames found.same found.quiet is (found.open t tells is)
-
-pub returns-in_ok-new-in-Get-clause-stays_open : goal.returns-in_ok-new-in-Get-clause-stays_open
-returns-in_ok-new-in-Get-clause-stays_open g c t tells is =
-    let found = c.in_ok-text-in-Get.ensures in stays_still _ _ _ _ _ t NoNames found.same found.quiet is (found.open t tells is)
-
-pub returns-in_err-rows-in-Scan-clause-stays_open : goal.returns-in_err-rows-in-Scan-clause-stays_open
-returns-in_err-rows-in-Scan-clause-stays_open g c t tells is =
-    let found = c.in_err-rows-in-Scan.ensures in stays_still _ _ _ _ _ t NoNames found.same found.quiet is (found.open t tells is)
-
-pub returns-in_ok-rows-in-Scan-clause-stays_open : goal.returns-in_ok-rows-in-Scan-clause-stays_open
-returns-in_ok-rows-in-Scan-clause-stays_open g c t tells is =
-    let found = c.in_ok-rows-in-Scan.ensures in stays_still _ _ _ _ _ t NoNames found.same found.quiet is (found.open t tells is)

@@ -13,7 +13,6 @@ use Rattle.nb_model.specs.Tables.{insert_turn}
 use Rattle.nb_engine.specs.Replies.{done}
 use Rattle.nb_engine.specs.Tries.{Tries}
 use Rattle.nb_alloc.proofs.DoesLaws.{seeing, refused_does, tested_does, tries_does, tries_passed, tries_after}
-use Rattle.nb_engine.proofs.StaysLaws.{stays_still, stays_after, stays_passed}
 use Rattle.nb_table.specs.declared.rows.Rows.{Rows}
 use Rattle.nb_table.specs.Rows.{rows_cause, place_cause}
 use Rattle.nb_table.specs.Walks.{spot_of}
@@ -98,21 +97,3 @@ returns-clause-turn g c s t tells same is sizes =
     tries_does done (Ok tt) w after c.args.engine.now c.add_slot.new.engine t s (λ (x : Seen). insert_turn x table key text) (place_cause (RowsFrom rows.first) image bytes) Done refl into.strokes same turn (said (Ok tt))
     (tries_after {T = Unit {0}} (Ok tt) w _ after c.args.engine.now _ c.add_slot.new.engine t (place_cause (RowsFrom rows.first) image bytes) into.strokes found.same found.quiet is
     (c.in_ok-add_slot.ensures.tries t (RowsFrom rows.first) tells (found.open t tells is) here refl formed room last))
-
-pub returns-in_err-rows-clause-stays_open : goal.returns-in_err-rows-clause-stays_open
-returns-in_err-rows-clause-stays_open g c t tells is = let found = c.in_err-rows.ensures in stays_still _ _ _ _ _ t _ found.same found.quiet is (found.open t tells is)
-
-pub returns-then-is_some-clause-stays_open : goal.returns-then-is_some-clause-stays_open
-returns-then-is_some-clause-stays_open g c t tells is = let found = c.in_ok-rows.ensures in stays_still _ _ _ _ _ t _ found.same found.quiet is (found.open t tells is)
-
-pub returns-in_err-add_slot-clause-stays_open : goal.returns-in_err-add_slot-clause-stays_open
-returns-in_err-add_slot-clause-stays_open g c t tells is =
-    let found = c.in_ok-rows.ensures in
-    let opened = found.open t tells is in
-    stays_after _ _ _ _ _ _ _ t _ found.same found.quiet is opened (stays_passed _ _ _ _ _ (Unit {0}) (Unit {0}) _ c.in_err-add_slot.field-0.0 c.from_residual-in_err-add_slot.ensures (c.in_err-add_slot.ensures.stays_open t tells opened))
-
-pub returns-clause-stays_open : goal.returns-clause-stays_open
-returns-clause-stays_open g c t tells is =
-    let found = c.in_ok-rows.ensures in
-    let opened = found.open t tells is in
-    stays_after _ _ _ _ _ _ _ t _ found.same found.quiet is opened (c.in_ok-add_slot.ensures.stays_open t tells opened)

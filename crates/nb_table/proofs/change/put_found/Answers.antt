@@ -7,7 +7,6 @@ use Rattle.nb_model.specs.Chains.{row_spot, spots}
 use Rattle.nb_model.specs.Tables.{in_row}
 use Rattle.nb_engine.specs.Replies.{done}
 use Rattle.nb_alloc.proofs.DoesLaws.{seeing, refused_does}
-use Rattle.nb_engine.proofs.StaysLaws.{stays_still, stays_passed}
 use Rattle.nb_table.proofs.InTableLaws.{does_passed}
 use Rattle.nb_table.proofs.PlaceLaws.{found_none}
 use Rattle.nb_table.proofs.ChangeLaws.{row_missing, row_does, found_kind}
@@ -34,12 +33,3 @@ returns-clause-turn g c s t chain tells same is formed found =
     let row = c.in-Some.row in
     let there = sym c.in-Some.is ∙ found in
     row_does (Ok tt) w _ _ _ t s chain c.args.key c.args.bytes.now row same there (c.in_ok-put_slot.ensures.tries t tells is (found_kind t.base.image chain formed c.args.key row there))
-
-pub returns-in_default-clause-stays_open : goal.returns-in_default-clause-stays_open
-returns-in_default-clause-stays_open g c t tells is = stays_still _ _ _ _ _ t _ refl (quiet_begun _ (g.met.H.Host.timely c.args.host.now)) is is
-
-pub returns-in_err-put_slot-clause-stays_open : goal.returns-in_err-put_slot-clause-stays_open
-returns-in_err-put_slot-clause-stays_open g c t tells is = stays_passed _ _ _ _ _ (Unit {0}) (Unit {0}) _ c.in_err-put_slot.field-0.0 c.from_residual.ensures (c.in_err-put_slot.ensures.stays_open t tells is)
-
-pub returns-clause-stays_open : goal.returns-clause-stays_open
-returns-clause-stays_open g c t tells is = c.in_ok-put_slot.ensures.stays_open t tells is

@@ -6,7 +6,6 @@ use Rattle.nb_model.specs.Outcomes.{Seen}
 use Rattle.nb_model.specs.Tables.{in_row, update_turn}
 use Rattle.nb_engine.specs.Replies.{done}
 use Rattle.nb_alloc.proofs.DoesLaws.{seeing, tested_does}
-use Rattle.nb_engine.proofs.StaysLaws.{stays_still, stays_after, stays_passed}
 use Rattle.nb_table.specs.declared.rows.Rows.{Rows}
 use Rattle.nb_table.specs.Rows.{rows_cause}
 use Rattle.nb_table.specs.Walks.{spot_of}
@@ -66,18 +65,3 @@ returns-clause-turn g c s t tells same is =
     let end = c.put_found.new.engine in
     table_does done (Ok tt) w after c.args.engine.now end t s (λ (x : Seen). update_turn x table key c.args.text.now) same rest goes
     (does_after done (Ok tt) w _ after c.args.engine.now _ end t rest found.same found.quiet is (c.in_ok-put_found.ensures.turn (seeing s t.base) t chain tells refl (found.open t tells is) formed row))
-
-pub returns-in_err-rows-clause-stays_open : goal.returns-in_err-rows-clause-stays_open
-returns-in_err-rows-clause-stays_open g c t tells is = let found = c.in_err-rows.ensures in stays_still _ _ _ _ _ t _ found.same found.quiet is (found.open t tells is)
-
-pub returns-in_err-put_found-clause-stays_open : goal.returns-in_err-put_found-clause-stays_open
-returns-in_err-put_found-clause-stays_open g c t tells is =
-    let found = c.in_ok-rows.ensures in
-    let opened = found.open t tells is in
-    stays_after _ _ _ _ _ _ _ t _ found.same found.quiet is opened (stays_passed _ _ _ _ _ (Unit {0}) (Unit {0}) _ c.in_err-put_found.field-0.0 c.from_residual-in_err-put_found.ensures (c.in_err-put_found.ensures.stays_open t tells opened))
-
-pub returns-clause-stays_open : goal.returns-clause-stays_open
-returns-clause-stays_open g c t tells is =
-    let found = c.in_ok-rows.ensures in
-    let opened = found.open t tells is in
-    stays_after _ _ _ _ _ _ _ t _ found.same found.quiet is opened (c.in_ok-put_found.ensures.stays_open t tells opened)

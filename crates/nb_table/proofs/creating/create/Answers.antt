@@ -18,7 +18,6 @@ use Rattle.nb_engine.specs.Replies.{done}
 use Rattle.nb_alloc.proofs.DoesLaws.{seeing, tested_does, tries_passed, tries_after, tries_does}
 use Rattle.nb_state.specs.Open.{Held}
 use Rattle.nb_state.specs.Does.{Does}
-use Rattle.nb_engine.proofs.StaysLaws.{stays_still, stays_after, stays_passed}
 use Rattle.nb_table.specs.declared.look.Place.{Place}
 use Rattle.nb_table.specs.Creates.{new_cause, created_in, created_behind}
 use Rattle.nb_table.proofs.CreateTurnLaws.{create_denied, create_refused, create_at, create_last, new_formed, place_data}
@@ -138,38 +137,6 @@ returns-in_ok-create_behind-in-None-clause-turn g c s t tells same is sizes =
     (create_last now table free new none) refl
     (tries_after {T = Unit {0}} (Ok tt) w mid end c.args.engine.now c.check_table.new.engine c.create_behind.new.engine t (unmade image made) made.strokes tests.same tests.quiet is
     (c.in_ok-create_behind-in-None.ensures.tries t tells (tests.open t tells is) here (record { is = last_is; kind = kind })))
-
-pub returns-in_err-check_access-clause-stays_open : goal.returns-in_err-check_access-clause-stays_open
-returns-in_err-check_access-clause-stays_open g c t tells is = stays_still _ _ _ _ _ t _ refl (quiet_begun _ (g.met.H.Host.timely c.args.host.now)) is is
-
-pub returns-in_err-free-clause-stays_open : goal.returns-in_err-free-clause-stays_open
-returns-in_err-free-clause-stays_open g c t tells is = let tests = c.in_err-free.ensures in stays_still _ _ _ _ _ t _ tests.same tests.quiet is (tests.open t tells is)
-
-pub returns-in_err-create_in-in-Some-clause-stays_open : goal.returns-in_err-create_in-in-Some-clause-stays_open
-returns-in_err-create_in-in-Some-clause-stays_open g c t tells is =
-    let tests = c.in_ok-free.ensures in
-    let opened = tests.open t tells is in
-    stays_after _ _ _ _ _ _ _ t _ tests.same tests.quiet is opened
-    (stays_passed _ _ _ _ _ (Unit {0}) (Unit {0}) _ c.in_err-create_in-in-Some.field-0.0 c.from_residual-in_err-create_in-in-Some.ensures (c.in_err-create_in-in-Some.ensures.stays_open t tells opened))
-
-pub returns-in_ok-create_in-in-Some-clause-stays_open : goal.returns-in_ok-create_in-in-Some-clause-stays_open
-returns-in_ok-create_in-in-Some-clause-stays_open g c t tells is =
-    let tests = c.in_ok-free.ensures in
-    let opened = tests.open t tells is in
-    stays_after _ _ _ _ _ _ _ t _ tests.same tests.quiet is opened (c.in_ok-create_in-in-Some.ensures.stays_open t tells opened)
-
-pub returns-in_err-create_behind-in-None-clause-stays_open : goal.returns-in_err-create_behind-in-None-clause-stays_open
-returns-in_err-create_behind-in-None-clause-stays_open g c t tells is =
-    let tests = c.in_ok-free.ensures in
-    let opened = tests.open t tells is in
-    stays_after _ _ _ _ _ _ _ t _ tests.same tests.quiet is opened
-    (stays_passed _ _ _ _ _ (Unit {0}) (Unit {0}) _ c.in_err-create_behind-in-None.field-0.0 c.from_residual-in_err-create_behind-in-None.ensures (c.in_err-create_behind-in-None.ensures.stays_open t tells opened))
-
-pub returns-in_ok-create_behind-in-None-clause-stays_open : goal.returns-in_ok-create_behind-in-None-clause-stays_open
-returns-in_ok-create_behind-in-None-clause-stays_open g c t tells is =
-    let tests = c.in_ok-free.ensures in
-    let opened = tests.open t tells is in
-    stays_after _ _ _ _ _ _ _ t _ tests.same tests.quiet is opened (c.in_ok-create_behind-in-None.ensures.stays_open t tells opened)
 
 pub create_behind-requires-clause-name : goal.create_behind-requires-clause-name
 create_behind-requires-clause-name g c = omega (arith, name_short c.args.table.now c.as_str-name.ensures.name)

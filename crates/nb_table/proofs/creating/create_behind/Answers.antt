@@ -9,7 +9,6 @@ use Rattle.nb_engine.specs.Search.{IsShort}
 use Rattle.nb_engine.specs.Tries.{Tries}
 use Rattle.nb_alloc.proofs.ContentLaws.{data_short}
 use Rattle.nb_alloc.proofs.DoesLaws.{tries_early, tries_passed, tries_after, tries_opened}
-use Rattle.nb_engine.proofs.StaysLaws.{stays_still, stays_after, stays_passed, stays_some, stays_then, stays_valued}
 use Rattle.nb_table.specs.Creates.{first_made, created_behind}
 use Rattle.nb_table.proofs.CreateLaws.{first, first_short, second, behind_named, sizes_then, data_then, behind_front, behind_failed, behind_done}
 use Rattle.nb_table.proofs.creating.create_behind.Goals as goal
@@ -97,29 +96,3 @@ returns-clause-tries g c t tells is sizes last =
     let two = subst (λ (bs : List ℕ). Tries (Ok m) then new c.data_new.new.self c.data_grow.new.self u (unmade u.base.image (grown Catalogue (found_pages Catalogue image) bs (drafted u.base.image)).0) (grown Catalogue (found_pages Catalogue image) bs (drafted u.base.image)).0.strokes) c.table_bytes.ensures grows in
     tries_after {T = Unit {0}} (Ok tt) w mid new c.args.engine.now c.room_for.new.self c.data_grow.new.self t (unmade image made) made.strokes room.same room.quiet is
     (behind_done t table none n m mid then new c.room_for.new.self c.data_new.new.self c.data_grow.new.self one value two)
-
-pub returns-in_err-room_for-clause-stays_open : goal.returns-in_err-room_for-clause-stays_open
-returns-in_err-room_for-clause-stays_open g c t tells is = let room = c.in_err-room_for.ensures in stays_still _ _ _ _ _ t _ room.same room.quiet is (room.open t tells is)
-
-pub returns-in_err-first-clause-stays_open : goal.returns-in_err-first-clause-stays_open
-returns-in_err-first-clause-stays_open g c t tells is =
-    let room = c.in_ok-room_for.ensures in
-    let opened = room.open t tells is in
-    stays_after _ _ _ _ _ _ _ t _ room.same room.quiet is opened
-    (stays_passed _ _ _ _ _ ℕ (Unit {0}) _ c.in_err-first.field-0.0 c.from_residual-in_err-first.ensures (stays_some _ _ _ _ _ t _ (c.in_err-first.ensures.some t tells opened)))
-
-pub returns-in_err-data_grow-clause-stays_open : goal.returns-in_err-data_grow-clause-stays_open
-returns-in_err-data_grow-clause-stays_open g c t tells is =
-    let room = c.in_ok-room_for.ensures in
-    let opened = room.open t tells is in
-    stays_after _ _ _ _ _ _ _ t _ room.same room.quiet is opened
-    (stays_then c.in_ok-first.first _ _ _ _ _ _ _ _ (stays_some _ _ _ _ _ t _ (c.in_ok-first.ensures.some t tells opened))
-    (λ u here. stays_passed _ _ _ _ _ ℕ (Unit {0}) _ c.in_err-data_grow.field-0.0 c.from_residual-in_err-data_grow.ensures (stays_some _ _ _ _ _ u _ (c.in_err-data_grow.ensures.some u tells here))))
-
-pub returns-clause-stays_open : goal.returns-clause-stays_open
-returns-clause-stays_open g c t tells is =
-    let room = c.in_ok-room_for.ensures in
-    let opened = room.open t tells is in
-    stays_after _ _ _ _ _ _ _ t _ room.same room.quiet is opened
-    (stays_then c.in_ok-first.first _ _ _ _ _ _ _ _ (stays_some _ _ _ _ _ t _ (c.in_ok-first.ensures.some t tells opened))
-    (λ u here. stays_valued _ _ _ _ _ c.in_ok-data_grow.field-0 tt (stays_some _ _ _ _ _ u _ (c.in_ok-data_grow.ensures.some u tells here))))

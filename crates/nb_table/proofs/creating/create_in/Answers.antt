@@ -7,7 +7,6 @@ use Rattle.nb_engine.specs.Data.{unmade, unmade_behind}
 use Rattle.nb_engine.specs.Put.{entry_cause}
 use Rattle.nb_engine.specs.Tries.{Tries}
 use Rattle.nb_alloc.proofs.DoesLaws.{tries_early, tries_passed, tries_after, tries_opened}
-use Rattle.nb_engine.proofs.StaysLaws.{stays_still, stays_after, stays_passed, stays_some, stays_then}
 use Rattle.nb_table.specs.Creates.{first_made, created_in}
 use Rattle.nb_table.proofs.CreateLaws.{first, first_short, in_named, kind_then, in_front, in_then}
 use Rattle.nb_table.proofs.creating.create_in.Goals as goal
@@ -86,28 +85,3 @@ returns-clause-tries g c t tells is sizes kind =
     (c.in_ok-put_slot.ensures.tries u tells opened (kind_then t table place none)) in
     tries_after {T = Unit {0}} (Ok tt) w mid new c.args.engine.now c.room_for.new.self c.put_slot.new.engine t (unmade image made) made.strokes room.same room.quiet is
     (in_then t table place none n (Ok tt) mid then new c.room_for.new.self c.data_new.new.self c.put_slot.new.engine one value two)
-
-pub returns-in_err-room_for-clause-stays_open : goal.returns-in_err-room_for-clause-stays_open
-returns-in_err-room_for-clause-stays_open g c t tells is = let room = c.in_err-room_for.ensures in stays_still _ _ _ _ _ t _ room.same room.quiet is (room.open t tells is)
-
-pub returns-in_err-first-clause-stays_open : goal.returns-in_err-first-clause-stays_open
-returns-in_err-first-clause-stays_open g c t tells is =
-    let room = c.in_ok-room_for.ensures in
-    let opened = room.open t tells is in
-    stays_after _ _ _ _ _ _ _ t _ room.same room.quiet is opened
-    (stays_passed _ _ _ _ _ ℕ (Unit {0}) _ c.in_err-first.field-0.0 c.from_residual-in_err-first.ensures (stays_some _ _ _ _ _ t _ (c.in_err-first.ensures.some t tells opened)))
-
-pub returns-in_err-put_slot-clause-stays_open : goal.returns-in_err-put_slot-clause-stays_open
-returns-in_err-put_slot-clause-stays_open g c t tells is =
-    let room = c.in_ok-room_for.ensures in
-    let opened = room.open t tells is in
-    stays_after _ _ _ _ _ _ _ t _ room.same room.quiet is opened
-    (stays_then c.in_ok-first.first _ _ _ _ _ _ _ _ (stays_some _ _ _ _ _ t _ (c.in_ok-first.ensures.some t tells opened))
-    (λ u here. stays_passed _ _ _ _ _ (Unit {0}) (Unit {0}) _ c.in_err-put_slot.field-0.0 c.from_residual-in_err-put_slot.ensures (c.in_err-put_slot.ensures.stays_open u tells here)))
-
-pub returns-clause-stays_open : goal.returns-clause-stays_open
-returns-clause-stays_open g c t tells is =
-    let room = c.in_ok-room_for.ensures in
-    let opened = room.open t tells is in
-    stays_after _ _ _ _ _ _ _ t _ room.same room.quiet is opened
-    (stays_then c.in_ok-first.first _ _ _ _ _ _ _ _ (stays_some _ _ _ _ _ t _ (c.in_ok-first.ensures.some t tells opened)) (λ u here. c.in_ok-put_slot.ensures.stays_open u tells here))

@@ -8,7 +8,6 @@ use Rattle.nb_engine.specs.Behind.{entry_broken}
 use Rattle.nb_engine.specs.Tries.{Tries}
 use Rattle.nb_alloc.proofs.DoesLaws.{tries_early, tries_passed, tries_after}
 use Rattle.nb_engine.proofs.NewTurn.{header_of, shaped_of}
-use Rattle.nb_engine.proofs.StaysLaws.{stays_still, stays_after, stays_passed, stays_then}
 use Rattle.nb_table.specs.Drops.{dropped, drop_broken}
 use Rattle.nb_table.specs.Walks.{spot_of}
 use Rattle.nb_table.proofs.DropLaws.{table_least, drop_cause, its_chain, its_kind, drop_front, drop_then, drop_opened, drop_shaped, drop_chain, drop_givable}
@@ -95,28 +94,3 @@ returns-clause-tries g c t table tells is sizes has =
     (drop_then t header shaped table spot has none (Ok tt) mid then new c.check_drop.new.engine c.put_slot.new.engine c.give_all_back.new.engine one
     (c.in_ok-give_all_back.ensures.tries _ pages tells (drop_opened t header shaped table spot has none mid then c.check_drop.new.engine c.put_slot.new.engine one)
     (drop_shaped t header shaped table spot has none) (drop_chain t header shaped table spot has none first c.requires.first) (drop_givable t header shaped table spot has none)))
-
-pub returns-in_err-check_drop-clause-stays_open : goal.returns-in_err-check_drop-clause-stays_open
-returns-in_err-check_drop-clause-stays_open g c t tells is = let check = c.in_err-check_drop.ensures in stays_still _ _ _ _ _ t _ check.same check.quiet is (check.open t tells is)
-
-pub returns-in_err-put_slot-clause-stays_open : goal.returns-in_err-put_slot-clause-stays_open
-returns-in_err-put_slot-clause-stays_open g c t tells is =
-    let check = c.in_ok-check_drop.ensures in
-    let opened = check.open t tells is in
-    stays_after _ _ _ _ _ _ _ t _ check.same check.quiet is opened
-    (stays_passed _ _ _ _ _ (Unit {0}) (Unit {0}) _ c.in_err-put_slot.field-0.0 c.from_residual-in_err-put_slot.ensures (c.in_err-put_slot.ensures.stays_open t tells opened))
-
-pub returns-in_err-give_all_back-clause-stays_open : goal.returns-in_err-give_all_back-clause-stays_open
-returns-in_err-give_all_back-clause-stays_open g c t tells is =
-    let check = c.in_ok-check_drop.ensures in
-    let opened = check.open t tells is in
-    stays_after _ _ _ _ _ _ _ t _ check.same check.quiet is opened
-    (stays_then tt _ _ _ _ _ _ _ _ (c.in_ok-put_slot.ensures.stays_open t tells opened)
-    (λ u here. stays_passed _ _ _ _ _ (Unit {0}) (Unit {0}) _ c.in_err-give_all_back.field-0.0 c.from_residual-in_err-give_all_back.ensures (c.in_err-give_all_back.ensures.stays_open u tells here)))
-
-pub returns-clause-stays_open : goal.returns-clause-stays_open
-returns-clause-stays_open g c t tells is =
-    let check = c.in_ok-check_drop.ensures in
-    let opened = check.open t tells is in
-    stays_after _ _ _ _ _ _ _ t _ check.same check.quiet is opened
-    (stays_then tt _ _ _ _ _ _ _ _ (c.in_ok-put_slot.ensures.stays_open t tells opened) (λ u here. c.in_ok-give_all_back.ensures.stays_open u tells here))

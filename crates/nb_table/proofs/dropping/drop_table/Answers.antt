@@ -10,7 +10,6 @@ use Rattle.nb_model.specs.Tables.{drop_turn}
 use Rattle.nb_engine.specs.Replies.{done}
 use Rattle.nb_alloc.proofs.DoesLaws.{seeing, tested_does, tries_passed, tries_after, tries_does}
 use Rattle.nb_state.specs.Does.{Does}
-use Rattle.nb_engine.proofs.StaysLaws.{stays_still, stays_after, stays_passed}
 use Rattle.nb_table.specs.declared.rows.Rows.{Rows}
 use Rattle.nb_table.specs.Drops.{dropped}
 use Rattle.nb_table.specs.Rows.{rows_cause}
@@ -65,18 +64,3 @@ returns-clause-turn g c s t tells same is sizes =
     (drop_says now table none spot has) refl
     (tries_after {T = Unit {0}} (Ok tt) w mid new c.args.engine.now c.find_rows.new.engine c.drop_rows.new.engine t (not_of_form whole) whole.strokes found.same found.quiet is
     (c.in_ok-drop_rows.ensures.tries t table tells (found.open t tells is) here has))
-
-pub returns-in_err-rows-clause-stays_open : goal.returns-in_err-rows-clause-stays_open
-returns-in_err-rows-clause-stays_open g c t tells is = let found = c.in_err-rows.ensures in stays_still _ _ _ _ _ t _ found.same found.quiet is (found.open t tells is)
-
-pub returns-in_err-drop_rows-clause-stays_open : goal.returns-in_err-drop_rows-clause-stays_open
-returns-in_err-drop_rows-clause-stays_open g c t tells is =
-    let found = c.in_ok-rows.ensures in
-    let opened = found.open t tells is in
-    stays_after _ _ _ _ _ _ _ t _ found.same found.quiet is opened (stays_passed _ _ _ _ _ (Unit {0}) (Unit {0}) _ c.in_err-drop_rows.field-0.0 c.from_residual-in_err-drop_rows.ensures (c.in_err-drop_rows.ensures.stays_open t tells opened))
-
-pub returns-clause-stays_open : goal.returns-clause-stays_open
-returns-clause-stays_open g c t tells is =
-    let found = c.in_ok-rows.ensures in
-    let opened = found.open t tells is in
-    stays_after _ _ _ _ _ _ _ t _ found.same found.quiet is opened (c.in_ok-drop_rows.ensures.stays_open t tells opened)

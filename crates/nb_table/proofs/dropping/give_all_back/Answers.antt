@@ -1,4 +1,4 @@
-use Rattle.std.proofs.Common.{rules, ◌<◌, refl, ◌∙◌, arith, ℕ}
+use Rattle.std.proofs.Common.{rules, ◌<◌, refl, ◌∙◌, arith}
 use Rattle.std.specs.Prelude.{None}
 use Rattle.nb_page.proofs.QuietLemmas.{quiet_begun}
 use Rattle.nb_model.specs.Chains.{RowsFrom}
@@ -7,7 +7,6 @@ use Rattle.nb_model.specs.Tables.{all_given}
 use Rattle.nb_state.proofs.MakesLaws.{goes_on, goes_nowhere}
 use Rattle.nb_engine.specs.Tries.{Tries}
 use Rattle.nb_alloc.proofs.DoesLaws.{tries_passed}
-use Rattle.nb_engine.proofs.StaysLaws.{stays_still, stays_passed, stays_then, stays_valued}
 use Rattle.nb_table.proofs.GiveLaws.{giving_begun, giving_data, giving_failed, giving_last, giving_onward, giving_over, giving_opened}
 use Rattle.nb_table.proofs.dropping.give_all_back.Goals as goal
 
@@ -15,7 +14,6 @@ pub loop-left-init : goal.loop-left-init
 loop-left-init g c = record {
   giving = λ t pages tells is shaped found givable.
       giving_begun (RowsFrom c.args.first) pages (g.H.Host.world c.args.host.now) c.args.engine.now t c.count-left.result c.args.first (quiet_begun _ (g.met.H.Host.timely c.args.host.now)) is shaped found givable (c.count-left.ensures.value ∙ is.files.agrees.count) refl;
-  stays = λ t tells is. stays_still _ _ _ _ _ t _ refl (quiet_begun _ (g.met.H.Host.timely c.args.host.now)) is is;
   goes = goes_nowhere c.args.engine.now c.args.engine.now refl;
   room = refl;
   cause = refl;
@@ -55,7 +53,6 @@ loop-left-preserved g c =
           giving_onward (RowsFrom c.args.first) pages (g.H.Host.world c.args.host.now) (g.H.Host.world l.host) c.args.engine.now l.engine t l.left l.number some giving c.in_ok-next.next (g.H.Host.world c.give_back.new.host) c.give_back.new.engine
           (c.in_ok-next.ensures.tries _ tells opened (giving_data _ _ _ _ _ _ t l.left l.number some giving))
           (c.in_ok-next.ensures.next _ tells opened) c.if-next-eq0.false;
-      stays = λ t tells is. stays_then tt _ _ _ _ _ _ _ _ (l.invariant.stays t tells is) (λ u here. stays_valued _ _ _ _ _ c.in_ok-next.next tt (c.in_ok-next.ensures.stays_open u tells here));
       goes = goes_on _ _ _ l.invariant.goes c.in_ok-next.ensures.goes;
       room = search rules;
       cause = c.in_ok-next.ensures.cause ∙ l.invariant.cause;
@@ -65,14 +62,3 @@ pub returns-clause-tries : goal.returns-clause-tries
 returns-clause-tries g c t pages tells is shaped found givable =
     let l = c.loop-left in
     absurd (giving_over (RowsFrom c.args.first) pages _ _ _ _ t l.left l.number (omega (arith, c.loop-left-test.false)) (l.invariant.giving t pages tells is shaped found givable))
-
-pub returns-in_err-next-clause-stays_open : goal.returns-in_err-next-clause-stays_open
-returns-in_err-next-clause-stays_open g c t tells is =
-    stays_then tt _ _ _ _ _ _ _ _ (c.loop-left.invariant.stays t tells is) (λ u here. stays_passed _ _ _ _ _ ℕ (Unit {0}) _ c.in_err-next.field-0.0 c.from_residual.ensures (c.in_err-next.ensures.stays_open u tells here))
-
-pub returns-then-next-eq0-clause-stays_open : goal.returns-then-next-eq0-clause-stays_open
-returns-then-next-eq0-clause-stays_open g c t tells is =
-    stays_then tt _ _ _ _ _ _ _ _ (c.loop-left.invariant.stays t tells is) (λ u here. stays_valued _ _ _ _ _ c.in_ok-next.next tt (c.in_ok-next.ensures.stays_open u tells here))
-
-pub returns-clause-stays_open : goal.returns-clause-stays_open
-returns-clause-stays_open g c t tells is = c.loop-left.invariant.stays t tells is

@@ -1,13 +1,11 @@
 use Rattle.std.proofs.Common.{◌≡◌, ℕ, List, length}
 use Rattle.std.specs.Prelude.{IsTrue, Ok}
 use Rattle.std.specs.List.{AllByRecursion}
-use Rattle.nb_change.specs.Changes.{NoNames}
 use Rattle.nb_model.specs.Chains.{RowsFrom, pages_of}
 use Rattle.nb_model.proofs.StepLaws.{IsShaped}
 use Rattle.nb_model.specs.Trail.{Trail}
 use Rattle.nb_state.specs.Open.{IsOpen}
 use Rattle.nb_state.specs.Does.{Goes}
-use Rattle.nb_engine.specs.Stays.{StaysOpen}
 use Rattle.nb_table.specs.Drops.{IsGivable}
 use Rattle.nb_table.proofs.GiveLaws.{IsGiving}
 use Rattle.nb_table.proofs.dropping.give_all_back.Given as goal
@@ -16,7 +14,6 @@ abbrev pub invariant-loop-left : goal.invariant-loop-left
 invariant-loop-left g l = record {
   giving : (t : Trail) (pages : List ℕ) → IsTrue g.H.Host.tells → IsOpen (g.H.Host.world l.fn.host) l.fn.engine t → IsShaped t.base.image → pages_of (RowsFrom l.fn.first) t.base.image ≡ Ok pages → AllByRecursion (IsGivable t.base.image) pages
       → IsGiving (RowsFrom l.fn.first) pages (g.H.Host.world l.fn.host) (g.H.Host.world l.host) l.fn.engine l.engine t l.left l.number;
-  stays : (t : Trail) → IsTrue g.H.Host.tells → IsOpen (g.H.Host.world l.fn.host) l.fn.engine t → StaysOpen {T = Unit {0}} (Ok tt) (g.H.Host.world l.fn.host) (g.H.Host.world l.host) l.fn.engine l.engine t NoNames;
   goes : Goes l.fn.engine l.engine;
   room : length l.page ≡ length l.fn.page;
   cause : g.H.Host.faults l.host ≡ g.H.Host.faults l.fn.host;

@@ -7,7 +7,6 @@ use Rattle.nb_engine.specs.Data.{not_data}
 use Rattle.nb_engine.specs.Mark.{mark_cause}
 use Rattle.nb_engine.specs.Tries.{Tries}
 use Rattle.nb_alloc.proofs.DoesLaws.{tries_early, tries_passed, tries_after}
-use Rattle.nb_engine.proofs.StaysLaws.{stays_still, stays_after, stays_passed, stays_tries, stays_valued}
 use Rattle.nb_engine.proofs.KeepLaws.{tries_other, tries_valued}
 use Rattle.nb_table.proofs.dropping.give_back.Goals as goal
 
@@ -41,19 +40,3 @@ returns-clause-tries g c t tells is none =
 
 pub returns-clause-next : goal.returns-clause-next
 returns-clause-next g c t tells is = c.get-next.ensures.value ∙ ap next_in ((c.in_ok-data_read.ensures.reads t tells is).page)
-
-pub returns-in_err-data_read-clause-stays_open : goal.returns-in_err-data_read-clause-stays_open
-returns-in_err-data_read-clause-stays_open g c t tells is = let read = c.in_err-data_read.ensures in stays_still _ _ _ _ _ t _ read.same read.quiet is (read.open t tells is)
-
-pub returns-in_err-data_free-clause-stays_open : goal.returns-in_err-data_free-clause-stays_open
-returns-in_err-data_free-clause-stays_open g c t tells is =
-    let read = c.in_ok-data_read.ensures in
-    let opened = read.open t tells is in
-    stays_after _ _ _ _ _ _ _ t _ read.same read.quiet is opened
-    (stays_passed _ _ _ _ _ (Unit {0}) ℕ _ c.in_err-data_free.field-0.0 c.from_residual-in_err-data_free.ensures (stays_tries _ _ _ _ _ t _ _ _ (c.in_err-data_free.ensures.tries t tells opened)))
-
-pub returns-clause-stays_open : goal.returns-clause-stays_open
-returns-clause-stays_open g c t tells is =
-    let read = c.in_ok-data_read.ensures in
-    let opened = read.open t tells is in
-    stays_after _ _ _ _ _ _ _ t _ read.same read.quiet is opened (stays_valued _ _ _ _ _ tt c.get-next.result (stays_tries _ _ _ _ _ t _ _ _ (c.in_ok-data_free.ensures.tries t tells opened)))

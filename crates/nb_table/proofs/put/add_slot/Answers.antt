@@ -7,7 +7,6 @@ use Rattle.nb_engine.specs.Data.{unmade}
 use Rattle.nb_engine.specs.Tries.{Tries}
 use Rattle.nb_alloc.proofs.DoesLaws.{tries_passed}
 use Rattle.nb_engine.proofs.KeepLaws.{tries_other, tries_valued}
-use Rattle.nb_engine.proofs.StaysLaws.{stays_passed, stays_some, stays_valued}
 use Rattle.nb_alloc.proofs.PutLaws.{none_of}
 use Rattle.nb_table.specs.Rows.{place_cause}
 use Rattle.nb_table.proofs.PlaceLaws.{place_kind, there_tries, behind_tries}
@@ -66,16 +65,3 @@ returns-in_ok-data_grow-in-None-clause-tries g c t chain tells is sizes owner fo
     let is_data : is_kind image 5 c.args.last ≡ true = ap (is_kind image 5) last ∙ none_of (is_kind image 5 (last_of pages)) (NotDatabase (last_of pages)) (last_kind chain image formed) in
     behind_tries image chain formed bytes none {T = Unit {0}} (Ok tt) w new c.args.engine.now after t
     (tries_valued {S = ℕ} {T = Unit {0}} _ tt w new c.args.engine.now after t (unmade image grows) grows.strokes (c.in_ok-data_grow-in-None.ensures.makes t chain pages tells is sizes owner last is_data))
-
-pub returns-in_err-put_slot-in-Some-clause-stays_open : goal.returns-in_err-put_slot-in-Some-clause-stays_open
-returns-in_err-put_slot-in-Some-clause-stays_open g c t tells is = stays_passed _ _ _ _ _ (Unit {0}) (Unit {0}) _ c.in_err-put_slot-in-Some.field-0.0 c.from_residual.ensures (c.in_err-put_slot-in-Some.ensures.stays_open t tells is)
-
-pub returns-in_ok-put_slot-in-Some-clause-stays_open : goal.returns-in_ok-put_slot-in-Some-clause-stays_open
-returns-in_ok-put_slot-in-Some-clause-stays_open g c t tells is = c.in_ok-put_slot-in-Some.ensures.stays_open t tells is
-
-pub returns-in_err-data_grow-in-None-clause-stays_open : goal.returns-in_err-data_grow-in-None-clause-stays_open
-returns-in_err-data_grow-in-None-clause-stays_open g c t tells is =
-    stays_passed _ _ _ _ _ ℕ (Unit {0}) _ c.in_err-data_grow-in-None.field-0.0 c.from_residual-in_err-data_grow-in-None.ensures (stays_some _ _ _ _ _ t _ (c.in_err-data_grow-in-None.ensures.some t tells is))
-
-pub returns-in_ok-data_grow-in-None-clause-stays_open : goal.returns-in_ok-data_grow-in-None-clause-stays_open
-returns-in_ok-data_grow-in-None-clause-stays_open g c t tells is = stays_valued _ _ _ _ _ c.in_ok-data_grow-in-None.field-0 tt (stays_some _ _ _ _ _ t _ (c.in_ok-data_grow-in-None.ensures.some t tells is))

@@ -9,7 +9,6 @@ use Rattle.nb_engine.specs.Tries.{Tries}
 use Rattle.nb_engine.proofs.DataLaws.{data_there}
 use Rattle.nb_alloc.proofs.DoesLaws.{tries_passed, tries_after}
 use Rattle.nb_alloc.proofs.MakeLaws.{tries_fault}
-use Rattle.nb_engine.proofs.StaysLaws.{stays_still, stays_after, stays_passed, stays_tries}
 use Rattle.nb_table.proofs.PlaceLaws.{slot_tries}
 use Rattle.nb_table.proofs.put.put_slot.Goals as goal
 
@@ -45,19 +44,3 @@ returns-clause-tries g c t tells is kind =
     let new = g.H.Host.world c.data_write.new.host in
     slot_tries {T = Unit {0}} (Ok tt) w new c.args.engine.now c.data_write.new.self t p place.slot bytes c.put_bytes.new.page kind now
     (tries_after {T = Unit {0}} (Ok tt) w _ new c.args.engine.now _ c.data_write.new.self t _ _ old.same old.quiet is (c.in_ok-data_write.ensures.tries t tells (old.open t tells is)))
-
-pub returns-in_err-read-clause-stays_open : goal.returns-in_err-read-clause-stays_open
-returns-in_err-read-clause-stays_open g c t tells is = let old = c.in_err-read.ensures in stays_still _ _ _ _ _ t _ old.same old.quiet is (old.open t tells is)
-
-pub returns-in_err-data_write-clause-stays_open : goal.returns-in_err-data_write-clause-stays_open
-returns-in_err-data_write-clause-stays_open g c t tells is =
-    let old = c.in_ok-read.ensures in
-    let opened = old.open t tells is in
-    stays_after _ _ _ _ _ _ _ t _ old.same old.quiet is opened
-    (stays_passed _ _ _ _ _ (Unit {0}) (Unit {0}) _ c.in_err-data_write.field-0.0 c.from_residual-in_err-data_write.ensures (stays_tries _ _ _ _ _ t _ _ _ (c.in_err-data_write.ensures.tries t tells opened)))
-
-pub returns-clause-stays_open : goal.returns-clause-stays_open
-returns-clause-stays_open g c t tells is =
-    let old = c.in_ok-read.ensures in
-    let opened = old.open t tells is in
-    stays_after _ _ _ _ _ _ _ t _ old.same old.quiet is opened (stays_tries _ _ _ _ _ t _ _ _ (c.in_ok-data_write.ensures.tries t tells opened))

@@ -1,4 +1,4 @@
-use Rattle.std.proofs.Common.{[], ◌≡◌, refl, sym, ap, subst, ◌∙◌, inl, inr}
+use Rattle.std.proofs.Common.{[], ◌≡◌, refl, sym, ap, subst, ◌∙◌}
 use Rattle.std.specs.Prelude.{Some, Ok, Err}
 use Rattle.nb_host.specs.declared.faults.Fault.TheVariants.{Refused}
 use Rattle.nb_host.specs.declared.refusals.Refusal.TheVariants.{FileExists}
@@ -15,16 +15,13 @@ use Rattle.nb_gen.proofs.GeneratedScript.{generated_text}
 use Rattle.nb_top.specs.ByTurns.{EndsEarly}
 use Rattle.nb_top.specs.Performed.{RunsTo}
 use Rattle.nb_top.proofs.ByTurnsLaws.{early_err, number_early, number_taken, number_then, run_undone}
-use Rattle.nb_top.specs.Requests.{ToGenerate, ToRun}
+use Rattle.nb_top.specs.Requests.{ToGenerate}
 use Rattle.nb_top.proofs.GeneratedRuns.{generated_unbegun, knows_script, taken_refused, writing_fails, written_runs}
 use Rattle.nb_top.proofs.GeneratedEvents.{with_script}
 use Rattle.nb_top.proofs.JobRuns.{job_refused, script_number}
 use Rattle.nb_top.proofs.QuietRuns.{foretold_from, knows_quietly, no_given, quiet_gave, runs_quietly}
 use Rattle.nb_top.proofs.ScriptRuns.{runs_err, settled_value, settled_refusal}
-use Rattle.nb_top.proofs.TouchLaws.{only_err, only_refused, touches_then, leaves_only, generated_among}
 use Rattle.nb_session.proofs.OthersLaws.{leaves_changes, leaves_quiet, leaves_then}
-use Rattle.nb_top.specs.Touched.{MayTouch}
-use Rattle.nb_top.specs.declared.telling.Telling.TheVariants.{Sparingly}
 use Rattle.nb_top.proofs.generating.run_generated.Goals as goal
 
 pub returns-in_err-is_free-clause-goes : goal.returns-in_err-is_free-clause-goes
@@ -44,13 +41,6 @@ returns-in_err-is_free-clause-goes g c = record {
   grows = λ account tells knows. let old = g.H.Host.world c.args.host.now in
       let new = g.H.Host.world c.is_free.new.host in
       grows_none old new (quiet_gave old new c.is_free.ensures.quiet);
-  touches = λ tells. let old = g.H.Host.world c.args.host.now in
-      let asked = g.H.Host.world c.is_free.new.host in
-      let number = c.args.number in
-      let name = c.args.name.now in
-      let request = Ok (ToGenerate number name) in
-      let quietly = leaves_quiet old asked (MayTouch request) c.is_free.ensures.quiet in
-      only_err old asked (MayTouch request) c.from_residual.result c.from_residual.ensures.0 quietly;
 }
 
 pub returns-then-not-branch-clause-goes : goal.returns-then-not-branch-clause-goes
@@ -73,14 +63,6 @@ returns-then-not-branch-clause-goes g c = record {
       let mid = g.H.Host.world c.is_free.new.host in
       let new = g.H.Host.world c.refuse.new.host in
       grows_joined old mid new (grows_none old mid (quiet_gave old mid c.is_free.ensures.quiet)) (grows_none mid new c.refuse.ensures.gave);
-  touches = λ tells. let old = g.H.Host.world c.args.host.now in
-      let asked = g.H.Host.world c.is_free.new.host in
-      let number = c.args.number in
-      let name = c.args.name.now in
-      let request = Ok (ToGenerate number name) in
-      let quietly = leaves_quiet old asked (MayTouch request) c.is_free.ensures.quiet in
-      let new = g.H.Host.world c.refuse.new.host in
-      only_refused old asked new (MayTouch request) quietly (g.met.H.Host.timely c.refuse.new.host) (g.met.H.Host.reads_left c.refuse.new.host tells) c.refuse.result _ _ (c.refuse.ensures.line tells);
 }
 
 pub returns-in_default-clause-goes : goal.returns-in_default-clause-goes
@@ -98,13 +80,6 @@ returns-in_default-clause-goes g c = record {
   grows = λ account tells knows. let old = g.H.Host.world c.args.host.now in
       let new = g.H.Host.world c.is_free.new.host in
       grows_none old new (quiet_gave old new c.is_free.ensures.quiet);
-  touches = λ tells. let old = g.H.Host.world c.args.host.now in
-      let asked = g.H.Host.world c.is_free.new.host in
-      let number = c.args.number in
-      let name = c.args.name.now in
-      let request = Ok (ToGenerate number name) in
-      let quietly = leaves_quiet old asked (MayTouch request) c.is_free.ensures.quiet in
-      only_err old asked (MayTouch request) _ (refl) quietly;
 }
 
 pub returns-in_err-script-clause-goes : goal.returns-in_err-script-clause-goes
@@ -124,13 +99,6 @@ returns-in_err-script-clause-goes g c = record {
   grows = λ account tells knows. let old = g.H.Host.world c.args.host.now in
       let new = g.H.Host.world c.is_free.new.host in
       grows_none old new (quiet_gave old new c.is_free.ensures.quiet);
-  touches = λ tells. let old = g.H.Host.world c.args.host.now in
-      let asked = g.H.Host.world c.is_free.new.host in
-      let number = c.args.number in
-      let name = c.args.name.now in
-      let request = Ok (ToGenerate number name) in
-      let quietly = leaves_quiet old asked (MayTouch request) c.is_free.ensures.quiet in
-      only_err old asked (MayTouch request) c.from_residual-in_err-script.result c.from_residual-in_err-script.ensures.0 quietly;
 }
 
 pub write_script-requires : goal.write_script-requires
@@ -163,15 +131,6 @@ returns-in_err-write_script-clause-goes g c = record {
       let mid = g.H.Host.world c.is_free.new.host in
       let new = g.H.Host.world c.write_script.new.host in
       grows_joined old mid new (grows_none old mid (quiet_gave old mid c.is_free.ensures.quiet)) (grows_none mid new c.write_script.ensures.gave);
-  touches = λ tells. let old = g.H.Host.world c.args.host.now in
-      let asked = g.H.Host.world c.is_free.new.host in
-      let number = c.args.number in
-      let name = c.args.name.now in
-      let request = Ok (ToGenerate number name) in
-      let quietly = leaves_quiet old asked (MayTouch request) c.is_free.ensures.quiet in
-      let mid = g.H.Host.world c.write_script.new.host in
-      let leaves = leaves_then old asked mid (MayTouch request) quietly (leaves_only asked mid name _ (MayTouch request) (inr (inl refl)) (c.write_script.ensures.left tells)) in
-      only_err old mid (MayTouch request) c.from_residual-in_err-write_script.result c.from_residual-in_err-write_script.ensures.0 leaves;
 }
 
 pub returns-in-Ok-script-clause-goes : goal.returns-in-Ok-script-clause-goes
@@ -221,19 +180,6 @@ returns-in-Ok-script-clause-goes g c = record {
       let knows_then = knows_quietly old asked account (Ok (ToGenerate number name)) quiet knows in
       grows_joined old asked new (grows_none old asked (quiet_gave old asked quiet)) (grows_joined asked mid new (grows_none asked mid c.write_script.ensures.gave)
       (c.run_script.ensures.goes.grows (with_script name (generated number) account) tells (knows_script asked number name account no_given c.requires knows_then free mid written kept plan read)));
-  touches = λ tells. let old = g.H.Host.world c.args.host.now in
-      let asked = g.H.Host.world c.is_free.new.host in
-      let number = c.args.number in
-      let name = c.args.name.now in
-      let request = Ok (ToGenerate number name) in
-      let quietly = leaves_quiet old asked (MayTouch request) c.is_free.ensures.quiet in
-      let mid = g.H.Host.world c.write_script.new.host in
-      let leaves = leaves_then old asked mid (MayTouch request) quietly (leaves_only asked mid name _ (MayTouch request) (inr (inl refl)) (c.write_script.ensures.left tells)) in
-      let new = g.H.Host.world c.run_script.new.host in
-      let plan = c.in-Ok-script.script in
-      let parsed = settled_value c.in_ok-script.script plan (λ value. c.parse.result ≡ Ok value) c.in-Ok-script.is c.in_ok-script.ensures.value in
-      let read = ap script_of (sym (c.deref.ensures.value ∙ c.in-Ok.ensures.script)) ∙ subst (λ answer. IsAnswer answer (script_of c.deref.result.now)) parsed c.parse.ensures.exact in
-      touches_then old mid new request leaves c.run_script.result (Ok (ToRun plan Sparingly)) (generated_among number name plan read Sparingly) (c.run_script.ensures.goes.touches tells);
 }
 
 pub returns-clause-goes : goal.returns-clause-goes
@@ -273,14 +219,4 @@ returns-clause-goes g c = record {
       let new = g.H.Host.world c.refuse-in-Err.new.host in
       grows_joined old asked new (grows_none old asked (quiet_gave old asked c.is_free.ensures.quiet))
       (grows_joined asked mid new (grows_none asked mid c.write_script.ensures.gave) (grows_none mid new c.refuse-in-Err.ensures.gave));
-  touches = λ tells. let old = g.H.Host.world c.args.host.now in
-      let asked = g.H.Host.world c.is_free.new.host in
-      let number = c.args.number in
-      let name = c.args.name.now in
-      let request = Ok (ToGenerate number name) in
-      let quietly = leaves_quiet old asked (MayTouch request) c.is_free.ensures.quiet in
-      let mid = g.H.Host.world c.write_script.new.host in
-      let leaves = leaves_then old asked mid (MayTouch request) quietly (leaves_only asked mid name _ (MayTouch request) (inr (inl refl)) (c.write_script.ensures.left tells)) in
-      let new = g.H.Host.world c.refuse-in-Err.new.host in
-      only_refused old mid new (MayTouch request) leaves (g.met.H.Host.timely c.refuse-in-Err.new.host) (g.met.H.Host.reads_left c.refuse-in-Err.new.host tells) c.refuse-in-Err.result _ _ (c.refuse-in-Err.ensures.line tells);
 }

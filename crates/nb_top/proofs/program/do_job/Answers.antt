@@ -31,8 +31,7 @@ returns-in-Refused-clause-goes g c asked by =
     let old = g.H.Host.world c.args.host.now in
     let is : asked ≡ Runs (Err Usage) = subst (λ (f : Fault). IsAskedBy (Err f) old.files asked) c.in-Refused.is (subst (λ r. IsAskedBy r old.files asked) c.in-Err.is by) in
     subst (λ a. Goes g.H.Host.world g.H.Host.tells c.refuse_words.result c.args.host.now c.refuse_words.new.host a) (sym is)
-    (goes_refused g.H.Host.world g.H.Host.tells c.args.host.now c.refuse_words.new.host (Err Usage) Usage c.refuse_words.result refl (g.met.H.Host.timely c.args.host.now) (g.met.H.Host.timely c.refuse_words.new.host) (g.met.H.Host.reads_left c.refuse_words.new.host)
-    c.refuse_words.ensures.gave c.refuse_words.ensures.line (λ told. usage_number c.refuse_words.result c.refuse_words.ensures.usage))
+    (goes_refused g.H.Host.world g.H.Host.tells c.args.host.now c.refuse_words.new.host (Err Usage) Usage c.refuse_words.result refl c.refuse_words.ensures.gave c.refuse_words.ensures.line (λ told. usage_number c.refuse_words.result c.refuse_words.ensures.usage))
 
 pub returns-in-Memory-clause-goes : goal.returns-in-Memory-clause-goes
 returns-in-Memory-clause-goes g c asked by =

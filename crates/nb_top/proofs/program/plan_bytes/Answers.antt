@@ -45,8 +45,7 @@ returns-in_ok-broken-in-Err-clause-goes g c =
     let is = settled_refusal c.in_ok-names.field-0 refusal (λ r. c.read_list.result ≡ Err (Refused r)) c.in-Err.is c.in_ok-names.ensures.refusal in
     let read = subst (λ answer. Says (list_of bytes) answer) is c.read_list.ensures.exact in
     subst (λ r. Goes g.H.Host.world g.H.Host.tells c.refuse.result c.args.host.now c.refuse.new.host (to_plan c.args.keep r)) (sym read)
-    (goes_refused g.H.Host.world g.H.Host.tells c.args.host.now c.refuse.new.host (Err refusal) refusal c.refuse.result refl (g.met.H.Host.timely c.args.host.now) (g.met.H.Host.timely c.refuse.new.host)
-    (g.met.H.Host.reads_left c.refuse.new.host) c.refuse.ensures.gave c.refuse.ensures.line (λ told. list_number [] (Some bytes) refusal read c.refuse.result c.refuse.ensures.ok))
+    (goes_refused g.H.Host.world g.H.Host.tells c.args.host.now c.refuse.new.host (Err refusal) refusal c.refuse.result refl c.refuse.ensures.gave c.refuse.ensures.line (λ told. list_number [] (Some bytes) refusal read c.refuse.result c.refuse.ensures.ok))
 
 pub returns-in_ok-broken-in-Err-clause-shown : goal.returns-in_ok-broken-in-Err-clause-shown
 returns-in_ok-broken-in-Err-clause-shown g c =

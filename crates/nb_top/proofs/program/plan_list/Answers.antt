@@ -57,8 +57,7 @@ returns-in-Err-clause-goes g c =
     let read : IsTrue g.H.Host.tells → names_in list file ≡ Err refusal = λ told. unread_list list file refusal other (subst (λ r. IsFileRead r list file) is (c.read_file.ensures.read told)) in
     plan_quietly g.H.Host.world g.H.Host.tells c.args.host.now c.read_file.new.host c.refuse.new.host keep (names_in list file) c.refuse.result c.read_file.ensures.quiet
     (goes_same g.H.Host.world g.H.Host.tells c.read_file.new.host c.refuse.new.host (to_plan keep (names_in list file)) (Runs (Err refusal)) c.refuse.result (λ told. ap (to_plan keep) (read told))
-    (goes_refused g.H.Host.world g.H.Host.tells c.read_file.new.host c.refuse.new.host (Err refusal) refusal c.refuse.result refl (g.met.H.Host.timely c.read_file.new.host) (g.met.H.Host.timely c.refuse.new.host) (g.met.H.Host.reads_left c.refuse.new.host)
-    c.refuse.ensures.gave c.refuse.ensures.line (λ told. list_number list file refusal (read told) c.refuse.result c.refuse.ensures.ok)))
+    (goes_refused g.H.Host.world g.H.Host.tells c.read_file.new.host c.refuse.new.host (Err refusal) refusal c.refuse.result refl c.refuse.ensures.gave c.refuse.ensures.line (λ told. list_number list file refusal (read told) c.refuse.result c.refuse.ensures.ok)))
 
 pub returns-in-Err-clause-shown : goal.returns-in-Err-clause-shown
 returns-in-Err-clause-shown g c told =

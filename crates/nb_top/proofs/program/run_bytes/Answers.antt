@@ -36,5 +36,4 @@ returns-in_ok-broken-in-Err-clause-goes g c =
     let refusal = c.in-Err.refusal in
     let is = settled_refusal c.in_ok-script.field-0 refusal (λ r. c.parse.result ≡ Err (Refused r)) c.in-Err.is c.in_ok-script.ensures.refusal in
     let read = subst (λ answer. IsAnswer answer (script_of bytes)) is c.parse.ensures.exact in
-    goes_refused g.H.Host.world g.H.Host.tells c.args.host.now c.refuse.new.host (to_run (script_of bytes)) refusal c.refuse.result (ap to_run read) (g.met.H.Host.timely c.args.host.now) (g.met.H.Host.timely c.refuse.new.host)
-    (g.met.H.Host.reads_left c.refuse.new.host) c.refuse.ensures.gave c.refuse.ensures.line (λ told. script_number [] (Some bytes) refusal read c.refuse.result c.refuse.ensures.ok)
+    goes_refused g.H.Host.world g.H.Host.tells c.args.host.now c.refuse.new.host (to_run (script_of bytes)) refusal c.refuse.result (ap to_run read) c.refuse.ensures.gave c.refuse.ensures.line (λ told. script_number [] (Some bytes) refusal read c.refuse.result c.refuse.ensures.ok)

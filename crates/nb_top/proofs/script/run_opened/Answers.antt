@@ -9,7 +9,6 @@ use Rattle.nb_top.proofs.ByTurnsLaws.{reply_said_by, reply_unsaid_by}
 use Rattle.nb_top.proofs.OpenedSaid.{opened_err, reply_unsaid, reply_said_then, ready_still}
 use Rattle.nb_top.proofs.QuietRuns.{foretold_from}
 use Rattle.nb_top.proofs.ToldLaws.{told_first_made, told_first_steps, told_output, told_status}
-use Rattle.nb_top.proofs.TouchLaws.{stays_unsaid, stays_said, still_said}
 use Rattle.nb_session.specs.declared.stop.Stop.{Stop}
 use Rattle.nb_top.proofs.script.run_opened.Goals as goal
 
@@ -64,21 +63,3 @@ returns-clause-grows g c now tells ready todo making =
     let new = g.H.Host.world c.take_told.new.host in
     grows_joined old mid new (grows_none old mid c.say_opened.ensures.gave)
     (c.take_told.ensures.grows now _ tells (ready_still old mid c.args.engine.now now (c.say_opened.ensures.line tells).still ready) todo making)
-
-pub returns-in_err-say_opened-clause-stays_open : goal.returns-in_err-say_opened-clause-stays_open
-returns-in_err-say_opened-clause-stays_open g c tells still =
-    let old = g.H.Host.world c.args.host.now in
-    let new = g.H.Host.world c.say_opened.new.host in
-    stays_unsaid old new c.args.engine.now c.args.script.now c.say_opened.result _ c.from_residual.result c.from_residual.ensures.0 (g.met.H.Host.timely c.say_opened.new.host) (g.met.H.Host.reads_left c.say_opened.new.host tells) (c.say_opened.ensures.line tells)
-
-pub returns-clause-stays_open : goal.returns-clause-stays_open
-returns-clause-stays_open g c tells still =
-    let old = g.H.Host.world c.args.host.now in
-    let mid = g.H.Host.world c.say_opened.new.host in
-    let new = g.H.Host.world c.take_told.new.host in
-    let plan = c.args.script.now in
-    let a = c.args.engine.now in
-    let b = c.take_told.new.engine in
-    let says = c.say_opened.ensures.line tells in
-    stays_said old new a plan mid b c.say_opened.result _ c.take_told.result (g.met.H.Host.timely c.say_opened.new.host) (g.met.H.Host.reads_left c.say_opened.new.host tells) says
-    (c.take_told.ensures.stays_open tells (still_said old new a plan mid b c.say_opened.result _ says still))

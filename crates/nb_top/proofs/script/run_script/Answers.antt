@@ -13,9 +13,7 @@ use Rattle.nb_top.proofs.Beginnings.{script_refused, script_now, script_todo, sc
 use Rattle.nb_top.proofs.ByTurnsLaws.{early_err, never_err, script_early, script_none}
 use Rattle.nb_top.proofs.BegunRuns.{start}
 use Rattle.nb_top.proofs.QuietRuns.{foretold_from, no_given}
-use Rattle.nb_top.proofs.ScriptRuns.{runs_err, settled_value, settled_refusal, script_begins, first_gave, first_opens}
-use Rattle.nb_top.proofs.TouchLaws.{only_err, only_refused, opening_leaves, begun_still, turns_leave, turns_end}
-use Rattle.nb_top.specs.Touched.{MayTouch}
+use Rattle.nb_top.proofs.ScriptRuns.{runs_err, settled_value, settled_refusal, script_begins, first_gave}
 use Rattle.nb_top.proofs.script.run_script.Goals as goal
 
 pub returns-in_err-engine-clause-goes : goal.returns-in_err-engine-clause-goes
@@ -40,13 +38,6 @@ returns-in_err-engine-clause-goes g c = record {
       let plan = c.args.script.now in
       grows_none old mid (first_gave old account no_given plan c.args.telling c.requires.askable knows mid c.open.result
       (λ name size raw cache is. c.open.ensures.creates name size raw cache tells (c.first.ensures ∙ is)) (λ name cache is. c.open.ensures.quiet name cache (c.first.ensures ∙ is)));
-  touches = λ tells. let old = g.H.Host.world c.args.host.now in
-      let mid = g.H.Host.world c.open.new.host in
-      let plan = c.args.script.now in
-      let first = first_opens plan.first c.requires.askable.first in
-      only_err old mid (MayTouch (Ok (ToRun plan c.args.telling))) c.from_residual.result c.from_residual.ensures.0 (opening_leaves old mid plan c.args.telling first c.open.result
-      (λ name size raw cache is. c.open.ensures.creates name size raw cache tells (c.first.ensures ∙ is)) (λ name cache is. c.open.ensures.attaches name cache tells (c.first.ensures ∙ is))
-      (λ name cache is. c.open.ensures.quiet name cache (c.first.ensures ∙ is)));
 }
 
 pub returns-in_err-refused-in-Ok-clause-goes : goal.returns-in_err-refused-in-Ok-clause-goes
@@ -89,20 +80,6 @@ returns-in_err-refused-in-Ok-clause-goes g c = record {
       (c.in_err-refused-in-Ok.ensures.grows (script_now old account no_given plan c.args.telling c.requires.askable mid held done) tells
       (script_ready old account no_given plan c.args.telling c.requires.askable mid held done) (script_todo old account no_given plan c.args.telling c.requires.askable mid held done)
       (script_making old account no_given plan c.args.telling c.requires.askable mid held done));
-  touches = λ tells. let old = g.H.Host.world c.args.host.now in
-      let mid = g.H.Host.world c.open.new.host in
-      let plan = c.args.script.now in
-      let first = first_opens plan.first c.requires.askable.first in
-      let new = g.H.Host.world c.run_opened.new.host in
-      let held = c.in-Ok.engine in
-      let is = settled_value c.in_ok-engine.field-0 held (λ value. c.open.result ≡ Ok value) c.in-Ok.is c.in_ok-engine.ensures.value in
-      let still = begun_still old mid plan c.args.telling first c.open.result
-      (λ name size raw cache is. c.open.ensures.creates name size raw cache tells (c.first.ensures ∙ is)) (λ name cache is. c.open.ensures.attaches name cache tells (c.first.ensures ∙ is))
-      (λ name cache is. c.open.ensures.quiet name cache (c.first.ensures ∙ is)) held is in
-      only_err old new (MayTouch (Ok (ToRun plan c.args.telling))) c.from_residual-in_err-refused-in-Ok.result c.from_residual-in_err-refused-in-Ok.ensures.0
-      (turns_leave old mid plan c.args.telling first c.open.result
-      (λ name size raw cache is. c.open.ensures.creates name size raw cache tells (c.first.ensures ∙ is)) (λ name cache is. c.open.ensures.attaches name cache tells (c.first.ensures ∙ is))
-      (λ name cache is. c.open.ensures.quiet name cache (c.first.ensures ∙ is)) held is new c.run_opened.new.engine _ (c.in_err-refused-in-Ok.ensures.stays_open tells still));
 }
 
 pub returns-in_ok-refused-in-Ok-clause-goes : goal.returns-in_ok-refused-in-Ok-clause-goes
@@ -143,19 +120,6 @@ returns-in_ok-refused-in-Ok-clause-goes g c = record {
       (c.in_ok-refused-in-Ok.ensures.grows (script_now old account no_given plan c.args.telling c.requires.askable mid held done) tells
       (script_ready old account no_given plan c.args.telling c.requires.askable mid held done) (script_todo old account no_given plan c.args.telling c.requires.askable mid held done)
       (script_making old account no_given plan c.args.telling c.requires.askable mid held done));
-  touches = λ tells. let old = g.H.Host.world c.args.host.now in
-      let mid = g.H.Host.world c.open.new.host in
-      let plan = c.args.script.now in
-      let first = first_opens plan.first c.requires.askable.first in
-      let new = g.H.Host.world c.run_opened.new.host in
-      let held = c.in-Ok.engine in
-      let is = settled_value c.in_ok-engine.field-0 held (λ value. c.open.result ≡ Ok value) c.in-Ok.is c.in_ok-engine.ensures.value in
-      let still = begun_still old mid plan c.args.telling first c.open.result
-      (λ name size raw cache is. c.open.ensures.creates name size raw cache tells (c.first.ensures ∙ is)) (λ name cache is. c.open.ensures.attaches name cache tells (c.first.ensures ∙ is))
-      (λ name cache is. c.open.ensures.quiet name cache (c.first.ensures ∙ is)) held is in
-      turns_end old mid plan c.args.telling first c.open.result
-      (λ name size raw cache is. c.open.ensures.creates name size raw cache tells (c.first.ensures ∙ is)) (λ name cache is. c.open.ensures.attaches name cache tells (c.first.ensures ∙ is))
-      (λ name cache is. c.open.ensures.quiet name cache (c.first.ensures ∙ is)) held is new c.run_opened.new.engine c.in_ok-refused-in-Ok.refused c.ended.result c.ended.ensures.ended c.ended.ensures.number (c.in_ok-refused-in-Ok.ensures.stays_open tells still);
 }
 
 pub returns-in-Err-clause-goes : goal.returns-in-Err-clause-goes
@@ -186,12 +150,4 @@ returns-in-Err-clause-goes g c = record {
       grows_joined old mid new (grows_none old mid (first_gave old account no_given plan c.args.telling c.requires.askable knows mid c.open.result
       (λ name size raw cache is. c.open.ensures.creates name size raw cache tells (c.first.ensures ∙ is)) (λ name cache is. c.open.ensures.quiet name cache (c.first.ensures ∙ is))))
       (grows_none mid new c.refuse.ensures.gave);
-  touches = λ tells. let old = g.H.Host.world c.args.host.now in
-      let mid = g.H.Host.world c.open.new.host in
-      let plan = c.args.script.now in
-      let first = first_opens plan.first c.requires.askable.first in
-      let new = g.H.Host.world c.refuse.new.host in
-      only_refused old mid new (MayTouch (Ok (ToRun plan c.args.telling))) (opening_leaves old mid plan c.args.telling first c.open.result
-      (λ name size raw cache is. c.open.ensures.creates name size raw cache tells (c.first.ensures ∙ is)) (λ name cache is. c.open.ensures.attaches name cache tells (c.first.ensures ∙ is))
-      (λ name cache is. c.open.ensures.quiet name cache (c.first.ensures ∙ is))) (g.met.H.Host.timely c.refuse.new.host) (g.met.H.Host.reads_left c.refuse.new.host tells) c.refuse.result _ _ (c.refuse.ensures.line tells);
 }

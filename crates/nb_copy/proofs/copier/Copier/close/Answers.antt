@@ -1,5 +1,5 @@
 use Rattle.std.proofs.Common.{◌≡◌, inl, inr, ℕ, ◌<◌, List, length, sym, ap, subst, ◌∙◌, arith}
-use Rattle.std.specs.Prelude.{Result, Ok}
+use Rattle.std.specs.Prelude.{Result}
 use Rattle.nb_host.specs.declared.faults.Fault.{Fault}
 use Rattle.nb_host.specs.declared.faults.Fault.TheVariants.{Device}
 use Rattle.nb_model.specs.Chains.{backup_slot, put_slot}
@@ -13,7 +13,6 @@ use Rattle.nb_model.specs.Backups.{close_backup}
 use Rattle.nb_copy.specs.Starting.{Backed}
 use Rattle.nb_copy.specs.Closing.{Closes}
 use Rattle.nb_copy.proofs.ClosingLaws.{given_time, row_strokes, close_strokes, close_waits, close_row}
-use Rattle.nb_engine.proofs.StaysLaws.{stays_passing, stays_some, stays_then}
 use Rattle.nb_copy.proofs.copier.Copier.close.Goals as goal
 
 pub returns-in_err-time-clause-closes : goal.returns-in_err-time-clause-closes
@@ -52,11 +51,3 @@ returns-clause-asks g c t tells is low =
     let there : c.self.inside.room.page < length t.base.image = omega (arith, low, ap (λ (v : Backed). v.backing.page) c.self.view_is) in
     let tries = c.history_add.ensures.tries t tells (still_open old mid c.args.engine.now t c.seconds.ensures.files is) there in
     (c.in_ok-time.time, inr (tries.makes.gave.times ∙ c.in_ok-time.ensures.log.times tells))
-
-pub returns-in_err-time-clause-stays_open : goal.returns-in_err-time-clause-stays_open
-returns-in_err-time-clause-stays_open g c t tells is = let asked = c.in_err-time.ensures in stays_passing _ _ _ _ t _ (g.met.H.Host.timely _) asked.files asked.log.said asked.time is
-
-pub returns-clause-stays_open : goal.returns-clause-stays_open
-returns-clause-stays_open g c t tells is =
-    let asked = c.in_ok-time.ensures in
-    stays_then c.in_ok-time.time _ _ _ _ _ _ _ _ (stays_passing (Ok c.in_ok-time.time) _ _ _ t _ (g.met.H.Host.timely _) asked.files asked.log.said asked.time is) (λ u here. stays_some _ _ _ _ _ u _ (c.history_add.ensures.some u tells here))

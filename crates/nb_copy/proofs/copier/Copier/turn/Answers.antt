@@ -6,7 +6,7 @@ use Rattle.nb_model.specs.Backups.{close_backup}
 use Rattle.nb_model.specs.Forms.{HasItsEntry}
 use Rattle.nb_model.specs.Outcomes.{Backing, next_time}
 use Rattle.nb_model.specs.Strokes.{Stroke}
-use Rattle.nb_state.specs.Open.{Held, name_of}
+use Rattle.nb_state.specs.Open.{Held}
 use Rattle.nb_state.specs.declared.turns.Progress.{Progress}
 use Rattle.nb_change.proofs.ResultLaws.{passed_on}
 use Rattle.nb_copy.specs.declared.file_copy.FileCopy.{FileCopy}
@@ -15,11 +15,6 @@ use Rattle.nb_copy.specs.Starting.{Backed, ask_by}
 use Rattle.nb_copy.specs.Reading.{asked_scn, page_reads}
 use Rattle.nb_copy.specs.Closing.{BackupTurn, Closes}
 use Rattle.nb_copy.proofs.ClosingLaws.{file_named, kept_named, asked_behind, asked_before, goes_further, mid_open, turn_failed, turn_more, close_failed, close_finished, written_all}
-use Rattle.nb_engine.proofs.StaysLaws.{stays_aside, stays_among, stays_passed, stays_then, stays_valued}
-use Rattle.nb_gather.proofs.TouchLaws.{touches_named}
-use Rattle.nb_change.specs.Changes.{Only}
-use Rattle.nb_base.specs.Open.{OfFiles}
-use Rattle.nb_state.specs.declared.turns.Progress.TheVariants.{More, Finished}
 use Rattle.nb_copy.proofs.copier.Copier.turn.Goals as goal
 
 -- no page is left of the same file
@@ -154,48 +149,6 @@ returns-in_ok-close-in-Finished-clause-asks g c t tells is stalled backing below
     let low : c.self.inside.room.page < length t.base.image = omega (arith, below, ap (λ (b : Backing). b.page) backed) in
     let asks = c.close.ensures.asks t tells here low in
     (asks.0, asked_before old mid (g.H.Host.world c.close.new.host) asks.0 gave asks.1)
-
-pub returns-in_err-turn-clause-stays_open : goal.returns-in_err-turn-clause-stays_open
-returns-in_err-turn-clause-stays_open g c t tells is apart =
-    let old = g.H.Host.world c.args.host.now in
-    let mid = g.H.Host.world c.turn.new.host in
-    let name : List ℕ = c.args.self.now.backing.name in
-    let file = touches_named old mid _ name (c.self.invariant.3 ∙ ap (λ (v : Backed). v.backing.name) c.self.view_is) (c.turn.ensures.touches tells) in
-    let reads = λ (m : List ℕ). g.met.H.Host.reads_left c.args.host.now tells m in
-    let other = λ (m : List ℕ) (same : m ≡ name) (own : OfFiles (name_of c.args.engine.now) m). apart (subst (OfFiles (name_of c.args.engine.now)) same own) in
-    stays_aside old mid c.args.engine.now t is reads (Only name) other _ file _ c.turn.new.engine c.turn.ensures.engine
-
-pub returns-in-More-clause-stays_open : goal.returns-in-More-clause-stays_open
-returns-in-More-clause-stays_open g c t tells is apart =
-    let old = g.H.Host.world c.args.host.now in
-    let mid = g.H.Host.world c.turn.new.host in
-    let name : List ℕ = c.args.self.now.backing.name in
-    let file = touches_named old mid _ name (c.self.invariant.3 ∙ ap (λ (v : Backed). v.backing.name) c.self.view_is) (c.turn.ensures.touches tells) in
-    let reads = λ (m : List ℕ). g.met.H.Host.reads_left c.args.host.now tells m in
-    let other = λ (m : List ℕ) (same : m ≡ name) (own : OfFiles (name_of c.args.engine.now) m). apart (subst (OfFiles (name_of c.args.engine.now)) same own) in
-    stays_aside old mid c.args.engine.now t is reads (Only name) other _ file (Ok More) c.turn.new.engine c.turn.ensures.engine
-
-pub returns-in_err-close-in-Finished-clause-stays_open : goal.returns-in_err-close-in-Finished-clause-stays_open
-returns-in_err-close-in-Finished-clause-stays_open g c t tells is apart =
-    let old = g.H.Host.world c.args.host.now in
-    let mid = g.H.Host.world c.turn.new.host in
-    let name : List ℕ = c.args.self.now.backing.name in
-    let file = touches_named old mid _ name (c.self.invariant.3 ∙ ap (λ (v : Backed). v.backing.name) c.self.view_is) (c.turn.ensures.touches tells) in
-    let reads = λ (m : List ℕ). g.met.H.Host.reads_left c.args.host.now tells m in
-    let other = λ (m : List ℕ) (same : m ≡ name) (own : OfFiles (name_of c.args.engine.now) m). apart (subst (OfFiles (name_of c.args.engine.now)) same own) in
-    stays_then Finished _ _ _ _ _ _ _ _ (stays_aside old mid c.args.engine.now t is reads (Only name) other _ file (Ok Finished) c.turn.new.engine c.turn.ensures.engine)
-    (λ u here. stays_among _ _ _ _ _ _ (Only name) (λ m none. absurd none) (stays_passed _ _ _ _ _ (Unit {0}) Progress _ c.in_err-close-in-Finished.field-0.0 c.from_residual-in_err-close-in-Finished.ensures (c.in_err-close-in-Finished.ensures.stays_open u tells here)))
-
-pub returns-in_ok-close-in-Finished-clause-stays_open : goal.returns-in_ok-close-in-Finished-clause-stays_open
-returns-in_ok-close-in-Finished-clause-stays_open g c t tells is apart =
-    let old = g.H.Host.world c.args.host.now in
-    let mid = g.H.Host.world c.turn.new.host in
-    let name : List ℕ = c.args.self.now.backing.name in
-    let file = touches_named old mid _ name (c.self.invariant.3 ∙ ap (λ (v : Backed). v.backing.name) c.self.view_is) (c.turn.ensures.touches tells) in
-    let reads = λ (m : List ℕ). g.met.H.Host.reads_left c.args.host.now tells m in
-    let other = λ (m : List ℕ) (same : m ≡ name) (own : OfFiles (name_of c.args.engine.now) m). apart (subst (OfFiles (name_of c.args.engine.now)) same own) in
-    stays_then Finished _ _ _ _ _ _ _ _ (stays_aside old mid c.args.engine.now t is reads (Only name) other _ file (Ok Finished) c.turn.new.engine c.turn.ensures.engine)
-    (λ u here. stays_among _ _ _ _ _ _ (Only name) (λ m none. absurd none) (stays_valued _ _ _ _ _ tt Finished (c.in_ok-close-in-Finished.ensures.stays_open u tells here)))
 
 pub returns-in_err-turn-clause-reads : goal.returns-in_err-turn-clause-reads
 returns-in_err-turn-clause-reads g c t tells is stalled backing left =

@@ -1,13 +1,11 @@
 use Rattle.std.proofs.Common.{refl, sym, ap, subst, ◌∙◌}
-use Rattle.std.specs.Prelude.{Result, Ok, Some}
+use Rattle.std.specs.Prelude.{Result}
 use Rattle.nb_host.specs.declared.faults.Fault.{Fault}
 use Rattle.nb_model.specs.Backups.{copy_turn}
 use Rattle.nb_change.proofs.ResultLaws.{passed_on}
-use Rattle.nb_state.proofs.MakesLaws.{open_quiet}
 use Rattle.nb_copy.specs.Copying.{Copying}
 use Rattle.nb_copy.specs.FileCopies.{StartsCopy}
 use Rattle.nb_copy.proofs.FileCopyLaws.{copy_failed, copy_begun}
-use Rattle.nb_engine.proofs.StaysLaws.{stays_still, stays_running}
 use Rattle.nb_copy.proofs.file_copier.FileCopier.start.Goals as goal
 
 pub returns-in_err-check_copy-clause-turn : goal.returns-in_err-check_copy-clause-turn
@@ -28,14 +26,3 @@ returns-clause-turn g c s t tells same runs is free =
     c.set_running.ensures
     (ap (λ (x : Copying). x.name) c.start.ensures ∙ c.in_ok-pages.ensures.name) (ap (λ (x : Copying). x.next) c.start.ensures ∙ c.in_ok-pages.ensures.next)
     (ap (λ (x : Copying). x.count) c.start.ensures ∙ c.main_count.ensures.value) (ap (λ (x : Copying). x.size) c.start.ensures ∙ c.in_ok-pages.ensures.size ∙ c.page_size.ensures.value)
-
-pub returns-in_err-check_copy-clause-stays_open : goal.returns-in_err-check_copy-clause-stays_open
-returns-in_err-check_copy-clause-stays_open g c t tells is = let quiet = c.in_err-check_copy.ensures.quiet in stays_still _ _ _ _ _ t _ refl quiet is (open_quiet _ _ _ t quiet is)
-
-pub returns-in_err-pages-clause-stays_open : goal.returns-in_err-pages-clause-stays_open
-returns-in_err-pages-clause-stays_open g c t tells is = let quiet = c.in_ok-check_copy.ensures.quiet in stays_still _ _ _ _ _ t _ refl quiet is (open_quiet _ _ _ t quiet is)
-
-pub returns-clause-stays_open : goal.returns-clause-stays_open
-returns-clause-stays_open g c t tells is =
-    let quiet = c.in_ok-check_copy.ensures.quiet in
-    stays_running _ _ _ _ _ c.start.new.self _ (Some c.args.session) _ c.set_running.ensures (stays_still (Ok c.start.new.self) _ _ _ _ t _ refl quiet is (open_quiet _ _ _ t quiet is))

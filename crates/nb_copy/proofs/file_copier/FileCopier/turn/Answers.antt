@@ -1,4 +1,4 @@
-use Rattle.std.proofs.Common.{refl, sym, subst, ◌≡◌, ℕ, List, ap, ◌∙◌}
+use Rattle.std.proofs.Common.{refl, sym, subst, ◌≡◌, ℕ, List, ◌∙◌}
 use Rattle.std.specs.Prelude.{Result, Err}
 use Rattle.nb_host.specs.declared.faults.HostFault.{HostFault}
 use Rattle.nb_change.specs.Changes.{Changes, Only, Remade}
@@ -9,8 +9,7 @@ use Rattle.nb_copy.specs.FileCopies.{CopiesFile}
 use Rattle.nb_gather.specs.Making.{IsFreeOr}
 use Rattle.nb_copy.specs.Turns.{CopyTurn}
 use Rattle.nb_copy.proofs.FileCopyLaws.{copies_file, made_free, made_then}
-use Rattle.nb_engine.proofs.StaysLaws.{open_aside, stays_aside}
-use Rattle.nb_gather.proofs.TouchLaws.{touches_has, touches_named, touches_then}
+use Rattle.nb_copy.proofs.AsideLaws.{open_aside}
 use Rattle.nb_base.specs.Open.{OfFiles}
 use Rattle.nb_state.specs.Open.{name_of}
 use Rattle.nb_state.specs.declared.turns.Progress.{Progress}
@@ -44,22 +43,3 @@ returns-clause-turn g c t tells is stalled goes apart =
     (made_then copy.name (joined t.base.frozen) old mid new (g.met.H.Host.reads_left c.make_first.new.host tells copy.name) (made.left tells) turn)
     (record { guids = gave.guids ∙ made.log.guids; times = gave.times ∙ made.log.times })
     (subst (λ (v : Copying). CopyTurn c.turn.result new v c.turn.new.self t.base.frozen) c.self.view_is (c.turn.ensures.answer t tells here stalled inner))
-
-pub returns-in_err-make_first-clause-stays_open : goal.returns-in_err-make_first-clause-stays_open
-returns-in_err-make_first-clause-stays_open g c answer t tells is apart =
-    let old = g.H.Host.world c.args.host.now in
-    let mid = g.H.Host.world c.make_first.new.host in
-    let name : List ℕ = c.args.self.now.name in
-    let other = λ (m : List ℕ) (same : m ≡ name) (own : OfFiles (name_of c.args.engine.now) m). apart (subst (OfFiles (name_of c.args.engine.now)) same own) in
-    stays_aside old mid c.args.engine.now t is (λ m. g.met.H.Host.reads_left c.args.host.now tells m) (Only name) other _ (c.in_err-make_first.ensures.left tells) answer c.args.engine.now refl
-
-pub returns-clause-stays_open : goal.returns-clause-stays_open
-returns-clause-stays_open g c answer t tells is apart =
-    let old = g.H.Host.world c.args.host.now in
-    let mid = g.H.Host.world c.make_first.new.host in
-    let new = g.H.Host.world c.turn.new.host in
-    let name : List ℕ = c.args.self.now.name in
-    let file = touches_then name old mid new (touches_has name old mid _ (c.in_ok-make_first.ensures.left tells)) (touches_named mid new _ name (ap (λ (v : Copying). v.name) c.self.view_is) (c.turn.ensures.touches tells)) in
-    let reads = λ (m : List ℕ). g.met.H.Host.reads_left c.args.host.now tells m in
-    let other = λ (m : List ℕ) (same : m ≡ name) (own : OfFiles (name_of c.args.engine.now) m). apart (subst (OfFiles (name_of c.args.engine.now)) same own) in
-    stays_aside old new c.args.engine.now t is reads (Only name) other _ file answer c.turn.new.engine c.turn.ensures.engine

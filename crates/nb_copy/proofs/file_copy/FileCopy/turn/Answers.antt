@@ -6,7 +6,6 @@ use Rattle.nb_copy.specs.FileCopying.{IsFileCopying, file_name, file_next, whole
 use Rattle.nb_copy.specs.Reading.{earlier_scn, page_reads}
 use Rattle.nb_gather.specs.Making.{IsFreeOr, IsUnfinishedOr}
 use Rattle.nb_model.specs.Levels.{joined}
-use Rattle.nb_gather.proofs.TouchLaws.{touches_named}
 use Rattle.nb_copy.proofs.file_copy.FileCopy.turn.Goals as goal
 
 pub returns-in-Pages-clause-left : goal.returns-in-Pages-clause-left
@@ -16,9 +15,6 @@ returns-in-Pages-clause-left g c t tells is stalled copying =
     subst (λ (f : FileCopy). Changes old new (Only (file_name f)) (Remade old (file_name f) (IsUnfinishedOr (whole_file f t.base.frozen)))) (sym c.in-Pages.is)
     (remade_weaker old new (Only c.in-Pages.copy.name) c.in-Pages.copy.name (IsFreeOr (joined t.base.frozen)) (IsUnfinishedOr (joined t.base.frozen))
     (c.turn.ensures.left t tells is stalled (subst (λ (f : FileCopy). IsFileCopying old f t.base.frozen) c.in-Pages.is copying)) (λ file. ⊎_elim (λ free. inl (inl free)) inr))
-
-pub returns-in-Pages-clause-touches : goal.returns-in-Pages-clause-touches
-returns-in-Pages-clause-touches g c tells = touches_named _ _ _ _ (ap file_name (sym c.in-Pages.is)) (c.turn.ensures.touches tells)
 
 pub returns-in-Pages-clause-reads : goal.returns-in-Pages-clause-reads
 returns-in-Pages-clause-reads g c t tells is stalled copying =
