@@ -1,4 +1,5 @@
 use Rattle.std.proofs.Common.{◌≡◌, ℕ, ◌*◌, ◌<◌, length, sym, subst, arith}
+use Rattle.std.proofs.lemmas.Result.{on_ok_weaker}
 use Rattle.nb_fields.specs.Places.{slots_in}
 use Rattle.nb_delta.proofs.StepLemmas.{some_slots}
 use Rattle.nb_delta.proofs.FrontLemmas.{groups_inside}
@@ -16,11 +17,6 @@ pub returns-in_err-make_ready-clause-changes : goal.returns-in_err-make_ready-cl
 returns-in_err-make_ready-clause-changes g c tells table waiting waits =
     ready _ c.slots_in-room.result c.len-count.result _ _ _ _ _ c.requires.size c.slots_in-room.ensures.value c.len-count.ensures.value c.len-count.ensures.apart c.requires.some waits _ _ _ (c.make_ready.ensures.changes tells)
 
-pub returns-in_err-note_all-clause-changes : goal.returns-in_err-note_all-clause-changes
-returns-in_err-note_all-clause-changes g c tells table waiting waits =
-    noted _ c.slots_in-room.result c.len-count.result _ _ _ _ _ c.requires.size c.slots_in-room.ensures.value c.len-count.ensures.value c.len-count.ensures.apart c.requires.some waits _ _ _ (c.make_ready.ensures.changes tells) _ _
-    c.make_ready.auto.page (c.in_ok-make_ready.ensures.emptied tells) (c.in_ok-make_ready.ensures.durable tells) (c.note_all.ensures.changes tells)
-
 pub returns-clause-changes : goal.returns-clause-changes
 returns-clause-changes g c tells table waiting waits =
     noted _ c.slots_in-room.result c.len-count.result _ _ _ _ _ c.requires.size c.slots_in-room.ensures.value c.len-count.ensures.value c.len-count.ensures.apart c.requires.some waits _ _ _ (c.make_ready.ensures.changes tells) _ _
@@ -28,10 +24,10 @@ returns-clause-changes g c tells table waiting waits =
 
 pub returns-clause-written : goal.returns-clause-written
 returns-clause-written g c tells table waiting waits =
-    has_all _ c.slots_in-room.result c.len-count.result _ _ _ _ _ c.requires.size c.slots_in-room.ensures.value c.len-count.ensures.value c.len-count.ensures.apart c.requires.some waits _ _ _
-    c.make_ready.auto.page (c.in_ok-make_ready.ensures.emptied tells) (c.in_ok-note_all.ensures.noted tells)
+    on_ok_weaker c.note_all.result (has_all _ c.slots_in-room.result c.len-count.result _ _ _ _ _ c.requires.size c.slots_in-room.ensures.value c.len-count.ensures.value c.len-count.ensures.apart c.requires.some waits _ _ _
+    c.make_ready.auto.page (c.in_ok-make_ready.ensures.emptied tells)) (c.note_all.ensures.noted tells)
 
 pub returns-clause-zeros : goal.returns-clause-zeros
 returns-clause-zeros g c tells table waiting waits =
-    zeros _ c.slots_in-room.result c.len-count.result _ _ _ _ _ c.requires.size c.slots_in-room.ensures.value c.len-count.ensures.value c.len-count.ensures.apart c.requires.some waits _ _ _
-    c.make_ready.auto.page (c.in_ok-make_ready.ensures.emptied tells) (c.in_ok-note_all.ensures.noted tells)
+    on_ok_weaker c.note_all.result (zeros _ c.slots_in-room.result c.len-count.result _ _ _ _ _ c.requires.size c.slots_in-room.ensures.value c.len-count.ensures.value c.len-count.ensures.apart c.requires.some waits _ _ _
+    c.make_ready.auto.page (c.in_ok-make_ready.ensures.emptied tells)) (c.note_all.ensures.noted tells)
