@@ -141,11 +141,7 @@ impl Cache {
         ensures found { result ≡ is_some (slot_of self.old.pages page) }
         ensures ranked { self.new ≡ record self.old { pages = with_rank page (Some rank) self.old.pages } }
     {
-        let Some(key) = frame_of(&self.frames, &self.index, page) else {
-            return false;
-        };
-        mark(&mut self.frames, key, Some(rank));
-        true
+        self.set_rank(page, Some(rank))
     }
 
     /// Lets a page that is held wait no longer.
@@ -153,9 +149,19 @@ impl Cache {
         requires { IsSome (slot_of self.old.pages page) }
         ensures { self.new ≡ record self.old { pages = with_rank page None self.old.pages } }
     {
-        if let Some(key) = frame_of(&self.frames, &self.index, page) {
-            mark(&mut self.frames, key, None);
-        }
+        self.set_rank(page, None);
+    }
+
+    /// Says of a page whether it waits, and with which rank. False where it isn't held.
+    fn set_rank(&mut self, page: u32, rank: Option<u8>) -> bool
+        ensures found { result ≡ is_some (slot_of self.old.pages page) }
+        ensures ranked { self.new ≡ record self.old { pages = with_rank page rank self.old.pages } }
+    {
+        let Some(key) = frame_of(&self.frames, &self.index, page) else {
+            return false;
+        };
+        mark(&mut self.frames, key, rank);
+        true
     }
 
     /// The waiting page that a keep of this page would drop.

@@ -14,5 +14,6 @@ pub mod KnownLemmas
 pub mod EmptyLemmas
 pub mod NotingLemmas
 pub mod FrontLemmas
+pub mod DraftedLemmas
 pub mod ZeroLemmas
 pub mod NoteLemmas

@@ -174,6 +174,5 @@ pub fn put_waiting<H: Host>(
     let count = entries.len();
     let first = (count - drafted) / room;
     make_ready(host, name, first, count / room, page)?;
-    note_all(host, name, entries, first, (count - 1) / room + 1, page)?;
-    Ok(())
+    note_all(host, name, entries, first, (count - 1) / room + 1, page)
 }

@@ -67,11 +67,11 @@ fn make_room<H: Host>(
     let size = page.len() as u32;
     let room = slots_in(size);
     let next = (place + 1) / room;
-    if next * room == place + 1 {
-        page.fill(0);
-        host.write_page(name, alloc_page_of(size, next), page)?;
+    if next * room != place + 1 {
+        return Ok(());
     }
-    Ok(())
+    page.fill(0);
+    host.write_page(name, alloc_page_of(size, next), page)
 }
 
 /// Writes the page of the entry after `place` others into its slot, and keeps it for good.
@@ -169,8 +169,7 @@ pub fn put_entry<H: Host>(
     put_slot(host, name, place, bytes, page)?;
     let group = place / slots_in(bytes.len() as u32);
     fill_group(page, entries, group);
-    note(host, name, group, page, forced)?;
-    Ok(())
+    note(host, name, group, page, forced)
 }
 
 /// Writes the page of an entry into its slot, and keeps it for good where that is wanted.

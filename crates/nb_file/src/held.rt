@@ -4,7 +4,7 @@ ghost use Rattle.nb_host.specs.Files.{put_at};
 ghost use Rattle.nb_host.specs.Calls.{ReadsBytes, ReadsPage};
 ghost use Rattle.nb_file.specs.Fetched.{IsPart};
 ghost use Rattle.nb_file.specs.Contents.{with_waiting};
-ghost use Rattle.nb_file.specs.Gathered.{IsFreeFor};
+ghost use Rattle.nb_file.specs.Gathered.{IsFreeFor, IsNext};
 ghost use Rattle.nb_file.specs.Resized.{IsSameUpTo};
 ghost use Rattle.nb_file.specs.Whole.{IsWhole, AreOf};
 
@@ -13,7 +13,7 @@ use crate::disk::Disk;
 use crate::folder::sync_folder;
 use crate::growth::put_whole;
 use crate::state::State;
-use crate::waiting::{PART, Waiting};
+use crate::waiting::Waiting;
 use nb_host::Name;
 use std::alloc::Global;
 use std::io::{self, ErrorKind};
@@ -114,6 +114,25 @@ impl<F: Disk + Drop> Held<F> {
         outcome
     }
 
+    /// Writes what waits for it, unless pieces of that length at that place follow that.
+    fn make_way(&mut self, waiting: &mut Waiting, at: u64, piece: u64) -> io::Result<()>
+        requires mine { IsFreeFor waiting.old.name self.old.name }
+        ensures next { OnOk result (IsNext waiting.new.name waiting.new.at (length waiting.new.bytes.items) at) }
+        ensures mine { IsFreeFor waiting.new.name self.new.name }
+        ensures lost { self.old.state.is_lost ≡ true → IsErr result }
+        ensures bytes { IsTrue F.tells → OnOk result (with_waiting waiting.new self.new.name (F.bytes self.new.file) ≡ with_waiting waiting.old self.old.name (F.bytes self.old.file)) }
+        ensures whole { IsTrue F.tells → AreOf piece waiting.old.name waiting.old.piece → IsWhole piece (length (F.bytes self.old.file)) → IsWhole piece (length (F.bytes self.new.file)) }
+        ensures follow { OnOk result (AreOf piece waiting.new.name waiting.new.piece) }
+        ensures pieces { AreOf piece waiting.old.name waiting.old.piece → AreOf piece waiting.new.name waiting.new.piece }
+        ensures same { (self.new.name ≡ self.old.name) × (self.new.can_write ≡ self.old.can_write) × (self.new.state.is_kept ≡ self.old.state.is_kept) }
+    {
+        self.state.check()?;
+        if waiting.takes(at, piece) {
+            return Ok(());
+        }
+        self.flush(waiting)
+    }
+
     /// Writes all the bytes at that place, in pieces of that length, or lets them wait. Where the file is shorter, zeros stand between.
     fn write(&mut self, waiting: &mut Waiting, at: u64, bytes: &[u8], piece: u64) -> io::Result<()>
         requires mine { IsFreeFor waiting.old.name self.old.name }
@@ -128,11 +147,8 @@ impl<F: Disk + Drop> Held<F> {
         ensures pieces { AreOf piece waiting.old.name waiting.old.piece → AreOf piece waiting.new.name waiting.new.piece }
         ensures same { (self.new.name ≡ self.old.name) × (self.new.can_write ≡ self.old.can_write) × (self.new.state.is_kept ≡ self.old.state.is_kept) }
     {
-        self.state.check()?;
-        if !waiting.takes(at, piece) {
-            self.flush(waiting)?;
-        }
-        if bytes.len() < PART && waiting.add(&self.name, at, bytes, piece).is_ok() {
+        self.make_way(waiting, at, piece)?;
+        if waiting.gather(&self.name, at, bytes, piece) {
             return Ok(());
         }
         self.flush(waiting)?;

@@ -1,5 +1,5 @@
 // Bytes that wait to be written: adjacent writes are gathered and go out together.
-ghost use Rattle.std.specs.Prelude.{◌≡◌, ◌≢◌, ◌+◌, ◌<◌, ℕ, List, length, Some, None, is_none, true, IfSome, OnOk, OnErr};
+ghost use Rattle.std.specs.Prelude.{◌≡◌, ◌≢◌, ◌+◌, ◌<◌, ℕ, List, length, Some, None, is_none, true, false, IfSome, OnOk, OnErr};
 ghost use Rattle.nb_host.specs.Files.{put_at};
 ghost use Rattle.nb_file.specs.Gathered.{seen, IsNext, IsFreeFor, is_owner};
 ghost use Rattle.nb_file.specs.Whole.{IsWhole, AreOf};
@@ -9,7 +9,7 @@ use std::alloc::{AllocError, Global};
 
 /// How long the parts of a file are, in bytes, that are written together. They begin at multiples of it, and the system takes a
 /// write of a whole part with less work than one that lies across two.
-pub const PART: usize = 262_144;
+const PART: usize = 262_144;
 
 /// Bytes of one file that wait to be written at one place.
 #[derive(Drop)]
@@ -70,8 +70,26 @@ impl Waiting {
         piece == self.piece && at / PART as u64 == self.at / PART as u64 && self.end() == Some(at)
     }
 
+    /// Lets them wait, after what waits already, and answers whether they do. A whole part doesn't wait, nor does what memory runs out for.
+    pub fn gather(&mut self, name: &Name, at: u64, bytes: &[u8], piece: u64) -> bool
+        requires next { IsNext self.old.name self.old.at (length self.old.bytes.items) at }
+        requires mine { IsFreeFor self.old.name name.now }
+        requires pieces { AreOf piece self.old.name self.old.piece }
+        requires some { 0 < piece }
+        requires whole { IsWhole piece (at + length bytes.now) }
+        ensures seen { result ≡ true → (file : List ℕ) → seen self.new.name self.new.at self.new.bytes.items name.now file ≡ put_at (seen self.old.name self.old.at self.old.bytes.items name.now file) at bytes.now }
+        ensures mine { IsFreeFor self.new.name name.now }
+        ensures pieces { AreOf piece self.new.name self.new.piece }
+        ensures fails { result ≡ false → (file : List ℕ) → seen self.new.name self.new.at self.new.bytes.items name.now file ≡ seen self.old.name self.old.at self.old.bytes.items name.now file }
+    {
+        if bytes.len() >= PART {
+            return false;
+        }
+        self.add(name, at, bytes, piece).is_ok()
+    }
+
     /// Lets them wait, after what waits already. Where memory runs out nothing changes.
-    pub fn add(&mut self, name: &Name, at: u64, bytes: &[u8], piece: u64) -> Result<(), AllocError>
+    fn add(&mut self, name: &Name, at: u64, bytes: &[u8], piece: u64) -> Result<(), AllocError>
         requires next { IsNext self.old.name self.old.at (length self.old.bytes.items) at }
         requires mine { IsFreeFor self.old.name name.now }
         requires pieces { AreOf piece self.old.name self.old.piece }

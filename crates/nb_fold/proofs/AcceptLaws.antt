@@ -27,7 +27,8 @@ use Rattle.nb_fold.specs.Merging.{AllOfSize}
 use Rattle.nb_fold.specs.Same.{GiveTheSame, Gives, IsFoldOf, links_of}
 use Rattle.nb_fold.specs.Verdict.{chained, files_after}
 use Rattle.nb_fold.proofs.FoldedLaws.{folded_rises, folded_sizes, none_below}
-use Rattle.nb_level.proofs.PagesLaws.{FirstIsZero, HasPages, level_pages}
+use Rattle.nb_model.proofs.LevelWalk.{FirstIsZero}
+use Rattle.nb_level.proofs.PagesLaws.{HasPages, level_pages}
 use Rattle.nb_fold.proofs.SameLaws.{AreNextFiles, AreOf, files_rise, folded_page, goes_after, next_files, no_files, same_image, sizes_alike}
 
 some_none : {X : Type 0} (x : X) → Some x ≡ None → ⊥

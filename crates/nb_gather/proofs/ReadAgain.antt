@@ -6,7 +6,7 @@ use Rattle.nb_fields.specs.Bytes.{number_in}
 use Rattle.nb_model.specs.Image.{Numbered}
 use Rattle.nb_model.specs.Levels.{Head, Test, first_fault, behind, read_end, read_runs, pages_in, barred_after, end_mark}
 use Rattle.nb_model.proofs.ReadLaws.{AreClear, eq_yes, run_tests, end_tests}
-use Rattle.nb_level.proofs.ToldLaws.{none_clear, not_long}
+use Rattle.nb_model.proofs.LevelWalk.{none_clear, not_long}
 
 -- a broken place is no value
 pub no_value : {A : Type 0} (at : ℕ) (value : A) → ◌≡◌ {A = Result A ℕ} (Err at) (Ok value) → ⊥

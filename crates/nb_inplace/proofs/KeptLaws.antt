@@ -1,52 +1,24 @@
 -- A level file whose record is kept: which record it goes on from, and what it holds.
-use Rattle.std.proofs.Common.{◌≡◌, ◌≢◌, ◌⊎◌, inl, inr, ℕ, ◌≤◌, List, [], ◌∷◌, ◌++◌, length, take, refl, sym, ap, subst, ◌∙◌}
-use Rattle.std.specs.Prelude.{Bool, true, false, ◌==◌, nat_le, Option, Some, None, Ok, Contains}
+use Rattle.std.proofs.Common.{◌≡◌, ◌≢◌, ◌⊎◌, inl, inr, ℕ, ◌≤◌, List, [], ◌∷◌, length, refl, sym, ap, subst, ◌∙◌}
+use Rattle.std.specs.Prelude.{true, false, nat_le, Some, None, Ok, Contains}
 use Rattle.std.proofs.lemmas.Bool.{and_parts, true≢false}
-use Rattle.std.proofs.lemmas.List.{append-nil}
 use Rattle.std.proofs.lemmas.Bool.Decides.{leb_tells}
-use Rattle.nb_fields.specs.Header.{is_header}
 use Rattle.nb_host.specs.Files.{Files}
 use Rattle.nb_host.specs.Names.{is_delta}
 use Rattle.nb_model.specs.Account.{Ask, Kept, Account}
-use Rattle.nb_model.specs.Image.{Image, first_page, image_size}
-use Rattle.nb_model.specs.Levels.{Head, Contents, joined, taken, changed, head_in, head_for, file_for, file_of, level_bytes, read_level}
+use Rattle.nb_model.specs.Image.{image_size}
+use Rattle.nb_model.specs.Levels.{Head, Contents, taken, head_in, head_for, level_bytes, read_level}
 use Rattle.nb_model.specs.Restoring.{Link, level_link, next_link, next_links}
 use Rattle.nb_model.specs.Sound.{IsSoundImage}
 use Rattle.nb_model.specs.Stands.{nil, to_record, IsKeptAs, IsBegun, IsLineTo, IsAncestor, IsSpan, Stands}
 use Rattle.nb_model.proofs.ChainLaws.{kept_accepted}
-use Rattle.nb_model.proofs.ChangedLaws.{sound_changed}
-use Rattle.nb_model.proofs.HeaderLaws.{same-header}
-use Rattle.nb_model.proofs.OpenedLaws.{joined_front}
-use Rattle.nb_model.proofs.StandsLaws.{header_no_level}
 use Rattle.nb_restore.proofs.AnswerLaws.{ok_same, some_same}
 use Rattle.nb_restore.proofs.AskLaws.{with_ask, guid_long}
 use Rattle.nb_restore.proofs.ChainLaws.{split_next}
-use Rattle.nb_restore.proofs.KeptNext.{HoldsKeptNext, kept_next}
+use Rattle.nb_restore.proofs.KeptNext.{HoldsKeptNext, kept_next, file_level, own_file}
 use Rattle.nb_restore.proofs.ParentLaws.{LeadsTo, AsksFrom, own_asks, span_asks}
 use Rattle.nb_level.proofs.ToldLaws.{level_told}
 use Rattle.nb_restore.proofs.ReadLaws.{reads_previous}
-
--- pages with a header are no level file
-no_pages : (image : Image) (bytes : List ℕ) (c : Contents) → is_header (first_page image) ≡ true → read_level bytes ≡ Ok c → bytes ≡ joined image → ⊥
-no_pages image bytes c header reads is =
-    let all : bytes ≡ joined (image ++ []) = is ∙ ap joined (sym (append-nil image)) in
-    header_no_level bytes c (same-header bytes (first_page image) (ap (take 64) all ∙ joined_front image [] header) ∙ header) reads
-
--- so the file of a record that is read as a level is one
-file_level : (version : ℕ) (q : Kept) (o : Option Ask) (bytes : List ℕ) (c : Contents) → IsBegun q → IsSoundImage q.image → read_level bytes ≡ Ok c → bytes ≡ file_for version q o
-    → (ask : Ask) × (o ≡ Some ask) × (bytes ≡ level_bytes version (head_for q ask) (taken ask.previous_scn q.image))
-unfolding file_for
-file_level version q None bytes c begun whole reads is = absurd (no_pages q.image bytes c begun.header reads is)
-file_level version q (Some ask) bytes c begun whole reads is = by (ask.level == 0) is
-  where
-    by : (t : Bool) → bytes ≡ elim t as (λ x. List ℕ) [ true ↦ joined q.image | false ↦ level_bytes version (head_for q ask) (changed ask.previous_scn q.image) ]
-        → (a : Ask) × (Some ask ≡ Some a) × (bytes ≡ level_bytes version (head_for q a) (taken a.previous_scn q.image))
-    by true k = absurd (no_pages q.image bytes c begun.header reads k)
-    by false k = (ask, refl, k ∙ ap (level_bytes version (head_for q ask)) (sound_changed ask.previous_scn q.image whole))
-
-own_file : (version : ℕ) (q : Kept) → file_of version q ≡ file_for version q q.ask
-unfolding file_of
-own_file version q = refl
 
 -- an ancestor is kept
 pub ancestor_there : (kept : List Kept) (between : List Kept) (q r : Kept) → IsLineTo kept q r between → Contains kept q

@@ -12,7 +12,8 @@ use Rattle.nb_model.specs.Well.{IsWell, IsWellBase, IsWellBaseIn}
 use Rattle.nb_model.proofs.HeaderLaws.{header-room, header-size}
 use Rattle.nb_model.proofs.SoundLaws.{all_at}
 use Rattle.nb_model.proofs.WellTrailLaws.{well_normal}
-use Rattle.nb_restore.proofs.FirstWell.{with_first, IsLikeFirst, first_well}
+use Rattle.nb_model.proofs.FirstPageLaws.{with_first}
+use Rattle.nb_restore.proofs.FirstWell.{IsLikeFirst, first_well}
 use Rattle.nb_inplace.proofs.ControlLaws.{standby-long, standby-state, standby-number, standby-size, standby-scn, standby-guid, standby-header}
 
 -- page 0 is that of a standby

@@ -1,34 +1,13 @@
 -- What stands in a file that is read as a level file.
-use Rattle.std.proofs.Common.{◌≡◌, inl, inr, ℕ, suc, ◌<◌, ◌≤◌, List, [], ◌∷◌, length, refl, sym, ap, subst, ◌∙◌, arith}
-use Rattle.std.specs.Prelude.{Bool, true, false, not, ◌&&◌, ◌||◌, ◌==◌, nat_le, nat_lt, Option, Some, None, Result, Ok, Err}
-use Rattle.std.proofs.lemmas.Bool.{true≢false}
-use Rattle.std.proofs.lemmas.Bool.Decides.{leb_tells}
+use Rattle.std.proofs.Common.{◌≡◌, ℕ, ◌<◌, ◌≤◌, List, length, refl, sym, ap, subst}
+use Rattle.std.specs.Prelude.{true, ◌&&◌, ◌||◌, ◌==◌, nat_le, nat_lt, Option, Some, None, Result, Ok, Err}
 use Rattle.nb_fields.specs.Bytes.{number_in}
 use Rattle.nb_fields.specs.Places.{is_page_size}
 use Rattle.nb_model.specs.Image.{Numbered}
-use Rattle.nb_model.specs.Levels.{Head, Contents, Test, first_fault, head_in, read_level, read_pages, with_head}
+use Rattle.nb_model.specs.Levels.{Head, Contents, first_fault, head_in, read_level, read_pages, with_head}
 use Rattle.nb_model.proofs.LevelLaws.{head_tests}
+use Rattle.nb_model.proofs.LevelWalk.{none_clear, not_long, long_yes, not_not}
 use Rattle.nb_model.proofs.ReadLaws.{AreClear}
-
--- where none of some tests fails, the first doesn't, and none of the others
-pub clear_head : (t : Test) (ts : List Test) → first_fault (t ∷ ts) ≡ None → (t.0 ≡ false) × (first_fault ts ≡ None)
-unfolding first_fault
-clear_head (true, at) ts e = absurd (cc e)
-clear_head (false, at) ts e = (refl, e)
-
-pub none_clear : (ts : List Test) → first_fault ts ≡ None → AreClear ts
-none_clear [] e = tt
-none_clear (t ∷ ts) e = let h = clear_head t ts e in (h.0, none_clear ts h.1)
-
-pub not_long : (a b : ℕ) → nat_lt a b ≡ false → b ≤ a
-not_long a b e = elim (leb_tells (suc a) b) [ inl w ↦ absurd (true≢false (sym w.0 ∙ e)) | inr w ↦ omega arith ]
-
-pub long_yes : (a b : ℕ) → nat_lt a b ≡ true → a < b
-long_yes a b e = elim (leb_tells (suc a) b) [ inl w ↦ w.1 | inr w ↦ absurd (true≢false (sym e ∙ w.0)) ]
-
-pub not_not : (b : Bool) → not b ≡ false → b ≡ true
-not_not true e = refl
-not_not false e = absurd (cc e)
 
 pub with_head-is : (version : ℕ) (h : Head) (r : Result (List Numbered) ℕ) (c : Contents) → with_head version h r ≡ Ok c → (r ≡ Ok c.pages) × (c.head ≡ h)
 with_head-is version h (Ok rs) c e =

@@ -1,7 +1,8 @@
 -- Words after words.
 use Rattle.std.proofs.Common.{◌≡◌, ℕ, ◌+◌, ◌<◌, length, take, drop, get_or, map, List, [], ◌∷◌, ◌++◌, refl, sym, ◌∙◌, ap, append_assoc, slice_get, Some}
 use Rattle.std.proofs.lemmas.Option.{get_or_from_slice_get}
-use Rattle.std.proofs.lemmas.List.{take_more, take-append-drop, map-append, append-nil}
+use Rattle.std.specs.Prelude.{flat_map}
+use Rattle.std.proofs.lemmas.List.{take_more, take-append-drop, map-append, append-nil, flat_map_more}
 use Rattle.nb_model.specs.Lines.{Word, is, number, quoted, word_text, spaced, name_words, page_words, row_words}
 use Rattle.nb_lines.specs.declared.word.Word.{Word as InLine}
 use Rattle.nb_lines.specs.Words.{seen}
@@ -66,3 +67,11 @@ all_then n words start middle end first second = words_then (take n words) (drop
 pub plan_said : (front dropped orphans : List Word) (start first second end : List ℕ) → first ≡ start ++ spaced front → second ≡ first ++ spaced dropped → end ≡ second ++ spaced orphans → end ≡ start ++ spaced (front ++ (dropped ++ orphans))
 plan_said front dropped orphans start first second end said named last =
     words_then front (dropped ++ orphans) start first end said (words_then dropped orphans first second end named last)
+
+-- one field more
+pub one_field_more : {X : Type 0} (words : X → List Word) (fields : List X) (i : ℕ) (field : X) (front : Word) (start here next : List ℕ) → i < length fields
+    → here ≡ start ++ spaced (front ∷ flat_map words (take i fields)) → next ≡ here ++ spaced (words (get_or fields i field)) → next ≡ start ++ spaced (front ∷ flat_map words (take (i + 1) fields))
+one_field_more {X = X} words fields i field front start here next low so_far put =
+    words_then (front ∷ flat_map words (take i fields)) (words (get_or fields i field)) start here next so_far put
+    ∙ ap (λ (ws : List Word). start ++ spaced ws) (flat_map_more words (front ∷ []) (take i fields) (get_or fields i field))
+    ∙ ap (λ (taken : List X). start ++ spaced (front ∷ flat_map words taken)) (sym (take_more fields i field low))

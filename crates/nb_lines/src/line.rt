@@ -4,7 +4,7 @@ ghost use Rattle.nb_host.specs.declared.faults.Fault.TheVariants.{Memory};
 ghost use Rattle.nb_model.specs.declared.reply.Reply.TheVariants.{Leaked, Planned};
 ghost use Rattle.nb_model.specs.Lines.{is, line_text, number, spaced, name_words, page_words, reply_words, refusal_words, row_words};
 
-use crate::word::{Word, push_number, push_words};
+use crate::word::{Word, push_number, push_ok, push_words};
 use nb_host::{Fault, Name, Refusal};
 use nb_model::{NameList, PageList, Reply, RowList};
 use std::alloc::{AllocError, Global};
@@ -161,14 +161,7 @@ fn push_pages(line: &mut Vec<u8>, pages: &[u32]) -> Result<(), AllocError>
 fn push_leaked(line: &mut Vec<u8>, pages: &PageList) -> Result<(), AllocError>
     ensures { OnOk result (line.new.items ≡ line.old.items ++ spaced (reply_words (Leaked pages.now))) }
 {
-    push_words(
-        line,
-        &[
-            Word::Is("ok"),
-            Word::Is("leaked"),
-            Word::Number(pages.len() as u64),
-        ],
-    )?;
+    push_ok(line, &[("leaked", Word::Number(pages.len() as u64))])?;
     push_pages(line, pages.as_slice())?;
     Ok(())
 }
@@ -182,16 +175,12 @@ fn push_plan(
 ) -> Result<(), AllocError>
     ensures { OnOk result (line.new.items ≡ line.old.items ++ spaced (reply_words (Planned kept dropped.now orphans.now))) }
 {
-    push_words(
+    push_ok(
         line,
         &[
-            Word::Is("ok"),
-            Word::Is("keep"),
-            Word::Number(kept as u64),
-            Word::Is("drop"),
-            Word::Number(dropped.len() as u64),
-            Word::Is("orphan"),
-            Word::Number(orphans.len() as u64),
+            ("keep", Word::Number(kept as u64)),
+            ("drop", Word::Number(dropped.len() as u64)),
+            ("orphan", Word::Number(orphans.len() as u64)),
         ],
     )?;
     push_names(line, dropped.as_slice())?;
@@ -199,46 +188,28 @@ fn push_plan(
     Ok(())
 }
 
+/// The words of a reply.
 fn push_reply(line: &mut Vec<u8>, reply: &Reply) -> Result<(), AllocError>
     ensures { OnOk result (line.new.items ≡ line.old.items ++ spaced (reply_words reply.now)) }
 {
     match reply {
-        Reply::Done => push_words(line, &[Word::Is("ok")]),
-        Reply::Pages { pages } => push_words(
+        Reply::Done => push_ok(line, &[]),
+        Reply::Pages { pages } => push_ok(line, &[("pages", Word::Number(*pages as u64))]),
+        Reply::Opened { pages, state } => push_ok(
             line,
             &[
-                Word::Is("ok"),
-                Word::Is("pages"),
-                Word::Number(*pages as u64),
+                ("pages", Word::Number(*pages as u64)),
+                ("state", Word::Number(*state as u64)),
             ],
         ),
-        Reply::Opened { pages, state } => push_words(
-            line,
-            &[
-                Word::Is("ok"),
-                Word::Is("pages"),
-                Word::Number(*pages as u64),
-                Word::Is("state"),
-                Word::Number(*state as u64),
-            ],
-        ),
-        Reply::PageMade { page } => push_words(
-            line,
-            &[Word::Is("ok"), Word::Is("page"), Word::Number(*page as u64)],
-        ),
+        Reply::PageMade { page } => push_ok(line, &[("page", Word::Number(*page as u64))]),
         Reply::Value { text } => push_words(line, &[Word::Is("ok"), Word::Quoted(text.as_slice())]),
-        Reply::Scn { scn } => push_words(
-            line,
-            &[Word::Is("ok"), Word::Is("scn"), Word::Number(*scn as u64)],
-        ),
-        Reply::ScnPages { scn, pages } => push_words(
+        Reply::Scn { scn } => push_ok(line, &[("scn", Word::Number(*scn as u64))]),
+        Reply::ScnPages { scn, pages } => push_ok(
             line,
             &[
-                Word::Is("ok"),
-                Word::Is("scn"),
-                Word::Number(*scn as u64),
-                Word::Is("pages"),
-                Word::Number(*pages as u64),
+                ("scn", Word::Number(*scn as u64)),
+                ("pages", Word::Number(*pages as u64)),
             ],
         ),
         Reply::Level {
@@ -246,29 +217,17 @@ fn push_reply(line: &mut Vec<u8>, reply: &Reply) -> Result<(), AllocError>
             scn,
             pages,
             guid,
-        } => push_words(
+        } => push_ok(
             line,
             &[
-                Word::Is("ok"),
-                Word::Is("level"),
-                Word::Number(*level as u64),
-                Word::Is("scn"),
-                Word::Number(*scn as u64),
-                Word::Is("pages"),
-                Word::Number(*pages as u64),
-                Word::Is("guid"),
-                Word::Guid(guid),
+                ("level", Word::Number(*level as u64)),
+                ("scn", Word::Number(*scn as u64)),
+                ("pages", Word::Number(*pages as u64)),
+                ("guid", Word::Guid(guid)),
             ],
         ),
         Reply::Rows { rows } => {
-            push_words(
-                line,
-                &[
-                    Word::Is("ok"),
-                    Word::Is("rows"),
-                    Word::Number(rows.len() as u64),
-                ],
-            )?;
+            push_ok(line, &[("rows", Word::Number(rows.len() as u64))])?;
             push_rows(line, rows)?;
             Ok(())
         }
@@ -281,26 +240,17 @@ fn push_reply(line: &mut Vec<u8>, reply: &Reply) -> Result<(), AllocError>
             forced,
             access,
             delta,
-        } => push_words(
+        } => push_ok(
             line,
             &[
-                Word::Is("ok"),
-                Word::Is("size"),
-                Word::Number(*page_size as u64),
-                Word::Is("pages"),
-                Word::Number(*pages as u64),
-                Word::Is("state"),
-                Word::Number(*state as u64),
-                Word::Is("scn"),
-                Word::Number(*scn as u64),
-                Word::Is("guid"),
-                Word::Guid(guid),
-                Word::Is("forced"),
-                Word::Number(*forced as u64),
-                Word::Is("access"),
-                Word::Number(*access as u64),
-                Word::Is("delta"),
-                Word::Number(*delta as u64),
+                ("size", Word::Number(*page_size as u64)),
+                ("pages", Word::Number(*pages as u64)),
+                ("state", Word::Number(*state as u64)),
+                ("scn", Word::Number(*scn as u64)),
+                ("guid", Word::Guid(guid)),
+                ("forced", Word::Number(*forced as u64)),
+                ("access", Word::Number(*access as u64)),
+                ("delta", Word::Number(*delta as u64)),
             ],
         ),
         Reply::PagesShown {
@@ -311,55 +261,34 @@ fn push_reply(line: &mut Vec<u8>, reply: &Reply) -> Result<(), AllocError>
             raw,
             other,
             free,
-        } => push_words(
+        } => push_ok(
             line,
             &[
-                Word::Is("ok"),
-                Word::Is("header"),
-                Word::Number(*header as u64),
-                Word::Is("inventory"),
-                Word::Number(*inventory as u64),
-                Word::Is("scn"),
-                Word::Number(*scn as u64),
-                Word::Is("data"),
-                Word::Number(*data_pages as u64),
-                Word::Is("raw"),
-                Word::Number(*raw as u64),
-                Word::Is("other"),
-                Word::Number(*other as u64),
-                Word::Is("free"),
-                Word::Number(*free as u64),
+                ("header", Word::Number(*header as u64)),
+                ("inventory", Word::Number(*inventory as u64)),
+                ("scn", Word::Number(*scn as u64)),
+                ("data", Word::Number(*data_pages as u64)),
+                ("raw", Word::Number(*raw as u64)),
+                ("other", Word::Number(*other as u64)),
+                ("free", Word::Number(*free as u64)),
             ],
         ),
-        Reply::ImageShown { pages, sha256 } => push_words(
+        Reply::ImageShown { pages, sha256 } => push_ok(
             line,
             &[
-                Word::Is("ok"),
-                Word::Is("pages"),
-                Word::Number(*pages as u64),
-                Word::Is("sha256"),
-                Word::Digest(sha256),
+                ("pages", Word::Number(*pages as u64)),
+                ("sha256", Word::Digest(sha256)),
             ],
         ),
-        Reply::CacheShown { capacity, held } => push_words(
+        Reply::CacheShown { capacity, held } => push_ok(
             line,
             &[
-                Word::Is("ok"),
-                Word::Is("cache"),
-                Word::Number(*capacity as u64),
-                Word::Is("held"),
-                Word::Number(*held as u64),
+                ("cache", Word::Number(*capacity as u64)),
+                ("held", Word::Number(*held as u64)),
             ],
         ),
         Reply::Leaked { pages } => push_leaked(line, pages),
-        Reply::Freed { pages } => push_words(
-            line,
-            &[
-                Word::Is("ok"),
-                Word::Is("freed"),
-                Word::Number(*pages as u64),
-            ],
-        ),
+        Reply::Freed { pages } => push_ok(line, &[("freed", Word::Number(*pages as u64))]),
         Reply::Planned {
             kept,
             dropped,

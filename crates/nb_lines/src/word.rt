@@ -1,10 +1,10 @@
-// One word of a reply's line.
-ghost use Rattle.std.specs.Prelude.{◌≡◌, ◌++◌, ◌∷◌, [], map, OnOk};
+// The words of a reply's line.
+ghost use Rattle.std.specs.Prelude.{◌≡◌, ◌++◌, ◌∷◌, [], map, flat_map, codes, OnOk};
 ghost use Rattle.std.specs.Fmt.{decimal};
 ghost use Rattle.uuid.specs.Text.{hyphenated_text, lower};
 ghost use Rattle.hex.specs.Hex.{encode_lower};
-ghost use Rattle.nb_model.specs.Lines.{word_text, spaced};
-ghost use Rattle.nb_lines.specs.Words.{seen};
+ghost use Rattle.nb_model.specs.Lines.{is, word_text, spaced};
+ghost use Rattle.nb_lines.specs.Words.{seen, named};
 
 use nb_host::Name;
 use std::alloc::AllocError;
@@ -81,6 +81,17 @@ pub fn push_words(line: &mut Vec<u8>, words: &[Word<'_>]) -> Result<(), AllocErr
     for word in words {
         line.push(b' ')?;
         push_word(line, *word)?;
+    }
+    Ok(())
+}
+
+/// Appends `ok`, and then the name and the value of each field.
+pub fn push_ok(line: &mut Vec<u8>, fields: &[(&str, Word<'_>)]) -> Result<(), AllocError>
+    ensures { OnOk result (line.new.items ≡ line.old.items ++ spaced (is (codes "ok") ∷ flat_map named fields.now)) }
+{
+    push_words(line, &[Word::Is("ok")])?;
+    for (name, value) in fields {
+        push_words(line, &[Word::Is(*name), *value])?;
     }
     Ok(())
 }

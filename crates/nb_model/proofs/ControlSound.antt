@@ -1,30 +1,31 @@
 -- An image stays sound where page 0 gets another state, SCN and GUID, and goes on from what it went on from.
-use Rattle.std.proofs.Common.{◌≡◌, ◌≢◌, inl, inr, ℕ, zero, suc, ◌/◌, ◌<◌, ◌≤◌, List, [], ◌∷◌, length, refl, sym, ap, subst, ◌∙◌, arith}
-use Rattle.std.specs.Prelude.{true, false}
-use Rattle.std.proofs.lemmas.Bool.Decides.{eqb_tells}
-use Rattle.nb_fields.specs.Bytes.{is_zeros}
+use Rattle.std.proofs.Common.{◌≡◌, ◌≢◌, ℕ, zero, suc, ◌/◌, ◌<◌, ◌≤◌, List, [], ◌∷◌, length, refl, sym, ap, subst, ◌∙◌, arith}
+use Rattle.std.specs.Prelude.{true}
 use Rattle.nb_fields.specs.Header.{is_header, is_sound, state_of, size_of, scn_of, guid_of}
-use Rattle.nb_fields.specs.Page.{kind_of, stamp_of}
-use Rattle.nb_fields.specs.Places.{entries_in, bits_in, is_inventory_place, is_scn_place}
+use Rattle.nb_fields.specs.Places.{bits_in}
 use Rattle.nb_model.specs.Image.{Page, Image, page_at, first_page, image_size, image_state, image_scn, image_guid}
 use Rattle.nb_model.specs.Account.{Kept}
 use Rattle.nb_model.specs.Strokes.{controlled, with_control}
-use Rattle.nb_model.specs.Forms.{inventory_of, scn_page_of, scn_entry, has_entry, is_free_page}
+use Rattle.nb_model.specs.Forms.{inventory_of, is_free_page}
 use Rattle.nb_model.specs.Sound.{HasHeader, IsSoundImage}
-use Rattle.nb_model.specs.Stands.{nil, IsKeptAs, GoesOn, HasRows, NamesPast, HasOldEntries}
+use Rattle.nb_model.specs.Stands.{nil, IsKeptAs, GoesOn, NamesPast, HasOldEntries}
 use Rattle.nb_model.proofs.ControlLaws.{control_length, control_size, control_stamp, control_state, control_scn, control_guid, control_header}
-use Rattle.nb_model.proofs.HeaderLaws.{header-long, header-other}
+use Rattle.nb_model.proofs.FirstPageLaws.{with_first, IsLaterFirst, first_sound, first_goes_on, first_past, first_old}
+use Rattle.nb_model.proofs.HeaderLaws.{header-long}
 use Rattle.nb_model.proofs.MainLaws.{some_page}
-use Rattle.nb_model.proofs.MixtureLaws.{has_same, scn_page_same, inventory_same, entry_same, free_same}
-use Rattle.nb_model.proofs.PastLaws.{rows_with, no_history, no_rows_pass}
+use Rattle.nb_model.proofs.MixtureLaws.{free_same}
 use Rattle.nb_model.proofs.PutSound.{header_fields}
-use Rattle.nb_model.proofs.SoundLaws.{HasFields, all_from, all_at, header_kind, inventory_behind, inventory_place_some, scn_page_behind, scn_place_some}
-use Rattle.nb_model.proofs.StalledLaws.{behind_first}
+use Rattle.nb_model.proofs.SoundLaws.{HasFields, inventory_place_some}
 
 control_first : (state scn : ℕ) (guid : List ℕ) (image : Image) → 1 ≤ length image → first_page (with_control state scn guid image) ≡ controlled state scn guid (first_page image)
 unfolding with_control
 control_first state scn guid [] some = absurd (omega arith)
 control_first state scn guid (p ∷ ps) some = refl
+
+control_is : (state scn : ℕ) (guid : List ℕ) (image : Image) → 1 ≤ length image → with_control state scn guid image ≡ with_first (controlled state scn guid (first_page image)) image
+unfolding with_control
+control_is state scn guid [] some = absurd (omega arith)
+control_is state scn guid (p ∷ ps) some = refl
 
 pub control_rest : (state scn : ℕ) (guid : List ℕ) (image : Image) (q : ℕ) → 1 ≤ q → page_at (with_control state scn guid image) q ≡ page_at image q
 unfolding with_control
@@ -105,90 +106,51 @@ module _ (state scn : ℕ) (guid : List ℕ) (image : Image) (h : HasHeader imag
   pub new_guid : image_guid new ≡ guid
   new_guid = ap guid_of first ∙ control_guid state scn guid (first_page image) long may.sixteen
 
-  new_stamp : stamp_of (first_page new) ≡ scn
-  new_stamp = ap stamp_of first ∙ control_stamp state scn guid (first_page image) long may.sixteen may.four
-
   pub new_header : is_header (first_page new) ≡ true
   new_header = (header_then state scn guid image h may).header
 
-  -- bits and entries stay
-  new_entry : (p : ℕ) → scn_entry new p ≡ scn_entry image p
-  new_entry p = entry_same new image new_size p (rest (scn_page_of image p) (omega (arith, scn_place_some (image_size image) (p / entries_in (image_size image)) fields.size)))
-
+  -- bits stay
   pub new_free : (p : ℕ) → is_free_page new p ≡ is_free_page image p
   new_free p = free_same new image new_size p (rest (inventory_of image p) (inventory_place_some (image_size image) (p / bits_in (image_size image)) fields.size))
 
-  -- what holds of page 0, and of the others as before
-  each_new : (P : Page → Type 0) → P (first_page new) → ((q : ℕ) → q < length image → P (page_at image q)) → (q : ℕ) → q < length new → P (page_at new q)
-  each_new P here before q low = elim (eqb_tells q 0) [
-    | inl w ↦ subst (λ (n : ℕ). P (page_at new n)) (sym w.1) here
-    | inr w ↦ subst P (sym (rest q (omega (arith, w.1)))) (before q (omega (arith, low, same_length)))
-  ]
+  -- So it is the image with a later page 0.
+  abbrev page : Page
+  page = controlled state scn guid (first_page image)
+
+  is_new : new ≡ with_first page image
+  is_new = control_is state scn guid image (some_page image h.header)
+
+  its_scn : scn_of page ≡ scn
+  its_scn = control_scn state scn guid (first_page image) long may.sixteen may.four
+
+  its_guid : guid_of page ≡ guid
+  its_guid = control_guid state scn guid (first_page image) long may.sixteen
+
+  later : IsLaterFirst (first_page image) page
+  later = record {
+    long = control_length state scn guid (first_page image) long may.sixteen;
+    header = sym (ap is_header first) ∙ new_header;
+    size = control_size state scn guid (first_page image) long may.sixteen;
+    later = omega (arith, may.later, its_scn);
+    stamp = control_stamp state scn guid (first_page image) long may.sixteen may.four ∙ sym its_scn;
+  }
 
   pub control_sound : IsSoundImage new
-  control_sound = record {
-    sound = record {
-      no_zeros = all_from (λ (x : Page). is_zeros x ≡ false) new
-          (each_new (λ (x : Page). is_zeros x ≡ false) (header-other (first_page new) new_header) (λ q low. all_at (λ (x : Page). is_zeros x ≡ false) image is.sound.no_zeros q low));
-      system = record {
-        inventories = λ q low at.
-            let place = subst (λ (s : ℕ). is_inventory_place s q ≡ true) new_size at in
-            let some : q ≢ 0 = inventory_behind (image_size image) q fields.size place in
-            ap kind_of (rest q (omega (arith, some))) ∙ is.sound.system.inventories q (omega (arith, low, same_length)) place;
-        scn_pages = λ q low at.
-            let place = subst (λ (s : ℕ). is_scn_place s q ≡ true) new_size at in
-            let some : q ≢ 0 = scn_page_behind (image_size image) q place in
-            ap kind_of (rest q (omega (arith, some))) ∙ is.sound.system.scn_pages q (omega (arith, low, same_length)) place;
-      };
-      bits = λ q low taken. omega (arith, same_length, is.sound.bits q (omega (arith, low, same_length, inventory_same new image new_size q)) (sym (new_free q) ∙ taken));
-      entries = record {
-        there = λ q low has. omega (arith, same_length, scn_page_same new image new_size q, is.sound.entries.there q (omega (arith, low, same_length)) (sym (has_same new image new_size q) ∙ has));
-        no_lower = λ q low has.
-            let has_old : has_entry image q ≡ true = sym (has_same new image new_size q) ∙ has in
-            omega (arith, ap stamp_of (rest q (behind_first image q has_old)), new_entry q, is.sound.entries.no_lower q (omega (arith, low, same_length)) has_old);
-        no_later = λ q low has.
-            omega (arith, new_entry q, new_scn, may.later, is.sound.entries.no_later q (omega (arith, low, same_length, scn_page_same new image new_size q)) (sym (has_same new image new_size q) ∙ has));
-      };
-      stamps = record {
-        no_later = each_new (λ (x : Page). stamp_of x ≤ image_scn new) (omega (arith, new_stamp, new_scn)) (λ q low. omega (arith, is.sound.stamps.no_later q low, may.later, new_scn));
-        head = new_stamp ∙ sym new_scn;
-      };
-    };
-    least = omega (arith, same_length, is.least);
-    most = omega (arith, same_length, is.most);
-    sizes = all_from (λ (x : Page). length x ≡ image_size new) new (each_new (λ (x : Page). length x ≡ image_size new)
-        (ap length first ∙ control_length state scn guid (first_page image) long may.sixteen ∙ all_at (λ (x : Page). length x ≡ image_size image) image is.sizes 0 (omega (arith, is.least)) ∙ sym new_size)
-        (λ q low. all_at (λ (x : Page). length x ≡ image_size image) image is.sizes q low ∙ sym new_size));
-  }
+  control_sound = subst IsSoundImage (sym is_new) (first_sound image page h is later)
 
   -- It goes on from what the image went on from,
   pub control_goes_on : (r : Kept) → GoesOn r image → GoesOn r new
-  control_goes_on r on = record {
-    earlier = omega (arith, on.earlier, may.later, new_scn);
-    follows = record {
-      size = new_size ∙ on.follows.size;
-      no_shorter = omega (arith, on.follows.no_shorter, same_length);
-      same = λ q low old. elim (eqb_tells q 0) [
-        | inl w ↦ absurd (omega (arith, subst (λ (n : ℕ). stamp_of (page_at new n) ≤ r.scn) w.1 old, new_stamp, on.earlier, may.later))
-        | inr w ↦
-            let some : 1 ≤ q = omega (arith, w.1) in
-            let before = on.follows.same q (omega (arith, low, same_length)) (omega (arith, old, ap stamp_of (rest q some))) in
-            (before.0, rest q some ∙ before.1)
-      ];
-    };
-  }
+  control_goes_on r on = subst (GoesOn r) (sym is_new) (first_goes_on image page h is later r on)
 
   -- and names what it named, but for the last backup.
   pub control_past : (kept : List Kept) (P R : Kept → Type 0) → ((r : Kept) → P r → R r) → (guid ≢ nil → (r : Kept) × IsKeptAs kept guid r × R r) → NamesPast kept P image → NamesPast kept R new
-  control_past kept P R goes last past = record {
-    rows = each_new (HasRows kept R) (no_rows_pass kept R (first_page new) (no_history (first_page new) (λ five. absurd (omega (arith, five, header_kind (first_page new) new_header)))))
-        (λ q low. rows_with kept P R goes (page_at image q) (past.rows q low));
-    last = λ some.
-        let named = last (λ none. some (new_guid ∙ none)) in
-        (named.0, subst (λ (g : List ℕ). IsKeptAs kept g named.0) (sym new_guid) named.1, named.2);
-  }
+  control_past kept P R goes last past =
+      subst (NamesPast kept R) (sym is_new) (first_past image page h is later kept P R goes
+      (λ some.
+      let named = last (λ none. some (its_guid ∙ none)) in
+      (named.0, subst (λ (g : List ℕ). IsKeptAs kept g named.0) (sym its_guid) named.1, named.2))
+      past)
 
   -- Where the SCN rises no entry is current.
   pub control_old : image_scn image < scn → HasOldEntries new
-  control_old rises q has low =
-      omega (arith, new_entry q, new_scn, rises, is.sound.entries.no_later q (omega (arith, low, same_length, scn_page_same new image new_size q)) (sym (has_same new image new_size q) ∙ has))
+  control_old rises = subst HasOldEntries (sym is_new) (first_old image page h is later (omega (arith, rises, its_scn)))

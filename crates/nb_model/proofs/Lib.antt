@@ -10,6 +10,7 @@ pub mod SessionLaws
 pub mod ReadLaws
 pub mod GatherLaws
 pub mod LevelLaws
+pub mod LevelWalk
 pub mod SpelledLaws
 pub mod ChangedLaws
 pub mod ChainLaws
@@ -68,6 +69,7 @@ pub mod LineageLaws
 pub mod WellTrailLaws
 pub mod OpenedLaws
 pub mod ControlLaws
+pub mod FirstPageLaws
 pub mod ControlSound
 pub mod ControlMay
 pub mod ControlWell

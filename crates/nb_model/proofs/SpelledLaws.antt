@@ -1,19 +1,20 @@
 -- What is read as a level file is spelled by the grammar.
 use Rattle.std.proofs.Common.{◌≡◌, ◌≢◌, inl, inr, ℕ, zero, suc, ◌+◌, ◌*◌, ◌/◌, ◌%◌, ◌<◌, ◌≤◌, List, [], ◌∷◌, ◌++◌, length, get_or, take, drop, refl, sym, ap, subst, ◌∙◌, arith, length-append, length-drop, append_assoc}
-use Rattle.std.specs.Prelude.{Bool, true, false, not, ◌&&◌, ◌||◌, ◌==◌, nat_lt, nat_le, Option, Some, None, Result, Ok, Err}
+use Rattle.std.specs.Prelude.{Bool, true, false, ◌&&◌, ◌||◌, ◌==◌, nat_lt, nat_le, Option, Some, None, Result, Ok, Err}
 use Rattle.std.specs.List.{AllByRecursion}
 use Rattle.std.specs.Cmp.Lexicographic.{told_text}
-use Rattle.std.proofs.lemmas.Bool.{true≢false, eqb-true, or_parts}
-use Rattle.std.proofs.lemmas.Bool.Decides.{eqb_tells, leb_tells}
+use Rattle.std.proofs.lemmas.Bool.{eqb-true, or_parts}
+use Rattle.std.proofs.lemmas.Bool.Decides.{leb_tells}
 use Rattle.std.proofs.lemmas.List.{append-nil, drop-drop, length-take-le, take-append-drop, drop_all}
 use Rattle.nb_fields.specs.Bytes.{number_of, bytes_of, number_in, part}
 use Rattle.nb_fields.specs.Places.{is_page_size}
 use Rattle.nb_model.specs.Image.{Page, Numbered}
-use Rattle.nb_model.specs.Levels.{Head, IsLevel, Contents, Test, Stretch, AreRising, AreOfSize, first_fault, behind, head_then, head_in, begins_level, level_signature, level_bytes, body_bytes, single_bytes, run_bytes, runs_of, runs_behind, joined, numbered_from, end_bytes, end_mark, read_level, read_pages, read_end, read_singles, read_runs, pages_in, barred_after, with_head, is_bad_number, is_first_page}
+use Rattle.nb_model.specs.Levels.{Head, IsLevel, Contents, Stretch, AreRising, AreOfSize, first_fault, behind, head_then, head_in, begins_level, level_signature, level_bytes, body_bytes, single_bytes, run_bytes, runs_of, runs_behind, joined, numbered_from, end_bytes, end_mark, read_level, read_pages, read_end, read_singles, read_runs, pages_in, barred_after, with_head, is_bad_number, is_first_page}
 use Rattle.nb_model.proofs.GatherLaws.{AreRuns, joins, total, pages_of_runs, run_front, run_none}
 use Rattle.nb_model.proofs.ImageLaws.{Pages, pages_of}
 use Rattle.nb_model.proofs.LevelLaws.{head_tests, single_front, single_none}
-use Rattle.nb_model.proofs.ReadLaws.{AreClear, IsRun, single_tests, run_tests, end_tests, single_there, run_there, first_joined, joined_read}
+use Rattle.nb_model.proofs.LevelWalk.{FirstIsZero, none_clear, not_long, long_yes, not_same, not_not, zero_tells, good, ok_is, no_pages, singles_are, runs_are}
+use Rattle.nb_model.proofs.ReadLaws.{AreClear, IsRun, single_tests, run_tests, end_tests, first_joined, joined_read}
 
 -- each is a byte
 abbrev AreBytes : List ℕ → Type 0
@@ -68,73 +69,6 @@ unfolding number_in
 field at w n xs are is low =
     piece at w n xs is ∙ ap (λ (l : List ℕ). l ++ drop n xs) (sym (respelled w (part at w xs) (part_long at w xs (omega (arith, is, low))) (bytes_front w (drop at xs) (bytes_behind at xs are))))
 
--- where no test fails each is passed
-none_clear : (ts : List Test) → first_fault ts ≡ None → AreClear ts
-unfolding first_fault
-none_clear [] e = tt
-none_clear (t ∷ ts) e = by (none_clear ts) t.0 refl e
-  where
-    some_none : (x : Option ℕ) → x ≡ Some t.1 → x ≡ None → ⊥
-    some_none x f g = cc
-
-    by : (first_fault ts ≡ None → AreClear ts) → (b : Bool) → t.0 ≡ b → elim b as (λ z. Option ℕ) [ true ↦ Some t.1 | false ↦ first_fault ts ] ≡ None → AreClear (t ∷ ts)
-    by later true is f = absurd (some_none (Some t.1) refl f)
-    by later false is f = (is, later f)
-
-not_long : (a b : ℕ) → nat_lt a b ≡ false → b ≤ a
-not_long a b e = elim (leb_tells (suc a) b) [ inl w ↦ absurd (true≢false (sym w.0 ∙ e)) | inr w ↦ omega arith ]
-
-long_yes : (a b : ℕ) → nat_lt a b ≡ true → a < b
-long_yes a b e = elim (leb_tells (suc a) b) [ inl w ↦ w.1 | inr w ↦ absurd (true≢false (sym e ∙ w.0)) ]
-
-not_low : (a b : ℕ) → nat_le a b ≡ false → b < a
-not_low a b e = elim (leb_tells a b) [ inl w ↦ absurd (true≢false (sym w.0 ∙ e)) | inr w ↦ omega arith ]
-
-not_same : (a b : ℕ) → (a == b) ≡ false → a ≢ b
-not_same a b e = elim (eqb_tells a b) [ inl w ↦ absurd (true≢false (sym w.0 ∙ e)) | inr w ↦ w.1 ]
-
-not_not : (b : Bool) → not b ≡ false → b ≡ true
-not_not true e = refl
-not_not false e = absurd (true≢false e)
-
--- a test of page 0 alone
-zero_tells : (n : ℕ) (b : Bool) → (n == 0 && not b) ≡ false → n ≡ 0 → b ≡ true
-zero_tells n true e is = refl
-zero_tells n false e is = absurd (true≢false (sym (ap (λ (k : ℕ). k == 0 && true) is) ∙ e))
-
--- what a number that may stand there is
-record IsGood (count least n : ℕ) : Type 0 where
-  pub begins : count ≡ 0 → n ≡ 0
-  pub low : least ≤ n
-  pub small : n < 1048576
-
-good : (count least n : ℕ) → is_bad_number count least n ≡ false → IsGood count least n
-good count least n e =
-    let parts = or_parts (count == 0 && not (n == 0)) (nat_lt n least || nat_le 1048576 n) e in
-    let ends = or_parts (nat_lt n least) (nat_le 1048576 n) parts.1 in
-    record { begins = λ none. eqb-true n 0 (zero_tells count (n == 0) parts.0 none); low = not_long n least ends.0; small = not_low 1048576 n ends.1 }
-
--- what is answered is answered once
-abbrev held : Result (List Numbered) ℕ → List Numbered
-held (Ok rs) = rs
-held (Err at) = []
-
-ok_is : (x : Result (List Numbered) ℕ) (xs ys : List Numbered) → x ≡ Ok xs → x ≡ Ok ys → xs ≡ ys
-ok_is x xs ys e f = ap held (sym e ∙ f)
-
-no_pages : (x : Result (List Numbered) ℕ) (at : ℕ) (rs : List Numbered) → x ≡ Err at → x ≡ Ok rs → ⊥
-no_pages x at rs e f = cc
-
--- what is read after pages
-record IsBehind (rs : List Numbered) (rest : Result (List Numbered) ℕ) (all : List Numbered) : Type 0 where
-  pub more : List Numbered
-  pub read : rest ≡ Ok more
-  pub is : all ≡ rs ++ more
-
-read_behind : (rs : List Numbered) (rest : Result (List Numbered) ℕ) (all : List Numbered) → behind rs rest ≡ Ok all → IsBehind rs rest all
-read_behind rs (Ok more) all e = record { more = more; read = refl; is = sym (ok_is (Ok (rs ++ more)) (rs ++ more) all refl e) }
-read_behind rs (Err at) all e = absurd (no_pages (Err at) at all refl e)
-
 -- the end
 record IsEnd (count : ℕ) (rest : List ℕ) (rs : List Numbered) : Type 0 where
   pub some : count ≢ 0
@@ -160,11 +94,6 @@ end_is at count rest rs are mark e = by (first_fault (end_tests at count rest)) 
               ∙ ap (λ n. bytes_of 4 n ++ bytes_of 4 (number_in 4 4 rest)) mark ∙ ap (λ n. bytes_of 4 end_mark ++ bytes_of 4 n) same;
         }
 
--- the first page of a file is page 0
-abbrev FirstIsZero : Head → List Numbered → Type 0
-FirstIsZero h [] = ⊥
-FirstIsZero h (r ∷ rs) = (r.0 ≡ 0) × (is_first_page h r.1 ≡ true)
-
 -- the pages of version 101 and the end
 record AreSingles (h : Head) (count least : ℕ) (rest : List ℕ) (rs : List Numbered) : Type 0 where
   pub spelled : rest ≡ single_bytes rs ++ end_bytes (count + length rs)
@@ -172,75 +101,38 @@ record AreSingles (h : Head) (count least : ℕ) (rest : List ℕ) (rs : List Nu
   pub sizes : AreOfSize h.size rs
   pub first : count ≡ 0 → FirstIsZero h rs
 
-singles_short : (left : ℕ) (h : Head) (at count least : ℕ) (rest : List ℕ) → nat_lt (length rest) 4 ≡ true → read_singles (suc left) h at count least rest ≡ Err (at + length rest)
-unfolding read_singles
-singles_short left h at count least rest short = rw (short, read_singles) refl
-
-singles_mark : (left : ℕ) (h : Head) (at count least : ℕ) (rest : List ℕ) → nat_lt (length rest) 4 ≡ false → (number_in 0 4 rest == end_mark) ≡ true → read_singles (suc left) h at count least rest ≡ read_end at count rest
-unfolding read_singles
-singles_mark left h at count least rest long mark = rw (long, read_singles) (rw (mark, read_singles) refl)
-
-singles_bad : (left : ℕ) (h : Head) (at count least : ℕ) (rest : List ℕ) (place : ℕ) → nat_lt (length rest) 4 ≡ false → (number_in 0 4 rest == end_mark) ≡ false
-    → first_fault (single_tests h at count least rest (number_in 0 4 rest)) ≡ Some place → read_singles (suc left) h at count least rest ≡ Err place
-unfolding read_singles
-singles_bad left h at count least rest place long other bad = rw (long, read_singles) (rw (other, read_singles) (rw (bad, read_singles) refl))
-
-singles_none : (h : Head) (at count least : ℕ) (rest : List ℕ) → read_singles zero h at count least rest ≡ Err at
-unfolding read_singles
-singles_none h at count least rest = refl
-
 -- what is read is so
-abbrev SinglesAre : Head → (left : ℕ) → Type 0
-SinglesAre h left = (at count least : ℕ) (rest : List ℕ) (rs : List Numbered) → AreBytes rest → read_singles left h at count least rest ≡ Ok rs → AreSingles h count least rest rs
+module _ (h : Head) where
+  -- of bytes
+  abbrev OfBytes : (count least : ℕ) (rest : List ℕ) (rs : List Numbered) → Type 0
+  OfBytes count least rest rs = AreBytes rest → AreSingles h count least rest rs
 
-singles_more : (h : Head) (left : ℕ) → SinglesAre h left → SinglesAre h (suc left)
-singles_more h left again at count least rest rs are e = by_long (nat_lt (length rest) 4) refl
-  where
-    n : ℕ
-    n = number_in 0 4 rest
+  singles_end : (at count least : ℕ) (rest : List ℕ) (rs : List Numbered) → number_in 0 4 rest ≡ end_mark → read_end at count rest ≡ Ok rs → OfBytes count least rest rs
+  singles_end at count least rest rs mark read are =
+      let end : IsEnd count rest rs = end_is at count rest rs are mark read in
+      subst (λ (l : List Numbered). AreSingles h count least rest l) (sym end.none) (record {
+        spelled = end.spelled ∙ ap end_bytes (let e : count ≡ count + 0 = omega arith in e) ∙ sym (single_none (end_bytes (count + 0)));
+        rising = tt;
+        sizes = tt;
+        first = λ none. end.some none;
+      })
 
-    page : Page
-    page = part 4 h.size rest
-
-    taken : AreClear (single_tests h at count least rest n) → IsBehind ((n, page) ∷ []) (read_singles left h (at + 4 + h.size) (count + 1) (n + 1) (drop (4 + h.size) rest)) rs → AreSingles h count least rest rs
-    taken clear later =
-        let number = good count least n clear.0 in
-        let long : 4 + h.size ≤ length rest = not_long (length rest) (4 + h.size) clear.1.0 in
-        let next : AreSingles h (count + 1) (n + 1) (drop (4 + h.size) rest) later.more = again (at + 4 + h.size) (count + 1) (n + 1) (drop (4 + h.size) rest) later.more (bytes_behind (4 + h.size) rest are) later.read in
-        let all : List Numbered = (n, page) ∷ later.more in
-        let size : length page ≡ h.size = part_long 4 h.size rest long in
-        let spelled : rest ≡ single_bytes all ++ end_bytes (count + length all) =
-        field 0 4 4 rest are refl (omega (arith, long)) ∙ ap (λ (l : List ℕ). bytes_of 4 n ++ l) (piece 4 h.size (4 + h.size) rest refl ∙ ap (λ (l : List ℕ). page ++ l) (next.spelled ∙ ap (λ k. single_bytes later.more ++ end_bytes k) (let e : (count + 1) + length later.more ≡ count + length all = omega arith in e)))
-        ∙ sym (single_front (n, page) later.more (end_bytes (count + length all))) in
-        subst (λ (l : List Numbered). AreSingles h count least rest l) (sym later.is) (record {
-          spelled = spelled;
-          rising = (number.low, number.small, next.rising);
-          sizes = (size, next.sizes);
-          first = λ none. (number.begins none, zero_tells n (is_first_page h page) clear.1.1.0 (number.begins none));
-        })
-
-    by_tests : nat_lt (length rest) 4 ≡ false → (n == end_mark) ≡ false → (x : Option ℕ) → first_fault (single_tests h at count least rest n) ≡ x → AreSingles h count least rest rs
-    by_tests long other (Some place) is = absurd (no_pages _ place rs (singles_bad left h at count least rest place long other is) e)
-    by_tests long other None is = taken (none_clear (single_tests h at count least rest n) is) (read_behind ((n, page) ∷ []) _ rs (sym (single_there left h at count least rest long other is) ∙ e))
-
-    by_mark : nat_lt (length rest) 4 ≡ false → (b : Bool) → (n == end_mark) ≡ b → AreSingles h count least rest rs
-    by_mark long true is =
-        let end : IsEnd count rest rs = end_is at count rest rs are (eqb-true n end_mark is) (sym (singles_mark left h at count least rest long is) ∙ e) in
-        subst (λ (l : List Numbered). AreSingles h count least rest l) (sym end.none) (record {
-          spelled = end.spelled ∙ ap end_bytes (let e : count ≡ count + 0 = omega arith in e) ∙ sym (single_none (end_bytes (count + 0)));
-          rising = tt;
-          sizes = tt;
-          first = λ none. end.some none;
-        })
-    by_mark long false is = by_tests long is (first_fault (single_tests h at count least rest n)) refl
-
-    by_long : (b : Bool) → nat_lt (length rest) 4 ≡ b → AreSingles h count least rest rs
-    by_long true is = absurd (no_pages _ (at + length rest) rs (singles_short left h at count least rest is) e)
-    by_long false is = by_mark is (number_in 0 4 rest == end_mark) refl
-
-singles_are : (h : Head) (left : ℕ) → SinglesAre h left
-singles_are h zero at count least rest rs are e = absurd (no_pages _ at rs (singles_none h at count least rest) e)
-singles_are h (suc left) at count least rest rs are e = singles_more h left (singles_are h left) at count least rest rs are e
+  singles_on : (at count least : ℕ) (rest : List ℕ) (more : List Numbered) → AreClear (single_tests h at count least rest (number_in 0 4 rest)) → OfBytes (count + 1) (number_in 0 4 rest + 1) (drop (4 + h.size) rest) more
+      → OfBytes count least rest ((number_in 0 4 rest, part 4 h.size rest) ∷ more)
+  singles_on at count least rest more clear behind are =
+      let n : ℕ = number_in 0 4 rest in
+      let page : Page = part 4 h.size rest in
+      let number = good count least n clear.0 in
+      let long : 4 + h.size ≤ length rest = not_long (length rest) (4 + h.size) clear.1.0 in
+      let next : AreSingles h (count + 1) (n + 1) (drop (4 + h.size) rest) more = behind (bytes_behind (4 + h.size) rest are) in
+      let all : List Numbered = (n, page) ∷ more in
+      record {
+        spelled = field 0 4 4 rest are refl (omega (arith, long)) ∙ ap (λ (l : List ℕ). bytes_of 4 n ++ l) (piece 4 h.size (4 + h.size) rest refl ∙ ap (λ (l : List ℕ). page ++ l) (next.spelled ∙ ap (λ k. single_bytes more ++ end_bytes k) (let e : (count + 1) + length more ≡ count + length all = omega arith in e)))
+            ∙ sym (single_front (n, page) more (end_bytes (count + length all)));
+        rising = (number.low, number.small, next.rising);
+        sizes = (part_long 4 h.size rest long, next.sizes);
+        first = λ none. (number.begins none, zero_tells n (is_first_page h page) clear.1.1.0 (number.begins none));
+      }
 
 -- the runs of version 102 and the end
 record AreSpelled (h : Head) (count least barred : ℕ) (rest : List ℕ) (rs : List Numbered) : Type 0 where
@@ -250,107 +142,67 @@ record AreSpelled (h : Head) (count least barred : ℕ) (rest : List ℕ) (rs : 
   pub are : AreRuns h count least barred runs
   pub some : 1 ≤ count + total runs
 
-runs_short : (left : ℕ) (h : Head) (at count least barred : ℕ) (rest : List ℕ) → nat_lt (length rest) 4 ≡ true → read_runs (suc left) h at count least barred rest ≡ Err (at + length rest)
-unfolding read_runs
-runs_short left h at count least barred rest short = rw (short, read_runs) refl
+module _ (h : Head) where
+  -- of bytes
+  abbrev OfRuns : (count least barred : ℕ) (rest : List ℕ) (rs : List Numbered) → Type 0
+  OfRuns count least barred rest rs = AreBytes rest → AreSpelled h count least barred rest rs
 
-runs_mark : (left : ℕ) (h : Head) (at count least barred : ℕ) (rest : List ℕ) → nat_lt (length rest) 4 ≡ false → (number_in 0 4 rest == end_mark) ≡ true → read_runs (suc left) h at count least barred rest ≡ read_end at count rest
-unfolding read_runs
-runs_mark left h at count least barred rest long mark = rw (long, read_runs) (rw (mark, read_runs) refl)
+  positive : (k : ℕ) → k ≢ 0 → 1 ≤ k
+  positive zero other = absurd (other refl)
+  positive (suc k) other = omega arith
 
-runs_bad : (left : ℕ) (h : Head) (at count least barred : ℕ) (rest : List ℕ) (place : ℕ) → nat_lt (length rest) 4 ≡ false → (number_in 0 4 rest == end_mark) ≡ false
-    → first_fault (run_tests h at count least barred rest (number_in 0 4 rest) (number_in 4 4 rest)) ≡ Some place → read_runs (suc left) h at count least barred rest ≡ Err place
-unfolding read_runs
-runs_bad left h at count least barred rest place long other bad = rw (long, read_runs) (rw (other, read_runs) (rw (bad, read_runs) refl))
+  runs_end : (at count least barred : ℕ) (rest : List ℕ) (rs : List Numbered) → number_in 0 4 rest ≡ end_mark → read_end at count rest ≡ Ok rs → OfRuns count least barred rest rs
+  runs_end at count least barred rest rs mark read are =
+      let end : IsEnd count rest rs = end_is at count rest rs are mark read in
+      record {
+        runs = [];
+        spelled = end.spelled ∙ ap end_bytes (let e : count ≡ count + 0 = omega arith in e) ∙ sym (run_none (end_bytes (count + 0)));
+        pages = end.none;
+        are = tt;
+        some = omega (arith, positive count end.some);
+      }
 
-runs_none : (h : Head) (at count least barred : ℕ) (rest : List ℕ) → read_runs zero h at count least barred rest ≡ Err at
-unfolding read_runs
-runs_none h at count least barred rest = refl
-
--- what is read is so
-abbrev RunsAre : Head → (left : ℕ) → Type 0
-RunsAre h left = (at count least barred : ℕ) (rest : List ℕ) (rs : List Numbered) → AreBytes rest → read_runs left h at count least barred rest ≡ Ok rs → AreSpelled h count least barred rest rs
-
-runs_more : (h : Head) (left : ℕ) → RunsAre h left → RunsAre h (suc left)
-runs_more h left again at count least barred rest rs are e = by_long (nat_lt (length rest) 4) refl
-  where
-    n : ℕ
-    n = number_in 0 4 rest
-
-    m : ℕ
-    m = number_in 4 4 rest
-
-    far : ℕ
-    far = 8 + m * h.size
-
-    taken : AreClear (run_tests h at count least barred rest n m) → IsBehind (pages_in h.size m n (drop 8 rest)) (read_runs left h (at + 8 + m * h.size) (count + m) (n + m) (barred_after n m) (drop far rest)) rs → AreSpelled h count least barred rest rs
-    taken clear later =
-        let one = or_parts (is_bad_number count least n) (n == barred) clear.0 in
-        let number = good count least n one.0 in
-        let counts = or_parts (m == 0) (nat_lt 16 m || nat_lt 1048576 (n + m)) clear.1.1.0 in
-        let most = or_parts (nat_lt 16 m) (nat_lt 1048576 (n + m)) counts.1 in
-        let some : m ≢ 0 = not_same m 0 counts.0 in
-        let long : far ≤ length rest = not_long (length rest) far clear.1.1.1.1.1.0 in
-        let body : List ℕ = part 8 (m * h.size) rest in
-        let cut : Pages h.size body m = pages_of h.size m body (part_long 8 (m * h.size) rest long) in
-        let split : drop 8 rest ≡ joined cut.pages ++ drop far rest = piece 8 (m * h.size) far rest refl ∙ ap (λ (l : List ℕ). l ++ drop far rest) cut.is in
-        let next : AreSpelled h (count + m) (n + m) (barred_after n m) (drop far rest) later.more = again (at + 8 + m * h.size) (count + m) (n + m) (barred_after n m) (drop far rest) later.more (bytes_behind far rest are) later.read in
-        let s : Stretch = record { first = n; pages = cut.pages } in
-        let sum : (count + m) + total next.runs ≡ count + total (s ∷ next.runs) = omega (arith, cut.count) in
-        let head : n ≡ 0 → is_first_page h (get_or cut.pages 0 []) ≡ true = λ none. ap (is_first_page h) (sym (ap (take h.size) split ∙ first_joined h.size cut.pages (drop far rest) (omega (arith, cut.count, positive m some)) cut.sizes)) ∙ zero_tells n (is_first_page h (part 8 h.size rest)) clear.1.1.1.1.0 none in
-        let run : IsRun h count least barred n cut.pages = record {
-          low = number.low;
-          apart = not_same n barred one.1;
-          begins = number.begins;
-          some = omega (arith, cut.count, positive m some);
-          few = omega (arith, cut.count, not_long 16 m most.0);
-          below = omega (arith, cut.count, not_long 1048576 (n + m) most.1);
-          sizes = cut.sizes;
-          head = head;
-        } in
-        record {
-          runs = s ∷ next.runs;
-          spelled = field 0 4 4 rest are refl (omega (arith, long)) ∙ ap (λ (l : List ℕ). bytes_of 4 n ++ l) (field 4 4 8 rest are refl (omega (arith, long))
-              ∙ ap (λ (l : List ℕ). bytes_of 4 m ++ l) (split ∙ ap (λ (l : List ℕ). joined cut.pages ++ l) (next.spelled ∙ ap (λ k. run_bytes next.runs ++ end_bytes k) sum)))
-              ∙ ap (λ k. bytes_of 4 n ++ (bytes_of 4 k ++ (joined cut.pages ++ (run_bytes next.runs ++ end_bytes (count + total (s ∷ next.runs)))))) (sym cut.count)
-              ∙ sym (run_front s next.runs (end_bytes (count + total (s ∷ next.runs))));
-          pages = later.is ∙ ap (λ (l : List Numbered). l ++ later.more) (ap (pages_in h.size m n) split ∙ ap (λ k. pages_in h.size k n (joined cut.pages ++ drop far rest)) (sym cut.count) ∙ joined_read h.size n cut.pages (drop far rest) cut.sizes)
-              ∙ ap (λ (l : List Numbered). numbered_from n cut.pages ++ l) next.pages;
-          are = (run, subst (λ k. AreRuns h (count + k) (n + k) (barred_after n k) next.runs) (sym cut.count) next.are);
-          some = omega (arith, cut.count, positive m some);
-        }
-      where
-        positive : (k : ℕ) → k ≢ 0 → 1 ≤ k
-        positive zero other = absurd (other refl)
-        positive (suc k) other = omega arith
-
-    by_tests : nat_lt (length rest) 4 ≡ false → (n == end_mark) ≡ false → (x : Option ℕ) → first_fault (run_tests h at count least barred rest n m) ≡ x → AreSpelled h count least barred rest rs
-    by_tests long other (Some place) is = absurd (no_pages _ place rs (runs_bad left h at count least barred rest place long other is) e)
-    by_tests long other None is = taken (none_clear (run_tests h at count least barred rest n m) is) (read_behind (pages_in h.size m n (drop 8 rest)) _ rs (sym (run_there left h at count least barred rest long other is) ∙ e))
-
-    by_mark : nat_lt (length rest) 4 ≡ false → (b : Bool) → (n == end_mark) ≡ b → AreSpelled h count least barred rest rs
-    by_mark long true is =
-        let end : IsEnd count rest rs = end_is at count rest rs are (eqb-true n end_mark is) (sym (runs_mark left h at count least barred rest long is) ∙ e) in
-        record {
-          runs = [];
-          spelled = end.spelled ∙ ap end_bytes (let e : count ≡ count + 0 = omega arith in e) ∙ sym (run_none (end_bytes (count + 0)));
-          pages = end.none;
-          are = tt;
-          some = more count end.some;
-        }
-      where
-        more : (k : ℕ) → k ≢ 0 → 1 ≤ k + 0
-        more zero other = absurd (other refl)
-        more (suc k) other = omega arith
-    by_mark long false is = by_tests long is (first_fault (run_tests h at count least barred rest n m)) refl
-
-    by_long : (b : Bool) → nat_lt (length rest) 4 ≡ b → AreSpelled h count least barred rest rs
-    by_long true is = absurd (no_pages _ (at + length rest) rs (runs_short left h at count least barred rest is) e)
-    by_long false is = by_mark is (number_in 0 4 rest == end_mark) refl
-
-runs_are : (h : Head) (left : ℕ) → RunsAre h left
-runs_are h zero at count least barred rest rs are e = absurd (no_pages _ at rs (runs_none h at count least barred rest) e)
-runs_are h (suc left) at count least barred rest rs are e = runs_more h left (runs_are h left) at count least barred rest rs are e
+  runs_on : (at count least barred : ℕ) (rest : List ℕ) (more : List Numbered) → AreClear (run_tests h at count least barred rest (number_in 0 4 rest) (number_in 4 4 rest))
+      → OfRuns (count + number_in 4 4 rest) (number_in 0 4 rest + number_in 4 4 rest) (barred_after (number_in 0 4 rest) (number_in 4 4 rest)) (drop (8 + number_in 4 4 rest * h.size) rest) more
+      → OfRuns count least barred rest (pages_in h.size (number_in 4 4 rest) (number_in 0 4 rest) (drop 8 rest) ++ more)
+  runs_on at count least barred rest more clear behind are =
+      let n : ℕ = number_in 0 4 rest in
+      let m : ℕ = number_in 4 4 rest in
+      let far : ℕ = 8 + m * h.size in
+      let one = or_parts (is_bad_number count least n) (n == barred) clear.0 in
+      let number = good count least n one.0 in
+      let counts = or_parts (m == 0) (nat_lt 16 m || nat_lt 1048576 (n + m)) clear.1.1.0 in
+      let most = or_parts (nat_lt 16 m) (nat_lt 1048576 (n + m)) counts.1 in
+      let some : m ≢ 0 = not_same m 0 counts.0 in
+      let long : far ≤ length rest = not_long (length rest) far clear.1.1.1.1.1.0 in
+      let body : List ℕ = part 8 (m * h.size) rest in
+      let cut : Pages h.size body m = pages_of h.size m body (part_long 8 (m * h.size) rest long) in
+      let split : drop 8 rest ≡ joined cut.pages ++ drop far rest = piece 8 (m * h.size) far rest refl ∙ ap (λ (l : List ℕ). l ++ drop far rest) cut.is in
+      let next : AreSpelled h (count + m) (n + m) (barred_after n m) (drop far rest) more = behind (bytes_behind far rest are) in
+      let s : Stretch = record { first = n; pages = cut.pages } in
+      let sum : (count + m) + total next.runs ≡ count + total (s ∷ next.runs) = omega (arith, cut.count) in
+      let head : n ≡ 0 → is_first_page h (get_or cut.pages 0 []) ≡ true = λ none. ap (is_first_page h) (sym (ap (take h.size) split ∙ first_joined h.size cut.pages (drop far rest) (omega (arith, cut.count, positive m some)) cut.sizes)) ∙ zero_tells n (is_first_page h (part 8 h.size rest)) clear.1.1.1.1.0 none in
+      let run : IsRun h count least barred n cut.pages = record {
+        low = number.low;
+        apart = not_same n barred one.1;
+        begins = number.begins;
+        some = omega (arith, cut.count, positive m some);
+        few = omega (arith, cut.count, not_long 16 m most.0);
+        below = omega (arith, cut.count, not_long 1048576 (n + m) most.1);
+        sizes = cut.sizes;
+        head = head;
+      } in
+      record {
+        runs = s ∷ next.runs;
+        spelled = field 0 4 4 rest are refl (omega (arith, long)) ∙ ap (λ (l : List ℕ). bytes_of 4 n ++ l) (field 4 4 8 rest are refl (omega (arith, long))
+            ∙ ap (λ (l : List ℕ). bytes_of 4 m ++ l) (split ∙ ap (λ (l : List ℕ). joined cut.pages ++ l) (next.spelled ∙ ap (λ k. run_bytes next.runs ++ end_bytes k) sum)))
+            ∙ ap (λ k. bytes_of 4 n ++ (bytes_of 4 k ++ (joined cut.pages ++ (run_bytes next.runs ++ end_bytes (count + total (s ∷ next.runs)))))) (sym cut.count)
+            ∙ sym (run_front s next.runs (end_bytes (count + total (s ∷ next.runs))));
+        pages = ap (λ (l : List Numbered). l ++ more) (ap (pages_in h.size m n) split ∙ ap (λ k. pages_in h.size k n (joined cut.pages ++ drop far rest)) (sym cut.count) ∙ joined_read h.size n cut.pages (drop far rest) cut.sizes)
+            ∙ ap (λ (l : List Numbered). numbered_from n cut.pages ++ l) next.pages;
+        are = (run, subst (λ k. AreRuns h (count + k) (n + k) (barred_after n k) next.runs) (sym cut.count) next.are);
+        some = omega (arith, cut.count, positive m some);
+      }
 
 -- Pages of consecutive numbers go into the run that has begun.
 filled : (first : ℕ) (ps qs : List Page) (rs : List Numbered) → length ps + length qs ≤ 16 → runs_behind first ps (numbered_from (first + length ps) qs ++ rs) ≡ runs_behind first (ps ++ qs) rs
@@ -528,10 +380,10 @@ pages_are version h bytes all are known e = by (version == 101) refl e
     by : (b : Bool) → (version == 101) ≡ b → elim b as (λ z. Result (List Numbered) ℕ) [ true ↦ read_singles (length bytes) h 52 0 0 (drop 52 bytes) | false ↦ read_runs (length bytes) h 52 0 0 end_mark (drop 52 bytes) ] ≡ Ok all
         → HasBody version h (drop 52 bytes) all
     by true is f =
-        subst (λ v. HasBody v h (drop 52 bytes) all) (sym (eqb-true version 101 is)) (body_101 h (drop 52 bytes) all (singles_are h (length bytes) 52 0 0 (drop 52 bytes) all (bytes_behind 52 bytes are) f))
+        subst (λ v. HasBody v h (drop 52 bytes) all) (sym (eqb-true version 101 is)) (body_101 h (drop 52 bytes) all (singles_are h (OfBytes h) (singles_end h) (singles_on h) (length bytes) 52 0 0 (drop 52 bytes) all f (bytes_behind 52 bytes are)))
     by false is f =
         let other : (version == 102) ≡ true = sym (ap (λ (b : Bool). b || version == 102) is) ∙ known in
-        subst (λ v. HasBody v h (drop 52 bytes) all) (sym (eqb-true version 102 other)) (body_102 h (drop 52 bytes) all (runs_are h (length bytes) 52 0 0 end_mark (drop 52 bytes) all (bytes_behind 52 bytes are) f))
+        subst (λ v. HasBody v h (drop 52 bytes) all) (sym (eqb-true version 102 other)) (body_102 h (drop 52 bytes) all (runs_are h (OfRuns h) (runs_end h) (runs_on h) (length bytes) 52 0 0 end_mark (drop 52 bytes) all f (bytes_behind 52 bytes are)))
 
 scn_low : (bytes : List ℕ) → AreBytes bytes → 52 ≤ length bytes → number_in 44 4 bytes < 4294967296
 unfolding number_in

@@ -1,29 +1,14 @@
--- An image whose page 0 becomes another with the same control fields, but for the state, stays sound and goes on from what it went on from.
-use Rattle.std.proofs.Common.{◌≡◌, ◌≢◌, inl, inr, ℕ, zero, suc, ◌/◌, ◌<◌, ◌≤◌, List, [], ◌∷◌, length, refl, sym, ap, subst, ◌∙◌, arith}
-use Rattle.std.specs.Prelude.{true, false}
-use Rattle.std.proofs.lemmas.Bool.Decides.{eqb_tells}
-use Rattle.nb_fields.specs.Bytes.{is_zeros}
+-- An image whose page 0 becomes another with the same control fields, but for the state, stays well.
+use Rattle.std.proofs.Common.{◌≡◌, ℕ, List, length, sym, ap, subst, ◌∙◌, arith}
+use Rattle.std.specs.Prelude.{true}
 use Rattle.nb_fields.specs.Header.{is_header, state_of, size_of, scn_of, guid_of}
-use Rattle.nb_fields.specs.Page.{kind_of, stamp_of}
-use Rattle.nb_fields.specs.Places.{entries_in, bits_in, is_inventory_place, is_scn_place}
-use Rattle.nb_model.specs.Image.{Page, Image, page_at, first_page, image_size, image_scn, image_guid}
+use Rattle.nb_fields.specs.Page.{stamp_of}
+use Rattle.nb_model.specs.Image.{Page, Image, first_page}
 use Rattle.nb_model.specs.Account.{Kept}
-use Rattle.nb_model.specs.Forms.{inventory_of, scn_page_of, scn_entry, has_entry, is_free_page}
 use Rattle.nb_model.specs.Sound.{HasHeader, IsSoundImage}
-use Rattle.nb_model.specs.Stands.{IsKeptAs, GoesOn, HasRows, NamesPast}
+use Rattle.nb_model.specs.Stands.{IsKeptAs, GoesOn, NamesPast}
 use Rattle.nb_model.specs.Well.{IsWellIn}
-use Rattle.nb_model.proofs.HeaderLaws.{header-other}
-use Rattle.nb_model.proofs.MainLaws.{some_page}
-use Rattle.nb_model.proofs.MixtureLaws.{has_same, scn_page_same, inventory_same, entry_same, free_same}
-use Rattle.nb_model.proofs.PastLaws.{rows_with, no_history, no_rows_pass}
-use Rattle.nb_model.proofs.PutSound.{header_fields}
-use Rattle.nb_model.proofs.SoundLaws.{HasFields, all_from, all_at, header_kind, inventory_behind, inventory_place_some, scn_page_behind, scn_place_some}
-use Rattle.nb_model.proofs.StalledLaws.{behind_first}
-
--- the image with another page 0
-abbrev pub with_first : Page → Image → Image
-with_first page [] = []
-with_first page (p ∷ ps) = page ∷ ps
+use Rattle.nb_model.proofs.FirstPageLaws.{with_first, IsLaterFirst, first, new_header, first_sound, first_goes_on, first_past}
 
 -- page 0 may become this page
 pub record IsLikeFirst (before page : Page) : Type 0 where
@@ -34,131 +19,29 @@ pub record IsLikeFirst (before page : Page) : Type 0 where
   pub guid : guid_of page ≡ guid_of before
   pub stamp : stamp_of page ≡ stamp_of before
 
-its_first : (page : Page) (image : Image) → 1 ≤ length image → first_page (with_first page image) ≡ page
-its_first page [] some = absurd (omega arith)
-its_first page (p ∷ ps) some = refl
-
-its_rest : (page : Page) (image : Image) (q : ℕ) → 1 ≤ q → page_at (with_first page image) q ≡ page_at image q
-its_rest page [] q some = refl
-its_rest page (p ∷ ps) zero some = absurd (omega arith)
-its_rest page (p ∷ ps) (suc q) some = refl
-
-its_long : (page : Page) (image : Image) → length (with_first page image) ≡ length image
-its_long page [] = refl
-its_long page (p ∷ ps) = refl
-
 module _ (image : Image) (page : Page) (h : HasHeader image) (is : IsSoundImage image) (like : IsLikeFirst (first_page image) page) where
-  abbrev new : Image
-  new = with_first page image
-
-  fields : HasFields image
-  fields = header_fields image h
-
-  first : first_page new ≡ page
-  first = its_first page image (some_page image h.header)
-
-  rest : (q : ℕ) → 1 ≤ q → page_at new q ≡ page_at image q
-  rest = its_rest page image
-
-  same_length : length new ≡ length image
-  same_length = its_long page image
-
-  new_size : image_size new ≡ image_size image
-  new_size = ap size_of first ∙ like.size
-
-  new_scn : image_scn new ≡ image_scn image
-  new_scn = ap scn_of first ∙ like.scn
-
-  new_guid : image_guid new ≡ image_guid image
-  new_guid = ap guid_of first ∙ like.guid
-
-  new_stamp : stamp_of (first_page new) ≡ image_scn image
-  new_stamp = ap stamp_of first ∙ like.stamp ∙ is.sound.stamps.head
-
-  new_header : is_header (first_page new) ≡ true
-  new_header = ap is_header first ∙ like.header
-
-  -- bits and entries stay
-  new_entry : (p : ℕ) → scn_entry new p ≡ scn_entry image p
-  new_entry p = entry_same new image new_size p (rest (scn_page_of image p) (omega (arith, scn_place_some (image_size image) (p / entries_in (image_size image)) fields.size)))
-
-  new_free : (p : ℕ) → is_free_page new p ≡ is_free_page image p
-  new_free p = free_same new image new_size p (rest (inventory_of image p) (inventory_place_some (image_size image) (p / bits_in (image_size image)) fields.size))
-
-  -- what holds of page 0, and of the others as before
-  each_new : (P : Page → Type 0) → P (first_page new) → ((q : ℕ) → q < length image → P (page_at image q)) → (q : ℕ) → q < length new → P (page_at new q)
-  each_new P here others q low = elim (eqb_tells q 0) [
-    | inl w ↦ subst (λ (n : ℕ). P (page_at new n)) (sym w.1) here
-    | inr w ↦ subst P (sym (rest q (omega (arith, w.1)))) (others q (omega (arith, low, same_length)))
-  ]
-
-  new_sound : IsSoundImage new
-  new_sound = record {
-    sound = record {
-      no_zeros = all_from (λ (x : Page). is_zeros x ≡ false) new
-          (each_new (λ (x : Page). is_zeros x ≡ false) (header-other (first_page new) new_header) (λ q low. all_at (λ (x : Page). is_zeros x ≡ false) image is.sound.no_zeros q low));
-      system = record {
-        inventories = λ q low at.
-            let place = subst (λ (s : ℕ). is_inventory_place s q ≡ true) new_size at in
-            let some : q ≢ 0 = inventory_behind (image_size image) q fields.size place in
-            ap kind_of (rest q (omega (arith, some))) ∙ is.sound.system.inventories q (omega (arith, low, same_length)) place;
-        scn_pages = λ q low at.
-            let place = subst (λ (s : ℕ). is_scn_place s q ≡ true) new_size at in
-            let some : q ≢ 0 = scn_page_behind (image_size image) q place in
-            ap kind_of (rest q (omega (arith, some))) ∙ is.sound.system.scn_pages q (omega (arith, low, same_length)) place;
-      };
-      bits = λ q low taken. omega (arith, same_length, is.sound.bits q (omega (arith, low, same_length, inventory_same new image new_size q)) (sym (new_free q) ∙ taken));
-      entries = record {
-        there = λ q low has. omega (arith, same_length, scn_page_same new image new_size q, is.sound.entries.there q (omega (arith, low, same_length)) (sym (has_same new image new_size q) ∙ has));
-        no_lower = λ q low has.
-            let has_old : has_entry image q ≡ true = sym (has_same new image new_size q) ∙ has in
-            omega (arith, ap stamp_of (rest q (behind_first image q has_old)), new_entry q, is.sound.entries.no_lower q (omega (arith, low, same_length)) has_old);
-        no_later = λ q low has.
-            omega (arith, new_entry q, new_scn, is.sound.entries.no_later q (omega (arith, low, same_length, scn_page_same new image new_size q)) (sym (has_same new image new_size q) ∙ has));
-      };
-      stamps = record {
-        no_later = each_new (λ (x : Page). stamp_of x ≤ image_scn new) (omega (arith, new_stamp, new_scn)) (λ q low. omega (arith, is.sound.stamps.no_later q low, new_scn));
-        head = new_stamp ∙ sym new_scn;
-      };
-    };
-    least = omega (arith, same_length, is.least);
-    most = omega (arith, same_length, is.most);
-    sizes = all_from (λ (x : Page). length x ≡ image_size new) new (each_new (λ (x : Page). length x ≡ image_size new)
-        (ap length first ∙ like.long ∙ all_at (λ (x : Page). length x ≡ image_size image) image is.sizes 0 (omega (arith, is.least)) ∙ sym new_size)
-        (λ q low. all_at (λ (x : Page). length x ≡ image_size image) image is.sizes q low ∙ sym new_size));
+  later : IsLaterFirst (first_page image) page
+  later = record {
+    long = like.long;
+    header = like.header;
+    size = like.size;
+    later = omega (arith, like.scn);
+    stamp = like.stamp ∙ is.sound.stamps.head ∙ sym like.scn;
   }
 
-  new_goes_on : (r : Kept) → GoesOn r image → GoesOn r new
-  new_goes_on r on = record {
-    earlier = omega (arith, on.earlier, new_scn);
-    follows = record {
-      size = new_size ∙ on.follows.size;
-      no_shorter = omega (arith, on.follows.no_shorter, same_length);
-      same = λ q low old. elim (eqb_tells q 0) [
-        | inl w ↦ absurd (omega (arith, subst (λ (n : ℕ). stamp_of (page_at new n) ≤ r.scn) w.1 old, new_stamp, on.earlier))
-        | inr w ↦
-            let some : 1 ≤ q = omega (arith, w.1) in
-            let was = on.follows.same q (omega (arith, low, same_length)) (omega (arith, old, ap stamp_of (rest q some))) in
-            (was.0, rest q some ∙ was.1)
-      ];
-    };
-  }
+  goes_on : (r : Kept) → GoesOn r image → GoesOn r (with_first page image)
+  goes_on = first_goes_on image page h is later
 
-  new_past : (kept : List Kept) → NamesPast kept (λ r. GoesOn r image) image → NamesPast kept (λ r. GoesOn r new) new
-  new_past kept named = record {
-    rows = each_new (HasRows kept (λ r. GoesOn r new)) (no_rows_pass kept (λ r. GoesOn r new) (first_page new) (no_history (first_page new) (λ five. absurd (omega (arith, five, header_kind (first_page new) new_header)))))
-        (λ q low. rows_with kept (λ r. GoesOn r image) (λ r. GoesOn r new) new_goes_on (page_at image q) (named.rows q low));
-    last = λ some.
-        let old = named.last (λ none. some (new_guid ∙ none)) in
-        (old.0, subst (λ (g : List ℕ). IsKeptAs kept g old.0) (sym new_guid) old.1, new_goes_on old.0 old.2);
-  }
-
-  -- So it is well where the image goes on from each backup that it names, in the state that the page says.
-  pub first_well : (kept : List Kept) (state : ℕ) → state_of page ≡ state → NamesPast kept (λ r. GoesOn r image) image → IsWellIn kept state new
+  -- It is well where the image goes on from each backup that it names, in the state that the page says.
+  pub first_well : (kept : List Kept) (state : ℕ) → state_of page ≡ state → NamesPast kept (λ r. GoesOn r image) image → IsWellIn kept state (with_first page image)
   first_well kept state is_state named = record {
-    header = new_header;
-    scn = omega (arith, new_scn, h.scn);
-    state = ap state_of first ∙ is_state;
-    sound = new_sound;
-    past = new_past kept named;
+    header = new_header image page h is later;
+    scn = omega (arith, ap scn_of (first image page h is later), like.scn, h.scn);
+    state = ap state_of (first image page h is later) ∙ is_state;
+    sound = first_sound image page h is later;
+    past = first_past image page h is later kept (λ r. GoesOn r image) (λ r. GoesOn r (with_first page image)) goes_on
+        (λ some.
+        let old = named.last (λ none. some (like.guid ∙ none)) in
+        (old.0, subst (λ (g : List ℕ). IsKeptAs kept g old.0) (sym like.guid) old.1, goes_on old.0 old.2))
+        named;
   }

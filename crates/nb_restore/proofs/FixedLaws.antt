@@ -10,7 +10,8 @@ use Rattle.nb_model.specs.Stands.{GoesOn, NamesPast}
 use Rattle.nb_model.specs.Well.{IsWell}
 use Rattle.nb_model.proofs.HeaderLaws.{header-long}
 use Rattle.nb_restore.proofs.FinishLaws.{normal_page, normal-length, normal-state, normal-size, normal-header, before, past, two}
-use Rattle.nb_restore.proofs.FirstWell.{with_first, IsLikeFirst, first_well}
+use Rattle.nb_model.proofs.FirstPageLaws.{with_first}
+use Rattle.nb_restore.proofs.FirstWell.{IsLikeFirst, first_well}
 
 -- page 0 is that page in the normal state
 fixed_first : (image : Image) → with_first (normal_page (first_page image)) image ≡ fixed image

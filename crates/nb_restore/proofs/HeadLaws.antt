@@ -6,7 +6,8 @@ use Rattle.nb_fields.specs.Header.{is_header, state_of, size_of}
 use Rattle.nb_model.specs.Image.{Page, Image, Numbered, first_page, written_at, overwritten}
 use Rattle.nb_model.specs.Levels.{Head, Contents, AreRising, is_first_page, read_level}
 use Rattle.nb_model.specs.Restoring.{Link, all_over}
-use Rattle.nb_level.proofs.PagesLaws.{FirstIsZero, level_pages}
+use Rattle.nb_model.proofs.LevelWalk.{FirstIsZero}
+use Rattle.nb_level.proofs.PagesLaws.{level_pages}
 use Rattle.nb_chain.proofs.ImageLaws.{length-written}
 use Rattle.nb_restore.specs.Sources.{IsHeaded, AreHeaded}
 use Rattle.nb_restore.proofs.CopiedLaws.{first-written}

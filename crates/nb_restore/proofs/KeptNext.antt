@@ -1,7 +1,7 @@
 -- A level file of a chain whose records are kept: it is the file of a record that goes on from the one before it.
 use Rattle.std.proofs.Common.{◌≡◌, ◌≢◌, inl, inr, ℕ, ◌≤◌, List, [], ◌∷◌, ◌++◌, length, take, refl, sym, ap, subst, ◌∙◌, arith}
 use Rattle.std.specs.Prelude.{Bool, true, false, ◌&&◌, ◌==◌, nat_le, Option, Some, None, Ok, Contains}
-use Rattle.std.proofs.lemmas.List.{take-append-le}
+use Rattle.std.proofs.lemmas.List.{append-nil}
 use Rattle.nb_fields.specs.Bytes.{bytes_of}
 use Rattle.nb_fields.specs.Header.{is_header}
 use Rattle.nb_host.specs.Files.{Files}
@@ -14,9 +14,9 @@ use Rattle.nb_model.specs.Restoring.{Link}
 use Rattle.nb_model.specs.Sound.{IsSoundImage}
 use Rattle.nb_model.specs.Stands.{nil, to_record, IsKeptAs, IsBegun, Stands}
 use Rattle.nb_model.proofs.ChangedLaws.{sound_changed}
-use Rattle.nb_model.proofs.HeaderLaws.{header-long, header-size, header-room, same-header}
-use Rattle.nb_model.proofs.MainLaws.{some_page}
+use Rattle.nb_model.proofs.HeaderLaws.{header-size, header-room, same-header}
 use Rattle.nb_model.proofs.ReadLaws.{eq_no}
+use Rattle.nb_model.proofs.OpenedLaws.{joined_front}
 use Rattle.nb_model.proofs.StandsLaws.{header_no_level}
 use Rattle.nb_restore.proofs.AnswerLaws.{some_same}
 use Rattle.nb_restore.proofs.AskLaws.{with_ask, begun_with, guid_long}
@@ -26,16 +26,13 @@ use Rattle.nb_level.proofs.ToldLaws.{IsTold, level_told}
 use Rattle.nb_restore.proofs.ReadLaws.{reads_level, reads_previous}
 
 -- pages with a header are no level file
-joined_first : (image : Image) → is_header (first_page image) ≡ true → take 64 (joined image) ≡ take 64 (first_page image)
-joined_first [] header = absurd (let some = some_page [] header in omega arith)
-joined_first (p ∷ ps) header = take-append-le 64 p (joined ps) (header-long p header)
-
 no_pages : (image : Image) (bytes : List ℕ) (c : Contents) → is_header (first_page image) ≡ true → read_level bytes ≡ Ok c → bytes ≡ joined image → ⊥
 no_pages image bytes c header reads is =
-    header_no_level bytes c (same-header bytes (first_page image) (ap (take 64) is ∙ joined_first image header) ∙ header) reads
+    let all : bytes ≡ joined (image ++ []) = is ∙ ap joined (sym (append-nil image)) in
+    header_no_level bytes c (same-header bytes (first_page image) (ap (take 64) all ∙ joined_front image [] header) ∙ header) reads
 
 -- so the file of a record that is read as a level is one
-file_level : (version : ℕ) (q : Kept) (o : Option Ask) (bytes : List ℕ) (c : Contents) → IsBegun q → IsSoundImage q.image → read_level bytes ≡ Ok c → bytes ≡ file_for version q o
+pub file_level : (version : ℕ) (q : Kept) (o : Option Ask) (bytes : List ℕ) (c : Contents) → IsBegun q → IsSoundImage q.image → read_level bytes ≡ Ok c → bytes ≡ file_for version q o
     → (ask : Ask) × (o ≡ Some ask) × (bytes ≡ level_bytes version (head_for q ask) (taken ask.previous_scn q.image))
 unfolding file_for
 file_level version q None bytes c begun whole reads is = absurd (no_pages q.image bytes c begun.header reads is)
@@ -46,7 +43,7 @@ file_level version q (Some ask) bytes c begun whole reads is = by (ask.level == 
     by true k = absurd (no_pages q.image bytes c begun.header reads k)
     by false k = (ask, refl, k ∙ ap (level_bytes version (head_for q ask)) (sound_changed ask.previous_scn q.image whole))
 
-own_file : (version : ℕ) (q : Kept) → file_of version q ≡ file_for version q q.ask
+pub own_file : (version : ℕ) (q : Kept) → file_of version q ≡ file_for version q q.ask
 unfolding file_of
 own_file version q = refl
 

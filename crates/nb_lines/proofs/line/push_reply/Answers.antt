@@ -2,52 +2,52 @@ use Rattle.nb_lines.proofs.WordLemmas.{words_then}
 use Rattle.nb_lines.proofs.line.push_reply.Goals as goal
 
 pub returns-in-Done : goal.returns-in-Done
-returns-in-Done c = rw c.in-Done.is c.push_words.ensures
+returns-in-Done c = rw c.in-Done.is c.push_ok.ensures
 
 pub returns-in-Pages : goal.returns-in-Pages
-returns-in-Pages c = rw c.in-Pages.is c.push_words-in-Pages.ensures
+returns-in-Pages c = rw c.in-Pages.is c.push_ok-in-Pages.ensures
 
 pub returns-in-Opened : goal.returns-in-Opened
-returns-in-Opened c = rw c.in-Opened.is c.push_words-in-Opened.ensures
+returns-in-Opened c = rw c.in-Opened.is c.push_ok-in-Opened.ensures
 
 pub returns-in-PageMade : goal.returns-in-PageMade
-returns-in-PageMade c = rw c.in-PageMade.is c.push_words-in-PageMade.ensures
+returns-in-PageMade c = rw c.in-PageMade.is c.push_ok-in-PageMade.ensures
 
 pub returns-in-Value : goal.returns-in-Value
-returns-in-Value c = rw (c.in-Value.is, ← c.as_slice.ensures) c.push_words-in-Value.ensures
+returns-in-Value c = rw (c.in-Value.is, ← c.as_slice.ensures) c.push_words.ensures
 
 pub returns-in-Scn : goal.returns-in-Scn
-returns-in-Scn c = rw c.in-Scn.is c.push_words-in-Scn.ensures
+returns-in-Scn c = rw c.in-Scn.is c.push_ok-in-Scn.ensures
 
 pub returns-in-ScnPages : goal.returns-in-ScnPages
-returns-in-ScnPages c = rw c.in-ScnPages.is c.push_words-in-ScnPages.ensures
+returns-in-ScnPages c = rw c.in-ScnPages.is c.push_ok-in-ScnPages.ensures
 
 pub returns-in-Level : goal.returns-in-Level
-returns-in-Level c = rw c.in-Level.is c.push_words-in-Level.ensures
+returns-in-Level c = rw c.in-Level.is c.push_ok-in-Level.ensures
 
 pub returns-in-HeaderShown : goal.returns-in-HeaderShown
-returns-in-HeaderShown c = rw c.in-HeaderShown.is c.push_words-in-HeaderShown.ensures
+returns-in-HeaderShown c = rw c.in-HeaderShown.is c.push_ok-in-HeaderShown.ensures
 
 pub returns-in-PagesShown : goal.returns-in-PagesShown
-returns-in-PagesShown c = rw c.in-PagesShown.is c.push_words-in-PagesShown.ensures
+returns-in-PagesShown c = rw c.in-PagesShown.is c.push_ok-in-PagesShown.ensures
 
 pub returns-in-ImageShown : goal.returns-in-ImageShown
-returns-in-ImageShown c = rw c.in-ImageShown.is c.push_words-in-ImageShown.ensures
+returns-in-ImageShown c = rw c.in-ImageShown.is c.push_ok-in-ImageShown.ensures
 
 pub returns-in-CacheShown : goal.returns-in-CacheShown
-returns-in-CacheShown c = rw c.in-CacheShown.is c.push_words-in-CacheShown.ensures
+returns-in-CacheShown c = rw c.in-CacheShown.is c.push_ok-in-CacheShown.ensures
 
 pub returns-in-Leaked : goal.returns-in-Leaked
 returns-in-Leaked c = rw c.in-Leaked.is c.push_leaked.ensures
 
 pub returns-in-Freed : goal.returns-in-Freed
-returns-in-Freed c = rw c.in-Freed.is c.push_words-in-Freed.ensures
+returns-in-Freed c = rw c.in-Freed.is c.push_ok-in-Freed.ensures
 
 pub returns-in-Planned : goal.returns-in-Planned
 returns-in-Planned c = rw c.in-Planned.is c.push_plan.ensures
 
 pub returns-in_ok-push_rows-in-Rows : goal.returns-in_ok-push_rows-in-Rows
-returns-in_ok-push_rows-in-Rows c = rw (c.in-Rows.is, ← c.len.ensures) (words_then _ _ _ _ _ c.in_ok-push_words-in-Rows.ensures c.in_ok-push_rows-in-Rows.ensures)
+returns-in_ok-push_rows-in-Rows c = rw (c.in-Rows.is, ← c.len.ensures) (words_then _ _ _ _ _ c.in_ok-push_ok-in-Rows.ensures c.in_ok-push_rows-in-Rows.ensures)
 
 pub returns-in_ok-push_refusal-in-Refused : goal.returns-in_ok-push_refusal-in-Refused
 returns-in_ok-push_refusal-in-Refused c = rw c.in-Refused.is (words_then _ _ _ _ _ c.in_ok-push_words-in-Refused.ensures c.in_ok-push_refusal-in-Refused.ensures)
