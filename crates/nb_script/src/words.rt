@@ -1,10 +1,9 @@
-ghost use Rattle.std.specs.Prelude.{◌≡◌, ◌<◌, ◌≤◌, length, take, option_map, is_some, IfSome, IfNone};
+ghost use Rattle.std.specs.Prelude.{◌≡◌, ◌<◌, ◌≤◌, length, take, option_map, is_some, IfSome};
 ghost use Rattle.std.specs.List.{AllPass, prefix_len};
-ghost use Rattle.std.specs.Str.{IsUtf8};
 ghost use Rattle.nb_model.specs.TableNames.{is_table_byte, is_table_name};
 ghost use Rattle.nb_script.specs.Words.{after, is_digit, digit_count, is_plain, value_of, number_at, within, is_text_byte, closed, text_at, name_len, is_given, named, name_at, table_at};
 
-use nb_host::Name;
+use nb_host::{Name, as_text};
 use nb_model::TableName;
 
 /// The rest, where the bytes begin with this word.
@@ -110,16 +109,6 @@ fn name_len(bytes: &[u8]) -> usize
             || **b == b'-'
             || **b == b'/')
         .count()
-}
-
-fn as_text(bytes: &[u8]) -> Option<&str>
-    ensures same { IfSome result (λ text. text.now ≡ bytes.now) }
-    ensures none { IfNone result (¬ IsUtf8 bytes.now) }
-{
-    match str::from_utf8(bytes) {
-        Ok(text) => Some(text),
-        Err(_) => None,
-    }
 }
 
 /// The name that these bytes spell, where a user may give it to a file and it has at most `most` bytes.
