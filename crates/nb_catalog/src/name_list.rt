@@ -7,7 +7,7 @@ ghost use Rattle.nb_script.specs.Lines.{left};
 ghost use Rattle.nb_catalog.specs.Answers.{Says};
 ghost use Rattle.nb_catalog.specs.NameLists.{AreDistinct, is_listed, is_next, names_on, list_of};
 
-use nb_host::{Fault, Name, Refusal, as_text};
+use nb_host::{Fault, Name, Refusal};
 use nb_model::NameList;
 use nb_script::{Lines, MOST_BYTES};
 use std::alloc::Global;
@@ -16,12 +16,11 @@ use std::alloc::Global;
 pub const MOST_NAMES: usize = 1000;
 
 /// The name that a line spells, where a user may give it.
-#[tactic(auto, using(nb_script::proofs::Ascii::not_name))]
 fn name_on(line: &[u8]) -> Option<Name>
     ensures exact { is_some result ≡ is_file line.now }
     ensures same { IfSome result (λ name. name ≡ line.now) }
 {
-    let name = Name::read(as_text(line)?)?;
+    let name = Name::read_bytes(line)?;
     if name.is_delta() { None } else { Some(name) }
 }
 

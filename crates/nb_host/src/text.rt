@@ -1,7 +1,7 @@
 ghost use Rattle.std.specs.Prelude.{◌≡◌, IfNone, IfSome};
 ghost use Rattle.std.specs.Str.{IsUtf8};
 
-/// These bytes as text, and none where they are none.
+/// These bytes as text, and `None` where they are no UTF-8.
 pub fn as_text(bytes: &[u8]) -> Option<&str>
     ensures same { IfSome result (λ text. text.now ≡ bytes.now) }
     ensures none { IfNone result (¬ IsUtf8 bytes.now) }

@@ -3,7 +3,7 @@ ghost use Rattle.std.specs.List.{AllPass, prefix_len};
 ghost use Rattle.nb_model.specs.TableNames.{is_table_byte, is_table_name};
 ghost use Rattle.nb_script.specs.Words.{after, is_digit, digit_count, is_plain, value_of, number_at, within, is_text_byte, closed, text_at, name_len, is_given, named, name_at, table_at};
 
-use nb_host::{Name, as_text};
+use nb_host::Name;
 use nb_model::TableName;
 
 /// The rest, where the bytes begin with this word.
@@ -112,12 +112,11 @@ fn name_len(bytes: &[u8]) -> usize
 }
 
 /// The name that these bytes spell, where a user may give it to a file and it has at most `most` bytes.
-#[tactic(auto, using(crate::proofs::Ascii::not_name))]
 fn given(bytes: &[u8], most: usize) -> Option<Name>
     ensures exact { is_some result ≡ is_given most bytes.now }
     ensures same { IfSome result (λ name. name ≡ bytes.now) }
 {
-    let name = Name::read(as_text(bytes)?)?;
+    let name = Name::read_bytes(bytes)?;
     if bytes.len() <= most && !name.is_delta() {
         Some(name)
     } else {
@@ -155,20 +154,12 @@ fn table_len(bytes: &[u8]) -> usize
         .count()
 }
 
-#[tactic(auto, using(crate::proofs::Ascii::not_table_name))]
-fn table_name(bytes: &[u8]) -> Option<TableName>
-    ensures exact { is_some result ≡ is_table_name bytes.now }
-    ensures same { IfSome result (λ name. name ≡ bytes.now) }
-{
-    TableName::read(as_text(bytes)?)
-}
-
 /// The name of a table that the bytes begin with, and the rest.
 #[tactic(auto, unfolding(crate::specs::Words::table_at))]
 pub(crate) fn table(bytes: &[u8]) -> Option<(TableName, &[u8])>
     ensures { option_map (λ x. (x.0, x.1.now)) result ≡ table_at bytes.now }
 {
     let (front, rest) = bytes.split_at(table_len(bytes));
-    let name = table_name(front)?;
+    let name = TableName::read_bytes(front)?;
     Some((name, rest))
 }
