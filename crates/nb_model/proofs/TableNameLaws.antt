@@ -1,5 +1,5 @@
 -- Names of tables are ASCII, so they are text.
-use Rattle.std.proofs.Common.{◌≡◌, ℕ, ◌<◌, true, false, arith}
+use Rattle.std.proofs.Common.{◌≡◌, ℕ, ◌<◌, List, true, false, arith}
 use Rattle.std.specs.List.{list_all}
 use Rattle.std.specs.Str.{IsUtf8}
 use Rattle.std.proofs.lemmas.Bool.{and_parts}
