@@ -1,5 +1,4 @@
-ghost use Rattle.std.specs.Prelude.{◌≡◌, ◌≤◌, ℕ, [], length, is_some, IfSome, IfNone, IfOk};
-ghost use Rattle.std.specs.Str.{IsUtf8};
+ghost use Rattle.std.specs.Prelude.{◌≡◌, ◌≤◌, ℕ, [], length, is_some, IfSome, IfOk};
 ghost use Rattle.nb_host.specs.declared.faults.Fault.TheVariants.{Refused};
 ghost use Rattle.nb_host.specs.declared.refusals.Refusal.TheVariants.{BadScript};
 ghost use Rattle.nb_level.specs.Answers.{CountsDevice};
@@ -16,23 +15,12 @@ use std::alloc::Global;
 /// How many names a list has at most.
 pub const MOST_NAMES: usize = 1000;
 
-fn as_text(bytes: &[u8]) -> Option<&str>
-    ensures same { IfSome result (λ text. text.now ≡ bytes.now) }
-    ensures none { IfNone result (¬ IsUtf8 bytes.now) }
-{
-    match str::from_utf8(bytes) {
-        Ok(text) => Some(text),
-        Err(_) => None,
-    }
-}
-
 /// The name that a line spells, where a user may give it.
-#[tactic(auto, using(nb_script::proofs::Ascii::not_name))]
 fn name_on(line: &[u8]) -> Option<Name>
     ensures exact { is_some result ≡ is_file line.now }
     ensures same { IfSome result (λ name. name ≡ line.now) }
 {
-    let name = Name::read(as_text(line)?)?;
+    let name = Name::read_bytes(line)?;
     if name.is_delta() { None } else { Some(name) }
 }
 

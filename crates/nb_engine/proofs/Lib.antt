@@ -4,7 +4,6 @@ pub mod FlagLaws
 pub mod BackupLaws
 pub mod NewTurn
 pub mod NotedLaws
-pub mod NameLaws
 pub mod SlotLaws
 pub mod WalkLaws
 pub mod LinkLaws

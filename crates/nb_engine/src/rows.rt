@@ -1,5 +1,5 @@
 // The rows of the backup history, as its slots hold them.
-ghost use Rattle.std.specs.Prelude.{◌≡◌, ◌+◌, ◌*◌, ◌≤◌, ◌&&◌, nat_le, slice_index, length, is_some, IfSome, IfNone, IsUtf8};
+ghost use Rattle.std.specs.Prelude.{◌≡◌, ◌+◌, ◌*◌, ◌≤◌, ◌&&◌, nat_le, slice_index, length, is_some, IfSome};
 ghost use Rattle.nb_fields.specs.Bytes.{with_part};
 ghost use Rattle.nb_host.specs.Names.{is_name};
 ghost use Rattle.nb_model.specs.Chains.{length_in, file_in, backup_slot};
@@ -41,26 +41,6 @@ impl Wanted {
     }
 }
 
-/// These bytes as text, and none where they are none.
-fn as_text(bytes: &[u8]) -> Option<&str>
-    ensures same { IfSome result (λ text. text.now ≡ bytes.now) }
-    ensures none { IfNone result (¬ IsUtf8 bytes.now) }
-{
-    match str::from_utf8(bytes) {
-        Ok(text) => Some(text),
-        Err(_) => None,
-    }
-}
-
-/// The name that these bytes spell, and none where they spell no name.
-#[tactic(auto, using(crate::proofs::NameLaws::no_text))]
-fn name_of(bytes: &[u8]) -> Option<Name>
-    ensures exact { is_some result ≡ is_name bytes.now }
-    ensures same { IfSome result (λ name. name ≡ bytes.now) }
-{
-    Name::read(as_text(bytes)?)
-}
-
 /// The name of the file in a slot of the history, and none where that is of no form.
 fn file_in(slot: &[u8]) -> Option<Name>
     requires { length slot.now ≡ 256 }
@@ -71,7 +51,7 @@ fn file_in(slot: &[u8]) -> Option<Name>
     if length > history::MOST_NAME {
         return None;
     }
-    name_of(&slot[history::NAME_AT..history::NAME_AT + length])
+    Name::read_bytes(&slot[history::NAME_AT..history::NAME_AT + length])
 }
 
 /// The row in a used slot of the history, and none where its name is of no form.

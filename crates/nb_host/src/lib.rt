@@ -10,8 +10,10 @@ mod faults;
 mod host;
 mod name;
 mod refusals;
+mod text;
 
 pub use faults::{Fault, HostFault};
 pub use host::Host;
 pub use name::{DELTA_SUFFIX, MOST_BASE_NAME, MOST_NAME, Name};
 pub use refusals::Refusal;
+pub use text::as_text;

@@ -4,6 +4,7 @@ ghost use Rattle.std.specs.Cmp.{partial_equiv_from_equiv};
 ghost use Rattle.std.specs.Cmp.Lexicographic.{nat_list_eq_equiv};
 ghost use Rattle.nb_host.specs.Names.{is_name, is_name_byte, is_delta, delta_suffix, same_name};
 
+use crate::text::as_text;
 use arrayvec::ArrayString;
 use std::fmt;
 use std::marker::Model;
@@ -60,6 +61,15 @@ impl Name {
         let mut kept = ArrayString::new();
         kept.push_str(text);
         Some(Name { text: kept })
+    }
+
+    /// The name that these bytes spell, and none where they spell no name.
+    #[tactic(auto, using(crate::proofs::Ascii::not_name))]
+    pub fn read_bytes(bytes: &[u8]) -> Option<Name>
+        ensures exact { is_some result ≡ is_name bytes.now }
+        ensures same { IfSome result (λ name. name ≡ bytes.now) }
+    {
+        Name::read(as_text(bytes)?)
     }
 
     pub fn as_str(&self) -> &str

@@ -134,3 +134,4 @@ pub mod CoveredLaws
 pub mod BehindLaws
 pub mod WayLaws
 pub mod ForcedLaws
+mod TableNameLaws

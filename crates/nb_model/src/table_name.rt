@@ -3,6 +3,7 @@ ghost use Rattle.std.specs.List.{list_all};
 ghost use Rattle.nb_model.specs.TableNames.{is_table_name, is_letter, is_table_byte};
 
 use arrayvec::ArrayString;
+use nb_host::as_text;
 use std::marker::Model;
 
 /// How many bytes the name of a table has at most.
@@ -50,6 +51,15 @@ impl TableName {
         let mut kept = ArrayString::new();
         kept.push_str(text);
         Some(TableName { text: kept })
+    }
+
+    /// The name that these bytes spell, and none where they spell no name of a table.
+    #[tactic(auto, using(crate::proofs::TableNameLaws::not_table_name))]
+    pub fn read_bytes(bytes: &[u8]) -> Option<TableName>
+        ensures exact { is_some result ≡ is_table_name bytes.now }
+        ensures same { IfSome result (λ name. name ≡ bytes.now) }
+    {
+        TableName::read(as_text(bytes)?)
     }
 
     pub fn as_str(&self) -> &str

@@ -1,5 +1,4 @@
 pub mod Numbers
-pub mod Ascii
 pub mod LineLemmas
 pub mod Orders
 pub mod Sessions

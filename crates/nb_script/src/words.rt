@@ -1,6 +1,5 @@
-ghost use Rattle.std.specs.Prelude.{◌≡◌, ◌<◌, ◌≤◌, length, take, option_map, is_some, IfSome, IfNone};
+ghost use Rattle.std.specs.Prelude.{◌≡◌, ◌<◌, ◌≤◌, length, take, option_map, is_some, IfSome};
 ghost use Rattle.std.specs.List.{AllPass, prefix_len};
-ghost use Rattle.std.specs.Str.{IsUtf8};
 ghost use Rattle.nb_model.specs.TableNames.{is_table_byte, is_table_name};
 ghost use Rattle.nb_script.specs.Words.{after, is_digit, digit_count, is_plain, value_of, number_at, within, is_text_byte, closed, text_at, name_len, is_given, named, name_at, table_at};
 
@@ -112,23 +111,12 @@ fn name_len(bytes: &[u8]) -> usize
         .count()
 }
 
-fn as_text(bytes: &[u8]) -> Option<&str>
-    ensures same { IfSome result (λ text. text.now ≡ bytes.now) }
-    ensures none { IfNone result (¬ IsUtf8 bytes.now) }
-{
-    match str::from_utf8(bytes) {
-        Ok(text) => Some(text),
-        Err(_) => None,
-    }
-}
-
 /// The name that these bytes spell, where a user may give it to a file and it has at most `most` bytes.
-#[tactic(auto, using(crate::proofs::Ascii::not_name))]
 fn given(bytes: &[u8], most: usize) -> Option<Name>
     ensures exact { is_some result ≡ is_given most bytes.now }
     ensures same { IfSome result (λ name. name ≡ bytes.now) }
 {
-    let name = Name::read(as_text(bytes)?)?;
+    let name = Name::read_bytes(bytes)?;
     if bytes.len() <= most && !name.is_delta() {
         Some(name)
     } else {
@@ -166,20 +154,12 @@ fn table_len(bytes: &[u8]) -> usize
         .count()
 }
 
-#[tactic(auto, using(crate::proofs::Ascii::not_table_name))]
-fn table_name(bytes: &[u8]) -> Option<TableName>
-    ensures exact { is_some result ≡ is_table_name bytes.now }
-    ensures same { IfSome result (λ name. name ≡ bytes.now) }
-{
-    TableName::read(as_text(bytes)?)
-}
-
 /// The name of a table that the bytes begin with, and the rest.
 #[tactic(auto, unfolding(crate::specs::Words::table_at))]
 pub(crate) fn table(bytes: &[u8]) -> Option<(TableName, &[u8])>
     ensures { option_map (λ x. (x.0, x.1.now)) result ≡ table_at bytes.now }
 {
     let (front, rest) = bytes.split_at(table_len(bytes));
-    let name = table_name(front)?;
+    let name = TableName::read_bytes(front)?;
     Some((name, rest))
 }

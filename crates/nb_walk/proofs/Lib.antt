@@ -1,4 +1,3 @@
-pub mod NameLaws
 pub mod SlotLaws
 pub mod LinkLaws
 pub mod WalkLaws

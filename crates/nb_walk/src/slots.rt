@@ -1,5 +1,5 @@
 // The slots of a data page, as its bytes hold them.
-ghost use Rattle.std.specs.Prelude.{◌≡◌, ◌+◌, ◌-◌, ◌*◌, ◌/◌, ◌≤◌, ◌&&◌, IsTrue, nat_le, slice_index, length, IfSome, IfNone, IsUtf8};
+ghost use Rattle.std.specs.Prelude.{◌≡◌, ◌+◌, ◌-◌, ◌*◌, ◌/◌, ◌≤◌, ◌&&◌, IsTrue, nat_le, slice_index, length, IfSome};
 ghost use Rattle.nb_fields.specs.Bytes.{part};
 ghost use Rattle.nb_fields.specs.Places.{is_page_size};
 ghost use Rattle.nb_host.specs.Names.{is_name};
@@ -45,37 +45,6 @@ pub fn first_page(slot: &[u8]) -> u32
     catalogue::FirstPage::get(slot) as u32
 }
 
-/// These bytes as text, and none where they are none.
-fn as_text(bytes: &[u8]) -> Option<&str>
-    ensures same { IfSome result (λ text. text.now ≡ bytes.now) }
-    ensures none { IfNone result (¬ IsUtf8 bytes.now) }
-{
-    match str::from_utf8(bytes) {
-        Ok(text) => Some(text),
-        Err(_) => None,
-    }
-}
-
-/// Whether these bytes spell the name of a table.
-fn is_table_name(bytes: &[u8]) -> bool
-    ensures { result ≡ is_table_name bytes.now }
-{
-    match as_text(bytes) {
-        Some(text) => TableName::read(text).is_some(),
-        None => false,
-    }
-}
-
-/// Whether these bytes spell the name of a file.
-fn is_file_name(bytes: &[u8]) -> bool
-    ensures { result ≡ is_name bytes.now }
-{
-    match as_text(bytes) {
-        Some(text) => Name::read(text).is_some(),
-        None => false,
-    }
-}
-
 /// The name in the slot of a table, of at most 30 bytes.
 pub fn table_name(slot: &[u8]) -> &[u8]
     requires size { length slot.now ≡ 256 }
@@ -102,7 +71,7 @@ pub(crate) fn is_table(slot: &[u8]) -> bool
     ensures { result ≡ (nat_le (length_in slot.now) 30 && is_table_name (table_of slot.now)) }
 {
     catalogue::NameLength::get(slot) <= catalogue::MOST_NAME as u64
-        && is_table_name(table_name(slot))
+        && TableName::read_bytes(table_name(slot)).is_some()
 }
 
 /// Whether what the slot of a backup holds is of the form: a name of a file.
@@ -110,7 +79,7 @@ pub(crate) fn is_backup(slot: &[u8]) -> bool
     requires { length slot.now ≡ 256 }
     ensures { result ≡ (nat_le (length_in slot.now) 100 && is_name (file_in slot.now)) }
 {
-    history::NameLength::get(slot) <= history::MOST_NAME as u64 && is_file_name(file_name(slot))
+    history::NameLength::get(slot) <= history::MOST_NAME as u64 && Name::read_bytes(file_name(slot)).is_some()
 }
 
 /// Whether what the slot of a row holds is of the form: its text is no longer than texts are.
