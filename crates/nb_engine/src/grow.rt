@@ -49,8 +49,7 @@ fn link<H: Host>(
     }
     store.read(host, last, page)?;
     data::Next::put(page, u64::from(next));
-    put_page(store, host, last, PageKind::Data, page, scn_page)?;
-    Ok(())
+    put_page(store, host, last, PageKind::Data, page, scn_page)
 }
 
 /// Makes a new data page with these bytes after its head, and links page `last` to it once it stands. It answers its number. The search
@@ -84,7 +83,7 @@ pub(crate) fn grow_from<H: Host>(
     ensures below { (t : Trail) (chain : Chain) (pages slots : List ℕ) → IsTrue H.tells → IsOpen (H.world host.old) store.old t → first ≡ lowest_free t.base.image → HoldsMap t.base.image first map.old
         → IsSearchable t.base.image → behind_cause (new_behind chain slots t.base.image).0 last ≡ None → payload.now ≡ data_payload 0 (owner_of chain) slots
         → IfOk result (λ number. number < length (grown chain pages slots (drafted t.base.image)).0.image) }
-    ensures some { (t : Trail) → IsTrue H.tells → IsOpen (H.world host.old) store.old t → first ≡ lowest_free t.base.image → HoldsMap t.base.image first map.old → 5 ≤ length t.base.image
+    ensures some { (t : Trail) → IsTrue H.tells → IsOpen (H.world host.old) store.old t → first ≡ lowest_free t.base.image → HoldsMap t.base.image first map.old
         → MakesSome result (H.world host.old) (H.world host.new) store.old store.new t }
     ensures least { IfOk result (λ number. 5 ≤ number) }
     ensures most { IfOk result (λ number. number < 1048576) }
