@@ -15,7 +15,7 @@ ghost use Rattle.nb_state.specs.Does.{Tested, Goes};
 ghost use Rattle.nb_engine.specs.History.{IsPlaced};
 ghost use Rattle.nb_alloc.specs.Make.{MakesSome};
 ghost use Rattle.nb_alloc.specs.Put.{entry_cause};
-ghost use Rattle.nb_engine.specs.Room.{taken_draft, grow_cause};
+ghost use Rattle.nb_engine.specs.Room.{taken_draft, grow_cause, IsGrown};
 ghost use Rattle.nb_alloc.specs.Search.{IsSearchable};
 ghost use Rattle.nb_alloc.specs.Tries.{Tries};
 
@@ -152,8 +152,7 @@ pub(crate) fn grow<H: Host>(
     requires least { 5 ≤ store.old.files.count }
     ensures makes { (t : Trail) (pages : List ℕ) → IsTrue H.tells → IsOpen (H.world host.old) store.old t → IsSearchable t.base.image → last ≡ last_of pages → is_kind t.base.image 5 last ≡ true
         → Tries result (H.world host.old) (H.world host.new) store.old store.new t (grow_cause t.base.image pages) (grown History pages [] (drafted t.base.image)).0.strokes }
-    ensures value { (t : Trail) (pages : List ℕ) → IsTrue H.tells → IsOpen (H.world host.old) store.old t → IsSearchable t.base.image → is_kind t.base.image 5 last ≡ true → IfOk result (λ number. number ≡ (grown History pages [] (drafted t.base.image)).1) }
-    ensures below { (t : Trail) (pages : List ℕ) → IsTrue H.tells → IsOpen (H.world host.old) store.old t → IsSearchable t.base.image → is_kind t.base.image 5 last ≡ true → IfOk result (λ number. number < length (grown History pages [] (drafted t.base.image)).0.image) }
+    ensures grown { (t : Trail) (pages : List ℕ) → IsTrue H.tells → IsOpen (H.world host.old) store.old t → IsSearchable t.base.image → is_kind t.base.image 5 last ≡ true → IfOk result (IsGrown t.base.image History pages []) }
     ensures some { (t : Trail) → IsTrue H.tells → IsOpen (H.world host.old) store.old t → MakesSome result (H.world host.old) (H.world host.new) store.old store.new t }
     ensures least { IfOk result (λ number. 5 ≤ number) }
     ensures most { IfOk result (λ number. number < 1048576) }

@@ -44,7 +44,7 @@ returns-clause-makes g c t pages tells is shaped last is_data =
     let new = g.H.Host.world c.grow_from.new.host in
     tries_named c.grow_from.result w new c.args.store.now c.grow_from.new.store t None (grow_cause image pages) strokes strokes (sym (grow_free image pages room spent)) refl
     (tries_after c.grow_from.result w (g.H.Host.world c.check_rooms.new.host) new _ _ _ t _ _ tests.same tests.quiet is
-    (c.grow_from.ensures.tries t History pages [] tells still (tests.value t tells is) (tests.map t tells is refl) shaped none rows_are last))
+    (c.grow_from.ensures.tries t History pages [] tells still (record { at = tests.value t tells is; holds = tests.map t tells is refl; searchable = shaped; free = none; bytes = rows_are }) last))
 
 pub returns-in_err-first-clause-some : goal.returns-in_err-first-clause-some
 returns-in_err-first-clause-some g c t tells is =
@@ -61,17 +61,11 @@ returns-clause-some g c t tells is =
     let tests = c.in_ok-first.ensures in
     makes_some_after c.grow_from.result _ _ _ _ _ _ t tests.same tests.quiet is (c.grow_from.ensures.some t tells (tests.open t tells is) (tests.value t tells is) (tests.map t tells is refl))
 
-pub returns-clause-value : goal.returns-clause-value
-returns-clause-value g c t pages tells is shaped is_data =
+pub returns-clause-grown : goal.returns-clause-grown
+returns-clause-grown g c t pages tells is shaped is_data =
     let tests = c.in_ok-first.ensures in
     let none = tests.one t (told no_rows) tells is shaped (λ p. no_rows_short) is_data refl in
-    c.grow_from.ensures.value t History pages [] tells (tests.open t tells is) (tests.value t tells is) (tests.map t tells is refl) shaped none rows_are
-
-pub returns-clause-below : goal.returns-clause-below
-returns-clause-below g c t pages tells is shaped is_data =
-    let tests = c.in_ok-first.ensures in
-    let none = tests.one t (told no_rows) tells is shaped (λ p. no_rows_short) is_data refl in
-    c.grow_from.ensures.below t History pages [] tells (tests.open t tells is) (tests.value t tells is) (tests.map t tells is refl) shaped none rows_are
+    c.grow_from.ensures.grown t History pages [] tells (tests.open t tells is) (record { at = tests.value t tells is; holds = tests.map t tells is refl; searchable = shaped; free = none; bytes = rows_are })
 
 pub grow_from-requires-clause-inside : goal.grow_from-requires-clause-inside
 grow_from-requires-clause-inside g c = omega (arith, c.in_ok-first.ensures.within c.requires.least, ap (λ (h : Held). h.files.count) c.in_ok-first.ensures.same)

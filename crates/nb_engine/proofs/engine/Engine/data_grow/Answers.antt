@@ -14,6 +14,7 @@ use Rattle.nb_alloc.specs.Search.{IsShort}
 use Rattle.nb_alloc.proofs.ContentLaws.{data_short}
 use Rattle.nb_alloc.proofs.DoesLaws.{tries_early, tries_failed, tries_after}
 use Rattle.nb_alloc.proofs.MakeLaws.{tries_named}
+use Rattle.nb_engine.proofs.GrowLaws.{grown_is}
 use Rattle.nb_engine.proofs.NewTurn.{searchable_of}
 use Rattle.nb_alloc.proofs.RoomsLaws.{unmade_short, grown_unmade}
 use Rattle.nb_engine.proofs.engine.Engine.data_grow.Goals as goal
@@ -60,7 +61,7 @@ returns-clause-makes g c t chain pages tells is sizes owner last is_data =
     let new = g.H.Host.world c.grow_from.new.host in
     tries_named c.grow_from.result w new c.args.self.now c.grow_from.new.store t None (unmade image grows) grows.strokes grows.strokes (sym (cause ∙ none)) refl
     (tries_after c.grow_from.result w (g.H.Host.world c.check_rooms.new.host) new _ _ _ t _ _ (tests.same ∙ ap but_pages c.self.view_is) tests.quiet is
-    (c.grow_from.ensures.tries t chain pages slots tells still (tests.value t tells here) (tests.map t tells here refl) shaped none bytes last))
+    (c.grow_from.ensures.tries t chain pages slots tells still (record { at = tests.value t tells here; holds = tests.map t tells here refl; searchable = shaped; free = none; bytes = bytes }) last))
 
 pub returns-clause-value : goal.returns-clause-value
 returns-clause-value g c t chain pages tells is sizes owner is_data =
@@ -76,7 +77,7 @@ returns-clause-value g c t chain pages tells is sizes owner is_data =
     let none = tests.one t (λ p. data_payload 0 (owner_of chain) slots) tells here shaped short is_data refl in
     let still = tests.open t tells here in
     let bytes = c.fill_payload.ensures ∙ ap (λ (n : ℕ). data_payload 0 n slots) owner in
-    c.grow_from.ensures.value t chain pages slots tells still (tests.value t tells here) (tests.map t tells here refl) shaped none bytes
+    grown_is c.grow_from.result image chain pages slots (c.grow_from.ensures.grown t chain pages slots tells still (record { at = tests.value t tells here; holds = tests.map t tells here refl; searchable = shaped; free = none; bytes = bytes }))
 
 pub returns-then-count-lt-FIRST_TO_GIVE-clause-some : goal.returns-then-count-lt-FIRST_TO_GIVE-clause-some
 returns-then-count-lt-FIRST_TO_GIVE-clause-some g c t tells is =

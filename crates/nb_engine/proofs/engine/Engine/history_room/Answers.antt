@@ -133,7 +133,7 @@ returns-in_ok-check_room-in-Some-clause-room g c t tells is sizes =
 pub returns-in_ok-number-in-None-clause-room : goal.returns-in_ok-number-in-None-clause-room
 returns-in_ok-number-in-None-clause-room g c t tells is sizes =
     let at = (goal.at.returns-in_ok-number-in-None-clause-room g c).In-None in
-    grown_room t.base.image (none g at t tells is) c.in_ok-number-in-None.number (c.in_ok-number-in-None.ensures.value t (found_pages History t.base.image) tells (walked_none g at t tells is) (shaped g at t tells is sizes) (is_data g at t tells is))
+    grown_room t.base.image (none g at t tells is) c.in_ok-number-in-None.number (c.in_ok-number-in-None.ensures.grown t (found_pages History t.base.image) tells (walked_none g at t tells is) (shaped g at t tells is sizes) (is_data g at t tells is)).is
 
 pub returns-in_ok-check_room-in-Some-clause-below : goal.returns-in_ok-check_room-in-Some-clause-below
 returns-in_ok-check_room-in-Some-clause-below g c t tells is sizes =
@@ -144,7 +144,7 @@ returns-in_ok-check_room-in-Some-clause-below g c t tells is sizes =
 pub returns-in_ok-number-in-None-clause-below : goal.returns-in_ok-number-in-None-clause-below
 returns-in_ok-number-in-None-clause-below g c t tells is sizes =
     let at = (goal.at.returns-in_ok-number-in-None-clause-below g c).In-None in
-    grown_low t.base.image (none g at t tells is) c.in_ok-number-in-None.number (c.in_ok-number-in-None.ensures.below t (found_pages History t.base.image) tells (walked_none g at t tells is) (shaped g at t tells is sizes) (is_data g at t tells is))
+    grown_low t.base.image (none g at t tells is) c.in_ok-number-in-None.number (c.in_ok-number-in-None.ensures.grown t (found_pages History t.base.image) tells (walked_none g at t tells is) (shaped g at t tells is sizes) (is_data g at t tells is)).below
 
 pub returns-in_err-walked-clause-some : goal.returns-in_err-walked-clause-some
 returns-in_err-walked-clause-some g c t tells is =
