@@ -55,6 +55,15 @@ on_err {T = T} result fault P passed = subst (λ (x : Result T Fault). OnOk x P)
 pub if_err : {T : Type 0} (result : Result T Fault) (fault : Fault) (P : T → Type 0) → IsErr result × IsErrAnd result (λ f. f ≡ fault) → IfOk result P
 if_err {T = T} result fault P passed = subst (λ (x : Result T Fault). IfOk x P) (sym (passed_on result fault passed)) tt
 
+-- what holds of each value
+pub if_ok : {T : Type 0} (result : Result T Fault) (P : T → Type 0) → ((value : T) → P value) → IfOk result P
+if_ok (Ok value) P all = all value
+if_ok (Err fault) P all = tt
+
+-- what was tested is what this test finds
+pub tested_by_name : {T : Type 0} (result : Result T Fault) (found cause : Cause) → cause ≡ found → Tested result found → Tested result cause
+tested_by_name result found cause same tested = subst (λ (x : Cause). Tested result x) (sym same) tested
+
 tested_none : {T : Type 0} (result : Result T Fault) (cause : Cause) → cause ≡ None → IfErr result IsNoRefusal → Tested result cause
 tested_none (Ok value) cause none never = none
 tested_none (Err (RefusedFault r)) cause none never = absurd never

@@ -10,7 +10,7 @@ use Rattle.nb_fields.specs.Payloads.{bit_of}
 use Rattle.nb_pip.specs.Bits.{bits, AreUsed, IsLowestFree}
 use Rattle.nb_pip.proofs.BitLemmas.{get_or-bits}
 use Rattle.nb_model.specs.Image.{Page, Image, page_at, image_size}
-use Rattle.nb_model.specs.Forms.{inventory_of, is_free_page, free_from, lowest_free}
+use Rattle.nb_model.specs.Forms.{inventory_of, is_free_page, free_from}
 use Rattle.nb_model.specs.Causes.{not_kind}
 use Rattle.nb_alloc.specs.Find.{AreTaken, IsFreeNear, IsMap, IsEnd, EndsAt}
 
@@ -47,11 +47,6 @@ finds_one image left p q r a b = elim (leb_tells (suc q) r) [
     | inr v ↦ omega (arith, w.1, v.1)
   ]
 ]
-
--- the search for a new page begins at page 5
-pub lowest_is : (image : Image) → free_from (length image - 5) 5 image ≡ lowest_free image
-unfolding lowest_free
-lowest_is image = refl
 
 -- the pages with their bits in one inventory page
 in_group : (w k q : ℕ) → k * w ≤ q → q < k * w + w → (q / w ≡ k) × (q % w ≡ q - k * w)

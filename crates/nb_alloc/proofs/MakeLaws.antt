@@ -43,7 +43,7 @@ use Rattle.nb_alloc.proofs.CauseLaws.{first_none, first_next}
 use Rattle.nb_alloc.proofs.DoesLaws.{tries_opened, tries_passed, tries_then}
 use Rattle.nb_alloc.proofs.PutLaws.{stroke_long, is_kind-parts, none_of, may_raise, raised_once, raised_not, no_entry_cause, entry_cause-is, draft_raised}
 use Rattle.nb_alloc.proofs.MarkLaws.{there, marked-is, mark_cause-is, entries_some}
-use Rattle.nb_alloc.proofs.PageLaws.{makes_one, seen_after}
+use Rattle.nb_alloc.proofs.PageLaws.{makes_one}
 use Rattle.nb_alloc.proofs.TestLaws.{kind_is}
 
 -- its image as the model's laws see it
@@ -106,16 +106,14 @@ raise_alone b p none = by (must_raise b.image p) refl
 
 -- then the page is written, whose bytes were made before
 pub put_then : {T : Type 0} (result : Result T Fault) (old mid new : World) (a b c : Held) (t : Trail) (p : ℕ) (written bytes : Page)
-    → Tries {T = Unit {0}} (Ok tt) old mid a b t (entry_cause t.base.image p) (raise_strokes t.base.image p) → written ≡ bytes → p ≤ length t.base.image → IfErr result IsNoRefusal
-    → ((u : Trail) → IsOpen mid b u → p ≤ length u.base.image → Makes result mid new b c u (page p written ∷ []))
+    → Tries {T = Unit {0}} (Ok tt) old mid a b t (entry_cause t.base.image p) (raise_strokes t.base.image p) → written ≡ bytes → IfErr result IsNoRefusal
+    → ((u : Trail) → IsOpen mid b u → Makes result mid new b c u (page p written ∷ []))
     → Tries result old new a c t (entry_cause t.base.image p) (raise_strokes t.base.image p ++ page p bytes ∷ [])
-put_then result old mid new a b c t p written bytes first same low never writes =
+put_then result old mid new a b c t p written bytes first same never writes =
     let image : Image = t.base.image in
     let u : Trail = after_strokes t (raise_strokes image p) in
-    let alone : RaisesAlone image u.base.image p = seen_after t (raise_strokes image p) (λ (x : Base). RaisesAlone image x.image p) (raise_alone t.base p first.test) in
     tries_then tt result old mid new a b c t (entry_cause image p) (raise_strokes image p) (page p bytes ∷ []) first never
-    (makes_one result mid new b c u (page p written) (page p bytes) (ap (λ (x : Page). page p x) same)
-    (writes u (tries_opened tt old mid a b t (entry_cause image p) (raise_strokes image p) first) (omega (arith, low, alone.long))))
+    (makes_one result mid new b c u (page p written) (page p bytes) (ap (λ (x : Page). page p x) same) (writes u (tries_opened tt old mid a b t (entry_cause image p) (raise_strokes image p) first)))
 
 -- A page was written or added.
 module _ (b : Base) (p kind : ℕ) (payload : List ℕ) (none : entry_cause b.image p ≡ None) (low : p ≤ length b.image) where

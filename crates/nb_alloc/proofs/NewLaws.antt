@@ -15,7 +15,6 @@ use Rattle.nb_model.specs.Forms.{Draft, drafted, put, take_page, system_page, fr
 use Rattle.nb_model.specs.Causes.{Cause, not_kind}
 use Rattle.nb_model.proofs.DraftLaws.{IsOf, drafts_are, drafted_is, put_keeps, set_bit_keeps, system_keeps}
 use Rattle.nb_model.proofs.DraftJoin.{join_set_bit}
-use Rattle.nb_model.proofs.NewSound.{inventory_before}
 use Rattle.nb_base.specs.Takes.{after_strokes}
 use Rattle.nb_state.specs.Open.{Held, IsOpen}
 use Rattle.nb_state.specs.Does.{Makes}
@@ -30,14 +29,9 @@ use Rattle.nb_alloc.proofs.RestLaws.{Rest, all_left, here, Onward, onward, AtLas
 use Rattle.nb_model.proofs.SearchLaws.{draft_cause}
 use Rattle.nb_alloc.proofs.CauseLaws.{first_here}
 use Rattle.nb_alloc.proofs.DoesLaws.{tries_passed}
-use Rattle.nb_alloc.proofs.FindLaws.{finds}
 use Rattle.nb_alloc.proofs.PageLaws.{seen_after}
 use Rattle.nb_alloc.proofs.MakeLaws.{mark_long, page_long, map_kept}
 use Rattle.nb_alloc.proofs.WhereLaws.{makes_as, makes_valued, where_tries, where_front, where_then}
-
--- The search goes on to a page up to the length.
-pub next_low : (image : Image) (place next : ℕ) → place < length image → next ≡ free_from (length image - (place + 1)) (place + 1) image → next ≤ length image
-next_low image place next low is = let most = (finds (length image - (place + 1)) (place + 1) image).high in omega (arith, most, low, is)
 
 -- where a bit may be written, its inventory page is of the form
 pub form_of : (image : Image) (p : ℕ) → mark_cause image p ≡ None → not_kind image 2 (inventory_of image p) ≡ None
@@ -50,16 +44,12 @@ form_of image p none = by (not_kind image 2 (inventory_of image p)) refl
     by None e = e
     by (Some r) e = absurd (some_none r (sym (first_here (not_kind image 2 (inventory_of image p)) (entry_cause image (inventory_of image p) ∷ []) r e) ∙ none))
 
--- the inventory page of a page up to the length is there
-pub held_map : (image : Image) (p : ℕ) (map : Page) → IsTrue (is_page_size (image_size image)) → 5 ≤ p → p ≤ length image → is_system_place (image_size image) p ≡ false → HoldsMap image p map → IsMap image p map
-held_map image p map is five low plain holds = let before = inventory_before (image_size image) p is (omega (arith, five)) in holds plain (omega (arith, before, low))
-
--- and where the page is made it stays so
+-- where a page is made its inventory page stays
 pub new_there : (b : Base) (p kind : ℕ) (payload : List ℕ) (map : Page) → entry_cause b.image p ≡ None → p ≤ length b.image → IsTrue (is_page_size (image_size b.image)) → 5 ≤ p → is_system_place (image_size b.image) p ≡ false
     → HoldsMap b.image p map → (p < length (base_after b (page_strokes b.image p kind payload)).image) × IsMap (base_after b (page_strokes b.image p kind payload)).image p map
 new_there b p kind payload map none low is five plain holds =
     let long = page_long b p kind payload none low in
-    (omega (arith, long), map_kept b p kind payload none low map is five (held_map b.image p map is five low plain holds))
+    (omega (arith, long), map_kept b p kind payload none low map is five (holds plain))
 
 -- A page is made as a draft has it, and then taken.
 module _ (t : Trail) (p : ℕ) (e : Draft) (of : IsOf t.base e) where
@@ -117,16 +107,14 @@ pub record RestOf (kind : ℕ) (payload : ℕ → List ℕ) (image : Image) (pla
 pub record SoFar (kind : ℕ) (payload : ℕ → List ℕ) (P : Type 0) (old now : World) (a b : Held) (t : Trail) (place : ℕ) (strokes : List Stroke) (number : ℕ) (map : Page) : Type 0 where
   pub done : List Stroke
   pub makes : Makes {T = Unit {0}} (Ok tt) old now a b t done
-  pub low : place ≤ length (after_strokes t done).base.image
   pub holds : HoldsMap (after_strokes t done).base.image place map
   pub rest : P → RestOf kind payload (after_strokes t done).base.image place done strokes number
 
-pub so_far_begun : (kind : ℕ) (payload : ℕ → List ℕ) (w : World) (a : Held) (t : Trail) (place : ℕ) (map : Page) → Quiet w w → IsOpen w a t → length t.base.image ≤ 1048576 → place ≡ lowest_free t.base.image → place ≤ length t.base.image
+pub so_far_begun : (kind : ℕ) (payload : ℕ → List ℕ) (w : World) (a : Held) (t : Trail) (place : ℕ) (map : Page) → Quiet w w → IsOpen w a t → length t.base.image ≤ 1048576 → place ≡ lowest_free t.base.image
     → HoldsMap t.base.image place map → SoFar kind payload (IsSearchable t.base.image × (draft_cause (new_of kind payload t.base.image).0 ≡ None)) w w a a t place (new_of kind payload t.base.image).0.strokes (new_of kind payload t.base.image).1 map
-so_far_begun kind payload w a t place map quiet is most at low holds = record {
+so_far_begun kind payload w a t place map quiet is most at holds = record {
   done = [];
   makes = makes_none (Ok tt) w w a a t refl quiet is is;
-  low = low;
   holds = holds;
   rest = λ p. record { rest_strokes = (new_of kind payload t.base.image).0.strokes; strokes_are = refl; rest = all_left kind payload t.base.image place p.0 most at p.1 };
 }
@@ -182,7 +170,6 @@ module _ (kind : ℕ) (payload : ℕ → List ℕ) (P : Type 0) (old mid new : W
         record {
           done = done;
           makes = makes_then tt (Ok tt) old mid new a b c t so.done more so.makes (makes_valued next tt mid new b c u more second.some.makes);
-          low = subst (λ (v : Trail). next ≤ length v.base.image) (sym joined) onward.low;
           holds = subst (λ (v : Trail). HoldsMap v.base.image next then) (sym joined) onward.holds;
           rest = λ p.
               let same : more ≡ (round x place).strokes = (second.these (rounds_there p)).same in

@@ -1,5 +1,5 @@
 -- A page stroke of a page after the first: what is known after it.
-use Rattle.std.proofs.Common.{◌∙◌, ◌≡◌, ◌≢◌, ℕ, ◌<◌, List, [], ◌∷◌, ◌++◌, length, sym, ap, subst, arith}
+use Rattle.std.proofs.Common.{◌∙◌, ◌≡◌, ◌≢◌, ℕ, ◌<◌, List, [], ◌∷◌, ◌++◌, sym, ap, subst}
 use Rattle.std.specs.Prelude.{None, Result, Ok, IfErr}
 use Rattle.nb_fields.specs.Places.{entries_in}
 use Rattle.nb_fields.specs.Page.{kind_of}
@@ -43,22 +43,22 @@ module _ (old mid : World) (a b : Held) (t : Trail) (p : ℕ) (plain : kind_of (
   keeps = seen_after t (raise_strokes image p) (λ (x : Base). Keeps image p x.image) (raise_keeps t.base p first.test plain some)
 
   -- Then the page is written. It was read before the raise.
-  pub then_page : {T : Type 0} (result : Result T Fault) (new : World) (c : Held) (read : Page) (stroke : Image → Stroke) → p < length image → read ≡ page_at image p → (Keeps image p raised.base.image → stroke raised.base.image ≡ stroke image)
+  pub then_page : {T : Type 0} (result : Result T Fault) (new : World) (c : Held) (read : Page) (stroke : Image → Stroke) → read ≡ page_at image p → (Keeps image p raised.base.image → stroke raised.base.image ≡ stroke image)
       → IfErr result IsNoRefusal
-      → ((u : Trail) → IsOpen mid b u → p < length u.base.image → read ≡ page_at u.base.image p → Makes result mid new b c u (stroke u.base.image ∷ []))
+      → ((u : Trail) → IsOpen mid b u → read ≡ page_at u.base.image p → Makes result mid new b c u (stroke u.base.image ∷ []))
       → Tries result old new a c t (entry_cause image p) (raise_strokes image p ++ stroke image ∷ [])
-  then_page result new c read stroke low is by never writes =
+  then_page result new c read stroke is by never writes =
       tries_then tt result old mid new a b c t (entry_cause image p) (raise_strokes image p) (stroke image ∷ []) first never
       (makes_one result mid new b c raised (stroke raised.base.image) (stroke image) (by keeps)
-      (writes raised (tries_opened tt old mid a b t (entry_cause image p) (raise_strokes image p) first) (omega (arith, low, keeps.long)) (is ∙ sym keeps.same)))
+      (writes raised (tries_opened tt old mid a b t (entry_cause image p) (raise_strokes image p) first) (is ∙ sym keeps.same)))
 
 -- the write of a bit, where its place and its number are known by other names
 pub bit_at : {T : Type 0} (result : Result T Fault) (mid new : World) (b c : Held) (read : Page) (place at index number bit : ℕ) → place ≡ at → index ≡ number
-    → ((u : Trail) → IsOpen mid b u → place < length u.base.image → read ≡ page_at u.base.image place → Makes result mid new b c u (bit_stroke u.base.image place index bit ∷ []))
-    → (u : Trail) → IsOpen mid b u → at < length u.base.image → read ≡ page_at u.base.image at → Makes result mid new b c u (bit_stroke u.base.image at number bit ∷ [])
-bit_at result mid new b c read place at index number bit there same writes u opened low is =
+    → ((u : Trail) → IsOpen mid b u → read ≡ page_at u.base.image place → Makes result mid new b c u (bit_stroke u.base.image place index bit ∷ []))
+    → (u : Trail) → IsOpen mid b u → read ≡ page_at u.base.image at → Makes result mid new b c u (bit_stroke u.base.image at number bit ∷ [])
+bit_at result mid new b c read place at index number bit there same writes u opened is =
     makes_one result mid new b c u _ _ (ap (λ (q : ℕ). bit_stroke u.base.image q index bit) there ∙ ap (λ (n : ℕ). bit_stroke u.base.image at n bit) same)
-    (writes u opened (omega (arith, low, there)) (is ∙ ap (λ (q : ℕ). page_at u.base.image q) (sym there)))
+    (writes u opened (is ∙ ap (λ (q : ℕ). page_at u.base.image q) (sym there)))
 
 -- The raise of an entry and then the write of a bit write that bit.
 pub mark_tries : {T : Type 0} (result : Result T Fault) (old new : World) (a b : Held) (t : Trail) (p bit : ℕ) → not_kind t.base.image 2 (inventory_of t.base.image p) ≡ None → 0 < entries_in (image_size t.base.image)

@@ -24,9 +24,8 @@ use Rattle.nb_model.proofs.SoundLaws.{scn_page_there, scn_place_some}
 use Rattle.nb_model.proofs.StepLaws.{IsShaped, IsReady, IsPutOn, put_on, kind_moves, scn_page_moves, map_entry_before}
 use Rattle.nb_alloc.specs.Put.{entry_cause, raise_strokes}
 use Rattle.nb_alloc.specs.Mark.{mark_cause}
-use Rattle.nb_alloc.specs.Find.{not_there, need_cause, RefusedFor}
+use Rattle.nb_alloc.specs.Find.{need_cause, RefusedFor}
 use Rattle.nb_alloc.specs.Make.{GoesOn, page_strokes, system_strokes, system_cause, round, behind}
-use Rattle.nb_alloc.proofs.PlaceTests.{map_tested}
 use Rattle.nb_alloc.proofs.NeedReads.{all_found}
 use Rattle.nb_alloc.proofs.CauseLaws.{first_none, first_next}
 use Rattle.nb_alloc.proofs.PutLaws.{Raises, draft_raised, raised_not, no_entry_cause, entry_cause-is, not_raised, scn_page-without}
@@ -142,8 +141,8 @@ module _ (image : Image) (p : ℕ) where
   abbrev after : Image
   after = (round image p).image
 
-  pub next_map : GoesOn image p → not_there after 2 (inventory_of after (behind image p)) ≡ None
-  next_map on = map_tested after (behind image p) (ap (λ (t : Bool). when (not t) (NotDatabase (inventory_of after (behind image p)))) (on.maps (behind image p / bits_in (image_size after)) (omega arith)))
+  pub next_map : GoesOn image p → not_kind after 2 (inventory_of after (behind image p)) ≡ None
+  next_map on = ap (λ (t : Bool). when (not t) (NotDatabase (inventory_of after (behind image p)))) (on.maps (behind image p / bits_in (image_size after)) (omega arith))
 
   pub next_maps : IsTrue (is_page_size (image_size after)) → GoesOn image p → need_cause (first_not after (maps_up_to after (p + 1) (behind image p))) ≡ None
   next_maps size on =

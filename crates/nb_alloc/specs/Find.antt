@@ -1,5 +1,5 @@
 -- The search for a free page, and for the place of a new page.
-use Rattle.std.specs.Prelude.{◌≡◌, ℕ, ◌-◌, ◌*◌, ◌/◌, ◌<◌, ◌≤◌, length, nat_lt, min, true, false, Option, Some, None, Result, Ok, Err}
+use Rattle.std.specs.Prelude.{◌≡◌, ℕ, ◌-◌, ◌*◌, ◌/◌, ◌<◌, ◌≤◌, length, min, true, false, Option, Some, None, Result, Ok, Err}
 use Rattle.nb_fields.specs.Places.{bits_in, inventory_place, is_system_place}
 use Rattle.nb_host.specs.declared.faults.Fault.{Fault}
 use Rattle.nb_host.specs.declared.faults.Fault.TheVariants.{Refused, Device, Memory}
@@ -34,13 +34,9 @@ pub record IsEnd (image : Image) (p : ℕ) (map : Page) : Type 0 where
 abbrev pub EndsAt : Image → (from p : ℕ) → (map : Page) → Type 0
 EndsAt image from p map = from < length image → IsEnd image p map
 
--- that map is the inventory page of page p, unless a system page stands at p or the inventory page is past the end
+-- that map is the inventory page of page p, unless a system page stands at p
 abbrev pub HoldsMap : Image → (p : ℕ) → (map : Page) → Type 0
-HoldsMap image p map = is_system_place (image_size image) p ≡ false → inventory_of image p < length image → IsMap image p map
-
--- the page is below the length and isn't of that kind; a page past the end is about to be made
-abbrev pub not_there : Image → (kind p : ℕ) → Cause
-not_there image kind p = elim (nat_lt p (length image)) [ true ↦ not_kind image kind p | false ↦ None ]
+HoldsMap image p map = is_system_place (image_size image) p ≡ false → IsMap image p map
 
 -- the refusal for the first page that isn't of its kind
 abbrev pub need_cause : Option ℕ → Cause

@@ -69,7 +69,6 @@ pub record GoesOn (image : Image) (p : ℕ) : Type 0 where
 -- The search goes on after that place to the lowest free page, or the length. The map is the inventory page of that page.
 pub record IsOnward (image : Image) (place next : ℕ) (map : Page) : Type 0 where
   pub found : next ≡ free_from (length image - (place + 1)) (place + 1) image
-  pub low : next ≤ length image
   pub holds : HoldsMap image next map
 
 -- The call makes strokes in order, whatever they are.

@@ -34,7 +34,7 @@ fn write_bit<H: Host>(
     requires high { place < 1048576 }
     requires inside { place < store.old.files.count }
     requires index { index < bits_in store.old.files.page_size }
-    ensures makes { (t : Trail) → IsTrue H.tells → IsOpen (H.world host.old) store.old t → place < length t.base.image → map.old ≡ page_at t.base.image place
+    ensures makes { (t : Trail) → IsTrue H.tells → IsOpen (H.world host.old) store.old t → map.old ≡ page_at t.base.image place
         → Makes result (H.world host.old) (H.world host.new) store.old store.new t (bit_stroke t.base.image place index (bit_for free) ∷ []) }
     ensures goes { Goes store.old store.new }
     ensures room { length map.new ≡ length map.old }
@@ -79,8 +79,7 @@ pub(crate) fn put_map<H: Host>(
     let (k, index) = covers(page_size, number);
     let place = place_of(page_size, k);
     raise_entry(store, host, place, scn_page)?;
-    write_bit(store, host, place, index, free, map)?;
-    Ok(())
+    write_bit(store, host, place, index, free, map)
 }
 
 /// Writes into its inventory page that page `number` is free, or taken; the SCN entry of the inventory page is raised before. It takes two reads
@@ -113,6 +112,5 @@ pub fn mark<H: Host>(
     let page_size = store.page_size();
     let (k, _) = covers(page_size, number);
     map.read(store, host, place_of(page_size, k))?;
-    put_map(store, host, number, free, map, scn_page)?;
-    Ok(())
+    put_map(store, host, number, free, map, scn_page)
 }

@@ -12,7 +12,7 @@ ghost use Rattle.nb_model.specs.Trail.{Trail};
 ghost use Rattle.nb_state.specs.Open.{IsOpen, but_pages};
 ghost use Rattle.nb_state.specs.Does.{Tested};
 ghost use Rattle.nb_alloc.specs.Put.{Reads};
-ghost use Rattle.nb_alloc.specs.Find.{AreTaken, IsFreeNear, IsMap, EndsAt, HoldsMap, RefusedFor, need_cause, AreMaps, not_there};
+ghost use Rattle.nb_alloc.specs.Find.{AreTaken, IsFreeNear, IsMap, EndsAt, RefusedFor, need_cause, AreMaps};
 
 use crate::pages::InventoryPage;
 use nb_fields::layouts::inventory::BITS_AT;
@@ -22,9 +22,6 @@ use nb_state::Store;
 
 /// The pages before it hold the header, the first inventories, the catalogue and the history: none of them is given out.
 pub const FIRST_TO_GIVE: u32 = 5;
-
-/// As many pages as a database may have.
-pub(crate) const MOST_PAGES: u32 = 1048576;
 
 /// The first page after those that have their bits in one inventory page with page `number`.
 fn behind_bits(page_size: u32, number: u32) -> u32
@@ -48,7 +45,7 @@ pub(crate) fn is_system_place(page_size: u32, number: u32) -> bool
 
 /// Whether a search from page `from` on that ended at page `number` has read the inventory page of that. Where it ended at the length,
 /// the inventory page of the page before is the last that it read.
-pub(crate) fn was_read(page_size: u32, from: u32, number: u32, count: u32) -> bool
+fn was_read(page_size: u32, from: u32, number: u32, count: u32) -> bool
     requires size { IsTrue (is_page_size page_size) }
     requires number { number < 1048576 }
     ensures { (image : Image) (map : Page) → page_size ≡ image_size image → count ≡ length image → EndsAt image from number map → result ≡ true → IsMap image number map }
@@ -134,8 +131,8 @@ pub(crate) fn next_free<H: Host>(
     Ok(from.max(count))
 }
 
-/// Has the inventory page of page `number` in `map`, if it is below the length: else it is about to be made. A search from page `from`
-/// on ended at `number`, so it is read and tested only where that search has not read it. The refusal is `NotDatabase` of it.
+/// Has the inventory page of page `number` in `map`. A search from page `from` on ended at `number`, so it is read and tested only where
+/// that search has not read it. The refusal is `NotDatabase` of it.
 pub(crate) fn hold_map<H: Host>(
     store: &mut Store,
     host: &mut H,
@@ -145,8 +142,8 @@ pub(crate) fn hold_map<H: Host>(
 ) -> Result<(), Fault>
     requires room { length map.old ≡ store.old.files.page_size }
     requires number { number < 1048576 }
-    ensures test { (t : Trail) → IsTrue H.tells → IsOpen (H.world host.old) store.old t → EndsAt t.base.image from number map.old → Tested result (not_there t.base.image 2 (inventory_of t.base.image number)) }
-    ensures map { (t : Trail) → IsTrue H.tells → IsOpen (H.world host.old) store.old t → EndsAt t.base.image from number map.old → OnOk result (HoldsMap t.base.image number map.new) }
+    ensures test { (t : Trail) → IsTrue H.tells → IsOpen (H.world host.old) store.old t → EndsAt t.base.image from number map.old → Tested result (not_kind t.base.image 2 (inventory_of t.base.image number)) }
+    ensures map { (t : Trail) → IsTrue H.tells → IsOpen (H.world host.old) store.old t → EndsAt t.base.image from number map.old → OnOk result (IsMap t.base.image number map.new) }
     ensures room { length map.new ≡ length map.old }
     ensures open { (t : Trail) → IsTrue H.tells → IsOpen (H.world host.old) store.old t → IsOpen (H.world host.new) store.new t }
     ensures same { but_pages store.new ≡ but_pages store.old }
@@ -161,9 +158,5 @@ pub(crate) fn hold_map<H: Host>(
         return Ok(());
     }
     let (k, _) = covers(page_size, number);
-    let place = place_of(page_size, k);
-    if place >= count {
-        return Ok(());
-    }
-    map.read(store, host, place)
+    map.read(store, host, place_of(page_size, k))
 }

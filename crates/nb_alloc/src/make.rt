@@ -20,11 +20,11 @@ ghost use Rattle.nb_alloc.specs.Make.{IsSupplied, GoesOn, IsOnward, MakesWhere, 
 ghost use Rattle.nb_alloc.specs.Search.{IsSearchable};
 
 use crate::bit::{mark, put_map};
-use crate::find::{MOST_PAGES, hold_map, is_system_place, next_free};
+use crate::find::{hold_map, is_system_place, next_free};
 use crate::pages::{InventoryPage, ScnPage};
 use crate::put::raise_entry;
-use nb_fields::PageKind;
 use nb_fields::layouts::data;
+use nb_fields::{MOST_PAGES, PageKind};
 use nb_host::{Fault, Host, HostFault, Refusal};
 use nb_page::{read_head, stamp};
 use nb_state::Store;
@@ -126,7 +126,7 @@ pub fn put_page<H: Host>(
     requires low { 0 < number }
     requires high { number < 1048576 }
     requires inside { number ≤ store.old.files.count }
-    ensures tries { (t : Trail) (payload : List ℕ) → IsTrue H.tells → IsOpen (H.world host.old) store.old t → number ≤ length t.base.image
+    ensures tries { (t : Trail) (payload : List ℕ) → IsTrue H.tells → IsOpen (H.world host.old) store.old t
         → 16 + length payload ≤ length (old_page number t.base.image) → page.old ≡ with_payload (old_page number t.base.image) payload
         → Tries result (H.world host.old) (H.world host.new) store.old store.new t (entry_cause t.base.image number) (page_strokes t.base.image number (code_of kind) payload) }
     ensures added { OnOk result (number < store.new.files.count) }
@@ -138,8 +138,7 @@ pub fn put_page<H: Host>(
 {
     stamp(page, kind.code(), store.scn(), number);
     raise_entry(store, host, number, scn_page)?;
-    store.write(host, number, page)?;
-    Ok(())
+    store.write(host, number, page)
 }
 
 /// Makes the system page of that place, unless a page of its kind stands there. The refusal is `NotDatabase` of its SCN page.
@@ -156,7 +155,7 @@ fn make_system<H: Host>(
     requires low { 0 < place }
     requires high { place < 1048576 }
     requires inside { place ≤ store.old.files.count }
-    ensures tries { (t : Trail) → IsTrue H.tells → IsOpen (H.world host.old) store.old t → place ≤ length t.base.image
+    ensures tries { (t : Trail) → IsTrue H.tells → IsOpen (H.world host.old) store.old t
         → Tries result (H.world host.old) (H.world host.new) store.old store.new t (system_cause t.base.image place) (system_strokes t.base.image place) }
     ensures added { OnOk result (place < store.new.files.count) }
     ensures goes { Goes store.old store.new }
@@ -170,8 +169,7 @@ fn make_system<H: Host>(
         return Ok(());
     }
     fill_system(page, place, store.scn());
-    put_page(store, host, place, kind, page, scn_page)?;
-    Ok(())
+    put_page(store, host, place, kind, page, scn_page)
 }
 
 /// Makes these bytes what stands after the head of a page, and zeros after them.
@@ -218,7 +216,7 @@ fn make_page<H: Host>(
     requires inside { number ≤ store.old.files.count }
     requires short { length payload.now ≤ 1008 }
     requires owner { own ≡ true → 8 ≤ length payload.now }
-    ensures tries { (t : Trail) → IsTrue H.tells → IsOpen (H.world host.old) store.old t → number ≤ length t.base.image
+    ensures tries { (t : Trail) → IsTrue H.tells → IsOpen (H.world host.old) store.old t
         → Tries result (H.world host.old) (H.world host.new) store.old store.new t (entry_cause t.base.image number) (page_strokes t.base.image number (code_of kind) (content own payload.now number)) }
     ensures added { OnOk result (number < store.new.files.count) }
     ensures goes { Goes store.old store.new }
@@ -229,8 +227,7 @@ fn make_page<H: Host>(
 {
     take_old(store, host, number, page)?;
     put_content(page, payload, own, number);
-    put_page(store, host, number, kind, page, scn_page)?;
-    Ok(())
+    put_page(store, host, number, kind, page, scn_page)
 }
 
 /// Makes the system page of that place, unless a page of its kind stands there, and takes it. The refusals are `NotDatabase` of its SCN
@@ -250,7 +247,7 @@ fn take_place<H: Host>(
     requires low { 5 ≤ place }
     requires high { place < 1048576 }
     requires inside { place ≤ store.old.files.count }
-    ensures makes { (t : Trail) → IsTrue H.tells → IsOpen (H.world host.old) store.old t → place ≤ length t.base.image → is_system_place (image_size t.base.image) place ≡ true
+    ensures makes { (t : Trail) → IsTrue H.tells → IsOpen (H.world host.old) store.old t → is_system_place (image_size t.base.image) place ≡ true
         → MakesWhere (IsSupplied t.base.image place) (λ value image. place < length image) result (H.world host.old) (H.world host.new) store.old store.new t (round t.base.image place).strokes }
     ensures added { OnOk result (place < store.new.files.count) }
     ensures goes { Goes store.old store.new }
@@ -261,8 +258,7 @@ fn take_place<H: Host>(
     ensures takes_none { store.old.files.state ≢ 1 → IfErr result (λ fault. fault ≢ Memory) }
 {
     make_system(store, host, place, page, scn_page)?;
-    mark(store, host, place, false, map, scn_page)?;
-    Ok(())
+    mark(store, host, place, false, map, scn_page)
 }
 
 /// Makes page `number` one of that kind with that payload, and takes it. Its inventory page is in `map`. The refusals are `NotDatabase` of
@@ -287,7 +283,7 @@ fn take_new<H: Host>(
     requires inside { number ≤ store.old.files.count }
     requires short { length payload.now ≤ 1008 }
     requires owner { own ≡ true → 8 ≤ length payload.now }
-    ensures makes { (t : Trail) → IsTrue H.tells → IsOpen (H.world host.old) store.old t → number ≤ length t.base.image → is_system_place (image_size t.base.image) number ≡ false → HoldsMap t.base.image number map.old
+    ensures makes { (t : Trail) → IsTrue H.tells → IsOpen (H.world host.old) store.old t → is_system_place (image_size t.base.image) number ≡ false → HoldsMap t.base.image number map.old
         → MakesWhere (IsSupplied t.base.image number) (λ value image. number < length image) result (H.world host.old) (H.world host.new) store.old store.new t (take_page number (put number (code_of kind) (content own payload.now number) (drafted t.base.image))).strokes }
     ensures goes { Goes store.old store.new }
     ensures map_room { length map.new ≡ length map.old }
@@ -297,8 +293,7 @@ fn take_new<H: Host>(
     ensures takes_none { store.old.files.state ≢ 1 → IfErr result (λ fault. fault ≢ Memory) }
 {
     make_page(store, host, number, kind, payload, own, page, scn_page)?;
-    put_map(store, host, number, false, map, scn_page)?;
-    Ok(())
+    put_map(store, host, number, false, map, scn_page)
 }
 
 /// Makes the system page of that place, takes it, and answers where the search for a free page goes on. The inventory page of that is
@@ -320,7 +315,7 @@ fn pass_place<H: Host>(
     requires low { 5 ≤ place }
     requires high { place < 1048576 }
     requires inside { place ≤ store.old.files.count }
-    ensures makes { (t : Trail) → IsTrue H.tells → IsOpen (H.world host.old) store.old t → place ≤ length t.base.image → is_system_place (image_size t.base.image) place ≡ true
+    ensures makes { (t : Trail) → IsTrue H.tells → IsOpen (H.world host.old) store.old t → is_system_place (image_size t.base.image) place ≡ true
         → MakesWhere (IsSupplied t.base.image place × GoesOn t.base.image place) (λ next image. IsOnward image place next map.new) result (H.world host.old) (H.world host.new) store.old store.new t (round t.base.image place).strokes }
     ensures later { IfOk result (λ next. place < next) }
     ensures most { IfOk result (λ next. next < 1048576) }
@@ -368,9 +363,9 @@ pub fn make_new<H: Host>(
     requires inside { first ≤ store.old.files.count }
     requires short { length payload.now ≤ 1008 }
     requires owner { own ≡ true → 8 ≤ length payload.now }
-    ensures makes { (t : Trail) → IsTrue H.tells → IsOpen (H.world host.old) store.old t → first ≡ lowest_free t.base.image → first ≤ length t.base.image → HoldsMap t.base.image first map.old
+    ensures makes { (t : Trail) → IsTrue H.tells → IsOpen (H.world host.old) store.old t → first ≡ lowest_free t.base.image → HoldsMap t.base.image first map.old
         → MakesWhere (IsSearchable t.base.image × (draft_cause (new_of (code_of kind) (content own payload.now) t.base.image).0 ≡ None)) (λ number image. number < length image) result (H.world host.old) (H.world host.new) store.old store.new t (new_of (code_of kind) (content own payload.now) t.base.image).0.strokes }
-    ensures value { (t : Trail) → IsTrue H.tells → IsOpen (H.world host.old) store.old t → first ≡ lowest_free t.base.image → first ≤ length t.base.image → HoldsMap t.base.image first map.old
+    ensures value { (t : Trail) → IsTrue H.tells → IsOpen (H.world host.old) store.old t → first ≡ lowest_free t.base.image → HoldsMap t.base.image first map.old
         → IsSearchable t.base.image → draft_cause (new_of (code_of kind) (content own payload.now) t.base.image).0 ≡ None → IfOk result (λ number. number ≡ (new_of (code_of kind) (content own payload.now) t.base.image).1) }
     ensures least { IfOk result (λ number. 5 ≤ number) }
     ensures most { IfOk result (λ number. number < 1048576) }

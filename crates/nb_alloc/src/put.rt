@@ -122,7 +122,7 @@ pub fn write_raw<H: Host>(
     requires high { number < 1048576 }
     requires inside { number < store.old.files.count }
     requires short { length text.now ≤ 200 }
-    ensures makes { (t : Trail) → IsTrue H.tells → IsOpen (H.world host.old) store.old t → number < length t.base.image → page.old ≡ page_at t.base.image number
+    ensures makes { (t : Trail) → IsTrue H.tells → IsOpen (H.world host.old) store.old t → page.old ≡ page_at t.base.image number
         → Makes result (H.world host.old) (H.world host.new) store.old store.new t (raw_stroke t.base.image number text.now ∷ []) }
     ensures goes { Goes store.old store.new }
     ensures reads { (H.world host.new).reads ≡ (H.world host.old).reads }

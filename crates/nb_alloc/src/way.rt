@@ -12,13 +12,14 @@ ghost use Rattle.nb_model.specs.Trail.{Trail};
 ghost use Rattle.nb_model.specs.Way.{next_place, maps_on, entry_on, map_entry_on, own_entry_on, IsMadeBehind, IsFreshBehind};
 ghost use Rattle.nb_state.specs.Open.{IsOpen, but_pages};
 ghost use Rattle.nb_state.specs.Does.{Tested};
-ghost use Rattle.nb_alloc.specs.Find.{IsMap, HoldsMap, EndsAt, need_cause};
+ghost use Rattle.nb_alloc.specs.Find.{IsMap, HoldsMap, need_cause};
 ghost use Rattle.nb_alloc.specs.Way.{way_cause};
 ghost use Rattle.nb_alloc.specs.Search.{AtKnown, EndsBy};
 
 use crate::behind::Behind;
-use crate::find::{FIRST_TO_GIVE, MOST_PAGES, is_system_place, next_free, was_read};
+use crate::find::{FIRST_TO_GIVE, hold_map, is_system_place, next_free};
 use crate::pages::{InventoryPage, ScnPage};
+use nb_fields::MOST_PAGES;
 use nb_host::{Fault, Host, Refusal};
 use nb_pip::{covers, place_of};
 use nb_state::Store;
@@ -48,36 +49,6 @@ impl Way {
             fresh: 0,
         }
     }
-}
-
-/// Has the inventory page of page `number` in `map`. A search from page `from` on ended at `number`, so it is read and tested only where
-/// that search has not read it. The refusal is `NotDatabase` of it.
-fn hold_last<H: Host>(
-    store: &mut Store,
-    host: &mut H,
-    from: u32,
-    number: u32,
-    map: &mut InventoryPage,
-) -> Result<(), Fault>
-    requires room { length map.old ≡ store.old.files.page_size }
-    requires number { number < 1048576 }
-    ensures test { (t : Trail) → IsTrue H.tells → IsOpen (H.world host.old) store.old t → EndsAt t.base.image from number map.old → Tested result (not_kind t.base.image 2 (inventory_of t.base.image number)) }
-    ensures map { (t : Trail) → IsTrue H.tells → IsOpen (H.world host.old) store.old t → EndsAt t.base.image from number map.old → OnOk result (IsMap t.base.image number map.new) }
-    ensures room { length map.new ≡ length map.old }
-    ensures open { (t : Trail) → IsTrue H.tells → IsOpen (H.world host.old) store.old t → IsOpen (H.world host.new) store.new t }
-    ensures same { but_pages store.new ≡ but_pages store.old }
-    ensures quiet { Quiet (H.world host.old) (H.world host.new) }
-    ensures once { IsTrue H.tells → (H.world host.new).reads ≤ (H.world host.old).reads + 1 }
-    ensures cause { CountsDevice result (H.faults host.old) (H.faults host.new) }
-    ensures takes_none { IfErr result (λ fault. fault ≢ Memory) }
-{
-    let page_size = store.page_size();
-    let count = store.count();
-    if was_read(page_size, from, number, count) {
-        return Ok(());
-    }
-    let (k, _) = covers(page_size, number);
-    map.read(store, host, place_of(page_size, k))
 }
 
 /// Where the search comes to next: the lowest free page, or the length. Its inventory page is in `map` then, unless that is about to be
@@ -118,7 +89,7 @@ fn find_place<H: Host>(
     if place >= MOST_PAGES {
         return Ok(place);
     }
-    hold_last(store, host, from, place, map)?;
+    hold_map(store, host, from, place, map)?;
     Ok(place)
 }
 

@@ -1,6 +1,6 @@
 -- A chain grows by a page: the new page, and then the link to it.
 use Rattle.std.proofs.Common.{◌≡◌, ℕ, ◌+◌, ◌<◌, ◌≤◌, List, [], ◌∷◌, ◌++◌, length, refl, sym, ap, subst, ◌∙◌, arith, length-append}
-use Rattle.std.specs.Prelude.{Bool, true, false, IsTrue, nat_lt, slice_set, Some, None, Result, Ok, Err, IfErr}
+use Rattle.std.specs.Prelude.{Bool, true, false, IsTrue, nat_lt, slice_set, Some, None, Result, Ok, Err, IfOk, IfErr}
 use Rattle.std.proofs.lemmas.List.{length-set}
 use Rattle.nb_fields.specs.Bytes.{bytes_of}
 use Rattle.nb_fields.specs.Payloads.{data_payload}
@@ -28,7 +28,7 @@ use Rattle.nb_state.specs.Does.{Makes, unless_by}
 use Rattle.nb_state.proofs.MakesLaws.{makes_then, makes_front}
 use Rattle.nb_alloc.specs.Data.{new_behind}
 use Rattle.nb_alloc.specs.Make.{MakesSome, page_strokes, new_of}
-use Rattle.nb_engine.specs.Room.{no_rows, linked_payload, link_cause, grow_cause}
+use Rattle.nb_engine.specs.Room.{no_rows, linked_payload, link_cause, grow_cause, IsGrown}
 use Rattle.nb_alloc.specs.Tries.{Tries}
 use Rattle.nb_alloc.proofs.DoesLaws.{unless_none, tries_made}
 use Rattle.nb_alloc.proofs.CauseLaws.{first_none, first_next, first_here}
@@ -203,3 +203,8 @@ some_done number old mid new a b c t made first cause ys tries = record {
   made = made ++ unless_by cause ys;
   makes = makes_then number (Ok number) old mid new a b c t made (unless_by cause ys) first (makes_valued {S = Unit {0}} tt number mid new b c (after_strokes t made) (unless_by cause ys) tries.makes);
 }
+
+-- the number alone
+pub grown_is : (result : Result ℕ Fault) (image : Image) (chain : Chain) (pages slots : List ℕ) → IfOk result (IsGrown image chain pages slots) → IfOk result (λ number. number ≡ (grown chain pages slots (drafted image)).1)
+grown_is (Ok number) image chain pages slots is = is.is
+grown_is (Err fault) image chain pages slots is = tt

@@ -64,8 +64,7 @@ fn write_data<H: Host>(
     let _count = store.count();
     take_system(store, host, number, PageKind::Data, page)?;
     put_behind(page, bytes);
-    put_page(store, host, number, PageKind::Data, page, scn_page)?;
-    Ok(())
+    put_page(store, host, number, PageKind::Data, page, scn_page)
 }
 
 impl Engine {
@@ -131,8 +130,7 @@ impl Engine {
             page,
             &mut self.page,
             &mut self.scn_page,
-        )?;
-        Ok(())
+        )
     }
 
     /// Gives page `number` back: its inventory page says from then on that it is free. The page itself stays as it is. The SCN entry of the
@@ -157,8 +155,7 @@ impl Engine {
             true,
             &mut self.map,
             &mut self.scn_page,
-        )?;
-        Ok(())
+        )
     }
 
     /// The SCN page that writing page `number` changes, where that isn't of its kind. It changes nothing but which pages are in memory,

@@ -78,7 +78,7 @@ impl Engine {
         let mut room = [0; MOST_PAYLOAD];
         let payload = &mut room[..SLOTS + slots.len()];
         fill_payload(payload, owner.unwrap_or(0), slots);
-        let number = make_new(
+        make_new(
             &mut self.store,
             host,
             first,
@@ -88,8 +88,7 @@ impl Engine {
             &mut self.page,
             &mut self.map,
             &mut self.scn_page,
-        )?;
-        Ok(number)
+        )
     }
 
     /// Makes a data page with these slots after `last`, the last page of a chain of that owner, which is linked to it once it stands. It
@@ -134,7 +133,7 @@ impl Engine {
         let mut room = [0; MOST_PAYLOAD];
         let payload = &mut room[..SLOTS + slots.len()];
         fill_payload(payload, owner, slots);
-        let number = grow_from(
+        grow_from(
             &mut self.store,
             host,
             first,
@@ -143,8 +142,7 @@ impl Engine {
             &mut self.page,
             &mut self.map,
             &mut self.scn_page,
-        )?;
-        Ok(number)
+        )
     }
 
     /// Tests that `pages` new data pages, one or two, may be made, one right after the other, and that page `behind`, a data page, may be

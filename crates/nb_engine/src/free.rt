@@ -48,7 +48,6 @@ impl Engine {
             true,
             &mut self.map,
             &mut self.scn_page,
-        )?;
-        Ok(())
+        )
     }
 }

@@ -1,20 +1,16 @@
 // A chain of data pages grows by a page, which is made after its last one and then linked.
 ghost use Rattle.std.specs.Prelude.{◌≡◌, ◌≢◌, ◌<◌, ◌≤◌, ℕ, List, None, IsTrue, IfErr, IfOk, length};
-ghost use Rattle.nb_fields.specs.Payloads.{data_payload};
 ghost use Rattle.nb_fields.specs.Places.{is_page_size};
 ghost use Rattle.nb_host.specs.declared.faults.Fault.TheVariants.{Memory};
 ghost use Rattle.nb_change.specs.Counts.{CountsDevice};
-ghost use Rattle.nb_model.specs.Chains.{Chain, owner_of, last_of, grown};
+ghost use Rattle.nb_model.specs.Chains.{Chain, last_of, grown};
 ghost use Rattle.nb_model.specs.Forms.{drafted, lowest_free};
 ghost use Rattle.nb_model.specs.Trail.{Trail};
 ghost use Rattle.nb_state.specs.Open.{IsOpen};
 ghost use Rattle.nb_state.specs.Does.{Goes};
-ghost use Rattle.nb_alloc.specs.Behind.{behind_cause};
-ghost use Rattle.nb_alloc.specs.Data.{new_behind};
 ghost use Rattle.nb_alloc.specs.Find.{HoldsMap};
 ghost use Rattle.nb_alloc.specs.Make.{MakesSome, page_strokes};
-ghost use Rattle.nb_engine.specs.Room.{linked_payload, link_cause};
-ghost use Rattle.nb_alloc.specs.Search.{IsSearchable};
+ghost use Rattle.nb_engine.specs.Room.{linked_payload, link_cause, IsGrowable, IsGrown};
 ghost use Rattle.nb_alloc.specs.Tries.{Tries};
 
 use nb_alloc::{InventoryPage, ScnPage, make_new, put_page};
@@ -49,8 +45,7 @@ fn link<H: Host>(
     }
     store.read(host, last, page)?;
     data::Next::put(page, u64::from(next));
-    put_page(store, host, last, PageKind::Data, page, scn_page)?;
-    Ok(())
+    put_page(store, host, last, PageKind::Data, page, scn_page)
 }
 
 /// Makes a new data page with these bytes after its head, and links page `last` to it once it stands. It answers its number. The search
@@ -75,16 +70,11 @@ pub(crate) fn grow_from<H: Host>(
     requires low { 0 < last }
     requires high { last < 1048576 }
     requires short { length payload.now ≤ 1008 }
-    ensures tries { (t : Trail) (chain : Chain) (pages slots : List ℕ) → IsTrue H.tells → IsOpen (H.world host.old) store.old t → first ≡ lowest_free t.base.image → HoldsMap t.base.image first map.old
-        → IsSearchable t.base.image → behind_cause (new_behind chain slots t.base.image).0 last ≡ None → payload.now ≡ data_payload 0 (owner_of chain) slots → last ≡ last_of pages
+    ensures tries { (t : Trail) (chain : Chain) (pages slots : List ℕ) → IsTrue H.tells → IsOpen (H.world host.old) store.old t → IsGrowable t.base.image chain slots first last map.old payload.now → last ≡ last_of pages
         → Tries result (H.world host.old) (H.world host.new) store.old store.new t None (grown chain pages slots (drafted t.base.image)).0.strokes }
-    ensures value { (t : Trail) (chain : Chain) (pages slots : List ℕ) → IsTrue H.tells → IsOpen (H.world host.old) store.old t → first ≡ lowest_free t.base.image → HoldsMap t.base.image first map.old
-        → IsSearchable t.base.image → behind_cause (new_behind chain slots t.base.image).0 last ≡ None → payload.now ≡ data_payload 0 (owner_of chain) slots
-        → IfOk result (λ number. number ≡ (grown chain pages slots (drafted t.base.image)).1) }
-    ensures below { (t : Trail) (chain : Chain) (pages slots : List ℕ) → IsTrue H.tells → IsOpen (H.world host.old) store.old t → first ≡ lowest_free t.base.image → HoldsMap t.base.image first map.old
-        → IsSearchable t.base.image → behind_cause (new_behind chain slots t.base.image).0 last ≡ None → payload.now ≡ data_payload 0 (owner_of chain) slots
-        → IfOk result (λ number. number < length (grown chain pages slots (drafted t.base.image)).0.image) }
-    ensures some { (t : Trail) → IsTrue H.tells → IsOpen (H.world host.old) store.old t → first ≡ lowest_free t.base.image → HoldsMap t.base.image first map.old → 5 ≤ length t.base.image
+    ensures grown { (t : Trail) (chain : Chain) (pages slots : List ℕ) → IsTrue H.tells → IsOpen (H.world host.old) store.old t → IsGrowable t.base.image chain slots first last map.old payload.now
+        → IfOk result (IsGrown t.base.image chain pages slots) }
+    ensures some { (t : Trail) → IsTrue H.tells → IsOpen (H.world host.old) store.old t → first ≡ lowest_free t.base.image → HoldsMap t.base.image first map.old
         → MakesSome result (H.world host.old) (H.world host.new) store.old store.new t }
     ensures least { IfOk result (λ number. 5 ≤ number) }
     ensures most { IfOk result (λ number. number < 1048576) }

@@ -160,7 +160,6 @@ impl Engine {
             row,
             &mut self.page,
             &mut self.scn_page,
-        )?;
-        Ok(())
+        )
     }
 }

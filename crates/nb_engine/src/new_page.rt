@@ -58,7 +58,7 @@ impl Engine {
             return Err(Fault::Refused(Refusal::NotDatabase { page: count }));
         }
         let first = check_new(&mut self.store, host, &mut self.map, &mut self.scn_page)?;
-        let number = make_new(
+        make_new(
             &mut self.store,
             host,
             first,
@@ -68,7 +68,6 @@ impl Engine {
             &mut self.page,
             &mut self.map,
             &mut self.scn_page,
-        )?;
-        Ok(number)
+        )
     }
 }

@@ -15,7 +15,7 @@ ghost use Rattle.nb_state.specs.Does.{Tested, Goes};
 ghost use Rattle.nb_engine.specs.History.{IsPlaced};
 ghost use Rattle.nb_alloc.specs.Make.{MakesSome};
 ghost use Rattle.nb_alloc.specs.Put.{entry_cause};
-ghost use Rattle.nb_engine.specs.Room.{taken_draft, grow_cause};
+ghost use Rattle.nb_engine.specs.Room.{taken_draft, grow_cause, IsGrown};
 ghost use Rattle.nb_alloc.specs.Search.{IsSearchable};
 ghost use Rattle.nb_alloc.specs.Tries.{Tries};
 
@@ -92,8 +92,7 @@ fn check_scn_page<H: Host>(
 {
     let page_size = store.page_size();
     let (k, _) = nb_scn::covers(page_size, number);
-    scn_page.read(store, host, nb_scn::place_of(page_size, k))?;
-    Ok(())
+    scn_page.read(store, host, nb_scn::place_of(page_size, k))
 }
 
 /// Tests that the inventory pages are of their kind that have page `number`, a page of the history with a free slot, and that it is taken:
@@ -153,9 +152,8 @@ pub(crate) fn grow<H: Host>(
     requires least { 5 ≤ store.old.files.count }
     ensures makes { (t : Trail) (pages : List ℕ) → IsTrue H.tells → IsOpen (H.world host.old) store.old t → IsSearchable t.base.image → last ≡ last_of pages → is_kind t.base.image 5 last ≡ true
         → Tries result (H.world host.old) (H.world host.new) store.old store.new t (grow_cause t.base.image pages) (grown History pages [] (drafted t.base.image)).0.strokes }
-    ensures value { (t : Trail) (pages : List ℕ) → IsTrue H.tells → IsOpen (H.world host.old) store.old t → IsSearchable t.base.image → is_kind t.base.image 5 last ≡ true → IfOk result (λ number. number ≡ (grown History pages [] (drafted t.base.image)).1) }
-    ensures below { (t : Trail) (pages : List ℕ) → IsTrue H.tells → IsOpen (H.world host.old) store.old t → IsSearchable t.base.image → is_kind t.base.image 5 last ≡ true → IfOk result (λ number. number < length (grown History pages [] (drafted t.base.image)).0.image) }
-    ensures some { (t : Trail) → IsTrue H.tells → IsOpen (H.world host.old) store.old t → 5 ≤ length t.base.image → MakesSome result (H.world host.old) (H.world host.new) store.old store.new t }
+    ensures grown { (t : Trail) (pages : List ℕ) → IsTrue H.tells → IsOpen (H.world host.old) store.old t → IsSearchable t.base.image → is_kind t.base.image 5 last ≡ true → IfOk result (IsGrown t.base.image History pages []) }
+    ensures some { (t : Trail) → IsTrue H.tells → IsOpen (H.world host.old) store.old t → MakesSome result (H.world host.old) (H.world host.new) store.old store.new t }
     ensures least { IfOk result (λ number. 5 ≤ number) }
     ensures most { IfOk result (λ number. number < 1048576) }
     ensures goes { Goes store.old store.new }
@@ -167,8 +165,7 @@ pub(crate) fn grow<H: Host>(
     let scn = store.scn();
     let first = check_rooms(store, host, 1, last, map, scn_page)?;
     check_scn(scn)?;
-    let number = grow_from(store, host, first, last, &NO_ROWS, page, map, scn_page)?;
-    Ok(number)
+    grow_from(store, host, first, last, &NO_ROWS, page, map, scn_page)
 }
 
 /// Writes a row into a slot. The refusal is `NotDatabase` of the SCN page of its page.
@@ -185,7 +182,7 @@ pub(crate) fn add_row<H: Host>(
     requires scn_room { length scn_page.old ≡ store.old.files.page_size }
     requires placed { IsPlaced store.old.files.page_size room.now }
     requires inside { room.now.page < store.old.files.count }
-    ensures tries { (t : Trail) → IsTrue H.tells → IsOpen (H.world host.old) store.old t → room.now.page < length t.base.image
+    ensures tries { (t : Trail) → IsTrue H.tells → IsOpen (H.world host.old) store.old t
         → Tries result (H.world host.old) (H.world host.new) store.old store.new t (entry_cause t.base.image room.now.page)
         (put_slot room.now.page room.now.slot (backup_slot row.now.level row.now.scn row.now.time row.now.guid row.now.name) (drafted t.base.image)).strokes }
     ensures goes { Goes store.old store.new }
@@ -195,6 +192,5 @@ pub(crate) fn add_row<H: Host>(
 {
     store.read(host, room.page, page)?;
     put_slot(page, room.slot, row);
-    put_page(store, host, room.page, PageKind::Data, page, scn_page)?;
-    Ok(())
+    put_page(store, host, room.page, PageKind::Data, page, scn_page)
 }

@@ -1,16 +1,12 @@
 use Rattle.std.proofs.Common.{◌/◌, ◌<◌, ℕ, sym, ap, subst, ◌∙◌, arith}
-use Rattle.std.specs.Prelude.{Ok, Err}
 use Rattle.nb_fields.specs.Places.{bits_in, inventory_place}
 use Rattle.nb_model.specs.Image.{page_at}
 use Rattle.nb_model.specs.Causes.{not_kind}
-use Rattle.nb_alloc.specs.Tries.{Tries}
-use Rattle.nb_alloc.specs.Mark.{bit_for, mark_cause, mark_strokes}
 use Rattle.nb_alloc.proofs.TestLaws.{inventory_place_is}
 use Rattle.nb_alloc.proofs.MarkLaws.{mark_other}
-use Rattle.nb_alloc.proofs.DoesLaws.{tries_early, tries_passed, tries_after}
+use Rattle.nb_alloc.proofs.DoesLaws.{tries_early, tries_after}
 use Rattle.nb_alloc.proofs.SearchReads.{inventory_place_some}
 use Rattle.nb_state.specs.Open.{Held}
-use Rattle.nb_change.proofs.ResultLaws.{passed_on}
 use Rattle.nb_alloc.proofs.WantLaws.{stops_after}
 use Rattle.nb_alloc.proofs.bit.mark.Goals as goal
 
@@ -22,27 +18,14 @@ returns-in_err-read-clause-tries g c t tells is =
     tries_early (Unit {0}) (Unit {0}) _ _ _ _ _ _ t (not_kind image 2 c.place_of.result) _ _ c.from_residual.ensures (λ r e. mark_other t.base c.args.number r (ap (λ (q : ℕ). not_kind image 2 q) (sym at) ∙ e))
     (read.reads t tells is).test read.same read.quiet is (read.open t tells is)
 
-pub returns-in_err-put_map-clause-tries : goal.returns-in_err-put_map-clause-tries
-returns-in_err-put_map-clause-tries g c t tells is =
-    let image = t.base.image in
-    let read = c.in_ok-read.ensures in
-    let found = read.reads t tells is in
-    let fault = c.in_err-put_map.field-0.0 in
-    let at = inventory_place_is image _ c.args.number _ _ c.place_of.ensures c.covers-k.ensures.number (c.page_size-page_size.ensures.value ∙ is.files.agrees.page_size) in
-    tries_passed c.from_residual-in_err-put_map.result fault
-    (λ r. Tries r (g.H.Host.world c.args.host.now) (g.H.Host.world c.put_map.new.host) c.args.store.now c.put_map.new.store t (mark_cause image c.args.number) (mark_strokes image c.args.number (bit_for c.args.free)))
-    c.from_residual-in_err-put_map.ensures
-    (tries_after {T = Unit {0}} (Err fault) _ _ _ _ _ _ t _ _ read.same read.quiet is
-    (c.in_err-put_map.ensures.tries t tells (read.open t tells is) (ap (λ (q : ℕ). not_kind image 2 q) (sym at) ∙ found.test) (found.page ∙ ap (λ (q : ℕ). page_at image q) at)))
-
 pub returns-clause-tries : goal.returns-clause-tries
 returns-clause-tries g c t tells is =
     let image = t.base.image in
     let read = c.in_ok-read.ensures in
     let found = read.reads t tells is in
     let at = inventory_place_is image _ c.args.number _ _ c.place_of.ensures c.covers-k.ensures.number (c.page_size-page_size.ensures.value ∙ is.files.agrees.page_size) in
-    tries_after {T = Unit {0}} (Ok tt) _ _ _ _ _ _ t _ _ read.same read.quiet is
-    (c.in_ok-put_map.ensures.tries t tells (read.open t tells is) (ap (λ (q : ℕ). not_kind image 2 q) (sym at) ∙ found.test) (found.page ∙ ap (λ (q : ℕ). page_at image q) at))
+    tries_after c.put_map.result _ _ _ _ _ _ t _ _ read.same read.quiet is
+    (c.put_map.ensures.tries t tells (read.open t tells is) (ap (λ (q : ℕ). not_kind image 2 q) (sym at) ∙ found.test) (found.page ∙ ap (λ (q : ℕ). page_at image q) at))
 
 pub returns-in_err-read-clause-once : goal.returns-in_err-read-clause-once
 returns-in_err-read-clause-once g c tells =
@@ -50,23 +33,16 @@ returns-in_err-read-clause-once g c tells =
     let read = c.in_err-read.ensures.once tells (omega (arith, some, c.place_of.ensures)) in
     omega (arith, read)
 
-pub returns-in_err-put_map-clause-once : goal.returns-in_err-put_map-clause-once
-returns-in_err-put_map-clause-once g c tells =
-    let some = inventory_place_some c.page_size-page_size.result c.covers-k.result.0 c.page_size-page_size.ensures.one_of in
-    let read = c.in_ok-read.ensures.once tells (omega (arith, some, c.place_of.ensures)) in
-    omega (arith, read, c.in_err-put_map.ensures.once tells)
-
 pub returns-clause-once : goal.returns-clause-once
 returns-clause-once g c tells =
     let some = inventory_place_some c.page_size-page_size.result c.covers-k.result.0 c.page_size-page_size.ensures.one_of in
     let read = c.in_ok-read.ensures.once tells (omega (arith, some, c.place_of.ensures)) in
-    omega (arith, read, c.in_ok-put_map.ensures.once tells)
+    omega (arith, read, c.put_map.ensures.once tells)
 
-pub returns-in_err-put_map-clause-on_memory : goal.returns-in_err-put_map-clause-on_memory
-returns-in_err-put_map-clause-on_memory g c t tells is memory =
+pub returns-clause-on_memory : goal.returns-clause-on_memory
+returns-clause-on_memory g c t tells is memory =
     let read = c.in_ok-read.ensures in
-    let wants = sym (passed_on c.from_residual-in_err-put_map.result c.in_err-put_map.field-0.0 c.from_residual-in_err-put_map.ensures) ∙ memory in
-    stops_after _ _ _ c.args.store.now _ c.put_map.new.store t _ read.same read.quiet is (c.in_err-put_map.ensures.on_memory t tells (read.open t tells is) wants)
+    stops_after _ _ _ c.args.store.now _ c.put_map.new.store t _ read.same read.quiet is (c.put_map.ensures.on_memory t tells (read.open t tells is) memory)
 
 pub put_map-requires-clause-inside : goal.put_map-requires-clause-inside
 put_map-requires-clause-inside g c =

@@ -1,41 +1,22 @@
 use Rattle.std.proofs.Common.{◌≡◌, ◌≤◌, ◌+◌, ℕ, List, length, ap, ◌∙◌, arith}
-use Rattle.std.specs.Prelude.{Ok, Err}
 use Rattle.nb_fields.specs.Page.{with_payload}
-use Rattle.nb_fields.specs.Kinds.{code_of}
 use Rattle.nb_fields.proofs.SizeLemmas.{size_facts}
 use Rattle.nb_model.specs.Image.{Page}
 use Rattle.nb_model.specs.Forms.{old_page}
-use Rattle.nb_alloc.specs.Tries.{Tries}
 use Rattle.nb_alloc.specs.Put.{entry_cause}
-use Rattle.nb_alloc.specs.Make.{page_strokes, content}
-use Rattle.nb_alloc.proofs.DoesLaws.{tries_passed, tries_after}
+use Rattle.nb_alloc.specs.Make.{content}
+use Rattle.nb_alloc.proofs.DoesLaws.{tries_after}
 use Rattle.nb_alloc.proofs.MakeLaws.{tries_fault}
 use Rattle.nb_alloc.proofs.ContentLaws.{content_short}
 use Rattle.nb_state.specs.Open.{Held}
 use Rattle.nb_alloc.proofs.make.make_page.Goals as goal
 
 pub returns-in_err-take_old-clause-tries : goal.returns-in_err-take_old-clause-tries
-returns-in_err-take_old-clause-tries g c t tells is low =
+returns-in_err-take_old-clause-tries g c t tells is =
     tries_fault _ _ _ _ _ t (entry_cause t.base.image c.args.number) _ c.from_residual.ensures c.in_err-take_old.ensures.same c.in_err-take_old.ensures.quiet is
 
-pub returns-in_err-put_page-clause-tries : goal.returns-in_err-put_page-clause-tries
-returns-in_err-put_page-clause-tries g c t tells is low =
-    let image = t.base.image in
-    let p : ℕ = c.args.number in
-    let payload : List ℕ = content c.args.own c.args.payload.now p in
-    let old = c.in_ok-take_old.ensures in
-    let fault = c.in_err-put_page.field-0.0 in
-    let page = old.page t tells is in
-    let filled : c.put_content.new.page ≡ with_payload (old_page p image) payload = c.put_content.ensures ∙ ap (λ (x : Page). with_payload x payload) page in
-    let facts = size_facts (length c.args.page.now) c.requires.size in
-    let room : 16 + length payload ≤ length (old_page p image) = omega (arith, content_short c.args.own c.args.payload.now p c.requires.owner, c.requires.short, ap length page, c.take_old.auto.into, facts.at_least) in
-    tries_passed c.from_residual-in_err-put_page.result fault
-    (λ r. Tries r (g.H.Host.world c.args.host.now) (g.H.Host.world c.put_page.new.host) c.args.store.now c.put_page.new.store t (entry_cause image p) (page_strokes image p (code_of c.args.kind) payload)) c.from_residual-in_err-put_page.ensures
-    (tries_after {T = Unit {0}} (Err fault) _ (g.H.Host.world c.take_old.new.host) _ _ c.take_old.new.store _ t _ _ old.same old.quiet is
-    (c.in_err-put_page.ensures.tries t payload tells (old.open t tells is) low room filled))
-
 pub returns-clause-tries : goal.returns-clause-tries
-returns-clause-tries g c t tells is low =
+returns-clause-tries g c t tells is =
     let image = t.base.image in
     let p : ℕ = c.args.number in
     let payload : List ℕ = content c.args.own c.args.payload.now p in
@@ -44,8 +25,8 @@ returns-clause-tries g c t tells is low =
     let filled : c.put_content.new.page ≡ with_payload (old_page p image) payload = c.put_content.ensures ∙ ap (λ (x : Page). with_payload x payload) page in
     let facts = size_facts (length c.args.page.now) c.requires.size in
     let room : 16 + length payload ≤ length (old_page p image) = omega (arith, content_short c.args.own c.args.payload.now p c.requires.owner, c.requires.short, ap length page, c.take_old.auto.into, facts.at_least) in
-    tries_after {T = Unit {0}} (Ok tt) _ (g.H.Host.world c.take_old.new.host) _ _ c.take_old.new.store _ t _ _ old.same old.quiet is
-    (c.in_ok-put_page.ensures.tries t payload tells (old.open t tells is) low room filled)
+    tries_after c.put_page.result _ (g.H.Host.world c.take_old.new.host) _ _ c.take_old.new.store _ t _ _ old.same old.quiet is
+    (c.put_page.ensures.tries t payload tells (old.open t tells is) room filled)
 
 pub put_page-requires-clause-inside : goal.put_page-requires-clause-inside
 put_page-requires-clause-inside g c = omega (arith, c.requires.inside, ap (λ (h : Held). h.files.count) c.in_ok-take_old.ensures.same)

@@ -9,27 +9,28 @@ use Rattle.nb_model.specs.Forms.{free_from, inventory_of, first_not}
 use Rattle.nb_base.specs.Takes.{after_strokes}
 use Rattle.nb_state.specs.Open.{Held}
 use Rattle.nb_model.specs.Way.{maps_up_to}
-use Rattle.nb_alloc.specs.Find.{not_there, need_cause}
+use Rattle.nb_model.specs.Causes.{not_kind}
+use Rattle.nb_alloc.specs.Find.{need_cause}
 use Rattle.nb_alloc.proofs.ReadyLaws.{sure_refused, next_maps, next_map}
 use Rattle.nb_alloc.specs.Make.{IsSupplied, GoesOn, IsOnward, MakesWhere, round, behind}
 use Rattle.nb_alloc.proofs.DoesLaws.{tries_passed}
 use Rattle.nb_alloc.proofs.WhereLaws.{sure_of, where_passed, where_quiet}
-use Rattle.nb_alloc.proofs.NewLaws.{image_is, round_is, next_low}
+use Rattle.nb_alloc.proofs.NewLaws.{image_is, round_is}
 use Rattle.nb_alloc.proofs.SearchReads.{maps_few}
 use Rattle.nb_alloc.proofs.make.pass_place.Goals as goal
 
 pub returns-in_err-take_place-clause-makes : goal.returns-in_err-take_place-clause-makes
-returns-in_err-take_place-clause-makes g c t tells is low system =
+returns-in_err-take_place-clause-makes g c t tells is system =
     let image = t.base.image in
     let p : ℕ = c.args.place in
     where_passed (Unit {0}) ℕ (IsSupplied image p) (IsSupplied image p × GoesOn image p) (λ value x. p < length x) _ c.from_residual.result c.in_err-take_place.field-0.0 _ _ _ _ t (round image p).strokes c.from_residual.ensures (λ r. r.0)
-    (c.in_err-take_place.ensures.makes t tells is low system)
+    (c.in_err-take_place.ensures.makes t tells is system)
 
 pub returns-in_err-next-clause-makes : goal.returns-in_err-next-clause-makes
-returns-in_err-next-clause-makes g c t tells is low system =
+returns-in_err-next-clause-makes g c t tells is system =
     let image = t.base.image in
     let p : ℕ = c.args.place in
-    let first = c.in_ok-take_place.ensures.makes t tells is low system in
+    let first = c.in_ok-take_place.ensures.makes t tells is system in
     let u = after_strokes t first.some.made in
     let opened = first.some.makes.opened in
     let size : IsTrue (is_page_size (image_size u.base.image)) =
@@ -47,10 +48,10 @@ returns-in_err-next-clause-makes g c t tells is low system =
     (c.in_err-next.ensures.refused u tells first.some.makes.opened)) tt)
 
 pub returns-then-next-ge-MOST_PAGES-clause-makes : goal.returns-then-next-ge-MOST_PAGES-clause-makes
-returns-then-next-ge-MOST_PAGES-clause-makes g c t tells is low system =
+returns-then-next-ge-MOST_PAGES-clause-makes g c t tells is system =
     let image = t.base.image in
     let p : ℕ = c.args.place in
-    let first = c.in_ok-take_place.ensures.makes t tells is low system in
+    let first = c.in_ok-take_place.ensures.makes t tells is system in
     let u = after_strokes t first.some.made in
     where_quiet tt (IsSupplied image p) (IsSupplied image p × GoesOn image p) (λ value x. p < length x) (λ next x. IsOnward x p next c.next_free.new.map) (Err (Refused (Full 1048576))) _ _ _ _ _ _ t (round image p).strokes first
     c.in_ok-next.ensures.same c.in_ok-next.ensures.quiet (λ v. c.in_ok-next.ensures.open v tells) (λ r. r.0)
@@ -61,10 +62,10 @@ returns-then-next-ge-MOST_PAGES-clause-makes g c t tells is low system =
     absurd (omega (arith, next, below, c.if-next-ge-MOST_PAGES.true))) tt
 
 pub returns-in_err-hold_map-clause-makes : goal.returns-in_err-hold_map-clause-makes
-returns-in_err-hold_map-clause-makes g c t tells is low system =
+returns-in_err-hold_map-clause-makes g c t tells is system =
     let image = t.base.image in
     let p : ℕ = c.args.place in
-    let first = c.in_ok-take_place.ensures.makes t tells is low system in
+    let first = c.in_ok-take_place.ensures.makes t tells is system in
     let u = after_strokes t first.some.made in
     let opened = first.some.makes.opened in
     let search = c.in_ok-next.ensures in
@@ -80,15 +81,15 @@ returns-in_err-hold_map-clause-makes g c t tells is low system =
     (λ r same.
     let back = sym (image_is t p (round image p) (round_is t.base p) first.some.made same) in
     let next : c.in_ok-next.next ≡ behind image p = found_next ∙ ap (λ (y : Image). free_from (length y - (p + 1)) (p + 1) y) (sym back) in
-    sure_of {T = Unit {0}} (Err fault) (not_there u.base.image 2 (inventory_of u.base.image c.in_ok-next.next))
-    (subst (λ (y : Image). not_there y 2 (inventory_of y c.in_ok-next.next) ≡ None) back (ap (λ (n : ℕ). not_there (round image p).image 2 (inventory_of (round image p).image n)) next ∙ next_map image p r.1))
+    sure_of {T = Unit {0}} (Err fault) (not_kind u.base.image 2 (inventory_of u.base.image c.in_ok-next.next))
+    (subst (λ (y : Image). not_kind y 2 (inventory_of y c.in_ok-next.next) ≡ None) back (ap (λ (n : ℕ). not_kind (round image p).image 2 (inventory_of (round image p).image n)) next ∙ next_map image p r.1))
     (c.in_err-hold_map.ensures.test u tells then ends)) tt)
 
 pub returns-clause-makes : goal.returns-clause-makes
-returns-clause-makes g c t tells is low system =
+returns-clause-makes g c t tells is system =
     let image = t.base.image in
     let p : ℕ = c.args.place in
-    let first = c.in_ok-take_place.ensures.makes t tells is low system in
+    let first = c.in_ok-take_place.ensures.makes t tells is system in
     let u = after_strokes t first.some.made in
     let opened = first.some.makes.opened in
     let search = c.in_ok-next.ensures in
@@ -96,7 +97,7 @@ returns-clause-makes g c t tells is low system =
     let found = search.value u tells opened in
     where_quiet tt (IsSupplied image p) (IsSupplied image p × GoesOn image p) (λ value x. p < length x) (λ next x. IsOnward x p next c.hold_map.new.map) (Ok c.in_ok-next.next) _ _ _ _ _ _ t (round image p).strokes first
     (c.in_ok-hold_map.ensures.same ∙ search.same) (quiet_joined _ _ _ search.quiet c.in_ok-hold_map.ensures.quiet) (λ v open_. c.in_ok-hold_map.ensures.open v tells (search.open v tells open_)) (λ r. r.0) (λ r same. tt)
-    (record { found = found; low = next_low u.base.image p c.in_ok-next.next first.ends found; holds = c.in_ok-hold_map.ensures.map u tells then (search.map u tells opened) })
+    (record { found = found; holds = λ plain. c.in_ok-hold_map.ensures.map u tells then (search.map u tells opened) })
 
 pub returns-clause-once : goal.returns-clause-once
 returns-clause-once g c tells =

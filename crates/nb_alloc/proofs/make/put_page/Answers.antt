@@ -1,5 +1,5 @@
 use Rattle.std.proofs.Common.{◌≡◌, ℕ, [], ◌∷◌, sym, ap, subst, ◌∙◌, arith}
-use Rattle.std.specs.Prelude.{false, ◌==◌, Ok, Err}
+use Rattle.std.specs.Prelude.{false, ◌==◌}
 use Rattle.nb_fields.specs.Bytes.{is_zeros}
 use Rattle.nb_fields.specs.Kinds.{code_of}
 use Rattle.nb_fields.specs.Page.{stamped}
@@ -20,7 +20,7 @@ write-requires-clause-some g c =
     (stamped-some c.args.page.now c.code.result _ c.scn.result c.args.number (ap (λ (k : ℕ). k == 0) c.code.ensures ∙ kind_some c.args.kind))
 
 pub returns-in_err-raise_entry-clause-tries : goal.returns-in_err-raise_entry-clause-tries
-returns-in_err-raise_entry-clause-tries g c t payload tells is low room filled =
+returns-in_err-raise_entry-clause-tries g c t payload tells is room filled =
     let image = t.base.image in
     let p : ℕ = c.args.number in
     let kind : ℕ = code_of c.args.kind in
@@ -29,26 +29,14 @@ returns-in_err-raise_entry-clause-tries g c t payload tells is low room filled =
     (λ r. Tries r (g.H.Host.world c.args.host.now) (g.H.Host.world c.raise_entry.new.host) c.args.store.now c.raise_entry.new.store t (entry_cause image p) (page_strokes image p kind payload)) c.from_residual.ensures
     (tries_front (Unit {0}) (Unit {0}) fault _ _ _ _ t (entry_cause image p) (raise_strokes image p) (page p (stamped (old_page p image) kind payload (image_scn image) p) ∷ []) (c.in_err-raise_entry.ensures.tries t tells is))
 
-pub returns-in_err-write-clause-tries : goal.returns-in_err-write-clause-tries
-returns-in_err-write-clause-tries g c t payload tells is low room filled =
-    let image = t.base.image in
-    let p : ℕ = c.args.number in
-    let kind : ℕ = code_of c.args.kind in
-    let fault = c.in_err-write.field-0.0 in
-    let bytes = stamped_page image p c.code.result kind c.scn.result payload c.args.page.now c.stamp.new.page filled c.stamp.ensures.written c.code.ensures (c.scn.ensures ∙ is.agrees.scn) room in
-    tries_passed c.from_residual-in_err-write.result fault
-    (λ r. Tries r (g.H.Host.world c.args.host.now) (g.H.Host.world c.write.new.host) c.args.store.now c.write.new.self t (entry_cause image p) (page_strokes image p kind payload)) c.from_residual-in_err-write.ensures
-    (put_then {T = Unit {0}} (Err fault) _ (g.H.Host.world c.raise_entry.new.host) _ _ c.raise_entry.new.store _ t p c.stamp.new.page _ (c.in_ok-raise_entry.ensures.tries t tells is) bytes low c.in_err-write.ensures.not_refused
-    (λ u opened behind. c.in_err-write.ensures.makes u tells opened))
-
 pub returns-clause-tries : goal.returns-clause-tries
-returns-clause-tries g c t payload tells is low room filled =
+returns-clause-tries g c t payload tells is room filled =
     let image = t.base.image in
     let p : ℕ = c.args.number in
     let kind : ℕ = code_of c.args.kind in
     let bytes = stamped_page image p c.code.result kind c.scn.result payload c.args.page.now c.stamp.new.page filled c.stamp.ensures.written c.code.ensures (c.scn.ensures ∙ is.agrees.scn) room in
-    put_then {T = Unit {0}} (Ok tt) _ (g.H.Host.world c.raise_entry.new.host) _ _ c.raise_entry.new.store _ t p c.stamp.new.page _ (c.in_ok-raise_entry.ensures.tries t tells is) bytes low tt
-    (λ u opened behind. c.in_ok-write.ensures.makes u tells opened)
+    put_then c.write.result _ (g.H.Host.world c.raise_entry.new.host) _ _ c.raise_entry.new.store _ t p c.stamp.new.page _ (c.in_ok-raise_entry.ensures.tries t tells is) bytes c.write.ensures.not_refused
+    (λ u opened. c.write.ensures.makes u tells opened)
 
 pub write-requires-clause-low : goal.write-requires-clause-low
 write-requires-clause-low g c = omega (arith, c.requires.inside, c.in_ok-raise_entry.ensures.goes.longer)

@@ -3,9 +3,8 @@ use Rattle.nb_fields.specs.Places.{entries_in, scn_place}
 use Rattle.nb_fields.proofs.PlaceLemmas.{entries-least}
 use Rattle.nb_model.specs.Image.{Page}
 use Rattle.nb_model.specs.Strokes.{page}
-use Rattle.nb_model.specs.Forms.{scn_page_of}
 use Rattle.nb_alloc.proofs.PutLaws.{may_raise, scn_place-some}
-use Rattle.nb_alloc.proofs.RaiseLaws.{scn_page-is, raise_stroke-is}
+use Rattle.nb_alloc.proofs.RaiseLaws.{raise_stroke-is}
 use Rattle.nb_alloc.proofs.PageLaws.{makes_one}
 use Rattle.nb_alloc.proofs.put.raise.Goals as goal
 

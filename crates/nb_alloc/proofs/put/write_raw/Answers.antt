@@ -13,7 +13,7 @@ write-requires-clause-some g c =
     subst (λ (x : Page). is_zeros x ≡ false) (sym c.stamp.ensures.written) (stamped-some c.put_text.new.page c.code.result _ c.scn.result c.args.number (ap (λ k. k == 0) c.code.ensures))
 
 pub returns-clause-makes : goal.returns-clause-makes
-returns-clause-makes g c t tells is low before =
+returns-clause-makes g c t tells is before =
     let size = size_facts (length c.args.page.now) c.requires.size in
     let bytes = raw_page t.base.image c.args.page.now c.put_text.new.page c.stamp.new.page c.args.text.now c.code.result c.scn.result c.args.number
     c.put_text.ensures.written c.stamp.ensures.written c.code.ensures c.requires.short size.at_least before (c.scn.ensures ∙ is.agrees.scn) in

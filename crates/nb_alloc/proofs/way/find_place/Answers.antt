@@ -56,17 +56,17 @@ returns-then-place-ge-MOST_PAGES-clause-value g c t tells is =
 pub returns-then-place-ge-MOST_PAGES-clause-map : goal.returns-then-place-ge-MOST_PAGES-clause-map
 returns-then-place-ge-MOST_PAGES-clause-map g c t tells is other low = absurd (omega (arith, low, c.if-place-ge-MOST_PAGES.true))
 
-pub returns-in_err-hold_last-clause-test : goal.returns-in_err-hold_last-clause-test
-returns-in_err-hold_last-clause-test g c t tells is =
+pub returns-in_err-hold_map-clause-test : goal.returns-in_err-hold_map-clause-test
+returns-in_err-hold_map-clause-test g c t tells is =
     let image = t.base.image in
     let there = inventory_place_is image _ c.args.way.now.from _ _ c.place_of-own.ensures c.covers-k.ensures.number (c.page_size-page_size.ensures.value ∙ is.files.agrees.page_size) in
     let size : IsTrue (is_page_size (image_size t.base.image)) = subst (λ (s : ℕ). IsTrue (is_page_size s)) (c.page_size-page_size.ensures.value ∙ is.files.agrees.page_size) c.page_size-page_size.ensures.one_of in
     let other : inventory_of image c.args.way.now.from ≢ c.args.way.now.fresh = λ e. c.if-own-fresh.false (there ∙ e) in
     let found = c.in_ok-place.ensures in
     let at = found.value t tells is in
-    tested_on (Unit {0}) ℕ _ _ _ _ c.from_residual-in_err-hold_last.ensures
+    tested_on (Unit {0}) ℕ _ _ _ _ c.from_residual-in_err-hold_map.ensures
     (λ r e. maps_cause image c.args.way.now.from c.args.way.now.fresh c.in_ok-place.place other at ∙ ends_broken image c.args.way.now.from c.in_ok-place.place size at (found.maps t tells is) r e)
-    (c.in_err-hold_last.ensures.test t tells (found.open t tells is) (found.map t tells is))
+    (c.in_err-hold_map.ensures.test t tells (found.open t tells is) (found.map t tells is))
 
 pub returns-clause-test : goal.returns-clause-test
 returns-clause-test g c t tells is =
@@ -77,7 +77,7 @@ returns-clause-test g c t tells is =
     let found = c.in_ok-place.ensures in
     let at = found.value t tells is in
     maps_cause image c.args.way.now.from c.args.way.now.fresh c.in_ok-place.place other at
-    ∙ ap need_cause (ends_found image c.args.way.now.from c.in_ok-place.place size at (found.maps t tells is) (c.in_ok-hold_last.ensures.test t tells (found.open t tells is) (found.map t tells is)))
+    ∙ ap need_cause (ends_found image c.args.way.now.from c.in_ok-place.place size at (found.maps t tells is) (c.in_ok-hold_map.ensures.test t tells (found.open t tells is) (found.map t tells is)))
 
 pub returns-clause-value : goal.returns-clause-value
 returns-clause-value g c t tells is =
@@ -88,13 +88,13 @@ returns-clause-value g c t tells is =
 pub returns-clause-map : goal.returns-clause-map
 returns-clause-map g c t tells is other low =
     let found = c.in_ok-place.ensures in
-    c.in_ok-hold_last.ensures.map t tells (found.open t tells is) (found.map t tells is)
+    c.in_ok-hold_map.ensures.map t tells (found.open t tells is) (found.map t tells is)
 
-pub returns-in_err-hold_last-clause-open : goal.returns-in_err-hold_last-clause-open
-returns-in_err-hold_last-clause-open g c t tells is = c.in_err-hold_last.ensures.open t tells (c.in_ok-place.ensures.open t tells is)
+pub returns-in_err-hold_map-clause-open : goal.returns-in_err-hold_map-clause-open
+returns-in_err-hold_map-clause-open g c t tells is = c.in_err-hold_map.ensures.open t tells (c.in_ok-place.ensures.open t tells is)
 
 pub returns-clause-open : goal.returns-clause-open
-returns-clause-open g c t tells is = c.in_ok-hold_last.ensures.open t tells (c.in_ok-place.ensures.open t tells is)
+returns-clause-open g c t tells is = c.in_ok-hold_map.ensures.open t tells (c.in_ok-place.ensures.open t tells is)
 
 pub returns-then-own-fresh-clause-within : goal.returns-then-own-fresh-clause-within
 returns-then-own-fresh-clause-within g c le = le

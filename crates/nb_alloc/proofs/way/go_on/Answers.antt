@@ -89,7 +89,7 @@ loop-behind-preserved g c =
           (goes_at image start begun (place + 1) made fresh before (gone place made fresh c.loop-behind.behind) to most c.in_ok-place.place c.visit.new.way.made c.visit.new.way.fresh
           (subst (λ (n : ℕ). c.in_ok-place.place ≡ next_place image n fresh) from (next.value t tells still)) (subst (λ (n : ℕ). way_cause image n made fresh ≡ None) from (next.test t tells still))
           (next.made t tells still) (next.fresh t tells still));
-      held = λ t tells is holds plain low. elim (eqb_tells c.args.first c.loop-behind.place) [
+      held = λ t tells is holds plain. elim (eqb_tells c.args.first c.loop-behind.place) [
         | inl w ↦
             let page_size = c.page_size-page_size.ensures.value ∙ is.files.agrees.page_size in
             absurd (true≢false (sym (ap (λ (s : ℕ). is_system_place s c.loop-behind.place) (sym page_size) ∙ sym c.is_system_place.ensures ∙ c.loop-behind-test.true) ∙ ap (is_system_place (image_size t.base.image)) (sym w.1) ∙ plain))

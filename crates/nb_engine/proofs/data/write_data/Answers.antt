@@ -1,16 +1,15 @@
 use Rattle.std.proofs.Common.{◌≡◌, ◌+◌, ◌≤◌, ◌<◌, ◌++◌, ℕ, List, length, take, drop, refl, sym, ap, subst, ◌∙◌, arith, length-drop}
-use Rattle.std.specs.Prelude.{Ok, Err, IsTrue}
+use Rattle.std.specs.Prelude.{IsTrue}
 use Rattle.nb_fields.specs.Page.{with_payload}
 use Rattle.nb_fields.specs.Places.{is_page_size}
 use Rattle.nb_fields.proofs.SizeLemmas.{size_facts}
 use Rattle.nb_model.specs.Image.{Page, page_at, image_size}
 use Rattle.nb_model.specs.Forms.{old_page}
 use Rattle.nb_model.specs.Causes.{not_kind}
-use Rattle.nb_alloc.specs.Data.{data_cause, put_data}
-use Rattle.nb_alloc.specs.Tries.{Tries}
+use Rattle.nb_alloc.specs.Data.{data_cause}
 use Rattle.nb_state.specs.Open.{Held}
 use Rattle.nb_engine.proofs.DataLaws.{data_there, none_there, by_entry, behind_payload}
-use Rattle.nb_alloc.proofs.DoesLaws.{tries_early, tries_passed, tries_after, tries_these}
+use Rattle.nb_alloc.proofs.DoesLaws.{tries_early, tries_after, tries_these}
 use Rattle.nb_engine.proofs.LinkLaws.{any_strokes}
 use Rattle.nb_alloc.proofs.MakeLaws.{tries_named, old_below}
 use Rattle.nb_engine.proofs.data.write_data.Goals as goal
@@ -27,29 +26,6 @@ returns-in_err-take_system-clause-tries g c t tells is =
     let page = c.in_err-take_system.ensures in
     tries_early (Unit {0}) (Unit {0}) _ _ _ _ _ _ t (not_kind image 5 p) (data_cause image p) _ c.from_residual.ensures (none_there image p) (page.reads t tells is).test page.same page.quiet is (page.open t tells is)
 
-pub returns-in_err-put_page-clause-tries : goal.returns-in_err-put_page-clause-tries
-returns-in_err-put_page-clause-tries g c t tells is =
-    let image = t.base.image in
-    let p : ℕ = c.args.number in
-    let bytes : List ℕ = c.args.bytes.now in
-    let payload : List ℕ = drop 16 bytes in
-    let page = c.in_ok-take_system.ensures in
-    let reads = page.reads t tells is in
-    let low : p < length image = data_there image p reads.test in
-    let here = old_below p image low in
-    let facts = size_facts (length c.args.page.now) c.requires.size in
-    let size : IsTrue (is_page_size (image_size image)) = subst (λ (n : ℕ). IsTrue (is_page_size n)) (c.requires.room ∙ is.files.agrees.page_size) c.requires.size in
-    let long : length bytes ≡ length (page_at image p) = omega (arith, c.requires.same, c.requires.room, c.take_system.auto.into, ap length reads.page) in
-    let filled : c.put_behind.new.page ≡ with_payload (old_page p image) payload = c.put_behind.ensures ∙ ap (λ (x : Page). take 16 x ++ payload) reads.page ∙ behind_payload (page_at image p) bytes long ∙ ap (λ (x : Page). with_payload x payload) (sym here) in
-    let room : 16 + length payload ≤ length (old_page p image) = omega (arith, length-drop 16 bytes, c.requires.same, c.requires.room, facts.at_least, long, ap length here) in
-    let fault = c.in_err-put_page.field-0.0 in
-    tries_passed c.from_residual-in_err-put_page.result fault
-    (λ r. Tries r (g.H.Host.world c.args.host.now) (g.H.Host.world c.put_page.new.host) c.args.store.now c.put_page.new.store t (data_cause image p) (put_data p bytes image).strokes) c.from_residual-in_err-put_page.ensures
-    (tries_named {T = Unit {0}} (Err fault) _ _ _ _ t _ _ _ _ (by_entry image p reads.test) refl
-    (tries_these {T = Unit {0}} (Err fault) _ _ _ _ t _ _ _ (λ none. any_strokes t.base p size none 5 payload low)
-    (tries_after {T = Unit {0}} (Err fault) _ (g.H.Host.world c.take_system.new.host) _ _ c.take_system.new.store _ t _ _ page.same page.quiet is
-    (c.in_err-put_page.ensures.tries t payload tells (page.open t tells is) (omega (arith, low)) room filled))))
-
 pub returns-clause-tries : goal.returns-clause-tries
 returns-clause-tries g c t tells is =
     let image = t.base.image in
@@ -65,10 +41,10 @@ returns-clause-tries g c t tells is =
     let long : length bytes ≡ length (page_at image p) = omega (arith, c.requires.same, c.requires.room, c.take_system.auto.into, ap length reads.page) in
     let filled : c.put_behind.new.page ≡ with_payload (old_page p image) payload = c.put_behind.ensures ∙ ap (λ (x : Page). take 16 x ++ payload) reads.page ∙ behind_payload (page_at image p) bytes long ∙ ap (λ (x : Page). with_payload x payload) (sym here) in
     let room : 16 + length payload ≤ length (old_page p image) = omega (arith, length-drop 16 bytes, c.requires.same, c.requires.room, facts.at_least, long, ap length here) in
-    tries_named {T = Unit {0}} (Ok tt) _ _ _ _ t _ _ _ _ (by_entry image p reads.test) refl
-    (tries_these {T = Unit {0}} (Ok tt) _ _ _ _ t _ _ _ (λ none. any_strokes t.base p size none 5 payload low)
-    (tries_after {T = Unit {0}} (Ok tt) _ (g.H.Host.world c.take_system.new.host) _ _ c.take_system.new.store _ t _ _ page.same page.quiet is
-    (c.in_ok-put_page.ensures.tries t payload tells (page.open t tells is) (omega (arith, low)) room filled)))
+    tries_named c.put_page.result _ _ _ _ t _ _ _ _ (by_entry image p reads.test) refl
+    (tries_these c.put_page.result _ _ _ _ t _ _ _ (λ none. any_strokes t.base p size none 5 payload low)
+    (tries_after c.put_page.result _ (g.H.Host.world c.take_system.new.host) _ _ c.take_system.new.store _ t _ _ page.same page.quiet is
+    (c.put_page.ensures.tries t payload tells (page.open t tells is) room filled)))
 
 pub put_page-requires-clause-inside : goal.put_page-requires-clause-inside
 put_page-requires-clause-inside g c = omega (arith, c.in_ok-take_system.ensures.below, ap (λ (h : Held). h.files.count) c.in_ok-take_system.ensures.same)

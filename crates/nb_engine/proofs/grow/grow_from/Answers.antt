@@ -1,4 +1,4 @@
-use Rattle.std.proofs.Common.{◌≡◌, ◌<◌, ◌≤◌, ℕ, List, length, sym, subst, ◌∙◌, arith}
+use Rattle.std.proofs.Common.{◌≡◌, ◌<◌, ℕ, List, length, sym, subst, ◌∙◌}
 use Rattle.std.specs.Prelude.{None, IsTrue, Ok, Err}
 use Rattle.nb_fields.specs.Places.{is_page_size}
 use Rattle.nb_model.specs.Forms.{drafted}
@@ -12,39 +12,36 @@ use Rattle.nb_alloc.specs.Make.{MakesSome, page_strokes, new_of}
 use Rattle.nb_engine.specs.Room.{linked_payload, link_cause}
 use Rattle.nb_alloc.specs.Tries.{Tries}
 use Rattle.nb_alloc.proofs.DoesLaws.{tries_passed}
-use Rattle.nb_alloc.proofs.FullLaws.{lowest_most}
 use Rattle.nb_engine.proofs.GrowLaws.{grown_number, new_below, grown_below, grown_front, grown_failed, grown_done, some_failed, some_done}
 use Rattle.nb_alloc.proofs.RoomsLaws.{free_behind}
 use Rattle.nb_engine.proofs.grow.grow_from.Goals as goal
 
 pub returns-in_err-number-clause-tries : goal.returns-in_err-number-clause-tries
-returns-in_err-number-clause-tries g c t chain pages slots tells is at holds shaped none bytes last =
+returns-in_err-number-clause-tries g c t chain pages slots tells is may last =
     let image = t.base.image in
     let w = g.H.Host.world c.args.host.now in
-    let low : c.args.first ≤ length image = omega (arith, at, lowest_most image shaped.long) in
-    let free = free_behind (new_behind chain slots image).0 c.args.last none in
-    let full = subst (λ (xs : List ℕ). draft_cause (new_of 5 (λ p. xs) image).0 ≡ None) (sym bytes) free.clear in
+    let free = free_behind (new_behind chain slots image).0 c.args.last may.free in
+    let full = subst (λ (xs : List ℕ). draft_cause (new_of 5 (λ p. xs) image).0 ≡ None) (sym may.bytes) free.clear in
     let fault = c.in_err-number.field-0.0 in
     let new = g.H.Host.world c.make_new.new.host in
-    let these = (c.in_err-number.ensures.makes t tells is at low holds).these (shaped, full) in
-    let made = subst (λ (xs : List ℕ). Makes {T = ℕ} (Err fault) w new c.args.store.now c.make_new.new.store t (new_of 5 (λ p. xs) image).0.strokes) bytes these.makes in
+    let these = (c.in_err-number.ensures.makes t tells is may.at may.holds).these (may.searchable, full) in
+    let made = subst (λ (xs : List ℕ). Makes {T = ℕ} (Err fault) w new c.args.store.now c.make_new.new.store t (new_of 5 (λ p. xs) image).0.strokes) may.bytes these.makes in
     tries_passed c.from_residual.result fault (λ r. Tries r w new c.args.store.now c.make_new.new.store t None (grown chain pages slots (drafted image)).0.strokes) c.from_residual.ensures
     (grown_front chain slots t pages fault w new c.args.store.now c.make_new.new.store these.sure made)
 
 pub returns-in_err-link-clause-tries : goal.returns-in_err-link-clause-tries
-returns-in_err-link-clause-tries g c t chain pages slots tells is at holds shaped none bytes last =
+returns-in_err-link-clause-tries g c t chain pages slots tells is may last =
     let image = t.base.image in
     let w = g.H.Host.world c.args.host.now in
-    let low : c.args.first ≤ length image = omega (arith, at, lowest_most image shaped.long) in
-    let free = free_behind (new_behind chain slots image).0 c.args.last none in
-    let full = subst (λ (xs : List ℕ). draft_cause (new_of 5 (λ p. xs) image).0 ≡ None) (sym bytes) free.clear in
+    let free = free_behind (new_behind chain slots image).0 c.args.last may.free in
+    let full = subst (λ (xs : List ℕ). draft_cause (new_of 5 (λ p. xs) image).0 ≡ None) (sym may.bytes) free.clear in
     let fault = c.in_err-link.field-0.0 in
     let mid = g.H.Host.world c.make_new.new.host in
     let new = g.H.Host.world c.link.new.host in
     let n : ℕ = c.in_ok-number.number in
-    let these = (c.in_ok-number.ensures.makes t tells is at low holds).these (shaped, full) in
-    let made = subst (λ (xs : List ℕ). Makes (Ok n) w mid c.args.store.now c.make_new.new.store t (new_of 5 (λ p. xs) image).0.strokes) bytes these.makes in
-    let number = subst (λ (xs : List ℕ). n ≡ (new_of 5 (λ p. xs) image).1) bytes (c.in_ok-number.ensures.value t tells is at low holds shaped full) in
+    let these = (c.in_ok-number.ensures.makes t tells is may.at may.holds).these (may.searchable, full) in
+    let made = subst (λ (xs : List ℕ). Makes (Ok n) w mid c.args.store.now c.make_new.new.store t (new_of 5 (λ p. xs) image).0.strokes) may.bytes these.makes in
+    let number = subst (λ (xs : List ℕ). n ≡ (new_of 5 (λ p. xs) image).1) may.bytes (c.in_ok-number.ensures.value t tells is may.at may.holds may.searchable full) in
     let opened = made.opened in
     let size : IsTrue (is_page_size (image_size (after_strokes t (new_behind chain slots image).0.strokes).base.image)) =
     subst (λ (k : ℕ). IsTrue (is_page_size k)) (c.requires.room ∙ sym c.in_ok-number.ensures.goes.page_size ∙ opened.files.agrees.page_size) c.requires.size in
@@ -53,71 +50,58 @@ returns-in_err-link-clause-tries g c t chain pages slots tells is at holds shape
     (c.in_err-link.ensures.tries (after_strokes t (new_behind chain slots image).0.strokes) tells opened))
 
 pub returns-clause-tries : goal.returns-clause-tries
-returns-clause-tries g c t chain pages slots tells is at holds shaped none bytes last =
+returns-clause-tries g c t chain pages slots tells is may last =
     let image = t.base.image in
     let w = g.H.Host.world c.args.host.now in
-    let low : c.args.first ≤ length image = omega (arith, at, lowest_most image shaped.long) in
-    let free = free_behind (new_behind chain slots image).0 c.args.last none in
-    let full = subst (λ (xs : List ℕ). draft_cause (new_of 5 (λ p. xs) image).0 ≡ None) (sym bytes) free.clear in
+    let free = free_behind (new_behind chain slots image).0 c.args.last may.free in
+    let full = subst (λ (xs : List ℕ). draft_cause (new_of 5 (λ p. xs) image).0 ≡ None) (sym may.bytes) free.clear in
     let mid = g.H.Host.world c.make_new.new.host in
     let new = g.H.Host.world c.link.new.host in
     let n : ℕ = c.in_ok-number.number in
-    let these = (c.in_ok-number.ensures.makes t tells is at low holds).these (shaped, full) in
-    let made = subst (λ (xs : List ℕ). Makes (Ok n) w mid c.args.store.now c.make_new.new.store t (new_of 5 (λ p. xs) image).0.strokes) bytes these.makes in
-    let number = subst (λ (xs : List ℕ). n ≡ (new_of 5 (λ p. xs) image).1) bytes (c.in_ok-number.ensures.value t tells is at low holds shaped full) in
+    let these = (c.in_ok-number.ensures.makes t tells is may.at may.holds).these (may.searchable, full) in
+    let made = subst (λ (xs : List ℕ). Makes (Ok n) w mid c.args.store.now c.make_new.new.store t (new_of 5 (λ p. xs) image).0.strokes) may.bytes these.makes in
+    let number = subst (λ (xs : List ℕ). n ≡ (new_of 5 (λ p. xs) image).1) may.bytes (c.in_ok-number.ensures.value t tells is may.at may.holds may.searchable full) in
     let opened = made.opened in
     let size : IsTrue (is_page_size (image_size (after_strokes t (new_behind chain slots image).0.strokes).base.image)) =
     subst (λ (k : ℕ). IsTrue (is_page_size k)) (c.requires.room ∙ sym c.in_ok-number.ensures.goes.page_size ∙ opened.files.agrees.page_size) c.requires.size in
     grown_done chain slots t pages c.args.last free size last n w mid new c.args.store.now c.make_new.new.store c.link.new.store number made
     (c.in_ok-link.ensures.tries (after_strokes t (new_behind chain slots image).0.strokes) tells opened)
 
-pub returns-clause-value : goal.returns-clause-value
-returns-clause-value g c t chain pages slots tells is at holds shaped none bytes =
+pub returns-clause-grown : goal.returns-clause-grown
+returns-clause-grown g c t chain pages slots tells is may =
     let image = t.base.image in
-    let w = g.H.Host.world c.args.host.now in
-    let low : c.args.first ≤ length image = omega (arith, at, lowest_most image shaped.long) in
-    let free = free_behind (new_behind chain slots image).0 c.args.last none in
-    let full = subst (λ (xs : List ℕ). draft_cause (new_of 5 (λ p. xs) image).0 ≡ None) (sym bytes) free.clear in
+    let free = free_behind (new_behind chain slots image).0 c.args.last may.free in
+    let full = subst (λ (xs : List ℕ). draft_cause (new_of 5 (λ p. xs) image).0 ≡ None) (sym may.bytes) free.clear in
     let n : ℕ = c.in_ok-number.number in
-    subst (λ (xs : List ℕ). n ≡ (new_of 5 (λ p. xs) image).1) bytes (c.in_ok-number.ensures.value t tells is at low holds shaped full) ∙ sym (grown_number chain slots image pages)
-
-pub returns-clause-below : goal.returns-clause-below
-returns-clause-below g c t chain pages slots tells is at holds shaped none bytes =
-    let image = t.base.image in
-    let w = g.H.Host.world c.args.host.now in
-    let low : c.args.first ≤ length image = omega (arith, at, lowest_most image shaped.long) in
-    let free = free_behind (new_behind chain slots image).0 c.args.last none in
-    let full = subst (λ (xs : List ℕ). draft_cause (new_of 5 (λ p. xs) image).0 ≡ None) (sym bytes) free.clear in
-    let n : ℕ = c.in_ok-number.number in
-    let all = c.in_ok-number.ensures.makes t tells is at low holds in
-    let inside = subst (λ (xs : List ℕ). n < length (new_of 5 (λ p. xs) image).0.image) bytes (new_below t 5 (λ p. c.args.payload.now) n all.some.made all.ends (all.these (shaped, full)).same) in
-    grown_below chain slots image pages n inside
+    let all = c.in_ok-number.ensures.makes t tells is may.at may.holds in
+    let inside = subst (λ (xs : List ℕ). n < length (new_of 5 (λ p. xs) image).0.image) may.bytes (new_below t 5 (λ p. c.args.payload.now) n all.some.made all.ends (all.these (may.searchable, full)).same) in
+    record {
+      is = subst (λ (xs : List ℕ). n ≡ (new_of 5 (λ p. xs) image).1) may.bytes (c.in_ok-number.ensures.value t tells is may.at may.holds may.searchable full) ∙ sym (grown_number chain slots image pages);
+      below = grown_below chain slots image pages n inside;
+    }
 
 pub returns-in_err-number-clause-some : goal.returns-in_err-number-clause-some
-returns-in_err-number-clause-some g c t tells is at holds least =
-    let low : c.args.first ≤ length t.base.image = omega (arith, at, lowest_most t.base.image least) in
+returns-in_err-number-clause-some g c t tells is at holds =
     let fault = c.in_err-number.field-0.0 in
     tries_passed c.from_residual.result fault (λ r. MakesSome r (g.H.Host.world c.args.host.now) (g.H.Host.world c.make_new.new.host) c.args.store.now c.make_new.new.store t) c.from_residual.ensures
-    (c.in_err-number.ensures.makes t tells is at low holds).some
+    (c.in_err-number.ensures.makes t tells is at holds).some
 
 pub returns-in_err-link-clause-some : goal.returns-in_err-link-clause-some
-returns-in_err-link-clause-some g c t tells is at holds least =
+returns-in_err-link-clause-some g c t tells is at holds =
     let w = g.H.Host.world c.args.host.now in
-    let low : c.args.first ≤ length t.base.image = omega (arith, at, lowest_most t.base.image least) in
     let fault = c.in_err-link.field-0.0 in
     let n : ℕ = c.in_ok-number.number in
-    let some = (c.in_ok-number.ensures.makes t tells is at low holds).some in
+    let some = (c.in_ok-number.ensures.makes t tells is at holds).some in
     let u = after_strokes t some.made in
     tries_passed c.from_residual-in_err-link.result fault (λ r. MakesSome r w (g.H.Host.world c.link.new.host) c.args.store.now c.link.new.store t) c.from_residual-in_err-link.ensures
     (some_failed n fault w (g.H.Host.world c.make_new.new.host) (g.H.Host.world c.link.new.host) c.args.store.now c.make_new.new.store c.link.new.store t some.made some.makes (link_cause u.base.image c.args.last)
     (page_strokes u.base.image c.args.last 5 (linked_payload u.base.image c.args.last n)) (c.in_err-link.ensures.tries u tells some.makes.opened))
 
 pub returns-clause-some : goal.returns-clause-some
-returns-clause-some g c t tells is at holds least =
+returns-clause-some g c t tells is at holds =
     let w = g.H.Host.world c.args.host.now in
-    let low : c.args.first ≤ length t.base.image = omega (arith, at, lowest_most t.base.image least) in
     let n : ℕ = c.in_ok-number.number in
-    let some = (c.in_ok-number.ensures.makes t tells is at low holds).some in
+    let some = (c.in_ok-number.ensures.makes t tells is at holds).some in
     let u = after_strokes t some.made in
     some_done n w (g.H.Host.world c.make_new.new.host) (g.H.Host.world c.link.new.host) c.args.store.now c.make_new.new.store c.link.new.store t some.made some.makes (link_cause u.base.image c.args.last)
     (page_strokes u.base.image c.args.last 5 (linked_payload u.base.image c.args.last n)) (c.in_ok-link.ensures.tries u tells some.makes.opened)

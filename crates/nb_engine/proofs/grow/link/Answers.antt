@@ -1,15 +1,12 @@
 use Rattle.std.proofs.Common.{◌≡◌, ◌+◌, ◌≤◌, ◌<◌, ℕ, List, length, refl, sym, ap, ◌∙◌, arith}
-use Rattle.std.specs.Prelude.{Ok, Err}
 use Rattle.nb_fields.specs.Bytes.{bytes_of, with_part}
 use Rattle.nb_fields.specs.Page.{with_payload}
 use Rattle.nb_fields.proofs.SizeLemmas.{size_facts}
 use Rattle.nb_page.proofs.QuietLemmas.{quiet_begun}
 use Rattle.nb_model.specs.Image.{Page, page_at}
 use Rattle.nb_model.specs.Forms.{old_page}
-use Rattle.nb_alloc.specs.Tries.{Tries}
-use Rattle.nb_alloc.specs.Make.{page_strokes}
 use Rattle.nb_engine.specs.Room.{linked_payload, link_cause}
-use Rattle.nb_alloc.proofs.DoesLaws.{tries_passed, tries_failed, tries_after}
+use Rattle.nb_alloc.proofs.DoesLaws.{tries_failed, tries_after}
 use Rattle.nb_alloc.proofs.MakeLaws.{tries_fault, tries_named, old_below}
 use Rattle.nb_state.specs.Open.{Held}
 use Rattle.nb_engine.proofs.LinkLaws.{written_payload, payload_inside, link_low, link_past}
@@ -23,29 +20,6 @@ returns-then-last-count-clause-tries g c t tells is =
 
 pub returns-in_err-read-clause-tries : goal.returns-in_err-read-clause-tries
 returns-in_err-read-clause-tries g c t tells is = tries_fault _ _ _ _ _ t (link_cause t.base.image c.args.last) _ c.from_residual.ensures c.in_err-read.ensures.same c.in_err-read.ensures.quiet is
-
-pub returns-in_err-put_page-clause-tries : goal.returns-in_err-put_page-clause-tries
-returns-in_err-put_page-clause-tries g c t tells is =
-    let image = t.base.image in
-    let p : ℕ = c.args.last in
-    let low : p < length image = omega (arith, is.files.agrees.count, c.count.ensures.value, c.if-last-count.false) in
-    let bytes : List ℕ = bytes_of 4 c.args.next in
-    let facts = size_facts (length c.args.page.now) c.requires.size in
-    let old = c.in_ok-read.ensures in
-    let read : c.read.new.into ≡ page_at image p = old.page t tells is low in
-    let now : c.put.new.page ≡ with_part 16 bytes (page_at image p) = c.put.ensures.written ∙ ap (λ (v : ℕ). with_part 16 (bytes_of 4 v) c.read.new.into) c.from.ensures ∙ ap (λ (x : Page). with_part 16 bytes x) read in
-    let long : length (with_part 16 bytes (page_at image p)) ≡ length (page_at image p) = ap length (sym now) ∙ c.put.auto.page ∙ ap length read in
-    let inside : 16 ≤ length (page_at image p) = omega (arith, facts.at_least, c.read.auto.into, ap length read) in
-    let here = old_below p image low in
-    let payload : List ℕ = linked_payload image p c.args.next in
-    let filled : c.put.new.page ≡ with_payload (old_page p image) payload = now ∙ written_payload 16 bytes (page_at image p) (omega arith) inside long ∙ ap (λ (x : Page). with_payload x payload) (sym here) in
-    let room : 16 + length payload ≤ length (old_page p image) = omega (arith, payload_inside 16 bytes (page_at image p) (omega arith) inside long, ap length here) in
-    let fault = c.in_err-put_page.field-0.0 in
-    tries_passed c.from_residual-in_err-put_page.result fault
-    (λ r. Tries r (g.H.Host.world c.args.host.now) (g.H.Host.world c.put_page.new.host) c.args.store.now c.put_page.new.store t (link_cause image p) (page_strokes image p 5 payload)) c.from_residual-in_err-put_page.ensures
-    (tries_named {T = Unit {0}} (Err fault) _ _ _ _ t _ _ _ _ (link_low image p low) refl
-    (tries_after {T = Unit {0}} (Err fault) _ (g.H.Host.world c.read.new.host) _ _ c.read.new.self _ t _ _ old.same old.quiet is
-    (c.in_err-put_page.ensures.tries t payload tells (old.open t tells is) (omega (arith, low)) room filled)))
 
 pub returns-clause-tries : goal.returns-clause-tries
 returns-clause-tries g c t tells is =
@@ -63,9 +37,9 @@ returns-clause-tries g c t tells is =
     let payload : List ℕ = linked_payload image p c.args.next in
     let filled : c.put.new.page ≡ with_payload (old_page p image) payload = now ∙ written_payload 16 bytes (page_at image p) (omega arith) inside long ∙ ap (λ (x : Page). with_payload x payload) (sym here) in
     let room : 16 + length payload ≤ length (old_page p image) = omega (arith, payload_inside 16 bytes (page_at image p) (omega arith) inside long, ap length here) in
-    tries_named {T = Unit {0}} (Ok tt) _ _ _ _ t _ _ _ _ (link_low image p low) refl
-    (tries_after {T = Unit {0}} (Ok tt) _ (g.H.Host.world c.read.new.host) _ _ c.read.new.self _ t _ _ old.same old.quiet is
-    (c.in_ok-put_page.ensures.tries t payload tells (old.open t tells is) (omega (arith, low)) room filled))
+    tries_named c.put_page.result _ _ _ _ t _ _ _ _ (link_low image p low) refl
+    (tries_after c.put_page.result _ (g.H.Host.world c.read.new.host) _ _ c.read.new.self _ t _ _ old.same old.quiet is
+    (c.put_page.ensures.tries t payload tells (old.open t tells is) room filled))
 
 pub put_page-requires-clause-inside : goal.put_page-requires-clause-inside
 put_page-requires-clause-inside g c = omega (arith, c.count.ensures.value, c.if-last-count.false, ap (λ (h : Held). h.files.count) c.in_ok-read.ensures.same)

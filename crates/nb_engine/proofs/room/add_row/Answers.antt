@@ -1,50 +1,26 @@
-use Rattle.std.proofs.Common.{◌≡◌, ◌+◌, ◌*◌, ◌≤◌, ℕ, List, length, drop, sym, ap, subst, ◌∙◌, arith}
-use Rattle.std.specs.Prelude.{Ok, Err, IsTrue}
+use Rattle.std.proofs.Common.{◌≡◌, ◌+◌, ◌*◌, ◌<◌, ◌≤◌, ℕ, List, length, drop, sym, ap, subst, ◌∙◌, arith}
+use Rattle.std.specs.Prelude.{IsTrue}
 use Rattle.nb_fields.specs.Bytes.{with_part}
 use Rattle.nb_fields.specs.Page.{with_payload}
 use Rattle.nb_fields.specs.Places.{is_page_size}
 use Rattle.nb_model.specs.Image.{Page, page_at, image_size}
-use Rattle.nb_model.specs.Forms.{drafted, old_page}
-use Rattle.nb_model.specs.Chains.{Slot, backup_slot, put_slot}
-use Rattle.nb_alloc.specs.Tries.{Tries}
+use Rattle.nb_model.specs.Forms.{old_page}
+use Rattle.nb_model.specs.Chains.{Slot, backup_slot}
 use Rattle.nb_alloc.specs.Put.{entry_cause}
-use Rattle.nb_alloc.proofs.DoesLaws.{tries_passed, tries_after, tries_these}
+use Rattle.nb_alloc.proofs.DoesLaws.{tries_after, tries_these}
 use Rattle.nb_alloc.proofs.MakeLaws.{tries_fault, old_below}
 use Rattle.nb_state.specs.Open.{Held}
 use Rattle.nb_engine.proofs.LinkLaws.{written_payload, payload_inside, slot_strokes}
 use Rattle.nb_engine.proofs.room.add_row.Goals as goal
 
 pub returns-in_err-read-clause-tries : goal.returns-in_err-read-clause-tries
-returns-in_err-read-clause-tries g c t tells is low = tries_fault _ _ _ _ _ t (entry_cause t.base.image c.args.room.now.page) _ c.from_residual.ensures c.in_err-read.ensures.same c.in_err-read.ensures.quiet is
-
-pub returns-in_err-put_page-clause-tries : goal.returns-in_err-put_page-clause-tries
-returns-in_err-put_page-clause-tries g c t tells is low =
-    let image = t.base.image in
-    let p : ℕ = c.args.room.now.page in
-    let at : ℕ = 32 + 256 * c.args.room.now.slot in
-    let row = c.args.row.now in
-    let bytes : Slot = backup_slot row.level row.scn row.time row.guid row.name in
-    let old = c.in_ok-read.ensures in
-    let read : c.read.new.into ≡ page_at image p = old.page t tells is low in
-    let now : c.put_slot.new.page ≡ with_part at bytes (page_at image p) = c.put_slot.ensures ∙ ap (λ (x : Page). with_part at bytes x) read in
-    let long : length (with_part at bytes (page_at image p)) ≡ length (page_at image p) = ap length (sym now) ∙ c.put_slot.auto.page ∙ ap length read in
-    let inside : at ≤ length (page_at image p) = omega (arith, c.requires.placed.inside, c.requires.page_room, c.read.auto.into, ap length read) in
-    let payload : List ℕ = drop 16 (with_part at bytes (page_at image p)) in
-    let here = old_below p image low in
-    let filled : c.put_slot.new.page ≡ with_payload (old_page p image) payload = now ∙ written_payload at bytes (page_at image p) (omega arith) inside long ∙ ap (λ (x : Page). with_payload x payload) (sym here) in
-    let room : 16 + length payload ≤ length (old_page p image) = omega (arith, payload_inside at bytes (page_at image p) (omega arith) inside long, ap length here) in
-    let size : IsTrue (is_page_size (image_size image)) = subst (λ (n : ℕ). IsTrue (is_page_size n)) (c.requires.page_room ∙ is.files.agrees.page_size) c.requires.size in
-    let fault = c.in_err-put_page.field-0.0 in
-    tries_passed c.from_residual-in_err-put_page.result fault
-    (λ r. Tries r (g.H.Host.world c.args.host.now) (g.H.Host.world c.put_page.new.host) c.args.store.now c.put_page.new.store t (entry_cause image p) (put_slot p c.args.room.now.slot bytes (drafted image)).strokes) c.from_residual-in_err-put_page.ensures
-    (tries_these {T = Unit {0}} (Err fault) _ _ _ _ t _ _ _ (λ none. slot_strokes t.base p c.args.room.now.slot bytes size low none)
-    (tries_after {T = Unit {0}} (Err fault) _ (g.H.Host.world c.read.new.host) _ _ c.read.new.self _ t _ _ old.same old.quiet is
-    (c.in_err-put_page.ensures.tries t payload tells (old.open t tells is) (omega (arith, low)) room filled)))
+returns-in_err-read-clause-tries g c t tells is = tries_fault _ _ _ _ _ t (entry_cause t.base.image c.args.room.now.page) _ c.from_residual.ensures c.in_err-read.ensures.same c.in_err-read.ensures.quiet is
 
 pub returns-clause-tries : goal.returns-clause-tries
-returns-clause-tries g c t tells is low =
+returns-clause-tries g c t tells is =
     let image = t.base.image in
     let p : ℕ = c.args.room.now.page in
+    let low : p < length image = omega (arith, c.requires.inside, is.files.agrees.count) in
     let at : ℕ = 32 + 256 * c.args.room.now.slot in
     let row = c.args.row.now in
     let bytes : Slot = backup_slot row.level row.scn row.time row.guid row.name in
@@ -58,9 +34,9 @@ returns-clause-tries g c t tells is low =
     let filled : c.put_slot.new.page ≡ with_payload (old_page p image) payload = now ∙ written_payload at bytes (page_at image p) (omega arith) inside long ∙ ap (λ (x : Page). with_payload x payload) (sym here) in
     let room : 16 + length payload ≤ length (old_page p image) = omega (arith, payload_inside at bytes (page_at image p) (omega arith) inside long, ap length here) in
     let size : IsTrue (is_page_size (image_size image)) = subst (λ (n : ℕ). IsTrue (is_page_size n)) (c.requires.page_room ∙ is.files.agrees.page_size) c.requires.size in
-    tries_these {T = Unit {0}} (Ok tt) _ _ _ _ t _ _ _ (λ none. slot_strokes t.base p c.args.room.now.slot bytes size low none)
-    (tries_after {T = Unit {0}} (Ok tt) _ (g.H.Host.world c.read.new.host) _ _ c.read.new.self _ t _ _ old.same old.quiet is
-    (c.in_ok-put_page.ensures.tries t payload tells (old.open t tells is) (omega (arith, low)) room filled))
+    tries_these c.put_page.result _ _ _ _ t _ _ _ (λ none. slot_strokes t.base p c.args.room.now.slot bytes size low none)
+    (tries_after c.put_page.result _ (g.H.Host.world c.read.new.host) _ _ c.read.new.self _ t _ _ old.same old.quiet is
+    (c.put_page.ensures.tries t payload tells (old.open t tells is) room filled))
 
 pub put_page-requires-clause-inside : goal.put_page-requires-clause-inside
 put_page-requires-clause-inside g c = omega (arith, c.requires.inside, ap (λ (h : Held). h.files.count) c.in_ok-read.ensures.same)

@@ -1,19 +1,12 @@
 use Rattle.std.proofs.Common.{ℕ, sym, ap, ◌∙◌}
 use Rattle.nb_model.specs.Causes.{not_kind}
-use Rattle.nb_alloc.proofs.DoesLaws.{tested_on}
+use Rattle.nb_alloc.proofs.DoesLaws.{tested_by_name}
 use Rattle.nb_alloc.proofs.RaiseLaws.{scn_page-is}
 use Rattle.nb_engine.proofs.room.check_scn_page.Goals as goal
-
-pub returns-in_err-read-clause-test : goal.returns-in_err-read-clause-test
-returns-in_err-read-clause-test g c t tells is =
-    let image = t.base.image in
-    let size = c.page_size-page_size.ensures.value ∙ is.files.agrees.page_size in
-    let there = scn_page-is image _ c.covers-k.result.0 c.args.number c.place_of.result size c.covers-k.ensures.number c.place_of.ensures in
-    tested_on (Unit {0}) (Unit {0}) _ _ _ _ c.from_residual.ensures (λ r e. ap (λ (q : ℕ). not_kind image 10 q) (sym there) ∙ e) (c.in_err-read.ensures.reads t tells is).test
 
 pub returns-clause-test : goal.returns-clause-test
 returns-clause-test g c t tells is =
     let image = t.base.image in
     let size = c.page_size-page_size.ensures.value ∙ is.files.agrees.page_size in
     let there = scn_page-is image _ c.covers-k.result.0 c.args.number c.place_of.result size c.covers-k.ensures.number c.place_of.ensures in
-    ap (λ (q : ℕ). not_kind image 10 q) (sym there) ∙ (c.in_ok-read.ensures.reads t tells is).test
+    tested_by_name c.read.result _ _ (ap (λ (q : ℕ). not_kind image 10 q) (sym there)) (c.read.ensures.reads t tells is).test

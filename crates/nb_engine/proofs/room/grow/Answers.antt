@@ -1,20 +1,18 @@
 use Rattle.std.proofs.Common.{ℕ, [], refl, sym, ap, ◌∙◌, arith}
-use Rattle.std.specs.Prelude.{None, Ok, Err}
+use Rattle.std.specs.Prelude.{None}
 use Rattle.nb_model.specs.Forms.{drafted}
 use Rattle.nb_model.specs.Causes.{no_scn}
 use Rattle.nb_model.specs.Chains.{History, grown}
-use Rattle.nb_state.proofs.MakesLaws.{makes_none, makes_after}
 use Rattle.nb_alloc.specs.Behind.{behind_cause}
 use Rattle.nb_alloc.specs.Data.{new_behind}
-use Rattle.nb_alloc.specs.Make.{MakesSome}
 use Rattle.nb_engine.specs.Room.{no_rows, grow_cause}
-use Rattle.nb_alloc.specs.Tries.{Tries}
-use Rattle.nb_alloc.proofs.DoesLaws.{tries_early, tries_passed, tries_after}
+use Rattle.nb_alloc.proofs.DoesLaws.{tries_early, tries_after}
 use Rattle.nb_state.specs.Open.{Held}
 use Rattle.nb_engine.proofs.GrowLaws.{rows_are, no_rows_short, grow_refused, grow_spent, grow_free}
 use Rattle.nb_alloc.proofs.MakeLaws.{tries_named}
 use Rattle.nb_alloc.proofs.NewLaws.{told}
 use Rattle.nb_alloc.proofs.RoomsLaws.{grown_judged}
+use Rattle.nb_alloc.proofs.WhereLaws.{makes_some_none, makes_some_after}
 use Rattle.nb_engine.proofs.room.grow.Goals as goal
 
 pub returns-in_err-first-clause-makes : goal.returns-in_err-first-clause-makes
@@ -33,23 +31,6 @@ returns-in_err-check_scn-clause-makes g c t pages tells is shaped last is_data =
     tries_early (Unit {0}) ℕ _ _ _ _ _ _ t (no_scn image) (grow_cause image pages) _ c.from_residual-in_err-check_scn.ensures (grow_spent image pages room)
     (c.in_err-check_scn.ensures.test image (c.scn-scn.ensures ∙ is.agrees.scn)) tests.same tests.quiet is (tests.open t tells is)
 
-pub returns-in_err-number-clause-makes : goal.returns-in_err-number-clause-makes
-returns-in_err-number-clause-makes g c t pages tells is shaped last is_data =
-    let image = t.base.image in
-    let w = g.H.Host.world c.args.host.now in
-    let tests = c.in_ok-first.ensures in
-    let none = tests.one t (told no_rows) tells is shaped (λ p. no_rows_short) is_data refl in
-    let room = grown_judged History pages [] (drafted image) ∙ ap (behind_cause (new_behind History [] image).0) (sym last) ∙ none in
-    let spent = c.in_ok-check_scn.ensures.test image (c.scn-scn.ensures ∙ is.agrees.scn) in
-    let still = tests.open t tells is in
-    let strokes = (grown History pages [] (drafted image)).0.strokes in
-    let fault = c.in_err-number.field-0.0 in
-    let new = g.H.Host.world c.grow_from.new.host in
-    tries_passed c.from_residual-in_err-number.result fault (λ r. Tries r w new c.args.store.now c.grow_from.new.store t (grow_cause image pages) strokes) c.from_residual-in_err-number.ensures
-    (tries_named {T = ℕ} (Err fault) _ _ _ _ t None (grow_cause image pages) strokes strokes (sym (grow_free image pages room spent)) refl
-    (tries_after {T = ℕ} (Err fault) w (g.H.Host.world c.check_rooms.new.host) new _ _ _ t _ _ tests.same tests.quiet is
-    (c.in_err-number.ensures.tries t History pages [] tells still (tests.value t tells is) (tests.map t tells is refl) shaped none rows_are last)))
-
 pub returns-clause-makes : goal.returns-clause-makes
 returns-clause-makes g c t pages tells is shaped last is_data =
     let image = t.base.image in
@@ -60,53 +41,31 @@ returns-clause-makes g c t pages tells is shaped last is_data =
     let spent = c.in_ok-check_scn.ensures.test image (c.scn-scn.ensures ∙ is.agrees.scn) in
     let still = tests.open t tells is in
     let strokes = (grown History pages [] (drafted image)).0.strokes in
-    let n : ℕ = c.in_ok-number.number in
     let new = g.H.Host.world c.grow_from.new.host in
-    tries_named (Ok n) w new c.args.store.now c.grow_from.new.store t None (grow_cause image pages) strokes strokes (sym (grow_free image pages room spent)) refl
-    (tries_after (Ok n) w (g.H.Host.world c.check_rooms.new.host) new _ _ _ t _ _ tests.same tests.quiet is
-    (c.in_ok-number.ensures.tries t History pages [] tells still (tests.value t tells is) (tests.map t tells is refl) shaped none rows_are last))
+    tries_named c.grow_from.result w new c.args.store.now c.grow_from.new.store t None (grow_cause image pages) strokes strokes (sym (grow_free image pages room spent)) refl
+    (tries_after c.grow_from.result w (g.H.Host.world c.check_rooms.new.host) new _ _ _ t _ _ tests.same tests.quiet is
+    (c.grow_from.ensures.tries t History pages [] tells still (record { at = tests.value t tells is; holds = tests.map t tells is refl; searchable = shaped; free = none; bytes = rows_are }) last))
 
 pub returns-in_err-first-clause-some : goal.returns-in_err-first-clause-some
-returns-in_err-first-clause-some g c t tells is least =
+returns-in_err-first-clause-some g c t tells is =
     let tests = c.in_err-first.ensures in
-    record { made = _; makes = makes_none {T = ℕ} c.from_residual.result _ _ _ _ t tests.same tests.quiet is (tests.open t tells is) }
+    makes_some_none c.from_residual.result _ _ _ _ t tests.same tests.quiet is (tests.open t tells is)
 
 pub returns-in_err-check_scn-clause-some : goal.returns-in_err-check_scn-clause-some
-returns-in_err-check_scn-clause-some g c t tells is least =
+returns-in_err-check_scn-clause-some g c t tells is =
     let tests = c.in_ok-first.ensures in
-    record { made = _; makes = makes_none {T = ℕ} c.from_residual-in_err-check_scn.result _ _ _ _ t tests.same tests.quiet is (tests.open t tells is) }
-
-pub returns-in_err-number-clause-some : goal.returns-in_err-number-clause-some
-returns-in_err-number-clause-some g c t tells is least =
-    let w = g.H.Host.world c.args.host.now in
-    let new = g.H.Host.world c.grow_from.new.host in
-    let tests = c.in_ok-first.ensures in
-    let still = tests.open t tells is in
-    let fault = c.in_err-number.field-0.0 in
-    let some = c.in_err-number.ensures.some t tells still (tests.value t tells is) (tests.map t tells is refl) least in
-    tries_passed c.from_residual-in_err-number.result fault (λ r. MakesSome r w new c.args.store.now c.grow_from.new.store t) c.from_residual-in_err-number.ensures
-    (record { made = some.made; makes = makes_after {T = ℕ} (Err fault) w _ new _ _ _ t some.made tests.same tests.quiet is some.makes })
+    makes_some_none c.from_residual-in_err-check_scn.result _ _ _ _ t tests.same tests.quiet is (tests.open t tells is)
 
 pub returns-clause-some : goal.returns-clause-some
-returns-clause-some g c t tells is least =
-    let w = g.H.Host.world c.args.host.now in
-    let new = g.H.Host.world c.grow_from.new.host in
+returns-clause-some g c t tells is =
     let tests = c.in_ok-first.ensures in
-    let still = tests.open t tells is in
-    let some = c.in_ok-number.ensures.some t tells still (tests.value t tells is) (tests.map t tells is refl) least in
-    record { made = some.made; makes = makes_after (Ok c.in_ok-number.number) w _ new _ _ _ t some.made tests.same tests.quiet is some.makes }
+    makes_some_after c.grow_from.result _ _ _ _ _ _ t tests.same tests.quiet is (c.grow_from.ensures.some t tells (tests.open t tells is) (tests.value t tells is) (tests.map t tells is refl))
 
-pub returns-clause-value : goal.returns-clause-value
-returns-clause-value g c t pages tells is shaped is_data =
+pub returns-clause-grown : goal.returns-clause-grown
+returns-clause-grown g c t pages tells is shaped is_data =
     let tests = c.in_ok-first.ensures in
     let none = tests.one t (told no_rows) tells is shaped (λ p. no_rows_short) is_data refl in
-    c.in_ok-number.ensures.value t History pages [] tells (tests.open t tells is) (tests.value t tells is) (tests.map t tells is refl) shaped none rows_are
-
-pub returns-clause-below : goal.returns-clause-below
-returns-clause-below g c t pages tells is shaped is_data =
-    let tests = c.in_ok-first.ensures in
-    let none = tests.one t (told no_rows) tells is shaped (λ p. no_rows_short) is_data refl in
-    c.in_ok-number.ensures.below t History pages [] tells (tests.open t tells is) (tests.value t tells is) (tests.map t tells is refl) shaped none rows_are
+    c.grow_from.ensures.grown t History pages [] tells (tests.open t tells is) (record { at = tests.value t tells is; holds = tests.map t tells is refl; searchable = shaped; free = none; bytes = rows_are })
 
 pub grow_from-requires-clause-inside : goal.grow_from-requires-clause-inside
 grow_from-requires-clause-inside g c = omega (arith, c.in_ok-first.ensures.within c.requires.least, ap (λ (h : Held). h.files.count) c.in_ok-first.ensures.same)

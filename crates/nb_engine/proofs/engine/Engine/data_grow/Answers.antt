@@ -1,5 +1,5 @@
 use Rattle.std.proofs.Common.{◌≡◌, ◌≤◌, ℕ, length, refl, sym, ap, subst, ◌∙◌, arith}
-use Rattle.std.specs.Prelude.{Some, None, Ok, Err}
+use Rattle.std.specs.Prelude.{Some, None, Err}
 use Rattle.nb_fields.specs.Payloads.{data_payload}
 use Rattle.nb_host.specs.declared.faults.Fault.TheVariants.{Refused}
 use Rattle.nb_host.specs.declared.refusals.Refusal.TheVariants.{NotDatabase}
@@ -7,15 +7,14 @@ use Rattle.nb_page.proofs.QuietLemmas.{quiet_begun}
 use Rattle.nb_model.specs.Forms.{drafted}
 use Rattle.nb_model.specs.Chains.{owner_of, grown}
 use Rattle.nb_state.specs.Open.{Held, IsOpen, but_pages}
-use Rattle.nb_state.proofs.MakesLaws.{makes_none, makes_after}
+use Rattle.nb_alloc.proofs.WhereLaws.{makes_some_none, makes_some_after}
 use Rattle.nb_alloc.specs.Behind.{behind_cause}
 use Rattle.nb_alloc.specs.Data.{new_behind, unmade}
-use Rattle.nb_alloc.specs.Make.{MakesSome}
 use Rattle.nb_alloc.specs.Search.{IsShort}
-use Rattle.nb_alloc.specs.Tries.{Tries}
 use Rattle.nb_alloc.proofs.ContentLaws.{data_short}
-use Rattle.nb_alloc.proofs.DoesLaws.{tries_early, tries_failed, tries_passed, tries_after}
+use Rattle.nb_alloc.proofs.DoesLaws.{tries_early, tries_failed, tries_after}
 use Rattle.nb_alloc.proofs.MakeLaws.{tries_named}
+use Rattle.nb_engine.proofs.GrowLaws.{grown_is}
 use Rattle.nb_engine.proofs.NewTurn.{searchable_of}
 use Rattle.nb_alloc.proofs.RoomsLaws.{unmade_short, grown_unmade}
 use Rattle.nb_engine.proofs.engine.Engine.data_grow.Goals as goal
@@ -44,28 +43,6 @@ returns-in_err-first-clause-makes g c t chain pages tells is sizes owner last is
     tries_early ℕ ℕ _ _ _ _ _ _ t (behind_cause (new_behind chain slots image).0 c.args.last) (unmade image grows) _ c.from_residual.ensures (λ r e. cause ∙ e)
     (tests.one t (λ p. data_payload 0 (owner_of chain) slots) tells here shaped short is_data refl) (tests.same ∙ ap but_pages c.self.view_is) tests.quiet is (tests.open t tells here)
 
-pub returns-in_err-number-clause-makes : goal.returns-in_err-number-clause-makes
-returns-in_err-number-clause-makes g c t chain pages tells is sizes owner last is_data =
-    let w = g.H.Host.world c.args.host.now in
-    let here = subst (λ (h : Held). IsOpen w h t) (sym c.self.view_is) is in
-    let image = t.base.image in
-    let slots = c.args.slots.now in
-    let long : 5 ≤ length image = omega (arith, here.files.agrees.count, c.count-count.ensures.value, c.if-count-lt-FIRST_TO_GIVE.false) in
-    let shaped = searchable_of w _ t here c.self.invariant.0 long sizes in
-    let grows = (grown chain pages slots (drafted image)).0 in
-    let short : IsShort (λ p. data_payload 0 (owner_of chain) slots) = λ p. data_short (owner_of chain) slots c.requires.short in
-    let cause : unmade image grows ≡ behind_cause (new_behind chain slots image).0 c.args.last = grown_unmade image chain pages slots long ∙ ap (behind_cause (new_behind chain slots image).0) (sym last) in
-    let tests = c.in_ok-first.ensures in
-    let none = tests.one t (λ p. data_payload 0 (owner_of chain) slots) tells here shaped short is_data refl in
-    let still = tests.open t tells here in
-    let bytes = c.fill_payload.ensures ∙ ap (λ (n : ℕ). data_payload 0 n slots) owner in
-    let fault = c.in_err-number.field-0.0 in
-    let new = g.H.Host.world c.grow_from.new.host in
-    tries_passed c.from_residual-in_err-number.result fault (λ r. Tries r w new c.args.self.now c.grow_from.new.store t (unmade image grows) grows.strokes) c.from_residual-in_err-number.ensures
-    (tries_named {T = ℕ} (Err fault) w new c.args.self.now c.grow_from.new.store t None (unmade image grows) grows.strokes grows.strokes (sym (cause ∙ none)) refl
-    (tries_after {T = ℕ} (Err fault) w (g.H.Host.world c.check_rooms.new.host) new _ _ _ t _ _ (tests.same ∙ ap but_pages c.self.view_is) tests.quiet is
-    (c.in_err-number.ensures.tries t chain pages slots tells still (tests.value t tells here) (tests.map t tells here refl) shaped none bytes last)))
-
 pub returns-clause-makes : goal.returns-clause-makes
 returns-clause-makes g c t chain pages tells is sizes owner last is_data =
     let w = g.H.Host.world c.args.host.now in
@@ -81,11 +58,10 @@ returns-clause-makes g c t chain pages tells is sizes owner last is_data =
     let none = tests.one t (λ p. data_payload 0 (owner_of chain) slots) tells here shaped short is_data refl in
     let still = tests.open t tells here in
     let bytes = c.fill_payload.ensures ∙ ap (λ (n : ℕ). data_payload 0 n slots) owner in
-    let n : ℕ = c.in_ok-number.number in
     let new = g.H.Host.world c.grow_from.new.host in
-    tries_named (Ok n) w new c.args.self.now c.grow_from.new.store t None (unmade image grows) grows.strokes grows.strokes (sym (cause ∙ none)) refl
-    (tries_after (Ok n) w (g.H.Host.world c.check_rooms.new.host) new _ _ _ t _ _ (tests.same ∙ ap but_pages c.self.view_is) tests.quiet is
-    (c.in_ok-number.ensures.tries t chain pages slots tells still (tests.value t tells here) (tests.map t tells here refl) shaped none bytes last))
+    tries_named c.grow_from.result w new c.args.self.now c.grow_from.new.store t None (unmade image grows) grows.strokes grows.strokes (sym (cause ∙ none)) refl
+    (tries_after c.grow_from.result w (g.H.Host.world c.check_rooms.new.host) new _ _ _ t _ _ (tests.same ∙ ap but_pages c.self.view_is) tests.quiet is
+    (c.grow_from.ensures.tries t chain pages slots tells still (record { at = tests.value t tells here; holds = tests.map t tells here refl; searchable = shaped; free = none; bytes = bytes }) last))
 
 pub returns-clause-value : goal.returns-clause-value
 returns-clause-value g c t chain pages tells is sizes owner is_data =
@@ -101,40 +77,24 @@ returns-clause-value g c t chain pages tells is sizes owner is_data =
     let none = tests.one t (λ p. data_payload 0 (owner_of chain) slots) tells here shaped short is_data refl in
     let still = tests.open t tells here in
     let bytes = c.fill_payload.ensures ∙ ap (λ (n : ℕ). data_payload 0 n slots) owner in
-    c.in_ok-number.ensures.value t chain pages slots tells still (tests.value t tells here) (tests.map t tells here refl) shaped none bytes
+    grown_is c.grow_from.result image chain pages slots (c.grow_from.ensures.grown t chain pages slots tells still (record { at = tests.value t tells here; holds = tests.map t tells here refl; searchable = shaped; free = none; bytes = bytes }))
 
 pub returns-then-count-lt-FIRST_TO_GIVE-clause-some : goal.returns-then-count-lt-FIRST_TO_GIVE-clause-some
 returns-then-count-lt-FIRST_TO_GIVE-clause-some g c t tells is =
     let w = g.H.Host.world c.args.host.now in
-    record { made = _; makes = makes_none {T = ℕ} (Err (Refused (NotDatabase c.count-count.result))) w w c.args.self.now c.args.self.now t refl (quiet_begun w (g.met.H.Host.timely c.args.host.now)) is is }
+    makes_some_none {T = ℕ} (Err (Refused (NotDatabase c.count-count.result))) w w c.args.self.now c.args.self.now t refl (quiet_begun w (g.met.H.Host.timely c.args.host.now)) is is
 
 pub returns-in_err-first-clause-some : goal.returns-in_err-first-clause-some
 returns-in_err-first-clause-some g c t tells is =
     let here = subst (λ (h : Held). IsOpen (g.H.Host.world c.args.host.now) h t) (sym c.self.view_is) is in
     let tests = c.in_err-first.ensures in
-    record { made = _; makes = makes_none {T = ℕ} c.from_residual.result (g.H.Host.world c.args.host.now) _ _ _ t (tests.same ∙ ap but_pages c.self.view_is) tests.quiet is (tests.open t tells here) }
-
-pub returns-in_err-number-clause-some : goal.returns-in_err-number-clause-some
-returns-in_err-number-clause-some g c t tells is =
-    let w = g.H.Host.world c.args.host.now in
-    let here = subst (λ (h : Held). IsOpen w h t) (sym c.self.view_is) is in
-    let tests = c.in_ok-first.ensures in
-    let least : 5 ≤ length t.base.image = omega (arith, here.files.agrees.count, c.count-count.ensures.value, c.if-count-lt-FIRST_TO_GIVE.false) in
-    let still = tests.open t tells here in
-    let fault = c.in_err-number.field-0.0 in
-    let some = c.in_err-number.ensures.some t tells still (tests.value t tells here) (tests.map t tells here refl) least in
-    tries_passed c.from_residual-in_err-number.result fault (λ r. MakesSome r w (g.H.Host.world c.grow_from.new.host) c.args.self.now c.grow_from.new.store t) c.from_residual-in_err-number.ensures
-    (record { made = some.made; makes = makes_after {T = ℕ} (Err fault) w _ _ _ _ _ t some.made (tests.same ∙ ap but_pages c.self.view_is) tests.quiet is some.makes })
+    makes_some_none c.from_residual.result _ _ _ _ t (tests.same ∙ ap but_pages c.self.view_is) tests.quiet is (tests.open t tells here)
 
 pub returns-clause-some : goal.returns-clause-some
 returns-clause-some g c t tells is =
-    let w = g.H.Host.world c.args.host.now in
-    let here = subst (λ (h : Held). IsOpen w h t) (sym c.self.view_is) is in
+    let here = subst (λ (h : Held). IsOpen (g.H.Host.world c.args.host.now) h t) (sym c.self.view_is) is in
     let tests = c.in_ok-first.ensures in
-    let least : 5 ≤ length t.base.image = omega (arith, here.files.agrees.count, c.count-count.ensures.value, c.if-count-lt-FIRST_TO_GIVE.false) in
-    let still = tests.open t tells here in
-    let some = c.in_ok-number.ensures.some t tells still (tests.value t tells here) (tests.map t tells here refl) least in
-    record { made = some.made; makes = makes_after (Ok c.in_ok-number.number) w _ _ _ _ _ t some.made (tests.same ∙ ap but_pages c.self.view_is) tests.quiet is some.makes }
+    makes_some_after c.grow_from.result _ _ _ _ _ _ t (tests.same ∙ ap but_pages c.self.view_is) tests.quiet is (c.grow_from.ensures.some t tells (tests.open t tells here) (tests.value t tells here) (tests.map t tells here refl))
 
 pub grow_from-requires-clause-inside : goal.grow_from-requires-clause-inside
 grow_from-requires-clause-inside g c = omega (arith, c.in_ok-first.ensures.within (omega (arith, c.count-count.ensures.value, c.if-count-lt-FIRST_TO_GIVE.false)), ap (λ (h : Held). h.files.count) c.in_ok-first.ensures.same)

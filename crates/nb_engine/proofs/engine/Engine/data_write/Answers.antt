@@ -1,30 +1,17 @@
 use Rattle.std.proofs.Common.{◌<◌, ℕ, length, sym, subst, ◌∙◌, arith}
-use Rattle.std.specs.Prelude.{Ok, Err, IfErr}
 use Rattle.nb_model.specs.Image.{image_scn}
 use Rattle.nb_model.proofs.PutSound.{IsPlace}
-use Rattle.nb_base.specs.Takes.{IsNoRefusal}
 use Rattle.nb_state.specs.Open.{Held, IsOpen}
 use Rattle.nb_alloc.specs.Data.{data_cause, put_data}
 use Rattle.nb_alloc.specs.Tries.{Tries}
 use Rattle.nb_engine.proofs.DataLaws.{data_there, by_entry}
-use Rattle.nb_alloc.proofs.DoesLaws.{tries_passed}
 use Rattle.nb_alloc.proofs.MakeLaws.{entry_none}
 use Rattle.nb_engine.proofs.NewTurn.{well_of}
 use Rattle.nb_alloc.proofs.WhereLaws.{sure_of}
 use Rattle.nb_engine.proofs.engine.Engine.data_write.Goals as goal
 
-pub returns-in_err-write_data-clause-tries : goal.returns-in_err-write_data-clause-tries
-returns-in_err-write_data-clause-tries g c t tells is =
-    let w = g.H.Host.world c.args.host.now in
-    let here = subst (λ (h : Held). IsOpen w h t) (sym c.self.view_is) is in
-    let new = g.H.Host.world c.write_data.new.host in
-    let cause = data_cause t.base.image c.args.number in
-    let strokes = (put_data c.args.number c.args.page.now t.base.image).strokes in
-    tries_passed c.from_residual.result c.in_err-write_data.field-0.0 (λ r. Tries r w new c.args.self.now c.write_data.new.store t cause strokes) c.from_residual.ensures
-    (subst (λ (h : Held). Tries {T = Unit {0}} (Err c.in_err-write_data.field-0.0) w new h c.write_data.new.store t cause strokes) c.self.view_is (c.in_err-write_data.ensures.tries t tells here))
-
-pub returns-in_err-write_data-clause-sure : goal.returns-in_err-write_data-clause-sure
-returns-in_err-write_data-clause-sure g c t tells is sound kind =
+pub returns-clause-sure : goal.returns-clause-sure
+returns-clause-sure g c t tells is sound kind =
     let w = g.H.Host.world c.args.host.now in
     let image = t.base.image in
     let p : ℕ = c.args.number in
@@ -33,12 +20,11 @@ returns-in_err-write_data-clause-sure g c t tells is sound kind =
     let is_well = well_of w _ t here c.self.invariant.0 scn sound in
     let low : p < length image = data_there image p kind in
     let at : IsPlace image p = record { behind = omega (arith, c.requires.low); there = omega (arith, low); most = (let most = sound.most in omega (arith, most, low)) } in
-    tries_passed c.from_residual.result c.in_err-write_data.field-0.0 (λ r. IfErr r IsNoRefusal) c.from_residual.ensures
-    (sure_of {T = Unit {0}} (Err c.in_err-write_data.field-0.0) (data_cause image p) (sym (by_entry image p kind) ∙ entry_none image p is_well at) (c.in_err-write_data.ensures.tries t tells here).test)
+    sure_of c.write_data.result (data_cause image p) (sym (by_entry image p kind) ∙ entry_none image p is_well at) (c.write_data.ensures.tries t tells here).test
 
 pub returns-clause-tries : goal.returns-clause-tries
 returns-clause-tries g c t tells is =
     let w = g.H.Host.world c.args.host.now in
     let here = subst (λ (h : Held). IsOpen w h t) (sym c.self.view_is) is in
     let new = g.H.Host.world c.write_data.new.host in
-    subst (λ (h : Held). Tries {T = Unit {0}} (Ok tt) w new h c.write_data.new.store t (data_cause t.base.image c.args.number) (put_data c.args.number c.args.page.now t.base.image).strokes) c.self.view_is (c.in_ok-write_data.ensures.tries t tells here)
+    subst (λ (h : Held). Tries c.write_data.result w new h c.write_data.new.store t (data_cause t.base.image c.args.number) (put_data c.args.number c.args.page.now t.base.image).strokes) c.self.view_is (c.write_data.ensures.tries t tells here)

@@ -1,5 +1,5 @@
-use Rattle.std.proofs.Common.{◌<◌, ℕ, length, refl, sym, subst, arith}
-use Rattle.std.specs.Prelude.{Ok, Err, IfErr}
+use Rattle.std.proofs.Common.{◌<◌, ℕ, refl, sym, subst, arith}
+use Rattle.std.specs.Prelude.{Err}
 use Rattle.nb_host.specs.declared.faults.Fault.TheVariants.{Refused}
 use Rattle.nb_host.specs.declared.refusals.Refusal.TheVariants.{NotDatabase}
 use Rattle.nb_page.proofs.QuietLemmas.{quiet_begun}
@@ -7,17 +7,14 @@ use Rattle.nb_model.specs.Image.{image_scn}
 use Rattle.nb_model.specs.Forms.{drafted}
 use Rattle.nb_model.specs.Chains.{backup_slot, put_slot}
 use Rattle.nb_model.proofs.PutSound.{IsPlace}
-use Rattle.nb_base.specs.Takes.{IsNoRefusal}
 use Rattle.nb_state.specs.Open.{Held, IsOpen}
 use Rattle.nb_state.specs.Does.{unless_by}
-use Rattle.nb_state.proofs.MakesLaws.{makes_none}
 use Rattle.nb_alloc.specs.Make.{MakesSome}
 use Rattle.nb_alloc.specs.Tries.{Tries}
 use Rattle.nb_alloc.specs.Put.{entry_cause}
-use Rattle.nb_alloc.proofs.DoesLaws.{tries_passed}
 use Rattle.nb_alloc.proofs.MakeLaws.{entry_none}
 use Rattle.nb_engine.proofs.NewTurn.{well_of}
-use Rattle.nb_alloc.proofs.WhereLaws.{sure_of}
+use Rattle.nb_alloc.proofs.WhereLaws.{makes_some_none, sure_of}
 use Rattle.nb_engine.proofs.engine.Engine.history_add.Goals as goal
 
 pub returns-then-room-count-clause-tries : goal.returns-then-room-count-clause-tries
@@ -37,40 +34,16 @@ returns-then-room-count-clause-sure g c t tells is low sound =
 pub returns-then-room-count-clause-some : goal.returns-then-room-count-clause-some
 returns-then-room-count-clause-some g c t tells is =
     let w = g.H.Host.world c.args.host.now in
-    record { made = _; makes = makes_none {T = Unit {0}} (Err (Refused (NotDatabase c.args.room.now.page))) w w c.args.self.now c.args.self.now t refl (quiet_begun w (g.met.H.Host.timely c.args.host.now)) is is }
-
-pub returns-in_err-add_row-clause-some : goal.returns-in_err-add_row-clause-some
-returns-in_err-add_row-clause-some g c t tells is =
-    let w = g.H.Host.world c.args.host.now in
-    let here = subst (λ (h : Held). IsOpen w h t) (sym c.self.view_is) is in
-    let new = g.H.Host.world c.add_row.new.host in
-    let low : c.args.room.now.page < length t.base.image = omega (arith, here.files.agrees.count, c.count-count.ensures.value, c.if-room-count.false) in
-    let row = c.args.row.now in
-    let strokes = (put_slot c.args.room.now.page c.args.room.now.slot (backup_slot row.level row.scn row.time row.guid row.name) (drafted t.base.image)).strokes in
-    let cause = entry_cause t.base.image c.args.room.now.page in
-    let fault = c.in_err-add_row.field-0.0 in
-    tries_passed c.from_residual.result fault (λ r. MakesSome r w new c.args.self.now c.add_row.new.store t) c.from_residual.ensures
-    (subst (λ (h : Held). MakesSome {T = Unit {0}} (Err fault) w new h c.add_row.new.store t) c.self.view_is (record { made = unless_by cause strokes; makes = (c.in_err-add_row.ensures.tries t tells here low).makes }))
+    makes_some_none (Err (Refused (NotDatabase c.args.room.now.page))) w w c.args.self.now c.args.self.now t refl (quiet_begun w (g.met.H.Host.timely c.args.host.now)) is is
 
 pub returns-clause-some : goal.returns-clause-some
 returns-clause-some g c t tells is =
     let w = g.H.Host.world c.args.host.now in
     let here = subst (λ (h : Held). IsOpen w h t) (sym c.self.view_is) is in
-    let low : c.args.room.now.page < length t.base.image = omega (arith, here.files.agrees.count, c.count-count.ensures.value, c.if-room-count.false) in
     let row = c.args.row.now in
     let strokes = (put_slot c.args.room.now.page c.args.room.now.slot (backup_slot row.level row.scn row.time row.guid row.name) (drafted t.base.image)).strokes in
     let cause = entry_cause t.base.image c.args.room.now.page in
-    subst (λ (h : Held). MakesSome {T = Unit {0}} (Ok tt) w (g.H.Host.world c.add_row.new.host) h c.add_row.new.store t) c.self.view_is (record { made = unless_by cause strokes; makes = (c.in_ok-add_row.ensures.tries t tells here low).makes })
-
-pub returns-in_err-add_row-clause-tries : goal.returns-in_err-add_row-clause-tries
-returns-in_err-add_row-clause-tries g c t tells is low =
-    let w = g.H.Host.world c.args.host.now in
-    let here = subst (λ (h : Held). IsOpen w h t) (sym c.self.view_is) is in
-    let row = c.args.row.now in
-    let strokes = (put_slot c.args.room.now.page c.args.room.now.slot (backup_slot row.level row.scn row.time row.guid row.name) (drafted t.base.image)).strokes in
-    let new = g.H.Host.world c.add_row.new.host in
-    tries_passed c.from_residual.result c.in_err-add_row.field-0.0 (λ r. Tries r w new c.args.self.now c.add_row.new.store t (entry_cause t.base.image c.args.room.now.page) strokes) c.from_residual.ensures
-    (subst (λ (h : Held). Tries {T = Unit {0}} (Err c.in_err-add_row.field-0.0) w new h c.add_row.new.store t (entry_cause t.base.image c.args.room.now.page) strokes) c.self.view_is (c.in_err-add_row.ensures.tries t tells here low))
+    subst (λ (h : Held). MakesSome c.add_row.result w (g.H.Host.world c.add_row.new.host) h c.add_row.new.store t) c.self.view_is (record { made = unless_by cause strokes; makes = (c.add_row.ensures.tries t tells here).makes })
 
 pub returns-clause-tries : goal.returns-clause-tries
 returns-clause-tries g c t tells is low =
@@ -79,10 +52,10 @@ returns-clause-tries g c t tells is low =
     let row = c.args.row.now in
     let strokes = (put_slot c.args.room.now.page c.args.room.now.slot (backup_slot row.level row.scn row.time row.guid row.name) (drafted t.base.image)).strokes in
     let new = g.H.Host.world c.add_row.new.host in
-    subst (λ (h : Held). Tries {T = Unit {0}} (Ok tt) w new h c.add_row.new.store t (entry_cause t.base.image c.args.room.now.page) strokes) c.self.view_is (c.in_ok-add_row.ensures.tries t tells here low)
+    subst (λ (h : Held). Tries c.add_row.result w new h c.add_row.new.store t (entry_cause t.base.image c.args.room.now.page) strokes) c.self.view_is (c.add_row.ensures.tries t tells here)
 
-pub returns-in_err-add_row-clause-sure : goal.returns-in_err-add_row-clause-sure
-returns-in_err-add_row-clause-sure g c t tells is low sound =
+pub returns-clause-sure : goal.returns-clause-sure
+returns-clause-sure g c t tells is low sound =
     let w = g.H.Host.world c.args.host.now in
     let image = t.base.image in
     let p : ℕ = c.args.room.now.page in
@@ -90,8 +63,7 @@ returns-in_err-add_row-clause-sure g c t tells is low sound =
     let scn : image_scn image < 4294967296 = omega (arith, here.agrees.scn, c.scn-scn.ensures) in
     let is_well = well_of w _ t here c.self.invariant.0 scn sound in
     let at : IsPlace image p = record { behind = omega (arith, c.requires.placed.low); there = omega (arith, low); most = c.requires.placed.high } in
-    tries_passed c.from_residual.result c.in_err-add_row.field-0.0 (λ r. IfErr r IsNoRefusal) c.from_residual.ensures
-    (sure_of {T = Unit {0}} (Err c.in_err-add_row.field-0.0) (entry_cause image p) (entry_none image p is_well at) (c.in_err-add_row.ensures.tries t tells here low).test)
+    sure_of c.add_row.result (entry_cause image p) (entry_none image p is_well at) (c.add_row.ensures.tries t tells here).test
 
 pub add_row-requires-clause-inside : goal.add_row-requires-clause-inside
 add_row-requires-clause-inside g c = omega (arith, c.count-count.ensures.value, c.if-room-count.false)

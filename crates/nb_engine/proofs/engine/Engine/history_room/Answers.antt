@@ -1,9 +1,11 @@
 use Rattle.std.proofs.Common.{◌≡◌, ℕ, List, [], ◌∷◌, sym, ap, subst, ◌∙◌}
-use Rattle.std.specs.Prelude.{true, None, Ok, Err}
+use Rattle.std.specs.Prelude.{IsTrue, true, None, Ok, Err}
 use Rattle.nb_fields.specs.Page.{kind_of}
 use Rattle.nb_page.proofs.QuietLemmas.{quiet_joined}
-use Rattle.nb_model.specs.Image.{page_at}
+use Rattle.nb_model.specs.Image.{page_at, image_size}
 use Rattle.nb_model.specs.Strokes.{Stroke}
+use Rattle.nb_model.specs.Trail.{Trail}
+use Rattle.nb_model.specs.Sound.{IsOfSize}
 use Rattle.nb_model.specs.Forms.{drafted, is_kind}
 use Rattle.nb_model.specs.Causes.{first_cause, broken_at, not_of_form, no_room, no_scn, short_for}
 use Rattle.nb_model.specs.Chains.{History, pages_of, found_pages, spots, free_spot, last_of, grown}
@@ -15,16 +17,61 @@ use Rattle.nb_engine.specs.declared.walk.Room.{Room}
 use Rattle.nb_engine.specs.declared.walk.Walked.{Walked}
 use Rattle.nb_alloc.specs.Make.{MakesSome}
 use Rattle.nb_engine.specs.Room.{room_cause, taken_draft, grow_cause}
+use Rattle.nb_alloc.specs.Search.{IsSearchable}
 use Rattle.nb_alloc.specs.Tries.{Tries}
 use Rattle.nb_alloc.proofs.CauseLaws.{first_here}
 use Rattle.nb_alloc.proofs.DoesLaws.{tries_early, tries_passed, tries_made, tries_after}
-use Rattle.nb_engine.proofs.KeepLaws.{kept_room, kept_below, kept_none, kept_cause, grown_room, grown_low, grown_draft, grown_cause, room_some, room_none, tries_other, tries_valued}
+use Rattle.nb_engine.proofs.KeepLaws.{IsSpot, kept_room, kept_below, kept_none, kept_cause, grown_room, grown_low, grown_draft, grown_cause, room_some, room_none, tries_other, tries_valued}
 use Rattle.nb_alloc.proofs.MakeLaws.{tries_named}
 use Rattle.nb_engine.proofs.NewTurn.{searchable_of}
 use Rattle.nb_model.proofs.StepLaws.{kind_from}
 use Rattle.nb_engine.proofs.WalkLaws.{last_data, spot_data, history_least}
 use Rattle.nb_alloc.proofs.WhereLaws.{makes_as, makes_valued}
 use Rattle.nb_engine.proofs.engine.Engine.history_room.Goals as goal
+use Rattle.nb_engine.proofs.engine.Engine.history_room.Goals.{In-Some, In-None}
+
+-- The walk has found a free slot.
+module _ (g : _) (c : goal.In-Some g) (t : Trail) (tells : IsTrue g.H.Host.tells) (is : IsOpen (g.H.Host.world c.args.host.now) c.args.self.now t) where
+  walked_some : IsOpen (g.H.Host.world c.walk.new.host) c.walk.new.store t
+  walked_some = c.in_ok-walked.ensures.open t tells (subst (λ (h : Held). IsOpen (g.H.Host.world c.args.host.now) h t) (sym c.self.view_is) is)
+
+  linked_some : broken_at (pages_of History t.base.image) ≡ None
+  linked_some = c.in_ok-walked.ensures.test t tells (subst (λ (h : Held). IsOpen (g.H.Host.world c.args.host.now) h t) (sym c.self.view_is) is)
+
+  kept : IsSpot (free_spot (spots History t.base.image)) c.in-Some.room
+  kept =
+      let here = subst (λ (h : Held). IsOpen (g.H.Host.world c.args.host.now) h t) (sym c.self.view_is) is in
+      room_some _ c.in-Some.room (sym (ap (λ (x : Walked). x.room) (c.in_ok-walked.ensures.walked t tells here)) ∙ c.in-Some.is)
+
+  kind : kind_of (page_at t.base.image c.in-Some.room.page) ≡ 5
+  kind = ap (λ (n : ℕ). kind_of (page_at t.base.image n)) kept.page ∙ (spot_data t.base.image linked_some kept.spot kept.is).kind
+
+  cause_is : room_cause t.base.image ≡ first_cause (not_of_form (taken_draft t.base.image c.in-Some.room.page) ∷ no_scn t.base.image ∷ [])
+  cause_is = sym (ap (λ (n : ℕ). first_cause (not_of_form (taken_draft t.base.image n) ∷ no_scn t.base.image ∷ [])) kept.page ∙ kept_cause t.base.image kept.spot kept.is linked_some)
+
+-- Or it has found none, and the last page of the history.
+module _ (g : _) (c : goal.In-None g) (t : Trail) (tells : IsTrue g.H.Host.tells) (is : IsOpen (g.H.Host.world c.args.host.now) c.args.self.now t) where
+  walked_none : IsOpen (g.H.Host.world c.walk.new.host) c.walk.new.store t
+  walked_none = c.in_ok-walked.ensures.open t tells (subst (λ (h : Held). IsOpen (g.H.Host.world c.args.host.now) h t) (sym c.self.view_is) is)
+
+  linked_none : broken_at (pages_of History t.base.image) ≡ None
+  linked_none = c.in_ok-walked.ensures.test t tells (subst (λ (h : Held). IsOpen (g.H.Host.world c.args.host.now) h t) (sym c.self.view_is) is)
+
+  none : free_spot (spots History t.base.image) ≡ None
+  none =
+      let here = subst (λ (h : Held). IsOpen (g.H.Host.world c.args.host.now) h t) (sym c.self.view_is) is in
+      room_none _ (sym (ap (λ (x : Walked). x.room) (c.in_ok-walked.ensures.walked t tells here)) ∙ c.in-None.is)
+
+  last_is : c.in_ok-walked.last ≡ last_of (found_pages History t.base.image)
+  last_is = c.in_ok-walked.ensures.last t tells (subst (λ (h : Held). IsOpen (g.H.Host.world c.args.host.now) h t) (sym c.self.view_is) is)
+
+  is_data : is_kind t.base.image 5 c.in_ok-walked.last ≡ true
+  is_data =
+      let data_page = last_data t.base.image linked_none in
+      ap (is_kind t.base.image 5) last_is ∙ kind_from t.base.image 5 (last_of (found_pages History t.base.image)) data_page.low data_page.kind
+
+  shaped : IsOfSize (image_size t.base.image) t.base.image → IsSearchable t.base.image
+  shaped = searchable_of _ _ t (subst (λ (h : Held). IsOpen (g.H.Host.world c.args.host.now) h t) (sym c.self.view_is) is) c.self.invariant.0 (history_least t.base.image linked_none)
 
 pub returns-in_err-walked-clause-makes : goal.returns-in_err-walked-clause-makes
 returns-in_err-walked-clause-makes g c t tells is sizes =
@@ -37,149 +84,67 @@ returns-in_err-walked-clause-makes g c t tells is sizes =
 
 pub returns-in_err-check_room-in-Some-clause-makes : goal.returns-in_err-check_room-in-Some-clause-makes
 returns-in_err-check_room-in-Some-clause-makes g c t tells is sizes =
-    let w = g.H.Host.world c.args.host.now in
-    let here = subst (λ (h : Held). IsOpen w h t) (sym c.self.view_is) is in
-    let image = t.base.image in
+    let at = (goal.at.returns-in_err-check_room-in-Some-clause-makes g c).In-Some in
     let walked = c.in_ok-walked.ensures in
-    let linked = walked.test t tells here in
-    let still = walked.open t tells here in
-    let same = walked.same ∙ ap but_pages c.self.view_is in
-    let kept = room_some (free_spot (spots History image)) c.in-Some.room (sym (ap (λ (x : Walked). x.room) (walked.walked t tells here)) ∙ c.in-Some.is) in
-    let data_page = spot_data image linked kept.spot kept.is in
-    let kind : kind_of (page_at image c.in-Some.room.page) ≡ 5 = ap (λ (n : ℕ). kind_of (page_at image n)) kept.page ∙ data_page.kind in
-    let cause_is = ap (λ (n : ℕ). first_cause (not_of_form (taken_draft image n) ∷ no_scn image ∷ [])) kept.page ∙ kept_cause image kept.spot kept.is linked in
     let tests = c.in_err-check_room-in-Some.ensures in
-    tries_early (Unit {0}) Room _ _ _ _ _ _ t _ (room_cause image) (room_in image).draft.strokes c.from_residual-in_err-check_room-in-Some.ensures (λ r e. sym cause_is ∙ e) (tests.test t tells still kind) (tests.same ∙ same)
-    (quiet_joined _ _ _ walked.quiet tests.quiet) is (tests.open t tells still)
+    tries_early (Unit {0}) Room _ _ _ _ _ _ t _ (room_cause t.base.image) (room_in t.base.image).draft.strokes c.from_residual-in_err-check_room-in-Some.ensures (λ r e. cause_is g at t tells is ∙ e)
+    (tests.test t tells (walked_some g at t tells is) (kind g at t tells is)) (tests.same ∙ walked.same ∙ ap but_pages c.self.view_is) (quiet_joined _ _ _ walked.quiet tests.quiet) is (tests.open t tells (walked_some g at t tells is))
 
 pub returns-in_ok-check_room-in-Some-clause-makes : goal.returns-in_ok-check_room-in-Some-clause-makes
 returns-in_ok-check_room-in-Some-clause-makes g c t tells is sizes =
-    let w = g.H.Host.world c.args.host.now in
-    let here = subst (λ (h : Held). IsOpen w h t) (sym c.self.view_is) is in
-    let image = t.base.image in
+    let at = (goal.at.returns-in_ok-check_room-in-Some-clause-makes g c).In-Some in
+    let slot = kept g at t tells is in
     let walked = c.in_ok-walked.ensures in
-    let linked = walked.test t tells here in
-    let still = walked.open t tells here in
-    let same = walked.same ∙ ap but_pages c.self.view_is in
-    let kept = room_some (free_spot (spots History image)) c.in-Some.room (sym (ap (λ (x : Walked). x.room) (walked.walked t tells here)) ∙ c.in-Some.is) in
-    let data_page = spot_data image linked kept.spot kept.is in
-    let kind : kind_of (page_at image c.in-Some.room.page) ≡ 5 = ap (λ (n : ℕ). kind_of (page_at image n)) kept.page ∙ data_page.kind in
-    let cause_is = ap (λ (n : ℕ). first_cause (not_of_form (taken_draft image n) ∷ no_scn image ∷ [])) kept.page ∙ kept_cause image kept.spot kept.is linked in
     let tests = c.in_ok-check_room-in-Some.ensures in
-    tries_made (Ok c.in-Some.room) w _ _ _ t (room_cause image) (room_in image).draft.strokes (sym cause_is ∙ tests.test t tells still kind) tt
-    (subst (λ (ss : List Stroke). Makes (Ok c.in-Some.room) w (g.H.Host.world c.check_room.new.host) c.args.self.now c.check_room.new.store t ss) (sym (kept_none image kept.spot kept.is))
-    (makes_none (Ok c.in-Some.room) w _ _ _ t (tests.same ∙ same) (quiet_joined _ _ _ walked.quiet tests.quiet) is (tests.open t tells still)))
+    tries_made (Ok c.in-Some.room) _ _ _ _ t (room_cause t.base.image) (room_in t.base.image).draft.strokes (cause_is g at t tells is ∙ tests.test t tells (walked_some g at t tells is) (kind g at t tells is)) tt
+    (subst (λ (ss : List Stroke). Makes (Ok c.in-Some.room) (g.H.Host.world c.args.host.now) (g.H.Host.world c.check_room.new.host) c.args.self.now c.check_room.new.store t ss) (sym (kept_none t.base.image slot.spot slot.is))
+    (makes_none (Ok c.in-Some.room) _ _ _ _ t (tests.same ∙ walked.same ∙ ap but_pages c.self.view_is) (quiet_joined _ _ _ walked.quiet tests.quiet) is (tests.open t tells (walked_some g at t tells is))))
 
 pub returns-in_err-number-in-None-clause-makes : goal.returns-in_err-number-in-None-clause-makes
 returns-in_err-number-in-None-clause-makes g c t tells is sizes =
-    let w = g.H.Host.world c.args.host.now in
-    let here = subst (λ (h : Held). IsOpen w h t) (sym c.self.view_is) is in
+    let at = (goal.at.returns-in_err-number-in-None-clause-makes g c).In-None in
     let image = t.base.image in
-    let walked = c.in_ok-walked.ensures in
-    let linked = walked.test t tells here in
-    let still = walked.open t tells here in
-    let same = walked.same ∙ ap but_pages c.self.view_is in
-    let none : free_spot (spots History image) ≡ None = room_none (free_spot (spots History image)) (sym (ap (λ (x : Walked). x.room) (walked.walked t tells here)) ∙ c.in-None.is) in
     let pages : List ℕ = found_pages History image in
-    let last_is = walked.last t tells here in
-    let data_page = last_data image linked in
-    let is_data : is_kind image 5 c.in_ok-walked.last ≡ true = ap (is_kind image 5) last_is ∙ kind_from image 5 (last_of pages) data_page.low data_page.kind in
-    let shaped = searchable_of w _ t here c.self.invariant.0 (history_least image linked) sizes in
-    let strokes : List Stroke = (grown History pages [] (drafted image)).0.strokes in
     let fault = c.in_err-number-in-None.field-0.0 in
+    let w = g.H.Host.world c.args.host.now in
     let new = g.H.Host.world c.grow.new.host in
     tries_passed c.from_residual-in_err-number-in-None.result fault (λ r. Tries r w new c.args.self.now c.grow.new.store t (room_cause image) (room_in image).draft.strokes) c.from_residual-in_err-number-in-None.ensures
-    (tries_named {T = Room} (Err fault) w new c.args.self.now c.grow.new.store t (grow_cause image pages) (room_cause image) strokes (room_in image).draft.strokes (grown_cause image none linked) (sym (grown_draft image none))
-    (tries_other ℕ Room fault w new c.args.self.now c.grow.new.store t (grow_cause image pages) strokes
-    (tries_after {T = ℕ} (Err fault) w _ new _ _ _ t _ _ same walked.quiet is (c.in_err-number-in-None.ensures.makes t pages tells still shaped last_is is_data))))
+    (tries_named {T = Room} (Err fault) w new c.args.self.now c.grow.new.store t (grow_cause image pages) (room_cause image) (grown History pages [] (drafted image)).0.strokes (room_in image).draft.strokes (grown_cause image (none g at t tells is) (linked_none g at t tells is)) (sym (grown_draft image (none g at t tells is)))
+    (tries_other ℕ Room fault _ _ _ _ t _ _
+    (tries_after {T = ℕ} (Err fault) _ _ _ _ _ _ t _ _ (c.in_ok-walked.ensures.same ∙ ap but_pages c.self.view_is) c.in_ok-walked.ensures.quiet is
+    (c.in_err-number-in-None.ensures.makes t pages tells (walked_none g at t tells is) (shaped g at t tells is sizes) (last_is g at t tells is) (is_data g at t tells is)))))
 
 pub returns-in_ok-number-in-None-clause-makes : goal.returns-in_ok-number-in-None-clause-makes
 returns-in_ok-number-in-None-clause-makes g c t tells is sizes =
-    let w = g.H.Host.world c.args.host.now in
-    let here = subst (λ (h : Held). IsOpen w h t) (sym c.self.view_is) is in
+    let at = (goal.at.returns-in_ok-number-in-None-clause-makes g c).In-None in
     let image = t.base.image in
-    let walked = c.in_ok-walked.ensures in
-    let linked = walked.test t tells here in
-    let still = walked.open t tells here in
-    let same = walked.same ∙ ap but_pages c.self.view_is in
-    let none : free_spot (spots History image) ≡ None = room_none (free_spot (spots History image)) (sym (ap (λ (x : Walked). x.room) (walked.walked t tells here)) ∙ c.in-None.is) in
     let pages : List ℕ = found_pages History image in
-    let last_is = walked.last t tells here in
-    let data_page = last_data image linked in
-    let is_data : is_kind image 5 c.in_ok-walked.last ≡ true = ap (is_kind image 5) last_is ∙ kind_from image 5 (last_of pages) data_page.low data_page.kind in
-    let shaped = searchable_of w _ t here c.self.invariant.0 (history_least image linked) sizes in
-    let strokes : List Stroke = (grown History pages [] (drafted image)).0.strokes in
     let room : Room = record { page = c.in_ok-number-in-None.number; slot = 0 } in
-    let new = g.H.Host.world c.grow.new.host in
-    tries_named (Ok room) w new c.args.self.now c.grow.new.store t (grow_cause image pages) (room_cause image) strokes (room_in image).draft.strokes (grown_cause image none linked) (sym (grown_draft image none))
-    (tries_valued c.in_ok-number-in-None.number room w new c.args.self.now c.grow.new.store t (grow_cause image pages) strokes
-    (tries_after (Ok c.in_ok-number-in-None.number) w _ new _ _ _ t _ _ same walked.quiet is (c.in_ok-number-in-None.ensures.makes t pages tells still shaped last_is is_data)))
+    tries_named (Ok room) _ _ c.args.self.now c.grow.new.store t (grow_cause image pages) (room_cause image) (grown History pages [] (drafted image)).0.strokes (room_in image).draft.strokes (grown_cause image (none g at t tells is) (linked_none g at t tells is)) (sym (grown_draft image (none g at t tells is)))
+    (tries_valued c.in_ok-number-in-None.number room _ _ _ _ t _ _
+    (tries_after (Ok c.in_ok-number-in-None.number) _ _ _ _ _ _ t _ _ (c.in_ok-walked.ensures.same ∙ ap but_pages c.self.view_is) c.in_ok-walked.ensures.quiet is
+    (c.in_ok-number-in-None.ensures.makes t pages tells (walked_none g at t tells is) (shaped g at t tells is sizes) (last_is g at t tells is) (is_data g at t tells is))))
 
 pub returns-in_ok-check_room-in-Some-clause-room : goal.returns-in_ok-check_room-in-Some-clause-room
 returns-in_ok-check_room-in-Some-clause-room g c t tells is sizes =
-    let w = g.H.Host.world c.args.host.now in
-    let here = subst (λ (h : Held). IsOpen w h t) (sym c.self.view_is) is in
-    let image = t.base.image in
-    let walked = c.in_ok-walked.ensures in
-    let linked = walked.test t tells here in
-    let still = walked.open t tells here in
-    let same = walked.same ∙ ap but_pages c.self.view_is in
-    let kept = room_some (free_spot (spots History image)) c.in-Some.room (sym (ap (λ (x : Walked). x.room) (walked.walked t tells here)) ∙ c.in-Some.is) in
-    let data_page = spot_data image linked kept.spot kept.is in
-    let kind : kind_of (page_at image c.in-Some.room.page) ≡ 5 = ap (λ (n : ℕ). kind_of (page_at image n)) kept.page ∙ data_page.kind in
-    let cause_is = ap (λ (n : ℕ). first_cause (not_of_form (taken_draft image n) ∷ no_scn image ∷ [])) kept.page ∙ kept_cause image kept.spot kept.is linked in
-    kept_room image kept.spot kept.is c.in-Some.room kept.page kept.slot
+    let slot = kept g (goal.at.returns-in_ok-check_room-in-Some-clause-room g c).In-Some t tells is in
+    kept_room t.base.image slot.spot slot.is c.in-Some.room slot.page slot.slot
 
 pub returns-in_ok-number-in-None-clause-room : goal.returns-in_ok-number-in-None-clause-room
 returns-in_ok-number-in-None-clause-room g c t tells is sizes =
-    let w = g.H.Host.world c.args.host.now in
-    let here = subst (λ (h : Held). IsOpen w h t) (sym c.self.view_is) is in
-    let image = t.base.image in
-    let walked = c.in_ok-walked.ensures in
-    let linked = walked.test t tells here in
-    let still = walked.open t tells here in
-    let same = walked.same ∙ ap but_pages c.self.view_is in
-    let none : free_spot (spots History image) ≡ None = room_none (free_spot (spots History image)) (sym (ap (λ (x : Walked). x.room) (walked.walked t tells here)) ∙ c.in-None.is) in
-    let pages : List ℕ = found_pages History image in
-    let last_is = walked.last t tells here in
-    let data_page = last_data image linked in
-    let is_data : is_kind image 5 c.in_ok-walked.last ≡ true = ap (is_kind image 5) last_is ∙ kind_from image 5 (last_of pages) data_page.low data_page.kind in
-    let shaped = searchable_of w _ t here c.self.invariant.0 (history_least image linked) sizes in
-    let strokes : List Stroke = (grown History pages [] (drafted image)).0.strokes in
-    grown_room image none c.in_ok-number-in-None.number (c.in_ok-number-in-None.ensures.value t pages tells still shaped is_data)
+    let at = (goal.at.returns-in_ok-number-in-None-clause-room g c).In-None in
+    grown_room t.base.image (none g at t tells is) c.in_ok-number-in-None.number (c.in_ok-number-in-None.ensures.grown t (found_pages History t.base.image) tells (walked_none g at t tells is) (shaped g at t tells is sizes) (is_data g at t tells is)).is
 
 pub returns-in_ok-check_room-in-Some-clause-below : goal.returns-in_ok-check_room-in-Some-clause-below
 returns-in_ok-check_room-in-Some-clause-below g c t tells is sizes =
-    let w = g.H.Host.world c.args.host.now in
-    let here = subst (λ (h : Held). IsOpen w h t) (sym c.self.view_is) is in
-    let image = t.base.image in
-    let walked = c.in_ok-walked.ensures in
-    let linked = walked.test t tells here in
-    let still = walked.open t tells here in
-    let same = walked.same ∙ ap but_pages c.self.view_is in
-    let kept = room_some (free_spot (spots History image)) c.in-Some.room (sym (ap (λ (x : Walked). x.room) (walked.walked t tells here)) ∙ c.in-Some.is) in
-    let data_page = spot_data image linked kept.spot kept.is in
-    let kind : kind_of (page_at image c.in-Some.room.page) ≡ 5 = ap (λ (n : ℕ). kind_of (page_at image n)) kept.page ∙ data_page.kind in
-    let cause_is = ap (λ (n : ℕ). first_cause (not_of_form (taken_draft image n) ∷ no_scn image ∷ [])) kept.page ∙ kept_cause image kept.spot kept.is linked in
-    kept_below image kept.spot kept.is c.in-Some.room kept.page data_page
+    let at = (goal.at.returns-in_ok-check_room-in-Some-clause-below g c).In-Some in
+    let slot = kept g at t tells is in
+    kept_below t.base.image slot.spot slot.is c.in-Some.room slot.page (spot_data t.base.image (linked_some g at t tells is) slot.spot slot.is)
 
 pub returns-in_ok-number-in-None-clause-below : goal.returns-in_ok-number-in-None-clause-below
 returns-in_ok-number-in-None-clause-below g c t tells is sizes =
-    let w = g.H.Host.world c.args.host.now in
-    let here = subst (λ (h : Held). IsOpen w h t) (sym c.self.view_is) is in
-    let image = t.base.image in
-    let walked = c.in_ok-walked.ensures in
-    let linked = walked.test t tells here in
-    let still = walked.open t tells here in
-    let same = walked.same ∙ ap but_pages c.self.view_is in
-    let none : free_spot (spots History image) ≡ None = room_none (free_spot (spots History image)) (sym (ap (λ (x : Walked). x.room) (walked.walked t tells here)) ∙ c.in-None.is) in
-    let pages : List ℕ = found_pages History image in
-    let last_is = walked.last t tells here in
-    let data_page = last_data image linked in
-    let is_data : is_kind image 5 c.in_ok-walked.last ≡ true = ap (is_kind image 5) last_is ∙ kind_from image 5 (last_of pages) data_page.low data_page.kind in
-    let shaped = searchable_of w _ t here c.self.invariant.0 (history_least image linked) sizes in
-    let strokes : List Stroke = (grown History pages [] (drafted image)).0.strokes in
-    grown_low image none c.in_ok-number-in-None.number (c.in_ok-number-in-None.ensures.below t pages tells still shaped is_data)
+    let at = (goal.at.returns-in_ok-number-in-None-clause-below g c).In-None in
+    grown_low t.base.image (none g at t tells is) c.in_ok-number-in-None.number (c.in_ok-number-in-None.ensures.grown t (found_pages History t.base.image) tells (walked_none g at t tells is) (shaped g at t tells is sizes) (is_data g at t tells is)).below
 
 pub returns-in_err-walked-clause-some : goal.returns-in_err-walked-clause-some
 returns-in_err-walked-clause-some g c t tells is =
@@ -202,31 +167,19 @@ returns-in_ok-check_room-in-Some-clause-some g c t tells is =
 
 pub returns-in_err-number-in-None-clause-some : goal.returns-in_err-number-in-None-clause-some
 returns-in_err-number-in-None-clause-some g c t tells is =
-    let w = g.H.Host.world c.args.host.now in
-    let here = subst (λ (h : Held). IsOpen w h t) (sym c.self.view_is) is in
-    let image = t.base.image in
     let walked = c.in_ok-walked.ensures in
-    let linked = walked.test t tells here in
-    let still = walked.open t tells here in
-    let same = walked.same ∙ ap but_pages c.self.view_is in
-    let least = history_least image linked in
+    let still = walked_none g (goal.at.returns-in_err-number-in-None-clause-some g c).In-None t tells is in
     let fault = c.in_err-number-in-None.field-0.0 in
     let new = g.H.Host.world c.grow.new.host in
-    let some = c.in_err-number-in-None.ensures.some t tells still least in
-    tries_passed c.from_residual-in_err-number-in-None.result fault (λ r. MakesSome r w new c.args.self.now c.grow.new.store t) c.from_residual-in_err-number-in-None.ensures
-    (record { made = some.made; makes = makes_after {T = Room} (Err fault) w _ new _ _ _ t some.made same walked.quiet is (makes_as ℕ Room fault _ new _ _ t some.made some.makes) })
+    let some = c.in_err-number-in-None.ensures.some t tells still in
+    tries_passed c.from_residual-in_err-number-in-None.result fault (λ r. MakesSome r (g.H.Host.world c.args.host.now) new c.args.self.now c.grow.new.store t) c.from_residual-in_err-number-in-None.ensures
+    (record { made = some.made; makes = makes_after {T = Room} (Err fault) _ _ new _ _ _ t some.made (walked.same ∙ ap but_pages c.self.view_is) walked.quiet is (makes_as ℕ Room fault _ new _ _ t some.made some.makes) })
 
 pub returns-in_ok-number-in-None-clause-some : goal.returns-in_ok-number-in-None-clause-some
 returns-in_ok-number-in-None-clause-some g c t tells is =
-    let w = g.H.Host.world c.args.host.now in
-    let here = subst (λ (h : Held). IsOpen w h t) (sym c.self.view_is) is in
-    let image = t.base.image in
     let walked = c.in_ok-walked.ensures in
-    let linked = walked.test t tells here in
-    let still = walked.open t tells here in
-    let same = walked.same ∙ ap but_pages c.self.view_is in
-    let least = history_least image linked in
+    let still = walked_none g (goal.at.returns-in_ok-number-in-None-clause-some g c).In-None t tells is in
     let room : Room = record { page = c.in_ok-number-in-None.number; slot = 0 } in
     let new = g.H.Host.world c.grow.new.host in
-    let some = c.in_ok-number-in-None.ensures.some t tells still least in
-    record { made = some.made; makes = makes_after (Ok room) w _ new _ _ _ t some.made same walked.quiet is (makes_valued c.in_ok-number-in-None.number room _ new _ _ t some.made some.makes) }
+    let some = c.in_ok-number-in-None.ensures.some t tells still in
+    record { made = some.made; makes = makes_after (Ok room) _ _ new _ _ _ t some.made (walked.same ∙ ap but_pages c.self.view_is) walked.quiet is (makes_valued c.in_ok-number-in-None.number room _ new _ _ t some.made some.makes) }

@@ -1,18 +1,15 @@
 use Rattle.std.proofs.Common.{◌≡◌, refl, sym, subst, ◌∙◌, ap}
-use Rattle.std.specs.Prelude.{Ok, Err, true, None}
+use Rattle.std.specs.Prelude.{true, None}
 use Rattle.nb_model.specs.declared.reply.Reply.TheVariants.{Done}
 use Rattle.nb_model.specs.Image.{is_read_only}
 use Rattle.nb_model.specs.Causes.{read_only}
 use Rattle.nb_model.specs.Outcomes.{Seen}
 use Rattle.nb_model.specs.Pages.{free_turn}
 use Rattle.nb_state.specs.Open.{Held, IsOpen, but_pages}
-use Rattle.nb_alloc.specs.Tries.{Tries}
-use Rattle.nb_alloc.specs.Mark.{mark_cause, mark_strokes}
 use Rattle.nb_engine.specs.Replies.{done}
-use Rattle.nb_alloc.proofs.DoesLaws.{seeing, tested_does, refused_does, tries_does, if_err, tries_passed, tries_after}
+use Rattle.nb_alloc.proofs.DoesLaws.{seeing, tested_does, refused_does, tries_does, if_ok, tries_after}
 use Rattle.nb_engine.proofs.WriteLaws.{no_header}
 use Rattle.nb_engine.proofs.FreeLaws.{free_untaken, free_closed, free_is, closed_cause, open_cause}
-use Rattle.nb_change.proofs.ResultLaws.{passed_on}
 use Rattle.nb_alloc.proofs.WantLaws.{stops_after}
 use Rattle.nb_engine.proofs.engine.Engine.page_free.Goals as goal
 
@@ -37,21 +34,6 @@ returns-then-is_read_only-clause-turn g c s t tells same is =
     refused_does done _ _ _ _ _ t s (λ (x : Seen). free_turn x c.args.number) same (raw.same ∙ ap but_pages c.self.view_is) raw.quiet is (raw.open t tells here)
     (free_closed (seeing s t.base) c.args.number (raw.reads t tells here).test _ (closed_cause t.base.image closed))
 
-pub returns-in_err-mark-clause-turn : goal.returns-in_err-mark-clause-turn
-returns-in_err-mark-clause-turn g c s t tells same is =
-    let image = t.base.image in
-    let old = g.H.Host.world c.args.host.now in
-    let new = g.H.Host.world c.mark.new.host in
-    let here = subst (λ (h : Held). IsOpen old h t) (sym c.self.view_is) is in
-    let raw = c.in_ok-take_raw.ensures in
-    let still = raw.open t tells here in
-    let free : read_only image ≡ None = open_cause image (sym still.agrees.read_only ∙ sym c.is_read_only.ensures ∙ c.if-is_read_only.false) in
-    let fault = c.in_err-mark.field-0.0 in
-    let result = c.from_residual-in_err-mark.result in
-    let tries = tries_passed result fault (λ r. Tries r old new c.args.self.now c.mark.new.store t (mark_cause image c.args.number) (mark_strokes image c.args.number 1)) c.from_residual-in_err-mark.ensures
-    (tries_after {T = Unit {0}} (Err fault) _ _ _ _ _ _ t _ _ (raw.same ∙ ap but_pages c.self.view_is) raw.quiet is (c.in_err-mark.ensures.tries t tells still)) in
-    tries_does done result old new _ _ t s (λ (x : Seen). free_turn x c.args.number) _ Done refl _ same (free_is (seeing s t.base) c.args.number (raw.reads t tells here).test free) (if_err result fault _ c.from_residual-in_err-mark.ensures) tries
-
 pub returns-clause-turn : goal.returns-clause-turn
 returns-clause-turn g c s t tells same is =
     let image = t.base.image in
@@ -60,12 +42,11 @@ returns-clause-turn g c s t tells same is =
     let raw = c.in_ok-take_raw.ensures in
     let still = raw.open t tells here in
     let free : read_only image ≡ None = open_cause image (sym still.agrees.read_only ∙ sym c.is_read_only.ensures ∙ c.if-is_read_only.false) in
-    let tries = tries_after {T = Unit {0}} (Ok tt) _ _ _ _ _ _ t _ _ (raw.same ∙ ap but_pages c.self.view_is) raw.quiet is (c.in_ok-mark.ensures.tries t tells still) in
-    tries_does done (Ok tt) old _ _ _ t s (λ (x : Seen). free_turn x c.args.number) _ Done refl _ same (free_is (seeing s t.base) c.args.number (raw.reads t tells here).test free) refl tries
+    let tries = tries_after c.mark.result _ _ _ _ _ _ t _ _ (raw.same ∙ ap but_pages c.self.view_is) raw.quiet is (c.mark.ensures.tries t tells still) in
+    tries_does done c.mark.result old _ _ _ t s (λ (x : Seen). free_turn x c.args.number) _ Done refl _ same (free_is (seeing s t.base) c.args.number (raw.reads t tells here).test free) (if_ok c.mark.result _ (λ value. refl)) tries
 
-pub returns-in_err-mark-clause-on_memory : goal.returns-in_err-mark-clause-on_memory
-returns-in_err-mark-clause-on_memory g c t tells is memory =
+pub returns-clause-on_memory : goal.returns-clause-on_memory
+returns-clause-on_memory g c t tells is memory =
     let here = subst (λ (h : Held). IsOpen (g.H.Host.world c.args.host.now) h t) (sym c.self.view_is) is in
     let raw = c.in_ok-take_raw.ensures in
-    let wants = sym (passed_on c.from_residual-in_err-mark.result c.in_err-mark.field-0.0 c.from_residual-in_err-mark.ensures) ∙ memory in
-    stops_after _ _ _ c.args.self.now _ c.mark.new.store t _ (raw.same ∙ ap but_pages c.self.view_is) raw.quiet is (c.in_err-mark.ensures.on_memory t tells (raw.open t tells here) wants)
+    stops_after _ _ _ c.args.self.now _ c.mark.new.store t _ (raw.same ∙ ap but_pages c.self.view_is) raw.quiet is (c.mark.ensures.on_memory t tells (raw.open t tells here) memory)

@@ -1,7 +1,6 @@
-use Rattle.std.proofs.Common.{◌≡◌, ◌≤◌, ◌+◌, ◌-◌, ◌*◌, ◌/◌, ℕ, List, [], ◌∷◌, length, refl, sym, subst, ◌∙◌, arith, ap}
-use Rattle.std.specs.Prelude.{true, false, Ok, Err}
+use Rattle.std.proofs.Common.{◌≡◌, ◌≤◌, ℕ, List, [], ◌∷◌, length, refl, sym, subst, ◌∙◌, arith, ap}
+use Rattle.std.specs.Prelude.{true, false, Err, IfOk}
 use Rattle.nb_fields.specs.Payloads.{text_payload}
-use Rattle.nb_fields.specs.Places.{bits_in}
 use Rattle.nb_host.specs.declared.faults.Fault.TheVariants.{Refused}
 use Rattle.nb_host.specs.declared.refusals.Refusal.TheVariants.{Access, NotDatabase}
 use Rattle.nb_page.proofs.QuietLemmas.{quiet_begun}
@@ -14,12 +13,12 @@ use Rattle.nb_model.specs.Sound.{IsOfSize}
 use Rattle.nb_model.proofs.NewSound.{empty_text}
 use Rattle.nb_model.proofs.SearchLaws.{draft_cause}
 use Rattle.nb_state.specs.Open.{Held, IsOpen, but_pages}
-use Rattle.nb_state.specs.Does.{Makes, Does}
-use Rattle.nb_state.proofs.MakesLaws.{makes_none, makes_after}
-use Rattle.nb_alloc.specs.Make.{MakesSome, new_raw, new_of}
+use Rattle.nb_state.specs.Does.{Makes}
+use Rattle.nb_state.proofs.MakesLaws.{makes_after}
+use Rattle.nb_alloc.proofs.WhereLaws.{makes_some_none, makes_some_after}
+use Rattle.nb_alloc.specs.Make.{new_raw, new_of}
 use Rattle.nb_engine.specs.Replies.{page_made}
-use Rattle.nb_alloc.proofs.DoesLaws.{seeing, tested_does, refused_does, tries_passed}
-use Rattle.nb_alloc.proofs.FullLaws.{lowest_most}
+use Rattle.nb_alloc.proofs.DoesLaws.{seeing, tested_does, refused_does}
 use Rattle.nb_engine.proofs.NewTurn.{empty_is, searchable_of, new_closed, new_short, new_refused, new_says, made_does}
 use Rattle.nb_alloc.proofs.NewReads.{new_read}
 use Rattle.nb_engine.proofs.engine.Engine.page_new.Goals as goal
@@ -54,27 +53,6 @@ returns-in_err-first-clause-turn g c s t tells same is sizes =
     tested_does ℕ ℕ page_made _ _ _ _ _ _ t s new_turn (draft_cause (new_raw image).0) c.from_residual.ensures same (tests.same ∙ ap but_pages c.self.view_is) tests.quiet is (tests.open t tells here)
     (tests.test t 8 (λ p. text_payload []) tells here shaped empty_text) (new_refused (seeing s t.base) free long)
 
-pub returns-in_err-number-clause-turn : goal.returns-in_err-number-clause-turn
-returns-in_err-number-clause-turn g c s t tells same is sizes =
-    let w = g.H.Host.world c.args.host.now in
-    let here = subst (λ (h : Held). IsOpen w h t) (sym c.self.view_is) is in
-    let image = t.base.image in
-    let free : is_read_only image ≡ false = sym here.agrees.read_only ∙ sym c.is_read_only.ensures ∙ c.if-is_read_only.false in
-    let long : 5 ≤ length image = omega (arith, here.files.agrees.count, c.count-count.ensures.value, c.if-count-lt-FIRST_TO_GIVE.false) in
-    let shaped = searchable_of w _ t here c.self.invariant.0 long (subst (λ (b : Base). IsOfSize (image_size b.image) b.image) (sym same) sizes) in
-    let tests = c.in_ok-first.ensures in
-    let room = tests.test t 8 (λ p. text_payload []) tells here shaped empty_text in
-    let for_zeros = tests.test t 8 (λ p. 0 ∷ 0 ∷ []) tells here shaped (λ p. omega arith) in
-    let at = tests.value t tells here in
-    let low : c.in_ok-first.first ≤ length image = omega (arith, at, lowest_most image long) in
-    let still = tests.open t tells here in
-    let fault = c.in_err-number.field-0.0 in
-    let these = (c.in_err-number.ensures.makes t tells still at low (tests.map t tells here)).these (shaped, for_zeros) in
-    let result = c.from_residual-in_err-number.result in
-    tries_passed result fault (λ r. Does page_made r w (g.H.Host.world c.make_new.new.host) c.args.self.now c.make_new.new.store t (new_turn s)) c.from_residual-in_err-number.ensures
-    (made_does (Err fault) w _ c.args.self.now c.make_new.new.store t s (new_raw image).1 (new_raw image).0.strokes same (new_says (seeing s t.base) free long room) tt these.sure
-    (makes_after (Err fault) w _ _ _ _ _ t (new_raw image).0.strokes (tests.same ∙ ap but_pages c.self.view_is) tests.quiet is (subst (λ (xs : List ℕ). Makes {T = ℕ} (Err fault) (g.H.Host.world c.check_new.new.host) (g.H.Host.world c.make_new.new.host) c.check_new.new.store c.make_new.new.store t (new_of 8 (λ p. xs) image).0.strokes) empty_is these.makes)))
-
 pub returns-clause-turn : goal.returns-clause-turn
 returns-clause-turn g c s t tells same is sizes =
     let w = g.H.Host.world c.args.host.now in
@@ -86,55 +64,32 @@ returns-clause-turn g c s t tells same is sizes =
     let tests = c.in_ok-first.ensures in
     let room = tests.test t 8 (λ p. text_payload []) tells here shaped empty_text in
     let for_zeros = tests.test t 8 (λ p. 0 ∷ 0 ∷ []) tells here shaped (λ p. omega arith) in
-    let at = tests.value t tells here in
-    let low : c.in_ok-first.first ≤ length image = omega (arith, at, lowest_most image long) in
-    let still = tests.open t tells here in
-    let these = (c.in_ok-number.ensures.makes t tells still at low (tests.map t tells here)).these (shaped, for_zeros) in
-    made_does (Ok c.in_ok-number.number) w _ c.args.self.now c.make_new.new.store t s (new_raw image).1 (new_raw image).0.strokes same (new_says (seeing s t.base) free long room)
-    (subst (λ (xs : List ℕ). c.in_ok-number.number ≡ (new_of 8 (λ p. xs) image).1) empty_is (c.in_ok-number.ensures.value t tells still at low (tests.map t tells here) shaped for_zeros)) tt
-    (makes_after (Ok c.in_ok-number.number) w _ _ _ _ _ t (new_raw image).0.strokes (tests.same ∙ ap but_pages c.self.view_is) tests.quiet is (subst (λ (xs : List ℕ). Makes (Ok c.in_ok-number.number) (g.H.Host.world c.check_new.new.host) (g.H.Host.world c.make_new.new.host) c.check_new.new.store c.make_new.new.store t (new_of 8 (λ p. xs) image).0.strokes) empty_is these.makes))
+    let these = (c.make_new.ensures.makes t tells (tests.open t tells here) (tests.value t tells here) (tests.map t tells here)).these (shaped, for_zeros) in
+    made_does c.make_new.result w _ c.args.self.now c.make_new.new.store t s (new_raw image).1 (new_raw image).0.strokes same (new_says (seeing s t.base) free long room)
+    (subst (λ (xs : List ℕ). IfOk c.make_new.result (λ number. number ≡ (new_of 8 (λ p. xs) image).1)) empty_is (c.make_new.ensures.value t tells (tests.open t tells here) (tests.value t tells here) (tests.map t tells here) shaped for_zeros)) these.sure
+    (makes_after c.make_new.result w _ _ _ _ _ t (new_raw image).0.strokes (tests.same ∙ ap but_pages c.self.view_is) tests.quiet is (subst (λ (xs : List ℕ). Makes c.make_new.result (g.H.Host.world c.check_new.new.host) (g.H.Host.world c.make_new.new.host) c.check_new.new.store c.make_new.new.store t (new_of 8 (λ p. xs) image).0.strokes) empty_is these.makes))
 
 pub returns-then-is_read_only-clause-some : goal.returns-then-is_read_only-clause-some
 returns-then-is_read_only-clause-some g c t tells is =
     let w = g.H.Host.world c.args.host.now in
-    record { made = _; makes = makes_none {T = ℕ} (Err (Refused (Access 1))) w w c.args.self.now c.args.self.now t refl (quiet_begun w (g.met.H.Host.timely c.args.host.now)) is is }
+    makes_some_none {T = ℕ} (Err (Refused (Access 1))) w w c.args.self.now c.args.self.now t refl (quiet_begun w (g.met.H.Host.timely c.args.host.now)) is is
 
 pub returns-then-count-lt-FIRST_TO_GIVE-clause-some : goal.returns-then-count-lt-FIRST_TO_GIVE-clause-some
 returns-then-count-lt-FIRST_TO_GIVE-clause-some g c t tells is =
     let w = g.H.Host.world c.args.host.now in
-    record { made = _; makes = makes_none {T = ℕ} (Err (Refused (NotDatabase c.count-count.result))) w w c.args.self.now c.args.self.now t refl (quiet_begun w (g.met.H.Host.timely c.args.host.now)) is is }
+    makes_some_none {T = ℕ} (Err (Refused (NotDatabase c.count-count.result))) w w c.args.self.now c.args.self.now t refl (quiet_begun w (g.met.H.Host.timely c.args.host.now)) is is
 
 pub returns-in_err-first-clause-some : goal.returns-in_err-first-clause-some
 returns-in_err-first-clause-some g c t tells is =
     let here = subst (λ (h : Held). IsOpen (g.H.Host.world c.args.host.now) h t) (sym c.self.view_is) is in
     let tests = c.in_err-first.ensures in
-    record { made = _; makes = makes_none {T = ℕ} c.from_residual.result (g.H.Host.world c.args.host.now) _ _ _ t (tests.same ∙ ap but_pages c.self.view_is) tests.quiet is (tests.open t tells here) }
-
-pub returns-in_err-number-clause-some : goal.returns-in_err-number-clause-some
-returns-in_err-number-clause-some g c t tells is =
-    let w = g.H.Host.world c.args.host.now in
-    let here = subst (λ (h : Held). IsOpen w h t) (sym c.self.view_is) is in
-    let tests = c.in_ok-first.ensures in
-    let at = tests.value t tells here in
-    let least : 5 ≤ length t.base.image = omega (arith, here.files.agrees.count, c.count-count.ensures.value, c.if-count-lt-FIRST_TO_GIVE.false) in
-    let low : c.in_ok-first.first ≤ length t.base.image = omega (arith, at, lowest_most t.base.image least) in
-    let still = tests.open t tells here in
-    let fault = c.in_err-number.field-0.0 in
-    let some = (c.in_err-number.ensures.makes t tells still at low (tests.map t tells here)).some in
-    tries_passed c.from_residual-in_err-number.result fault (λ r. MakesSome r w (g.H.Host.world c.make_new.new.host) c.args.self.now c.make_new.new.store t) c.from_residual-in_err-number.ensures
-    (record { made = some.made; makes = makes_after (Err fault) w _ _ _ _ _ t some.made (tests.same ∙ ap but_pages c.self.view_is) tests.quiet is some.makes })
+    makes_some_none c.from_residual.result _ _ _ _ t (tests.same ∙ ap but_pages c.self.view_is) tests.quiet is (tests.open t tells here)
 
 pub returns-clause-some : goal.returns-clause-some
 returns-clause-some g c t tells is =
-    let w = g.H.Host.world c.args.host.now in
-    let here = subst (λ (h : Held). IsOpen w h t) (sym c.self.view_is) is in
+    let here = subst (λ (h : Held). IsOpen (g.H.Host.world c.args.host.now) h t) (sym c.self.view_is) is in
     let tests = c.in_ok-first.ensures in
-    let at = tests.value t tells here in
-    let least : 5 ≤ length t.base.image = omega (arith, here.files.agrees.count, c.count-count.ensures.value, c.if-count-lt-FIRST_TO_GIVE.false) in
-    let low : c.in_ok-first.first ≤ length t.base.image = omega (arith, at, lowest_most t.base.image least) in
-    let still = tests.open t tells here in
-    let some = (c.in_ok-number.ensures.makes t tells still at low (tests.map t tells here)).some in
-    record { made = some.made; makes = makes_after (Ok c.in_ok-number.number) w _ _ _ _ _ t some.made (tests.same ∙ ap but_pages c.self.view_is) tests.quiet is some.makes }
+    makes_some_after c.make_new.result _ _ _ _ _ _ t (tests.same ∙ ap but_pages c.self.view_is) tests.quiet is (c.make_new.ensures.makes t tells (tests.open t tells here) (tests.value t tells here) (tests.map t tells here)).some
 
 pub returns-clause-once : goal.returns-clause-once
 returns-clause-once g c t tells is sizes =
@@ -145,12 +100,8 @@ returns-clause-once g c t tells is sizes =
     let shaped = searchable_of w _ t here c.self.invariant.0 long sizes in
     let tests = c.in_ok-first.ensures in
     let for_zeros = tests.test t 8 (λ p. 0 ∷ 0 ∷ []) tells here shaped (λ p. omega arith) in
-    let at = tests.value t tells here in
-    let low : c.in_ok-first.first ≤ length image = omega (arith, at, lowest_most image long) in
-    let number = c.in_ok-number.ensures.value t tells (tests.open t tells here) at low (tests.map t tells here) shaped for_zeros in
-    let few = tests.once t 8 (λ p. 0 ∷ 0 ∷ []) tells here shaped (λ p. omega arith) in
-    new_read image c.in_ok-first.first c.in_ok-number.number _ _ _ at
-    (subst (λ (n : ℕ). (g.H.Host.world c.check_new.new.host).reads ≤ (g.H.Host.world c.args.host.now).reads + c.in_ok-first.first / bits_in (image_size image) + 4 + 5 * (n - c.in_ok-first.first)) (sym number) few) (c.in_ok-number.ensures.once tells)
+    new_read c.make_new.result image c.in_ok-first.first (new_of 8 (λ p. 0 ∷ 0 ∷ []) image).1 _ _ _ (tests.value t tells here)
+    (c.make_new.ensures.value t tells (tests.open t tells here) (tests.value t tells here) (tests.map t tells here) shaped for_zeros) (tests.once t 8 (λ p. 0 ∷ 0 ∷ []) tells here shaped (λ p. omega arith)) (c.make_new.ensures.once tells)
 
 pub make_new-requires-clause-inside : goal.make_new-requires-clause-inside
 make_new-requires-clause-inside g c = omega (arith, c.in_ok-first.ensures.within (omega (arith, c.count-count.ensures.value, c.if-count-lt-FIRST_TO_GIVE.false)), ap (λ (h : Held). h.files.count) c.in_ok-first.ensures.same)
