@@ -50,9 +50,6 @@ use Rattle.nb_alloc.proofs.TestLaws.{kind_is}
 pub well : (image : Image) → IsWell image → IsWhole image
 well image is = record { fields = record { size = is.size; scn = is.scn }; sound = is.sound }
 
-pub from_well : (image : Image) → IsWhole image → IsWell image
-from_well image h = record { sound = h.sound; size = h.fields.size; scn = h.fields.scn }
-
 -- the page of its entry is of the form
 pub entry_none : (image : Image) (p : ℕ) → IsWell image → IsPlace image p → entry_cause image p ≡ None
 entry_none image p is at = by (has_entry image p) refl
@@ -280,13 +277,6 @@ system_long b p low none = by (is_kind b.image (system_kind b.image p) p) refl
 
 -- and where the inventories agree it is that of the draft, and nothing is refused
 module _ (b : Base) (p : ℕ) (is : IsWell b.image) (at : IsPlace b.image p) where
-  pub system_strokes_are : system_strokes b.image p ≡ (system_page p (drafted b.image)).strokes
-  system_strokes_are = by (is_kind b.image (system_kind b.image p) p) refl
-    where
-      by : (t : Bool) → is_kind b.image (system_kind b.image p) p ≡ t → system_strokes b.image p ≡ (system_page p (drafted b.image)).strokes
-      by true e = system_made b.image p e ∙ sym (system_there b.image p e)
-      by false e = system_unmade b.image p e ∙ put_strokes_are b p (system_kind b.image p) (system_payload b.image p) is at ∙ sym (system_put b.image p e)
-
   pub system_none : system_cause b.image p ≡ None
   system_none = by (is_kind b.image (system_kind b.image p) p) refl
     where

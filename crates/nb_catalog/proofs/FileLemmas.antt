@@ -18,10 +18,6 @@ abbrev pub with_all : {T : Type 0} → List T → Result (List T) Refusal → Re
 with_all xs (Ok more) = Ok (xs ++ more)
 with_all xs (Err refusal) = Err refusal
 
-pub with_all-none : {T : Type 0} (r : Result (List T) Refusal) → r ≡ with_all [] r
-with_all-none (Ok more) = refl
-with_all-none (Err refusal) = refl
-
 pub with_all-first : {T : Type 0} (xs : List T) (x : T) (r : Result (List T) Refusal) → with_all xs (with_first x r) ≡ with_all (xs ++ x ∷ []) r
 with_all-first xs x (Ok more) = ap Ok (sym (append_assoc xs (x ∷ []) more))
 with_all-first xs x (Err refusal) = refl

@@ -195,14 +195,6 @@ drafted_waits es drafted f t is p k at late = by (waits es p) refl
 pub sees_size : (w : World) (held : Held) (t : Trail) (is : IsOpen w held t) → held.files.page_size ≡ image_size is.sees.base.image
 sees_size w held t is = is.agrees.page_size ∙ sym (ap size_of is.waits.behind.first)
 
--- page 0 doesn't wait
-pub first_clean : (w : World) (held : Held) (t : Trail) (is : IsOpen w held t) → waits held.pages 0 ≡ false
-first_clean w held t is = by (rank_of held.pages 0) refl
-  where
-    by : (o : Option ℕ) → rank_of held.pages 0 ≡ o → waits held.pages 0 ≡ false
-    by None e = ap is_some e
-    by (Some rank) e = absurd (let one = (is.waits.each 0 rank e).some in omega (arith, one))
-
 -- A page that was not in memory is kept: the same pages wait.
 pub kept_ranks : (held : Held) (valid : IsValid (cache_of held) held.files.page_size) (p : ℕ) (bytes : Page) → slot_of held.pages p ≡ None → dropped (cache_of held) p ≡ None
     → (q : ℕ) → rank_of (put_entries nat_eq (lru_cache held.pages held.cap) p (record { bytes = bytes; rank = None })) q ≡ rank_of held.pages q
