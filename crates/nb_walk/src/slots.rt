@@ -79,7 +79,8 @@ pub(crate) fn is_backup(slot: &[u8]) -> bool
     requires { length slot.now ≡ 256 }
     ensures { result ≡ (nat_le (length_in slot.now) 100 && is_name (file_in slot.now)) }
 {
-    history::NameLength::get(slot) <= history::MOST_NAME as u64 && Name::read_bytes(file_name(slot)).is_some()
+    history::NameLength::get(slot) <= history::MOST_NAME as u64
+        && Name::read_bytes(file_name(slot)).is_some()
 }
 
 /// Whether what the slot of a row holds is of the form: its text is no longer than texts are.
