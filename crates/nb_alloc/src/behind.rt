@@ -2,7 +2,7 @@
 // stands, or the SCN page with its entry, so whether it may be written is known once the search has ended.
 ghost use Rattle.std.specs.Prelude.{◌≡◌, ◌≢◌, ◌<◌, ◌++◌, ◌∷◌, ◌==◌, ◌||◌, ℕ, List, [], Bool, true, false, Some, None, IsTrue, IfErr, IfOk, OnOk, IfSome, Ok, length, nat_lt};
 ghost use Rattle.nb_host.specs.declared.faults.Fault.TheVariants.{Memory};
-ghost use Rattle.nb_change.specs.Counts.{CountsDevice};
+ghost use Rattle.nb_host.specs.Causes.{CountsDevice};
 ghost use Rattle.nb_page.specs.Quiet.{Quiet};
 ghost use Rattle.nb_host.specs.declared.refusals.Refusal.TheVariants.{NotDatabase};
 ghost use Rattle.nb_model.specs.Causes.{lowest_broken};

@@ -1,7 +1,7 @@
 // Walks over the chains of data pages, page by page along their links. Nothing changes.
 ghost use Rattle.std.specs.Prelude.{◌≡◌, ◌≢◌, ◌+◌, ◌≤◌, IsTrue, IfErr, None, OnOk, length};
 ghost use Rattle.nb_host.specs.declared.faults.Fault.TheVariants.{Memory};
-ghost use Rattle.nb_change.specs.Counts.{CountsDevice};
+ghost use Rattle.nb_host.specs.Causes.{CountsDevice};
 ghost use Rattle.nb_page.specs.Quiet.{Quiet};
 ghost use Rattle.nb_model.specs.Causes.{broken_at};
 ghost use Rattle.nb_model.specs.Chains.{Catalogue, spots, pages_of, found_pages};

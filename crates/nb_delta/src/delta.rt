@@ -2,13 +2,12 @@ ghost use Rattle.std.specs.Prelude.{◌≡◌, ℕ, ◌+◌, ◌/◌, ◌<◌, �
 ghost use Rattle.nb_host.specs.declared.faults.Fault.TheVariants.{Device, Memory};
 ghost use Rattle.nb_host.specs.Crash.{IsDurable};
 ghost use Rattle.nb_host.specs.Calls.{IsSilent};
-ghost use Rattle.nb_host.specs.Causes.{CountsFault};
+ghost use Rattle.nb_host.specs.Causes.{CountsDevice, CountsFault};
 ghost use Rattle.nb_fields.specs.Places.{is_page_size, slots_in};
 ghost use Rattle.nb_fields.specs.Table.{slot_place};
 ghost use Rattle.nb_page.specs.Quiet.{Quiet};
 ghost use Rattle.nb_delta.specs.Entries.{place_of, AreEntries};
 ghost use Rattle.nb_change.specs.Changes.{Only, Changes, Moved, Remade};
-ghost use Rattle.nb_change.specs.Counts.{CountsDevice};
 ghost use Rattle.nb_delta.specs.Causes.{IsNoRefusal};
 ghost use Rattle.nb_delta.specs.Slots.{HasTable, HasZeros, slot_page, SlotStep, SlotPut, Adds, AddStep, IsBlank};
 ghost use Rattle.nb_delta.specs.Waiting.{Waits, FrontStep, HasAll};

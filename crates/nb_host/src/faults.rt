@@ -1,5 +1,6 @@
 ghost use Rattle.std.specs.Prelude.{◌≡◌};
 ghost use Rattle.nb_host.specs.declared.faults.Fault.TheVariants.{Device, Memory};
+ghost use Rattle.nb_host.specs.declared.faults.RunError.TheVariants.{Device as DeviceError, Memory as MemoryError};
 
 use crate::Refusal;
 use std::alloc::{AllocError, AllocFailed};
@@ -9,6 +10,16 @@ use thiserror::Error;
 #[derive(Clone, Copy, Debug, PartialEq, Eq, Error)]
 #[error("the device failed")]
 pub struct HostFault;
+
+/// Why a call that can't be refused ended early.
+#[derive(Clone, Copy, Debug, PartialEq, Eq, Error)]
+pub enum RunError {
+    /// A call of the host failed.
+    #[error("the device failed")]
+    Device,
+    #[error("out of memory")]
+    Memory,
+}
 
 /// Why a call answered nothing else.
 #[derive(Debug, Drop, Error)]
@@ -21,6 +32,22 @@ pub enum Fault {
     Device,
     #[error("out of memory")]
     Memory,
+}
+
+impl From<HostFault> for RunError {
+    ghost from_gives = { λ _ error. error ≡ DeviceError };
+
+    fn from(_: HostFault) -> Self {
+        RunError::Device
+    }
+}
+
+impl From<AllocError> for RunError {
+    ghost from_gives = { λ _ error. error ≡ MemoryError };
+
+    fn from(_: AllocError) -> Self {
+        RunError::Memory
+    }
 }
 
 impl From<HostFault> for Fault {

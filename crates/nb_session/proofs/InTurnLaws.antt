@@ -9,7 +9,7 @@ use Rattle.nb_model.specs.Trail.{Trail}
 use Rattle.nb_model.proofs.StepsLaws.{steps_append, after_steps_append}
 use Rattle.nb_model.proofs.TodoLaws.{one_turn_idle}
 use Rattle.nb_state.specs.Open.{Held}
-use Rattle.nb_session.specs.declared.stop.Stop.{Stop}
+use Rattle.nb_host.specs.declared.faults.RunError.{RunError}
 use Rattle.nb_session.specs.declared.told.Told.{Told}
 use Rattle.nb_session.specs.InTurn.{HasNone, TakesOne, InTurn, EndsBy}
 use Rattle.nb_session.specs.Steps.{touching_by}
@@ -81,10 +81,10 @@ module _ {H : Type 0} (world : H → World) (told : Told) where
     in_turn_one takes = in_turn_then front (session ∷ []) old mid new before between after t now taken (inr (new, after, takes, (refl, refl)))
 
 -- an early end, whatever its reason is called
-pub plays_other : (old new : World) (before after : Held) (t : Trail) (now : Now) (p : Played) (made : List MadeFile) (e f : Stop) → Plays (Err e) old new before after t now p made → Plays (Err f) old new before after t now p made
+pub plays_other : (old new : World) (before after : Held) (t : Trail) (now : Now) (p : Played) (made : List MadeFile) (e f : RunError) → Plays (Err e) old new before after t now p made → Plays (Err f) old new before after t now p made
 plays_other old new before after t now p made e f plays =
     record { stops = plays.stops; left = plays.left; apart = plays.apart; others = plays.others; others_read = plays.others_read; name = plays.name; done = tt }
 
-pub ends_other : (told : Told) (rest : List ℕ) (old new : World) (before after : Held) (t : Trail) (now : Now) (e f : Stop) → EndsBy (Err e) told rest old new before after t now → EndsBy (Err f) told rest old new before after t now
+pub ends_other : (told : Told) (rest : List ℕ) (old new : World) (before after : Held) (t : Trail) (now : Now) (e f : RunError) → EndsBy (Err e) told rest old new before after t now → EndsBy (Err f) told rest old new before after t now
 ends_other told [] old new before after t now e f plays = plays_other old new before after t now ([], now) [] e f plays
 ends_other told (session ∷ rest) old new before after t now e f ends = (plays_other old new before after t now (told_turns told (one_turn session now)) (touching_by session now) e f ends.0, ends.1)

@@ -8,7 +8,7 @@ use Rattle.nb_sched.specs.Turns.{IsDone}
 use Rattle.nb_host.specs.World.{World}
 use Rattle.nb_host.specs.declared.faults.Fault.{Fault}
 use Rattle.nb_host.specs.declared.faults.Fault.TheVariants.{Refused, Device, Memory}
-use Rattle.nb_change.specs.Counts.{CountsDevice}
+use Rattle.nb_host.specs.Causes.{CountsDevice}
 use Rattle.nb_base.specs.Takes.{IsNoRefusal}
 use Rattle.nb_model.specs.declared.statement.Statement.{Statement}
 use Rattle.nb_model.specs.Account.{Base}
@@ -21,7 +21,7 @@ use Rattle.nb_model.specs.Strokes.{base_after}
 use Rattle.nb_model.specs.Trail.{Trail}
 use Rattle.nb_model.proofs.RunLaws.{turn_stands}
 use Rattle.nb_state.specs.Open.{Held}
-use Rattle.nb_session.specs.declared.stop.Stop.{Stop}
+use Rattle.nb_host.specs.declared.faults.RunError.{RunError}
 use Rattle.nb_session.specs.declared.task.Task.{Task}
 use Rattle.nb_session.specs.declared.task.Left.{Left}
 use Rattle.nb_session.specs.declared.task.Left.TheVariants.{Same, Other}
@@ -72,7 +72,7 @@ module _ {T : Type 0} (refused : T → Bool) (task : T → Option Task) (old new
   touching_is : touching_by asker.number now ≡ touching asker.number turn tail now
   touching_is = ap (λ (ts : List Turn). begun_first asker.number ts now ++ making_by asker.number now) (has ∙ here) ∙ ap (λ (files : List MadeFile). begun_in asker.number turn now ++ files) making_is
 
-  plays_one : (result : Result Bool Stop) → Plays result old new a b t now (told_turns asker.told (take_turn asker.number (turn ∷ (tail ++ more)) now)) (touching asker.number turn tail now)
+  plays_one : (result : Result Bool RunError) → Plays result old new a b t now (told_turns asker.told (take_turn asker.number (turn ∷ (tail ++ more)) now)) (touching asker.number turn tail now)
       → Plays result old new a b t now (told_turns asker.told (one_turn asker.number now)) (touching_by asker.number now)
   plays_one result plays =
       subst (λ (p : Played). Plays result old new a b t now (told_turns asker.told p) (touching_by asker.number now)) (sym one_is)

@@ -10,7 +10,7 @@ use Rattle.nb_host.specs.declared.refusals.Refusal.{Refusal}
 use Rattle.nb_model.specs.declared.reply.Reply.{Reply}
 use Rattle.nb_model.specs.declared.reply.Reply.TheVariants.{Refused as RefusedBy}
 use Rattle.nb_model.specs.declared.statement.Statement.{Statement}
-use Rattle.nb_change.specs.Counts.{CountsDevice}
+use Rattle.nb_host.specs.Causes.{CountsDevice}
 use Rattle.nb_model.specs.Gifts.{Foretells}
 use Rattle.nb_model.specs.Going.{IsMaking}
 use Rattle.nb_model.specs.Lines.{line_text}
@@ -26,8 +26,8 @@ use Rattle.nb_model.proofs.UsageLaws.{never_usage}
 use Rattle.nb_base.specs.Takes.{IsNoRefusal}
 use Rattle.nb_state.specs.Open.{Held}
 use Rattle.nb_change.proofs.ResultLaws.{passed_on}
-use Rattle.nb_session.specs.declared.stop.Stop.{Stop}
-use Rattle.nb_session.specs.declared.stop.Stop.TheVariants.{Device as DeviceStop, Memory as MemoryStop}
+use Rattle.nb_host.specs.declared.faults.RunError.{RunError}
+use Rattle.nb_host.specs.declared.faults.RunError.TheVariants.{Device as DeviceError, Memory as MemoryError}
 use Rattle.nb_session.specs.declared.task.Left.{Left}
 use Rattle.nb_session.specs.declared.task.Task.{Task}
 use Rattle.nb_session.specs.declared.task.Taken.{Taken}
@@ -46,11 +46,11 @@ use Rattle.nb_session.proofs.ToldLaws.{refusal_line}
 
 -- a result that is a failure
 pub plays_err : {T : Type 0} (refused : T → Bool) (result : Result T Fault) (old new : World) (before after : Held) (t : Trail) (now : Now) (p : Played) (files : List MadeFile) → IsErr result
-    → ((e : Stop) → Plays (Err e) old new before after t now p files) → Plays (as_played refused result) old new before after t now p files
+    → ((e : RunError) → Plays (Err e) old new before after t now p files) → Plays (as_played refused result) old new before after t now p files
 plays_err refused (Ok value) old new before after t now p files is plays = absurd (cc (is))
-plays_err refused (Err (Refused refusal)) old new before after t now p files is plays = plays MemoryStop
-plays_err refused (Err Device) old new before after t now p files is plays = plays DeviceStop
-plays_err refused (Err Memory) old new before after t now p files is plays = plays MemoryStop
+plays_err refused (Err (Refused refusal)) old new before after t now p files is plays = plays MemoryError
+plays_err refused (Err Device) old new before after t now p files is plays = plays DeviceError
+plays_err refused (Err Memory) old new before after t now p files is plays = plays MemoryError
 
 err_none : {S : Type 0} (result : Result S Fault) (P : S → Type 0) → IsErr result → IfOk result P
 err_none (Ok value) P is = absurd (cc (is))
@@ -196,7 +196,7 @@ module _ (fault : Fault) (answer : Result Taken Fault) (handed : IsErr answer ×
   handed_turns how refused task old new a b t now session u tail more turns =
       subst (λ (r : Result Taken Fault). Turns how (λ taken. taken.refused) (λ taken. taken.task) r old new a b t now session u tail more) (sym (passed_on answer fault handed)) (record {
         grows = turns.grows;
-        plays = λ told. subst (λ (r : Result Bool Stop). Plays r old new a b t now (told_turns how (take_turn session (u ∷ (tail ++ more)) now)) (touching session u tail now)) (played_err refused (λ (x : Taken). x.refused) fault) (turns.plays told);
+        plays = λ told. subst (λ (r : Result Bool RunError). Plays r old new a b t now (told_turns how (take_turn session (u ∷ (tail ++ more)) now)) (touching session u tail now)) (played_err refused (λ (x : Taken). x.refused) fault) (turns.plays told);
         unchanged = turns.unchanged;
         behind = λ told. tt;
       })

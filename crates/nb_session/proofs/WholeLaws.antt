@@ -11,7 +11,7 @@ use Rattle.nb_host.specs.Moments.{IsTimely}
 use Rattle.nb_host.specs.declared.faults.Fault.{Fault}
 use Rattle.nb_host.specs.declared.faults.Fault.TheVariants.{Refused}
 use Rattle.nb_host.specs.declared.refusals.Refusal.{Refusal}
-use Rattle.nb_change.specs.Counts.{CountsDevice}
+use Rattle.nb_host.specs.Causes.{CountsDevice}
 use Rattle.nb_model.specs.Causes.{is_free_entry}
 use Rattle.nb_model.specs.Gifts.{Foretells}
 use Rattle.nb_model.specs.Going.{IsMaking}
@@ -30,7 +30,7 @@ use Rattle.nb_script.specs.Asked.{IsAskable}
 use Rattle.nb_script.specs.Fits.{IsSession}
 use Rattle.nb_script.specs.Scripts.{Plan}
 use Rattle.nb_state.specs.Open.{Held, name_of}
-use Rattle.nb_session.specs.declared.stop.Stop.{Stop}
+use Rattle.nb_host.specs.declared.faults.RunError.{RunError}
 use Rattle.nb_session.specs.declared.told.Told.{Told}
 use Rattle.nb_session.specs.Acts.{Grows}
 use Rattle.nb_session.specs.Askers.{Asker, HasTodo, left_of, IsFit, any_refused, fresh_asker, first_askers}
@@ -147,7 +147,7 @@ module _ {H : Type 0} (tells : Bool) (told : IsTrue tells) (world : H → World)
     todo_length = play_length order now ∙ ap length begins ∙ length-map plan.sessions (map Begins) ∙ askable.sixteen
 
     -- once all have finished what was made is whole
-    made_whole : (result : Result Bool Stop) (new : World) (held : Held) (xs : List ℕ) (made : List MadeFile) → AreFinished (play xs now).1.todo → AreAmong made (files_made (play xs now).0 ++ under_way (play xs now).1)
+    made_whole : (result : Result Bool RunError) (new : World) (held : Held) (xs : List ℕ) (made : List MadeFile) → AreFinished (play xs now).1.todo → AreAmong made (files_made (play xs now).0 ++ under_way (play xs now).1)
         → Plays result (world old) new before held t now (told_turns how (play xs now)) made → Plays result (world old) new before held t now (told_turns how (play xs now)) (files_made (play xs now).0)
     made_whole result new held xs made finished among =
         plays_wider result (world old) new before held t now (told_turns how (play xs now)) made (files_made (play xs now).0) (λ file there. finished_among (play xs now).0 (play xs now).1 finished file (among file there))
@@ -189,7 +189,7 @@ module _ {H : Type 0} (tells : Bool) (told : IsTrue tells) (world : H → World)
         }
 
     -- A turn ended early, and these would have come after it.
-    failed : (front rest whole : List ℕ) (session : ℕ) (mid new : World) (e1 e2 : Held) (r : Bool) (e : Stop) (made : List MadeFile) → whole ≡ front ++ (session ∷ rest)
+    failed : (front rest whole : List ℕ) (session : ℕ) (mid new : World) (e1 e2 : Held) (r : Bool) (e : RunError) (made : List MadeFile) → whole ≡ front ++ (session ∷ rest)
         → AreAmong made (files_made (play front now).0 ++ under_way (play front now).1) → AreAmong (files_made (play front now).0) made → Plays (Ok r) (world old) mid before e1 t now (told_turns how (play front now)) made
         → Plays (Err e) mid new e1 e2 (trail_after t (told_turns how (play front now))) (play front now).1 (told_turns how (one_turn session (play front now).1)) (touching_by session (play front now).1)
         → Plays (Err e) (world old) new before e2 t now (told_turns how (play whole now)) (made ++ touching_by session (play front now).1)
@@ -226,7 +226,7 @@ module _ {H : Type 0} (tells : Bool) (told : IsTrue tells) (world : H → World)
       all_grow = grows_joined (world old) (world e.last.host) (world after.host) before_it.grown last_grows
 
       -- or until one ended early
-      pub whole_failed : (stop : Stop) → ((refused : Unit {0} → Bool) → as_played refused (Err fault) ≡ Err stop) → Foretells now.given (whole_shown (Err fault) after turns) (world old) (world after.host)
+      pub whole_failed : (stop : RunError) → ((refused : Unit {0} → Bool) → as_played refused (Err fault) ≡ Err stop) → Foretells now.given (whole_shown (Err fault) after turns) (world old) (world after.host)
           → PlaysInTurn world (Err stop) old after.host before after.shared t how now plan.schedule
       whole_failed stop same foretold =
           let end = turns_end plan askable now making.going begins how_often in
@@ -245,7 +245,7 @@ module _ {H : Type 0} (tells : Bool) (told : IsTrue tells) (world : H → World)
           (play_ahead (e.front ++ e.session ∷ []) (e.rest ++ end.more) now making file
           (subst (λ (q : Played). Contains (files_made q.0 ++ under_way q.1) file) (sym (play_more e.front e.session now)) (next_among now making e.front e.session far.made far.among file there))) in
           let last : Plays (Err stop) (world e.last.host) (world after.host) e.last.shared after.shared (trail_after t (told_turns how p)) p.1 (told_turns how (one_turn e.session p.1)) (touching_by e.session p.1) =
-          subst (λ (r : Result Bool Stop). Plays r (world e.last.host) (world after.host) e.last.shared after.shared (trail_after t (told_turns how p)) p.1 (told_turns how (one_turn e.session p.1)) (touching_by e.session p.1))
+          subst (λ (r : Result Bool RunError). Plays r (world e.last.host) (world after.host) e.last.shared after.shared (trail_after t (told_turns how p)) p.1 (told_turns how (one_turn e.session p.1)) (touching_by e.session p.1))
           (same (λ done. e.move.made.refused)) plays in
           record {
             whole = record {

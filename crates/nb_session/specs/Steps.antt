@@ -4,7 +4,7 @@ use Rattle.std.specs.List.{list_all, slice_index_or}
 use Rattle.nb_host.specs.World.{World}
 use Rattle.nb_host.specs.declared.faults.Fault.{Fault}
 use Rattle.nb_host.specs.declared.faults.Fault.TheVariants.{Refused, Device, Memory}
-use Rattle.nb_change.specs.Counts.{CountsDevice}
+use Rattle.nb_host.specs.Causes.{CountsDevice}
 use Rattle.nb_model.specs.declared.statement.Statement.TheVariants.{Backup as BackupTo, BackupSince}
 use Rattle.nb_model.specs.Gifts.{Foretells}
 use Rattle.nb_model.specs.Going.{IsMaking}
@@ -15,8 +15,8 @@ use Rattle.nb_model.specs.Strokes.{base_after}
 use Rattle.nb_model.specs.Trail.{Trail}
 use Rattle.nb_base.specs.Takes.{IsNoRefusal}
 use Rattle.nb_state.specs.Open.{Held}
-use Rattle.nb_session.specs.declared.stop.Stop.{Stop}
-use Rattle.nb_session.specs.declared.stop.Stop.TheVariants.{Device as DeviceStop, Memory as MemoryStop}
+use Rattle.nb_host.specs.declared.faults.RunError.{RunError}
+use Rattle.nb_host.specs.declared.faults.RunError.TheVariants.{Device as DeviceError, Memory as MemoryError}
 use Rattle.nb_session.specs.Acts.{Grows, shown_by}
 use Rattle.nb_session.specs.declared.task.Left.{Left}
 use Rattle.nb_session.specs.declared.task.Task.{Task}
@@ -28,11 +28,11 @@ use Rattle.nb_session.specs.Stops.{Plays}
 use Rattle.nb_session.specs.Told.{told_turns}
 
 -- an answer as that of turns: whether a statement was refused, or why they ended early
-abbrev pub as_played : {T : Type 0} → (T → Bool) → Result T Fault → Result Bool Stop
+abbrev pub as_played : {T : Type 0} → (T → Bool) → Result T Fault → Result Bool RunError
 as_played refused (Ok value) = Ok (refused value)
-as_played refused (Err (Refused refusal)) = Err MemoryStop
-as_played refused (Err Device) = Err DeviceStop
-as_played refused (Err Memory) = Err MemoryStop
+as_played refused (Err (Refused refusal)) = Err MemoryError
+as_played refused (Err Device) = Err DeviceError
+as_played refused (Err Memory) = Err MemoryError
 
 -- the files that are still to be made after that turn
 abbrev pub left_making : (session : ℕ) → Turn → Now → List MadeFile

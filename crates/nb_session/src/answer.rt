@@ -1,7 +1,7 @@
 // A statement and the line of its reply.
 ghost use Rattle.std.specs.Prelude.{◌≡◌, ℕ, ◌-◌, List, [], ◌∷◌, None, Some, IsTrue, IfErr};
 ghost use Rattle.std.specs.List.{slice_index_or};
-ghost use Rattle.nb_change.specs.Counts.{CountsDevice};
+ghost use Rattle.nb_host.specs.Causes.{CountsDevice};
 ghost use Rattle.nb_change.specs.Gave.{GaveNothing};
 ghost use Rattle.nb_model.specs.Going.{IsMaking};
 ghost use Rattle.nb_model.specs.Lines.{line_text};

@@ -2,7 +2,7 @@
 ghost use Rattle.std.specs.Prelude.{◌≡◌, ◌≢◌, ◌<◌, length, ℕ, ◌-◌, List, [], ◌∷◌, ◌++◌, None, Some, false, IsTrue, IfOk, IfErr};
 ghost use Rattle.std.specs.List.{slice_index_or};
 ghost use Rattle.nb_host.specs.Names.{is_delta};
-ghost use Rattle.nb_change.specs.Counts.{CountsDevice};
+ghost use Rattle.nb_host.specs.Causes.{CountsDevice};
 ghost use Rattle.nb_model.specs.declared.statement.Statement.TheVariants.{CopyTo};
 ghost use Rattle.nb_model.specs.Going.{IsMaking};
 ghost use Rattle.nb_model.specs.Outcomes.{Begins, Seen, Turn, next_guid};

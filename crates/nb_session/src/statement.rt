@@ -1,6 +1,6 @@
 // A statement that is done in one turn.
 ghost use Rattle.std.specs.Prelude.{◌≡◌, ℕ, [], IsTrue, IfErr, OnOk, IfOk, Option, Some};
-ghost use Rattle.nb_change.specs.Counts.{CountsDevice};
+ghost use Rattle.nb_host.specs.Causes.{CountsDevice};
 ghost use Rattle.nb_base.specs.Open.{Agrees};
 ghost use Rattle.nb_model.specs.Account.{Base};
 ghost use Rattle.nb_state.specs.Open.{AgreesWith};

@@ -1,8 +1,7 @@
 // The turns of a backup: begin, end, and the merge.
 ghost use Rattle.std.specs.Prelude.{◌≡◌, ◌≢◌, ◌<◌, ◌≤◌, ◌+◌, ℕ, List, [], ◌∷◌, length, IsTrue, IfErr, IfOk, OnOk, Option, Some};
-ghost use Rattle.nb_host.specs.Causes.{CountsFault};
+ghost use Rattle.nb_host.specs.Causes.{CountsDevice, CountsFault};
 ghost use Rattle.nb_host.specs.declared.faults.Fault.TheVariants.{Memory};
-ghost use Rattle.nb_change.specs.Counts.{CountsDevice};
 ghost use Rattle.nb_change.specs.Gave.{GaveNothing};
 ghost use Rattle.nb_model.specs.Account.{Ask};
 ghost use Rattle.nb_model.specs.Image.{Image, image_state, image_scn};

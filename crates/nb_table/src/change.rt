@@ -1,6 +1,6 @@
 // Rows are inserted, updated and deleted.
 ghost use Rattle.std.specs.Prelude.{◌≡◌, None, IsTrue, IfSome, length};
-ghost use Rattle.nb_change.specs.Counts.{CountsDevice};
+ghost use Rattle.nb_host.specs.Causes.{CountsDevice};
 ghost use Rattle.nb_model.specs.Causes.{broken_at};
 ghost use Rattle.nb_model.specs.Chains.{Chain, pages_of, spots, row_spot};
 ghost use Rattle.nb_model.specs.Outcomes.{Seen};

@@ -1,6 +1,6 @@
 // A table is made.
 ghost use Rattle.std.specs.Prelude.{◌≡◌, ◌<◌, ◌≤◌, true, IsTrue, IfOk, IfSome, length};
-ghost use Rattle.nb_change.specs.Counts.{CountsDevice};
+ghost use Rattle.nb_host.specs.Causes.{CountsDevice};
 ghost use Rattle.nb_page.specs.Quiet.{Quiet};
 ghost use Rattle.nb_model.specs.Chains.{Catalogue, found_pages, free_spot, last_of, spots};
 ghost use Rattle.nb_model.specs.Outcomes.{Seen};

@@ -2,7 +2,7 @@
 ghost use Rattle.std.specs.Prelude.{◌≡◌, ◌++◌, ℕ, List, IsTrue, IfOk, Ok, Some, None, length};
 ghost use Rattle.std.specs.List.{AllByRecursion};
 ghost use Rattle.nb_fields.specs.Places.{is_page_size};
-ghost use Rattle.nb_change.specs.Counts.{CountsDevice};
+ghost use Rattle.nb_host.specs.Causes.{CountsDevice};
 ghost use Rattle.nb_host.specs.declared.refusals.Refusal.TheVariants.{NotDatabase};
 ghost use Rattle.nb_model.specs.Chains.{RowsFrom, first_in, next_in, pages_of};
 ghost use Rattle.nb_model.specs.Forms.{drafted, give_page};

@@ -1,7 +1,7 @@
 // Slots are written: one that is there, or one more of a chain.
 ghost use Rattle.std.specs.Prelude.{◌≡◌, ◌+◌, ◌*◌, ◌<◌, ◌≤◌, None, IsTrue, IfSome, length};
 ghost use Rattle.nb_fields.specs.Bytes.{with_part};
-ghost use Rattle.nb_change.specs.Counts.{CountsDevice};
+ghost use Rattle.nb_host.specs.Causes.{CountsDevice};
 ghost use Rattle.nb_model.specs.Causes.{not_kind, broken_at};
 ghost use Rattle.nb_model.specs.Chains.{Chain, owner_of, pages_of, found_pages, spots, free_spot, last_of, put_slot, place_slot};
 ghost use Rattle.nb_model.specs.Forms.{drafted};

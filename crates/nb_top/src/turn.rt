@@ -1,12 +1,11 @@
 // Jobs of one turn: a call of a crate below takes the turn, and its reply is said.
 ghost use Rattle.std.specs.Prelude.{◌≡◌, ◌⊎◌, ◌<◌, ◌≤◌, ◌^◌, length, Some, IsTrue, IfOk};
-ghost use Rattle.nb_change.specs.Counts.{CountsDevice};
+ghost use Rattle.nb_host.specs.Causes.{CountsDevice, CountsRun};
 ghost use Rattle.nb_catalog.specs.Turns.{plan_turn};
 ghost use Rattle.nb_fold.specs.Verdict.{fold_turn};
 ghost use Rattle.nb_model.specs.Account.{Account};
 ghost use Rattle.nb_model.specs.Jobs.{apply_turn, fixup_turn, restore_turn};
 ghost use Rattle.nb_model.specs.Lines.{line_text};
-ghost use Rattle.nb_session.specs.Causes.{CountsStop};
 ghost use Rattle.nb_session.specs.Says.{SaysLine};
 ghost use Rattle.nb_top.specs.OneTurn.{fixing, folding, merging, one_turn, planning, restoring};
 ghost use Rattle.nb_top.specs.Goes.{Goes};
@@ -18,12 +17,11 @@ use crate::script::{refuse, say_line, settled};
 use nb_catalog::{named, plan_files};
 use nb_fixup::fix_up;
 use nb_fold::fold;
-use nb_host::{Fault, Host, Name, Refusal};
+use nb_host::{Fault, Host, Name, Refusal, RunError};
 use nb_inplace::apply;
 use nb_level::LevelHead;
 use nb_model::{Job, Reply};
 use nb_restore::restore;
-use nb_session::Stop;
 use std::alloc::Global;
 
 /// Restores a chain of 1 to 10 backup files into a new database, and answers how many pages that has.
@@ -122,11 +120,11 @@ fn say_taken<H: Host>(
     alloc: Global,
     host: &mut H,
     taken: Result<Reply, Refusal>,
-) -> Result<Status, Stop>
+) -> Result<Status, RunError>
     ensures line { IsTrue H.tells → SaysLine result (H.world host.old) (H.world host.new) (line_text 1 (reply_told taken)) }
     ensures ended { IfOk result (λ status. status ≡ status_told taken) }
     ensures done { IfOk result (λ status. (status ≡ Status.Done) ⊎ (status ≡ Status.Refused)) }
-    ensures cause { CountsStop result (H.faults host.old) (H.faults host.new) }
+    ensures cause { CountsRun result (H.faults host.old) (H.faults host.new) }
 {
     match taken {
         Ok(reply) => {
@@ -138,12 +136,12 @@ fn say_taken<H: Host>(
 }
 
 /// Does a job of one turn whose words tell all of it: takes the turn, and says its reply, or why it is refused.
-pub(crate) fn run_turn<H: Host>(alloc: Global, host: &mut H, job: &Job) -> Result<Status, Stop>
+pub(crate) fn run_turn<H: Host>(alloc: Global, host: &mut H, job: &Job) -> Result<Status, RunError>
     requires deed { (deed : Deed) × (deed_of job.now ≡ Some deed) }
     requires fits { FitsJob job.now }
     ensures goes { (deed : Deed) → deed_of job.now ≡ Some deed → Goes H.world H.tells result host.old host.new (Does deed) }
     ensures done { IfOk result (λ status. (status ≡ Status.Done) ⊎ (status ≡ Status.Refused)) }
-    ensures cause { CountsStop result (H.faults host.old) (H.faults host.new) }
+    ensures cause { CountsRun result (H.faults host.old) (H.faults host.new) }
 {
     let taken = settled(take_turn(alloc, host, job))?;
     say_taken(alloc, host, taken)
@@ -155,11 +153,11 @@ pub(crate) fn run_plan<H: Host>(
     host: &mut H,
     keep: u32,
     files: &[Name],
-) -> Result<Status, Stop>
+) -> Result<Status, RunError>
     requires few { length files.now < 2 ^ 32 }
     ensures goes { Goes H.world H.tells result host.old host.new (Does (ToPlan keep files.now)) }
     ensures done { IfOk result (λ status. (status ≡ Status.Done) ⊎ (status ≡ Status.Refused)) }
-    ensures cause { CountsStop result (H.faults host.old) (H.faults host.new) }
+    ensures cause { CountsRun result (H.faults host.old) (H.faults host.new) }
 {
     let taken = settled(planned(alloc, host, keep, files))?;
     say_taken(alloc, host, taken)

@@ -2,7 +2,7 @@ use Rattle.std.proofs.Common.{ap, refl, subst, sym}
 use Rattle.std.specs.Prelude.{Bool, Ok, Err}
 use Rattle.nb_host.specs.declared.faults.Fault.TheVariants.{Refused, Device, Memory}
 use Rattle.nb_sched.specs.Turns.{scene}
-use Rattle.nb_session.specs.declared.stop.Stop.TheVariants.{Device as DeviceStop, Memory as MemoryStop}
+use Rattle.nb_host.specs.declared.faults.RunError.TheVariants.{Device as DeviceError, Memory as MemoryError}
 use Rattle.nb_session.specs.Askers.{first_askers}
 use Rattle.nb_session.specs.Todo.{PlaysInTurn}
 use Rattle.nb_session.proofs.WholeLaws.{turns_as, first_ready, whole_shown, whole_played, whole_failed, whole_grows, whole_counts, never_refused}
@@ -42,7 +42,7 @@ returns-in-Err-Device-clause-plays g c tells =
     let after = (scene c.take_turns.new.agents c.take_turns.new.host c.take_turns.new.shared) in
     let turns = (turns_as g.H.Host.tells g.H.Host.world g.H.Host.faults c.args.script.now.schedule _ (first_askers c.args.told c.args.script.now) _ whole.0 c.args.host.now c.args.engine.now (Err Device) _ _ c.schedule.ensures c.sessions_of-all.ensures (ap Err c.in-Err-Device.field-0-is) whole.1) in (
       whole_shown g.H.Host.tells tells g.H.Host.world g.H.Host.faults c.args.host.now c.args.engine.now c.args.told c.args.script.now c.requires.askable whole.0 (g.met.H.Host.timely c.args.host.now) (Err Device) after turns,
-      λ now t ready begins making foretold. whole_failed g.H.Host.tells tells g.H.Host.world g.H.Host.faults c.args.host.now c.args.engine.now c.args.told c.args.script.now c.requires.askable whole.0 (g.met.H.Host.timely c.args.host.now) t now making ready begins after Device turns DeviceStop (λ refused. refl) foretold,
+      λ now t ready begins making foretold. whole_failed g.H.Host.tells tells g.H.Host.world g.H.Host.faults c.args.host.now c.args.engine.now c.args.told c.args.script.now c.requires.askable whole.0 (g.met.H.Host.timely c.args.host.now) t now making ready begins after Device turns DeviceError (λ refused. refl) foretold,
     )
 
 pub returns-in-Err-Device-clause-grows : goal.returns-in-Err-Device-clause-grows
@@ -64,7 +64,7 @@ returns-in-Err-Memory-clause-plays g c tells =
     let after = (scene c.take_turns.new.agents c.take_turns.new.host c.take_turns.new.shared) in
     let turns = (turns_as g.H.Host.tells g.H.Host.world g.H.Host.faults c.args.script.now.schedule _ (first_askers c.args.told c.args.script.now) _ whole.0 c.args.host.now c.args.engine.now (Err Memory) _ _ c.schedule.ensures c.sessions_of-all.ensures (ap Err c.in-Err-Memory.field-0-is) whole.1) in (
       whole_shown g.H.Host.tells tells g.H.Host.world g.H.Host.faults c.args.host.now c.args.engine.now c.args.told c.args.script.now c.requires.askable whole.0 (g.met.H.Host.timely c.args.host.now) (Err Memory) after turns,
-      λ now t ready begins making foretold. whole_failed g.H.Host.tells tells g.H.Host.world g.H.Host.faults c.args.host.now c.args.engine.now c.args.told c.args.script.now c.requires.askable whole.0 (g.met.H.Host.timely c.args.host.now) t now making ready begins after Memory turns MemoryStop (λ refused. refl) foretold,
+      λ now t ready begins making foretold. whole_failed g.H.Host.tells tells g.H.Host.world g.H.Host.faults c.args.host.now c.args.engine.now c.args.told c.args.script.now c.requires.askable whole.0 (g.met.H.Host.timely c.args.host.now) t now making ready begins after Memory turns MemoryError (λ refused. refl) foretold,
     )
 
 pub returns-in-Err-Memory-clause-grows : goal.returns-in-Err-Memory-clause-grows
