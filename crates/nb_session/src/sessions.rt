@@ -15,7 +15,7 @@ ghost use Rattle.nb_session.specs.Todo.{PlaysInTurn};
 use crate::session::Session;
 use crate::told::Told;
 use nb_engine::Engine;
-use nb_host::{Fault, Host, RunError};
+use nb_host::{Host, RunError};
 use nb_script::Script;
 use std::alloc::Global;
 
@@ -72,12 +72,8 @@ fn play<H: Host>(
 {
     let mut all = sessions_of(alloc, script, told);
     let sessions: &mut [Session<'_>] = &mut all;
-    match nb_sched::take_turns(sessions, host, engine, script.schedule()) {
-        Ok(()) => Ok(any_refused(sessions)),
-        Err(Fault::Device) => Err(RunError::Device),
-        Err(Fault::Memory) => Err(RunError::Memory),
-        Err(Fault::Refused(_)) => unreachable!(),
-    }
+    nb_sched::take_turns(sessions, host, engine, script.schedule())?;
+    Ok(any_refused(sessions))
 }
 
 /// Plays a script on the open database, all but its first statement, to the end of every session, and says so much of it; then it writes
@@ -102,8 +98,6 @@ pub fn take_turns<H: Host>(
     ensures cause { CountsRun result (H.faults host.old) (H.faults host.new) }
 {
     let refused = play(alloc, host, engine, script, told)?;
-    match engine.write_out(host) {
-        Ok(()) => Ok(refused),
-        Err(_) => Err(RunError::Device),
-    }
+    engine.write_out(host)?;
+    Ok(refused)
 }

@@ -51,23 +51,6 @@ pub fn settled<T>(answer: Result<T, Fault>) -> Result<Result<T, Refusal>, RunErr
     }
 }
 
-/// Says the line of a reply.
-pub fn say_line<H: Host>(
-    alloc: Global,
-    host: &mut H,
-    session: u32,
-    reply: &Reply,
-) -> Result<(), RunError>
-    ensures line { IsTrue H.tells → SaysLine result (H.world host.old) (H.world host.new) (line_text session reply.now) }
-    ensures gave { GaveNothing (H.world host.old) (H.world host.new) }
-    ensures cause { CountsRun result (H.faults host.old) (H.faults host.new) }
-{
-    match settled(say(alloc, host, session, reply))? {
-        Ok(()) => Ok(()),
-        Err(_) => unreachable!(),
-    }
-}
-
 /// Says a refusal, which ends the job.
 pub fn refuse<H: Host>(
     alloc: Global,
@@ -80,7 +63,7 @@ pub fn refuse<H: Host>(
     ensures gave { GaveNothing (H.world host.old) (H.world host.new) }
     ensures cause { CountsRun result (H.faults host.old) (H.faults host.new) }
 {
-    say_line(alloc, host, session, &Reply::Refused { refusal })?;
+    say(alloc, host, session, &Reply::Refused { refusal })?;
     Ok(Status::Refused)
 }
 
@@ -134,7 +117,7 @@ fn say_opened<H: Host>(
         Telling::Quietly | Telling::WithSize | Telling::Sparingly => Ok(()),
         Telling::All => {
             let reply = first_reply(script.first(), engine.count(), engine.store().state());
-            say_line(alloc, host, script.first_session(), &reply)
+            say(alloc, host, script.first_session(), &reply)
         }
     }
 }

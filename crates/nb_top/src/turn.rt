@@ -13,7 +13,7 @@ ghost use Rattle.nb_top.specs.Requests.{Deed, Does, FitsJob, ToPlan, deed_of};
 ghost use Rattle.nb_top.specs.Served.{Serves, reply_told, status_told};
 
 use crate::Status;
-use crate::script::{refuse, say_line, settled};
+use crate::script::{refuse, settled};
 use nb_catalog::{named, plan_files};
 use nb_fixup::fix_up;
 use nb_fold::fold;
@@ -22,6 +22,7 @@ use nb_inplace::apply;
 use nb_level::LevelHead;
 use nb_model::{Job, Reply};
 use nb_restore::restore;
+use nb_session::say;
 use std::alloc::Global;
 
 /// Restores a chain of 1 to 10 backup files into a new database, and answers how many pages that has.
@@ -128,7 +129,7 @@ fn say_taken<H: Host>(
 {
     match taken {
         Ok(reply) => {
-            say_line(alloc, host, 1, &reply)?;
+            say(alloc, host, 1, &reply)?;
             Ok(Status::Done)
         }
         Err(refusal) => refuse(alloc, host, 1, refusal),

@@ -2,6 +2,7 @@ use Rattle.std.proofs.Common.{◌≡◌, ◌-◌, ℕ, refl, sym, ap, subst}
 use Rattle.std.specs.Prelude.{Ok, Err, None}
 use Rattle.nb_host.specs.declared.faults.Fault.{Fault}
 use Rattle.nb_host.specs.declared.faults.Fault.TheVariants.{Refused, Device, Memory}
+use Rattle.nb_host.specs.declared.faults.RunError.TheVariants.{Device as DeviceError, Memory as MemoryError}
 use Rattle.nb_model.specs.declared.reply.Reply.TheVariants.{Level}
 use Rattle.nb_model.specs.Backups.{close_backup}
 use Rattle.nb_model.specs.Outcomes.{Given, ClosesBackup, next_time}
@@ -119,7 +120,7 @@ returns-in-Err-Device-clause-turn g c how now t more tells ready makes here goes
     turns_failed how (λ progress. None) (Err Device) left_refused (left_task _) old mid mid a b t now session (copy_first rest (ClosesBackup copier.backing)) (copy_rest rest (ClosesBackup copier.backing)) more _ (backup_files old mid a b t now session copier later ready goes.0 goes.1 c.in-Err-Device.ensures.goes) makes here
     (turn_acts old mid a b t now session copier later ready goes.0 goes.1 c.in-Err-Device.ensures.goes (g.met.H.Host.reads_left c.args.host.now tells copier.backing.name) (Err Device) turns asked.0 asked.1 tt)
     (marks_made (λ progress. None) (Err Device) old mid a b t now session (copy_first rest (ClosesBackup copier.backing)) _ (apart_one a copier.backing.name _ goes.1) (g.met.H.Host.reads_left c.turn.new.host tells))
-    (Err Device) refl
+    (Err DeviceError) refl
 
 pub returns-in-Err-Memory-clause-turn : goal.returns-in-Err-Memory-clause-turn
 returns-in-Err-Memory-clause-turn g c how now t more tells ready makes here goes =
@@ -139,4 +140,4 @@ returns-in-Err-Memory-clause-turn g c how now t more tells ready makes here goes
     turns_failed how (λ progress. None) (Err Memory) left_refused (left_task _) old mid mid a b t now session (copy_first rest (ClosesBackup copier.backing)) (copy_rest rest (ClosesBackup copier.backing)) more _ (backup_files old mid a b t now session copier later ready goes.0 goes.1 c.in-Err-Memory.ensures.goes) makes here
     (turn_acts old mid a b t now session copier later ready goes.0 goes.1 c.in-Err-Memory.ensures.goes (g.met.H.Host.reads_left c.args.host.now tells copier.backing.name) (Err Memory) turns asked.0 asked.1 tt)
     (marks_made (λ progress. None) (Err Memory) old mid a b t now session (copy_first rest (ClosesBackup copier.backing)) _ (apart_one a copier.backing.name _ goes.1) (g.met.H.Host.reads_left c.turn.new.host tells))
-    (Err Memory) refl
+    (Err MemoryError) refl
