@@ -137,7 +137,8 @@ pub fn put_page<H: Host>(
 {
     stamp(page, kind.code(), store.scn(), number);
     raise_entry(store, host, number, scn_page)?;
-    store.write(host, number, page)
+    store.write(host, number, page)?;
+    Ok(())
 }
 
 /// Makes the system page of that place, unless a page of its kind stands there. The refusal is `NotDatabase` of its SCN page.

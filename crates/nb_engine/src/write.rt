@@ -68,7 +68,8 @@ impl Engine {
         }
         check_write(self.store.is_read_only(), text)?;
         raise_entry(&mut self.store, host, number, &mut self.scn_page)?;
-        write_raw(&mut self.store, host, number, text, &mut self.page)
+        write_raw(&mut self.store, host, number, text, &mut self.page)?;
+        Ok(())
     }
 
     /// The text of page `number`, a taken raw page. It takes three reads at most, and no memory.

@@ -1,4 +1,5 @@
 ghost use Rattle.std.specs.Prelude.{◌≡◌};
+ghost use Rattle.nb_host.specs.Faults.{as_fault};
 ghost use Rattle.nb_host.specs.declared.faults.Fault.TheVariants.{Device, Memory};
 ghost use Rattle.nb_host.specs.declared.faults.RunError.TheVariants.{Device as DeviceError, Memory as MemoryError};
 
@@ -47,6 +48,17 @@ impl From<AllocError> for RunError {
 
     fn from(_: AllocError) -> Self {
         RunError::Memory
+    }
+}
+
+impl From<RunError> for Fault {
+    ghost from_gives = { λ error fault. fault ≡ as_fault error };
+
+    fn from(error: RunError) -> Self {
+        match error {
+            RunError::Device => Fault::Device,
+            RunError::Memory => Fault::Memory,
+        }
     }
 }
 

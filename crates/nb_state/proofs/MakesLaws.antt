@@ -7,6 +7,9 @@ use Rattle.nb_host.specs.Calls.{IsStill}
 use Rattle.nb_host.specs.World.{World}
 use Rattle.nb_host.specs.declared.faults.Fault.{Fault}
 use Rattle.nb_host.specs.declared.faults.Fault.TheVariants.{Refused, Device, Memory}
+use Rattle.nb_host.specs.declared.faults.RunError.{RunError}
+use Rattle.nb_host.specs.declared.faults.RunError.TheVariants.{Device as DeviceError, Memory as MemoryError}
+use Rattle.nb_host.specs.Faults.{as_fault}
 use Rattle.nb_page.specs.Quiet.{Quiet}
 use Rattle.nb_change.specs.Gave.{GaveNothing}
 use Rattle.nb_change.proofs.ChangesLaws.{rested}
@@ -72,6 +75,11 @@ pub never_ended : (T : Type 0) (fault : Fault) (P : Type 0) → IsNoRefusal faul
 never_ended T (Refused refusal) P is = absurd is
 never_ended T Device P is = tt
 never_ended T Memory P is = tt
+
+-- what can't be refused was not
+pub none_refused : (error : RunError) → IsNoRefusal (as_fault error)
+none_refused DeviceError = tt
+none_refused MemoryError = tt
 
 pub never_refused : {T : Type 0} (result : Result T Fault) (P : Type 0) → IfErr result IsNoRefusal → WhereRefused result P
 never_refused (Ok value) P is = tt
