@@ -2,7 +2,7 @@
 ghost use Rattle.std.specs.Prelude.{◌≡◌, ◌≢◌, ◌+◌, ◌<◌, ◌≤◌, ◌++◌, IsTrue, IfErr, IfOk, OnOk, None, length, take, drop};
 ghost use Rattle.nb_fields.specs.Places.{is_page_size};
 ghost use Rattle.nb_host.specs.declared.faults.Fault.TheVariants.{Memory};
-ghost use Rattle.nb_host.specs.Causes.{CountsDevice};
+ghost use Rattle.nb_host.specs.Causes.{CountsDevice, CountsFault};
 ghost use Rattle.nb_page.specs.Quiet.{Quiet};
 ghost use Rattle.nb_model.specs.Causes.{not_kind, lowest_broken};
 ghost use Rattle.nb_model.specs.Forms.{drafted, give_page};
@@ -10,7 +10,7 @@ ghost use Rattle.nb_model.specs.Sound.{IsSoundImage};
 ghost use Rattle.nb_model.specs.Trail.{Trail};
 ghost use Rattle.nb_base.specs.Takes.{IsNoRefusal};
 ghost use Rattle.nb_state.specs.Open.{IsOpen, but_pages};
-ghost use Rattle.nb_state.specs.Does.{Tested, Goes};
+ghost use Rattle.nb_state.specs.Does.{Goes};
 ghost use Rattle.nb_alloc.specs.Behind.{entry_broken, give_broken};
 ghost use Rattle.nb_alloc.specs.Find.{need_cause};
 ghost use Rattle.nb_alloc.specs.Data.{not_data, put_data, data_cause};
@@ -22,7 +22,7 @@ use crate::Engine;
 use nb_alloc::{ScnPage, find_lacking, is_there, lower_page, mark, put_page, take_system};
 use nb_fields::PageKind;
 use nb_fields::layouts::data;
-use nb_host::{Fault, Host, Refusal};
+use nb_host::{Fault, Host, HostFault, Refusal};
 use nb_pip::{covers, place_of};
 use nb_state::Store;
 
@@ -158,18 +158,19 @@ impl Engine {
         )
     }
 
-    /// The SCN page that writing page `number` changes, where that isn't of its kind. It changes nothing but which pages are in memory,
-    /// refuses nothing, and wants no memory.
-    pub fn data_ready<H: Host>(&mut self, host: &mut H, number: u32) -> Result<Option<u32>, Fault>
+    /// The SCN page that writing page `number` changes, where that isn't of its kind. It changes nothing but which pages are in memory.
+    pub fn data_ready<H: Host>(
+        &mut self,
+        host: &mut H,
+        number: u32,
+    ) -> Result<Option<u32>, HostFault>
         requires low { 0 < number }
         requires high { number < 1048576 }
-        ensures test { Tested result None }
         ensures value { (t : Trail) → IsTrue H.tells → IsOpen (H.world host.old) self.old t → IfOk result (λ lacking. need_cause lacking ≡ lowest_broken (entry_broken t.base.image number)) }
         ensures open { (t : Trail) → IsTrue H.tells → IsOpen (H.world host.old) self.old t → IsOpen (H.world host.new) self.new t }
         ensures same { but_pages self.new ≡ but_pages self.old }
         ensures quiet { Quiet (H.world host.old) (H.world host.new) }
-        ensures cause { CountsDevice result (H.faults host.old) (H.faults host.new) }
-        ensures takes_none { IfErr result (λ fault. fault ≢ Memory) }
+        ensures cause { CountsFault result (H.faults host.old) (H.faults host.new) }
     {
         find_lacking(
             &mut self.store,
@@ -181,16 +182,18 @@ impl Engine {
     }
 
     /// The lowest page that isn't of its kind, of those that giving page `number` back changes: its inventory page, and the SCN page of that. It
-    /// changes nothing but which pages are in memory, refuses nothing, and wants no memory.
-    pub fn free_ready<H: Host>(&mut self, host: &mut H, number: u32) -> Result<Option<u32>, Fault>
+    /// changes nothing but which pages are in memory.
+    pub fn free_ready<H: Host>(
+        &mut self,
+        host: &mut H,
+        number: u32,
+    ) -> Result<Option<u32>, HostFault>
         requires high { number < 1048576 }
-        ensures test { Tested result None }
         ensures value { (t : Trail) → IsTrue H.tells → IsOpen (H.world host.old) self.old t → IfOk result (λ lacking. need_cause lacking ≡ lowest_broken (give_broken t.base.image number)) }
         ensures open { (t : Trail) → IsTrue H.tells → IsOpen (H.world host.old) self.old t → IsOpen (H.world host.new) self.new t }
         ensures same { but_pages self.new ≡ but_pages self.old }
         ensures quiet { Quiet (H.world host.old) (H.world host.new) }
-        ensures cause { CountsDevice result (H.faults host.old) (H.faults host.new) }
-        ensures takes_none { IfErr result (λ fault. fault ≢ Memory) }
+        ensures cause { CountsFault result (H.faults host.old) (H.faults host.new) }
     {
         let page_size = self.store.page_size();
         let (k, _) = covers(page_size, number);
