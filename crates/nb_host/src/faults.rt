@@ -51,6 +51,14 @@ impl From<AllocError> for RunError {
     }
 }
 
+impl<T: Drop> From<AllocFailed<T>> for RunError {
+    ghost from_gives = { λ _ error. error ≡ MemoryError };
+
+    fn from(_: AllocFailed<T>) -> Self {
+        RunError::Memory
+    }
+}
+
 impl From<RunError> for Fault {
     ghost from_gives = { λ error fault. fault ≡ as_fault error };
 
