@@ -4,6 +4,7 @@ use Rattle.std.specs.Prelude.{Bool, false, Result, Ok, Err}
 use Rattle.nb_host.specs.World.{World}
 use Rattle.nb_host.specs.Crash.{LeavesAll}
 use Rattle.nb_host.specs.Moments.{IsTimely}
+use Rattle.nb_host.specs.declared.faults.RunError.{RunError}
 use Rattle.nb_change.proofs.MomentLaws.{weaker}
 use Rattle.nb_model.specs.Making.{MadeFile}
 use Rattle.nb_model.specs.Run.{Now, Played, one_turn, play}
@@ -11,7 +12,6 @@ use Rattle.nb_model.specs.Steps.{steps_of, after_steps}
 use Rattle.nb_model.specs.Trail.{Trail}
 use Rattle.nb_base.specs.Open.{OfFiles}
 use Rattle.nb_state.specs.Open.{Held, name_of}
-use Rattle.nb_host.specs.declared.faults.RunError.{RunError}
 use Rattle.nb_session.specs.declared.told.Told.{Told}
 use Rattle.nb_session.specs.Acts.{Touched}
 use Rattle.nb_session.specs.ByTurns.{ByTurns, OfLast, StillInLast, GoesByTurns}

@@ -12,6 +12,7 @@ use Rattle.nb_host.specs.Calls.{IsStill}
 use Rattle.nb_host.specs.Moments.{AtEachMoment}
 use Rattle.nb_host.specs.declared.faults.Fault.{Fault}
 use Rattle.nb_host.specs.declared.faults.Fault.TheVariants.{Refused, Device, Memory}
+use Rattle.nb_host.specs.declared.faults.RunError.{RunError}
 use Rattle.nb_change.proofs.ChangesLaws.{left_with}
 use Rattle.nb_change.proofs.MomentLaws.{joined, weaker, left_before, untouched_joined, untouched_fewer}
 use Rattle.nb_change.proofs.NameLaws.{with_file-same}
@@ -33,7 +34,6 @@ use Rattle.nb_gather.specs.Making.{IsKept, IsUnfinishedOr}
 use Rattle.nb_state.specs.Open.{Held, IsOpen, name_of}
 use Rattle.nb_state.specs.Does.{WhereEnded}
 use Rattle.nb_state.proofs.MakesLaws.{still_open}
-use Rattle.nb_host.specs.declared.faults.RunError.{RunError}
 use Rattle.nb_session.specs.declared.told.Told.{Told}
 use Rattle.nb_session.specs.Acts.{AreKept, Acts}
 use Rattle.nb_session.specs.Ready.{IsReady, IsApart}

@@ -2,6 +2,7 @@
 use Rattle.std.proofs.Common.{◌≡◌, inl, inr, ℕ, List, [], ◌∷◌, ◌++◌, refl, ap, subst, ◌∙◌}
 use Rattle.std.specs.Prelude.{Err}
 use Rattle.nb_host.specs.World.{World}
+use Rattle.nb_host.specs.declared.faults.RunError.{RunError}
 use Rattle.nb_model.specs.Making.{MadeFile}
 use Rattle.nb_model.specs.Run.{Now, Played, one_turn, play}
 use Rattle.nb_model.specs.Steps.{steps_of, after_steps}
@@ -9,7 +10,6 @@ use Rattle.nb_model.specs.Trail.{Trail}
 use Rattle.nb_model.proofs.StepsLaws.{steps_append, after_steps_append}
 use Rattle.nb_model.proofs.TodoLaws.{one_turn_idle}
 use Rattle.nb_state.specs.Open.{Held}
-use Rattle.nb_host.specs.declared.faults.RunError.{RunError}
 use Rattle.nb_session.specs.declared.told.Told.{Told}
 use Rattle.nb_session.specs.InTurn.{HasNone, TakesOne, InTurn, EndsBy}
 use Rattle.nb_session.specs.Steps.{touching_by}

@@ -7,6 +7,7 @@ use Rattle.nb_change.proofs.NameLaws.{decide}
 use Rattle.nb_host.specs.Names.{is_delta}
 use Rattle.nb_host.specs.World.{World}
 use Rattle.nb_host.specs.declared.faults.HostFault.{HostFault}
+use Rattle.nb_host.specs.declared.faults.RunError.{RunError}
 use Rattle.nb_change.specs.Gave.{GaveNothing}
 use Rattle.nb_change.proofs.MomentLaws.{weaker, untouched_fewer}
 use Rattle.nb_page.specs.Free.{is_free_name}
@@ -22,7 +23,6 @@ use Rattle.nb_model.proofs.StandsLaws.{delta_named, delta_same}
 use Rattle.nb_model.proofs.StepsLaws.{after_no_step, acked_steps_none}
 use Rattle.nb_base.specs.Takes.{Strikes, Takes}
 use Rattle.nb_state.specs.Open.{Held, IsOpen, but_pages, name_of}
-use Rattle.nb_host.specs.declared.faults.RunError.{RunError}
 use Rattle.nb_session.specs.declared.told.Told.{Told}
 use Rattle.nb_session.specs.Ready.{IsReady}
 use Rattle.nb_session.specs.Stops.{Plays}

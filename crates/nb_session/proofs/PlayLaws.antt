@@ -10,6 +10,7 @@ use Rattle.nb_host.specs.Files.{File}
 use Rattle.nb_host.specs.World.{World}
 use Rattle.nb_host.specs.Crash.{Leaves, Untouched}
 use Rattle.nb_host.specs.Moments.{IsTimely, AtEachMoment}
+use Rattle.nb_host.specs.declared.faults.RunError.{RunError}
 use Rattle.nb_change.specs.Changes.{Other}
 use Rattle.nb_change.proofs.MomentLaws.{started, joined, weaker, untouched_joined, untouched_fewer, untouched_begun}
 use Rattle.nb_model.specs.Making.{MadeFile, AreAmong, IsNoneOf, NamesOnce}
@@ -24,7 +25,6 @@ use Rattle.nb_model.proofs.StepsLaws.{steps_none, steps_append, after_steps_appe
 use Rattle.nb_model.proofs.StatusLaws.{status_or}
 use Rattle.nb_gather.specs.Making.{IsKept}
 use Rattle.nb_state.specs.Open.{Held, name_of}
-use Rattle.nb_host.specs.declared.faults.RunError.{RunError}
 use Rattle.nb_session.specs.Acts.{Touched, AreKept}
 use Rattle.nb_session.specs.Ready.{IsReady}
 use Rattle.nb_state.specs.Does.{has_only_told}

@@ -7,10 +7,12 @@ use Rattle.nb_host.specs.World.{World}
 use Rattle.nb_host.specs.declared.faults.Fault.{Fault}
 use Rattle.nb_host.specs.declared.faults.Fault.TheVariants.{Refused}
 use Rattle.nb_host.specs.declared.refusals.Refusal.{Refusal}
+use Rattle.nb_host.specs.Causes.{CountsRun}
+use Rattle.nb_host.specs.declared.faults.RunError.{RunError}
+use Rattle.nb_host.specs.declared.faults.RunError.TheVariants.{Device as DeviceError, Memory as MemoryError}
 use Rattle.nb_model.specs.declared.reply.Reply.{Reply}
 use Rattle.nb_model.specs.declared.reply.Reply.TheVariants.{Refused as RefusedBy}
 use Rattle.nb_model.specs.declared.statement.Statement.{Statement}
-use Rattle.nb_host.specs.Causes.{CountsRun}
 use Rattle.nb_model.specs.Gifts.{Foretells}
 use Rattle.nb_model.specs.Going.{IsMaking}
 use Rattle.nb_model.specs.Lines.{line_text}
@@ -25,8 +27,6 @@ use Rattle.nb_model.proofs.TodoLaws.{IsSingle}
 use Rattle.nb_model.proofs.UsageLaws.{never_usage}
 use Rattle.nb_state.specs.Open.{Held}
 use Rattle.nb_change.proofs.ResultLaws.{passed_on}
-use Rattle.nb_host.specs.declared.faults.RunError.{RunError}
-use Rattle.nb_host.specs.declared.faults.RunError.TheVariants.{Device as DeviceError, Memory as MemoryError}
 use Rattle.nb_session.specs.declared.task.Left.{Left}
 use Rattle.nb_session.specs.declared.task.Task.{Task}
 use Rattle.nb_session.specs.declared.task.Taken.{Taken}

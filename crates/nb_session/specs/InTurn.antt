@@ -5,11 +5,11 @@
 use Rattle.std.specs.Prelude.{◌≡◌, ◌⊎◌, ℕ, ◌-◌, List, [], ◌∷◌, ◌++◌, Bool, true, false, Result, Ok, Err}
 use Rattle.std.specs.List.{list_all, slice_index_or}
 use Rattle.nb_host.specs.World.{World}
+use Rattle.nb_host.specs.declared.faults.RunError.{RunError}
 use Rattle.nb_model.specs.Run.{Now, one_turn, play}
 use Rattle.nb_model.specs.Steps.{steps_of, after_steps}
 use Rattle.nb_model.specs.Trail.{Trail}
 use Rattle.nb_state.specs.Open.{Held}
-use Rattle.nb_host.specs.declared.faults.RunError.{RunError}
 use Rattle.nb_session.specs.declared.told.Told.{Told}
 use Rattle.nb_session.specs.Replies.{only_told}
 use Rattle.nb_session.specs.Steps.{touching_by}

@@ -5,6 +5,7 @@ use Rattle.nb_host.specs.Files.{File, Files}
 use Rattle.nb_host.specs.World.{World}
 use Rattle.nb_host.specs.Crash.{Leaves, Untouched}
 use Rattle.nb_host.specs.Moments.{AtEachMoment}
+use Rattle.nb_host.specs.declared.faults.RunError.{RunError}
 use Rattle.nb_change.specs.Changes.{Other}
 use Rattle.nb_model.specs.Gifts.{WasGiven}
 use Rattle.nb_model.specs.Making.{MadeFile}
@@ -15,7 +16,6 @@ use Rattle.nb_model.specs.Trail.{Trail, StandsIn}
 use Rattle.nb_base.specs.Open.{OfFiles}
 use Rattle.nb_state.specs.Open.{Held, name_of}
 use Rattle.nb_gather.specs.Making.{IsUnfinishedOr}
-use Rattle.nb_host.specs.declared.faults.RunError.{RunError}
 use Rattle.nb_session.specs.Acts.{Touched, MadeLeft, AreKept}
 use Rattle.nb_session.specs.Replies.{only_told}
 use Rattle.nb_session.specs.Ready.{IsReady}

@@ -4,8 +4,8 @@ use Rattle.nb_model.specs.NewGuids.{guids_in}
 use Rattle.nb_model.specs.Run.{Now, play, rounds, strokes_of, files_made, AreFinished}
 use Rattle.nb_model.specs.Trail.{Trail}
 use Rattle.nb_host.specs.World.{World}
-use Rattle.nb_state.specs.Open.{Held}
 use Rattle.nb_host.specs.declared.faults.RunError.{RunError}
+use Rattle.nb_state.specs.Open.{Held}
 use Rattle.nb_session.specs.declared.told.Told.{Told}
 use Rattle.nb_session.specs.InTurn.{RunsInTurn}
 use Rattle.nb_session.specs.Stops.{Plays}

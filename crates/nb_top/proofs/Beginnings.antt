@@ -8,6 +8,7 @@ use Rattle.nb_host.specs.declared.faults.Fault.{Fault}
 use Rattle.nb_host.specs.declared.faults.Fault.TheVariants.{Refused}
 use Rattle.nb_host.specs.declared.refusals.Refusal.{Refusal}
 use Rattle.nb_host.specs.declared.refusals.Refusal.TheVariants.{Usage}
+use Rattle.nb_host.specs.declared.faults.RunError.{RunError}
 use Rattle.nb_change.specs.Changes.{Other}
 use Rattle.nb_change.specs.Gave.{GaveNothing}
 use Rattle.nb_page.specs.Quiet.{Quiet}
@@ -26,7 +27,6 @@ use Rattle.nb_base.specs.Open.{OfFiles}
 use Rattle.nb_state.specs.Open.{Held, NoPageWaits, name_of}
 use Rattle.nb_script.specs.Asked.{IsAskable}
 use Rattle.nb_script.specs.Scripts.{Plan}
-use Rattle.nb_host.specs.declared.faults.RunError.{RunError}
 use Rattle.nb_session.specs.Ready.{IsReady}
 use Rattle.nb_session.specs.Says.{SaysLine}
 use Rattle.nb_top.specs.declared.status.Status.{Status}

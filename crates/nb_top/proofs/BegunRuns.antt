@@ -6,6 +6,7 @@ use Rattle.nb_host.specs.Files.{Files}
 use Rattle.nb_host.specs.World.{World}
 use Rattle.nb_host.specs.Crash.{Leaves, Untouched}
 use Rattle.nb_host.specs.Moments.{AtEachMoment, IsTimely}
+use Rattle.nb_host.specs.declared.faults.RunError.{RunError}
 use Rattle.nb_change.specs.Changes.{Other}
 use Rattle.nb_change.specs.Gave.{GaveNothing}
 use Rattle.nb_change.proofs.MomentLaws.{joined, left_before}
@@ -26,7 +27,6 @@ use Rattle.nb_state.specs.Open.{Held, NoPageWaits, IsOpen, name_of}
 use Rattle.nb_state.proofs.ShownLaws.{shown}
 use Rattle.nb_script.specs.Asked.{IsAskable}
 use Rattle.nb_script.specs.Scripts.{Plan}
-use Rattle.nb_host.specs.declared.faults.RunError.{RunError}
 use Rattle.nb_session.specs.Acts.{Touched}
 use Rattle.nb_state.specs.Does.{only_tells}
 use Rattle.nb_session.specs.Replies.{only_told}

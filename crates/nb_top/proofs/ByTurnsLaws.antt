@@ -6,6 +6,7 @@ use Rattle.nb_host.specs.Crash.{LeavesAll}
 use Rattle.nb_host.specs.Moments.{IsTimely}
 use Rattle.nb_host.specs.declared.refusals.Refusal.{Refusal}
 use Rattle.nb_host.specs.declared.refusals.Refusal.TheVariants.{FileExists}
+use Rattle.nb_host.specs.declared.faults.RunError.{RunError}
 use Rattle.nb_change.specs.Changes.{Only}
 use Rattle.nb_page.specs.Quiet.{Quiet}
 use Rattle.nb_model.specs.Account.{Plain, Account, with_entry}
@@ -24,7 +25,6 @@ use Rattle.nb_session.specs.Says.{SaysLine}
 use Rattle.nb_session.specs.Stops.{Plays}
 use Rattle.nb_session.specs.Todo.{PlaysInTurn}
 use Rattle.nb_session.specs.Told.{told_events}
-use Rattle.nb_host.specs.declared.faults.RunError.{RunError}
 use Rattle.nb_session.specs.declared.told.Told.{Told}
 use Rattle.nb_session.proofs.ByTurnsLaws.{goes_by}
 use Rattle.nb_session.proofs.OthersLaws.{leaves_line, leaves_quiet, leaves_then}

@@ -14,6 +14,7 @@ use Rattle.nb_host.specs.declared.faults.Fault.{Fault}
 use Rattle.nb_host.specs.declared.faults.Fault.TheVariants.{Refused}
 use Rattle.nb_host.specs.declared.refusals.Refusal.{Refusal}
 use Rattle.nb_host.specs.declared.refusals.Refusal.TheVariants.{FileExists, Usage}
+use Rattle.nb_host.specs.declared.faults.RunError.{RunError}
 use Rattle.nb_change.specs.Changes.{ChangedLeft, Only}
 use Rattle.nb_change.proofs.MomentLaws.{weaker, untouched_fewer}
 use Rattle.nb_page.specs.Free.{is_free_name}
@@ -45,7 +46,6 @@ use Rattle.nb_state.specs.Open.{Held, IsOpen}
 use Rattle.nb_script.specs.Asked.{IsAskable}
 use Rattle.nb_script.specs.Fits.{FitsFirst}
 use Rattle.nb_script.specs.Scripts.{Plan}
-use Rattle.nb_host.specs.declared.faults.RunError.{RunError}
 use Rattle.nb_session.specs.Acts.{MadeLeft}
 use Rattle.nb_session.specs.Stops.{IsSaid}
 use Rattle.nb_session.proofs.OthersLaws.{leaves_among, leaves_changes}

@@ -10,6 +10,7 @@ use Rattle.nb_host.specs.Crash.{Leaves, LeavesAll}
 use Rattle.nb_host.specs.Moments.{IsTimely, AtEachMoment}
 use Rattle.nb_host.specs.declared.refusals.Refusal.{Refusal}
 use Rattle.nb_host.specs.declared.refusals.Refusal.TheVariants.{FileExists, Usage}
+use Rattle.nb_host.specs.declared.faults.RunError.{RunError}
 use Rattle.nb_change.specs.Changes.{Changes, ChangedLeft, Only, Remade}
 use Rattle.nb_change.specs.Gave.{GaveNothing}
 use Rattle.nb_change.proofs.ChangesLaws.{left_with}
@@ -40,7 +41,6 @@ use Rattle.nb_model.proofs.StepsLaws.{acked_steps_none}
 use Rattle.nb_model.proofs.StatusLaws.{status_refused}
 use Rattle.nb_gather.specs.Making.{IsKept, IsUnfinishedOr}
 use Rattle.nb_script.specs.Scripts.{Plan, script_of}
-use Rattle.nb_host.specs.declared.faults.RunError.{RunError}
 use Rattle.nb_session.specs.Says.{SaysLine}
 use Rattle.nb_gen.proofs.GeneratedScript.{creates_its_own, generated_text}
 use Rattle.nb_gen.proofs.WrittenLaws.{text_in_use}

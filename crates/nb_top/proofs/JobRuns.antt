@@ -7,6 +7,7 @@ use Rattle.nb_host.specs.Crash.{Leaves}
 use Rattle.nb_host.specs.Moments.{IsNow, IsTimely, AtEachMoment}
 use Rattle.nb_host.specs.declared.refusals.Refusal.{Refusal}
 use Rattle.nb_host.specs.declared.refusals.Refusal.TheVariants.{Usage}
+use Rattle.nb_host.specs.declared.faults.RunError.{RunError}
 use Rattle.nb_change.proofs.MomentLaws.{left_before, weaker}
 use Rattle.nb_page.specs.Quiet.{Quiet}
 use Rattle.nb_model.specs.declared.reply.Reply.TheVariants.{Refused as RefusedReply}
@@ -18,7 +19,6 @@ use Rattle.nb_model.specs.Making.{IsNoneOf}
 use Rattle.nb_model.specs.Run.{Event, files_made}
 use Rattle.nb_model.specs.Steps.{steps_of}
 use Rattle.nb_model.proofs.StatusLaws.{status_refused}
-use Rattle.nb_host.specs.declared.faults.RunError.{RunError}
 use Rattle.nb_session.specs.Says.{SaysLine}
 use Rattle.nb_top.specs.declared.status.Status.{Status}
 use Rattle.nb_top.specs.declared.status.Status.TheVariants.{Refused as RefusedStatus, Usage as UsageStatus, Device, Memory}

@@ -5,6 +5,7 @@ use Rattle.nb_host.specs.Files.{File}
 use Rattle.nb_host.specs.World.{World}
 use Rattle.nb_host.specs.declared.refusals.Refusal.{Refusal}
 use Rattle.nb_host.specs.declared.refusals.Refusal.TheVariants.{BadScript, NoFile, ScriptLong, Usage}
+use Rattle.nb_host.specs.declared.faults.RunError.{RunError}
 use Rattle.nb_page.specs.Quiet.{Quiet}
 use Rattle.nb_model.specs.declared.reply.Reply.TheVariants.{Refused as RefusedReply}
 use Rattle.nb_model.specs.Output.{status_after}
@@ -16,7 +17,6 @@ use Rattle.nb_script.specs.Lines.{left, lines_of}
 use Rattle.nb_catalog.specs.Answers.{with_first}
 use Rattle.nb_catalog.specs.NameLists.{is_next, list_of, names_on, some_names_on}
 use Rattle.nb_catalog.specs.Turns.{names_in}
-use Rattle.nb_host.specs.declared.faults.RunError.{RunError}
 use Rattle.nb_top.specs.declared.status.Status.{Status}
 use Rattle.nb_top.specs.declared.status.Status.TheVariants.{Refused}
 use Rattle.nb_top.specs.Goes.{Goes}

@@ -6,6 +6,7 @@ use Rattle.nb_fields.specs.Fresh.{fresh}
 use Rattle.nb_host.specs.World.{World}
 use Rattle.nb_host.specs.declared.faults.Fault.{Fault}
 use Rattle.nb_host.specs.declared.refusals.Refusal.{Refusal}
+use Rattle.nb_host.specs.declared.faults.RunError.{RunError}
 use Rattle.nb_change.specs.Gave.{GaveNothing}
 use Rattle.nb_page.specs.Quiet.{Quiet}
 use Rattle.nb_model.specs.declared.statement.Statement.{Statement}
@@ -16,7 +17,6 @@ use Rattle.nb_state.specs.Beginnings.{Attaches, Creates}
 use Rattle.nb_state.specs.Open.{Held}
 use Rattle.nb_script.specs.Asked.{IsFirst, IsAskable}
 use Rattle.nb_script.specs.Scripts.{Plan}
-use Rattle.nb_host.specs.declared.faults.RunError.{RunError}
 use Rattle.nb_top.specs.declared.status.Status.{Status}
 use Rattle.nb_top.specs.Performed.{cache_asked, RunsTo, Knows, KnowsOpened, MayBeGiven}
 use Rattle.nb_top.specs.declared.telling.Telling.{Telling}

@@ -7,6 +7,7 @@
 use Rattle.std.specs.Prelude.{◌≡◌, ◌⊎◌, ℕ, List, Bool, None, Some, Result, Ok, Err, IsErr}
 use Rattle.nb_host.specs.World.{World}
 use Rattle.nb_host.specs.declared.refusals.Refusal.{Refusal}
+use Rattle.nb_host.specs.declared.faults.RunError.{RunError}
 use Rattle.nb_change.specs.Changes.{Only}
 use Rattle.nb_model.specs.Account.{Plain, Account, Base, with_entry}
 use Rattle.nb_model.specs.Causes.{not_free}
@@ -19,7 +20,6 @@ use Rattle.nb_state.specs.Open.{Held}
 use Rattle.nb_script.specs.Scripts.{Plan, script_of}
 use Rattle.nb_session.specs.ByTurns.{GoesByTurns}
 use Rattle.nb_session.specs.Others.{LeavesOthers}
-use Rattle.nb_host.specs.declared.faults.RunError.{RunError}
 use Rattle.nb_top.specs.declared.status.Status.{Status}
 use Rattle.nb_top.specs.declared.status.Status.TheVariants.{Device, Memory}
 use Rattle.nb_top.specs.declared.telling.Telling.{Telling}

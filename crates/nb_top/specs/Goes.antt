@@ -1,11 +1,11 @@
 -- What is done of what is asked for, in one record for all functions that do it.
 use Rattle.std.specs.Prelude.{ℕ, List, Bool, IsTrue, Result, Ok}
 use Rattle.nb_host.specs.World.{World}
+use Rattle.nb_host.specs.declared.faults.RunError.{RunError}
 use Rattle.nb_model.specs.Account.{Account}
 use Rattle.nb_model.specs.Gifts.{Foretells}
 use Rattle.nb_model.specs.Outcomes.{Given}
 use Rattle.nb_session.specs.Acts.{Grows}
-use Rattle.nb_host.specs.declared.faults.RunError.{RunError}
 use Rattle.nb_top.specs.declared.status.Status.{Status}
 use Rattle.nb_top.specs.ByTurns.{AskedByTurns, EndsEarly}
 use Rattle.nb_top.specs.Performed.{GoesTo, KnowsAsked, MayBeGiven, Performs}

@@ -20,6 +20,7 @@ use Rattle.nb_host.specs.Moments.{AtEachMoment}
 use Rattle.nb_host.specs.declared.faults.Fault.{Fault}
 use Rattle.nb_host.specs.declared.faults.Fault.TheVariants.{Refused as RefusedFault, Device as DeviceFault, Memory as MemoryFault}
 use Rattle.nb_host.specs.declared.refusals.Refusal.{Refusal}
+use Rattle.nb_host.specs.declared.faults.RunError.{RunError}
 use Rattle.nb_change.specs.Changes.{Other}
 use Rattle.nb_page.specs.Free.{is_free_name}
 use Rattle.nb_page.specs.Quiet.{Quiet}
@@ -46,7 +47,6 @@ use Rattle.nb_base.specs.Open.{OfFiles}
 use Rattle.nb_state.specs.Open.{Held}
 use Rattle.nb_gen.specs.Texts.{generated_first}
 use Rattle.nb_script.specs.Scripts.{Plan, script_of}
-use Rattle.nb_host.specs.declared.faults.RunError.{RunError}
 use Rattle.nb_state.specs.Does.{only_tells}
 use Rattle.nb_session.specs.Replies.{is_refusal, only_told}
 use Rattle.nb_session.specs.Acts.{MadeLeft, AreKept as AreFilesKept}

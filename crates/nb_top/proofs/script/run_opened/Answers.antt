@@ -1,5 +1,6 @@
 use Rattle.std.proofs.Common.{[], ap, refl, ◌∙◌}
 use Rattle.std.specs.Prelude.{Bool, Err, IsErr}
+use Rattle.nb_host.specs.declared.faults.RunError.{RunError}
 use Rattle.nb_model.specs.Steps.{after_steps}
 use Rattle.nb_model.specs.Trail.{settled}
 use Rattle.nb_session.proofs.GiftLaws.{grows_none, grows_joined}
@@ -9,7 +10,6 @@ use Rattle.nb_top.proofs.ByTurnsLaws.{reply_said_by, reply_unsaid_by}
 use Rattle.nb_top.proofs.OpenedSaid.{opened_err, reply_unsaid, reply_said_then, ready_still}
 use Rattle.nb_top.proofs.QuietRuns.{foretold_from}
 use Rattle.nb_top.proofs.ToldLaws.{told_first_made, told_first_steps, told_output, told_status}
-use Rattle.nb_host.specs.declared.faults.RunError.{RunError}
 use Rattle.nb_top.proofs.script.run_opened.Goals as goal
 
 pub returns-in_err-say_opened-clause-plays : goal.returns-in_err-say_opened-clause-plays
