@@ -7,9 +7,7 @@ use Rattle.nb_host.specs.World.{World}
 use Rattle.nb_host.specs.declared.faults.Fault.{Fault}
 use Rattle.nb_host.specs.declared.faults.Fault.TheVariants.{Refused}
 use Rattle.nb_host.specs.declared.refusals.Refusal.{Refusal}
-use Rattle.nb_host.specs.Causes.{CountsRun}
 use Rattle.nb_host.specs.declared.faults.RunError.{RunError}
-use Rattle.nb_host.specs.declared.faults.RunError.TheVariants.{Device as DeviceError, Memory as MemoryError}
 use Rattle.nb_model.specs.declared.reply.Reply.{Reply}
 use Rattle.nb_model.specs.declared.reply.Reply.TheVariants.{Refused as RefusedBy}
 use Rattle.nb_model.specs.declared.statement.Statement.{Statement}
@@ -175,11 +173,6 @@ module _ {T : Type 0} (how : Told) (reply : T → Option Reply) (refusal : Refus
       (says_other (Err e) mid new _ _ (refusal_line how session refusal) says) ready
       (Err e) refl
 
--- which value would have come says nothing of a failure
-counts_err : (S T : Type 0) (error : RunError) (m n : ℕ) → CountsRun {T = S} (Err error) m n → CountsRun {T = T} (Err error) m n
-counts_err S T DeviceError m n is = is
-counts_err S T MemoryError m n is = is
-
 -- A failure is handed on.
 module _ (error : RunError) (answer : Result Taken RunError) (handed : IsErr answer × IsErrAnd answer (λ e. e ≡ error)) where
   pub handed_turns : {T : Type 0} (how : Told) (refused : T → Bool) (task : T → Option Task) (old new : World) (a b : Held) (t : Trail) (now : Now) (session : ℕ) (u : Turn) (tail more : List Turn)
@@ -194,6 +187,3 @@ module _ (error : RunError) (answer : Result Taken RunError) (handed : IsErr ans
 
   pub handed_none : (P : Taken → Type 0) → IfOk answer P
   handed_none P = err_none answer P handed.0
-
-  pub handed_counts : (T : Type 0) (m n : ℕ) → CountsRun {T = T} (Err error) m n → CountsRun answer m n
-  handed_counts T m n counts = subst (λ (r : Result Taken RunError). CountsRun r m n) (sym (passed_on answer error handed)) (counts_err T Taken error m n counts)

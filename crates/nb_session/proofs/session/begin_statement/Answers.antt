@@ -12,7 +12,8 @@ use Rattle.nb_session.specs.declared.task.Taken.{Taken}
 use Rattle.nb_session.specs.declared.told.Told.{Told}
 use Rattle.nb_session.specs.Askers.{TaskFits}
 use Rattle.nb_session.specs.Steps.{Turns}
-use Rattle.nb_session.proofs.TurnLaws.{handed_turns, handed_none, handed_counts}
+use Rattle.nb_session.proofs.StepLaws.{counts_handed}
+use Rattle.nb_session.proofs.TurnLaws.{handed_turns, handed_none}
 use Rattle.nb_session.proofs.session.begin_statement.Goals as goal
 
 -- the first turn of a statement
@@ -42,7 +43,7 @@ returns-in_err-refused-in_default g c =
           (c.in_err-refused-in_default.ensures.turn now t more tells ready makes here);
       fits = handed_none error answer handed (λ (taken : Taken). TaskFits c.args.session taken.task c.answer.new.engine);
       others = c.answer.ensures.others c.args.session;
-      cause = handed_counts error answer handed Bool _ _ c.in_err-refused-in_default.ensures.cause;
+      cause = counts_handed error Bool answer _ _ handed c.in_err-refused-in_default.ensures.cause;
     }
 
 pub returns-in_ok-refused-in_default : goal.returns-in_ok-refused-in_default
