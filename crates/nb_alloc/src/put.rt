@@ -107,8 +107,8 @@ pub fn raise_entry<H: Host>(
 }
 
 /// Gives raw page `number`, which is in `page` as it stands, a text of at most 200 bytes, and writes it: its generation is raised, and it is
-/// stamped with the current SCN. Its SCN entry has to be raised before (`raise_entry`). It refuses nothing, and wants memory in the stalled
-/// state alone, where it has written nothing then.
+/// stamped with the current SCN. Its SCN entry has to be raised before (`raise_entry`). It wants memory in the stalled state alone, and has
+/// written nothing then.
 pub fn write_raw<H: Host>(
     store: &mut Store,
     host: &mut H,
