@@ -1,6 +1,6 @@
 -- A job is done, from the words to its end.
 use Rattle.std.proofs.Common.{◌≡◌, ◌≢◌, inl, ⊎_elim, ℕ, List, [], ◌++◌, length, take, refl, sym, ap, subst, ◌∙◌, arith}
-use Rattle.std.specs.Prelude.{Result, Ok, Err, IfOk, IfErr, OnOk, false}
+use Rattle.std.specs.Prelude.{Result, Ok, Err, IfOk, IfErr, OnOk}
 use Rattle.nb_host.specs.Files.{File, Files}
 use Rattle.nb_host.specs.World.{World}
 use Rattle.nb_host.specs.Crash.{Leaves}
@@ -9,6 +9,7 @@ use Rattle.nb_host.specs.declared.refusals.Refusal.{Refusal}
 use Rattle.nb_host.specs.declared.refusals.Refusal.TheVariants.{Usage}
 use Rattle.nb_change.proofs.MomentLaws.{left_before, weaker}
 use Rattle.nb_page.specs.Quiet.{Quiet}
+use Rattle.nb_model.specs.declared.job.Deed.{Deed}
 use Rattle.nb_model.specs.declared.reply.Reply.TheVariants.{Refused as RefusedReply}
 use Rattle.nb_model.specs.Account.{Account}
 use Rattle.nb_model.specs.Lines.{line_text}
@@ -25,13 +26,10 @@ use Rattle.nb_top.specs.declared.status.Status.TheVariants.{Refused as RefusedSt
 use Rattle.nb_top.specs.Numbers.{number_of}
 use Rattle.nb_top.specs.Performed.{HasSmallScn, RunLeft, RunReads, RunStands, RunsTo, GoesTo, KnowsAsked, Performs, PerformsRun, StandsAfter, Finished, IsPerformed, IsSure, IsUndone, Knows, MayBeGiven, kept_after, target_of, first_event, refused_job}
 use Rattle.nb_top.specs.Standing.{HoldsKept, StandsFor}
-use Rattle.nb_top.specs.Requests.{Request, ToRun, ToGenerate, Deed, ToRestore, ToFix, ToMerge, ToFold, ToPlan, Asked, Runs, Does, script_in}
-use Rattle.nb_top.specs.OneTurn.{DoesTurn, TurnEnded, leaves_all, one_turn}
+use Rattle.nb_top.specs.Requests.{Request, ToRun, ToGenerate, Asked, Runs, Does, script_in}
+use Rattle.nb_top.specs.OneTurn.{DoesTurn, FitsDeed, TurnEnded, one_turn}
 use Rattle.nb_top.specs.Served.{TurnsTo}
-use Rattle.nb_top.proofs.Fixed.{fix_sound}
-use Rattle.nb_top.proofs.FoldStands.{fold_sound}
-use Rattle.nb_top.proofs.Planned.{plan_sound}
-use Rattle.nb_top.proofs.Merged.{merge_sound}
+use Rattle.nb_top.proofs.Deeds.{sound_deed}
 use Rattle.nb_top.proofs.GeneratedRuns.{generated_unbegun}
 use Rattle.nb_top.proofs.GeneratedSure.{generated_after, generated_left, generated_end}
 use Rattle.nb_top.proofs.LeftLaws.{left_first, first_count}
@@ -39,14 +37,13 @@ use Rattle.nb_top.proofs.MadeRuns.{none_alone}
 use Rattle.nb_top.proofs.QuietRuns.{left_quietly}
 use Rattle.nb_top.proofs.ReadsLaws.{reads_quiet}
 use Rattle.nb_top.proofs.RefusedRuns.{refused_runs}
-use Rattle.nb_top.proofs.RequestLaws.{CanBeAsked, CanBeDone, CanBeMet}
-use Rattle.nb_top.proofs.Restored.{restore_sound}
+use Rattle.nb_top.proofs.RequestLaws.{CanBeAsked, CanBeMet}
 use Rattle.nb_top.proofs.ScriptRead.{refused_script}
 use Rattle.nb_top.proofs.ScriptRuns.{script_unbegun}
 use Rattle.nb_top.proofs.SureFiles.{kept_none, still_stands}
 use Rattle.nb_top.proofs.SureRuns.{script_after, script_left, script_end}
 use Rattle.nb_top.proofs.Turns.{quiet_turn}
-use Rattle.nb_top.proofs.TurnsStand.{IsSoundJob, turn_stands}
+use Rattle.nb_top.proofs.TurnsStand.{turn_stands}
 
 -- Nothing was done.
 module _ (old new : World) (account : Account) (given : Given) (e : Stop) (quiet : Quiet old new) where
@@ -207,25 +204,16 @@ module _ (old new : World) (asked : Result Request Refusal) (can : CanBeMet (Run
   run_memory : (e : Stop) → Goes (Err e) → PerformsRun Memory old new asked account given
   run_memory e runs = performs Memory (Err e) runs (λ d m. absurd (m refl))
 
--- a job of one turn keeps what stands
-sound_deed : (old : World) (account : Account) (deed : Deed) → CanBeDone deed → StandsFor old account → (leaves_all ((one_turn old.files deed).turn account) ≡ false → (one_turn old.files deed).takes account.kept)
-    → IsSoundJob old account (one_turn old.files deed)
-sound_deed old account (ToRestore db names) can stands takes = restore_sound old account db names stands can.0 can.1 can.2 takes
-sound_deed old account (ToFix db) can stands takes = fix_sound old account db stands can takes
-sound_deed old account (ToMerge db name) can stands takes = merge_sound old account db name stands can.0 can.1 takes
-sound_deed old account (ToFold out names) can stands takes = fold_sound old account out names stands can.0 can.1 can.2 takes
-sound_deed old account (ToPlan keep names) can stands takes = plan_sound old account keep names
-
 -- What is done of what is asked for, by the status that ends it.
 module _ (old new : World) (account : Account) (given : Given) (sixteen : MayBeGiven given) (before : (name : List ℕ) → Leaves old name (old.files name)) (timely : IsTimely new) (reads : (name : List ℕ) → Leaves new name (new.files name)) where
-  does_turn : (deed : Deed) → CanBeDone deed → (status : Status) (result : Result Status Stop) → TurnsTo result old new (one_turn old.files deed) account
+  does_turn : (deed : Deed) → FitsDeed deed → (status : Status) (result : Result Status Stop) → TurnsTo result old new (one_turn old.files deed) account
       → (status ≢ Device → status ≢ Memory → TurnEnded status old new (one_turn old.files deed) ((one_turn old.files deed).turn account)) → DoesTurn status old new (one_turn old.files deed) account
-  does_turn deed can status result turns ends = record {
+  does_turn deed fits status result turns ends = record {
     stops = turns.stops;
     reads = turns.reads;
     gave = turns.gave;
     ended = ends;
-    stands = λ stands takes. turn_stands old account (one_turn old.files deed) stands before (sound_deed old account deed can stands takes) new timely reads turns.stops turns.reads status ends;
+    stands = λ stands takes. turn_stands old account (one_turn old.files deed) stands before ((sound_deed deed fits).stands old account stands takes) new timely reads turns.stops turns.reads status ends;
   }
 
   pub performs_ended : (asked : Asked) → CanBeMet asked → (status : Status) → GoesTo (Ok status) old new asked account given → Performs status old new asked account given

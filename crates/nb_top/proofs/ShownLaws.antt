@@ -3,10 +3,11 @@ use Rattle.std.proofs.Common.{◌≡◌, ◌≢◌, ℕ, List, sym, ap, subst}
 use Rattle.std.specs.Prelude.{Option, Some, None, Result, Ok, Err, IsErr}
 use Rattle.nb_host.specs.declared.refusals.Refusal.{Refusal}
 use Rattle.nb_host.specs.declared.refusals.Refusal.TheVariants.{BadScript, Usage}
+use Rattle.nb_model.specs.declared.job.Deed.{Deed}
 use Rattle.nb_session.specs.declared.stop.Stop.{Stop}
 use Rattle.nb_top.specs.declared.broken.Broken.{Broken}
 use Rattle.nb_top.specs.declared.status.Status.{Status}
-use Rattle.nb_top.specs.Requests.{Request, Deed, Asked, Runs, Does, to_plan}
+use Rattle.nb_top.specs.Requests.{Request, Asked, Runs, Does, to_plan}
 use Rattle.nb_top.specs.Shown.{Names, BreaksAt, IfShown, IsShownOf}
 
 -- it isn't refused for a line

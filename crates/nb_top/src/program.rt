@@ -1,33 +1,33 @@
 // A job, from the words to the last reply.
-ghost use Rattle.std.specs.Prelude.{◌≡◌, ◌≢◌, ◌⊎◌, [], ◌∷◌, None, Ok, Err, IsErr, map, string_bytes, IsTrue, IfOk};
+ghost use Rattle.std.specs.Prelude.{◌≡◌, ◌≢◌, ◌⊎◌, None, Ok, IsErr, map, string_bytes, IsTrue, IfOk};
 ghost use Rattle.nb_catalog.specs.NameLists.{list_of};
 ghost use Rattle.nb_catalog.specs.Turns.{names_in};
 ghost use Rattle.nb_host.specs.Causes.{Rose};
 ghost use Rattle.nb_host.specs.declared.refusals.Refusal.TheVariants.{Usage as UsageRefusal};
 ghost use Rattle.nb_change.specs.Gave.{GaveNothing};
+ghost use Rattle.nb_model.specs.Jobs.{asks_of};
 ghost use Rattle.nb_model.specs.Lines.{line_text};
 ghost use Rattle.nb_model.specs.declared.reply.Reply.TheVariants.{Refused as RefusedReply};
-ghost use Rattle.nb_model.specs.declared.statement.Statement.TheVariants.{BeginBackup, ShowHeader, ShowPages};
 ghost use Rattle.nb_model.specs.Words.{job_of};
 ghost use Rattle.nb_script.specs.Asked.{IsAskable};
 ghost use Rattle.nb_script.specs.Scripts.{script_of};
 ghost use Rattle.nb_session.specs.Causes.{CountsStop};
 ghost use Rattle.nb_session.specs.Says.{SaysLine};
 ghost use Rattle.nb_top.specs.Goes.{Goes, IsRun};
-ghost use Rattle.nb_top.specs.Requests.{Asked, FitsJob, IsAskedBy, IsReadJob, NamesNone, Runs, ToRun, plan_of, request_asked, request_of, script_in, to_plan, to_run};
+ghost use Rattle.nb_top.specs.Requests.{Asked, FitsJob, IsAskedBy, IsReadJob, NamesNone, Runs, attached, plan_of, request_asked, request_of, script_in, to_plan, to_run};
 ghost use Rattle.nb_top.specs.Shown.{IsShown, IsShownOf};
 
 use crate::Status;
 use crate::broken::{Broken, broken_by};
 use crate::generating::run_generated;
 use crate::reading::read_file;
-use crate::request::{script_asking, script_showing};
+use crate::request::{script_asking, telling_of};
 use crate::script::{refuse, run_script, settled};
 use crate::telling::Telling;
-use crate::turn::{run_plan, run_turn};
+use crate::turn::run_turn;
 use nb_catalog::read_list;
 use nb_host::{Fault, Host, Name, Refusal};
-use nb_model::{Job, Statement};
+use nb_model::{Ask, Deed, Job};
 use nb_script::parse;
 use nb_session::Stop;
 use nb_words::read_job;
@@ -89,7 +89,10 @@ fn plan_bytes<H: Host>(
     ensures cause { CountsStop result (H.faults host.old) (H.faults host.new) }
 {
     match settled(read_list(alloc, bytes))? {
-        Ok(names) => run_plan(alloc, host, keep, names.as_slice()),
+        Ok(names) => {
+            let deed = Deed::Plan { keep, files: names };
+            run_turn(alloc, host, &deed)
+        }
         Err(refusal) => {
             *broken = broken_by(alloc, bytes, &refusal, "there is no name")?;
             refuse(alloc, host, 0, refusal)
@@ -117,34 +120,16 @@ fn plan_list<H: Host>(
     }
 }
 
-/// Opens a database and asks it one thing, and tells so much of it.
-fn run_asking<H: Host>(
-    alloc: Global,
-    host: &mut H,
-    db: &Name,
-    statement: Statement,
-    telling: Telling,
-) -> Result<Status, Stop>
-    requires askable { IsAskable (plan_of db.now (statement ∷ [])) }
-    ensures goes { Goes H.world H.tells result host.old host.new (Runs (Ok (ToRun (plan_of db.now (statement ∷ [])) telling))) }
+/// Opens a database and asks it this.
+fn run_asking<H: Host>(alloc: Global, host: &mut H, db: &Name, ask: &Ask) -> Result<Status, Stop>
+    requires askable { IsAskable (plan_of db.now (asks_of ask.now)) }
+    ensures goes { Goes H.world H.tells result host.old host.new (Runs (Ok (attached db.now ask.now))) }
     ensures done { IfOk result (λ status. (status ≡ Status.Done) ⊎ (status ≡ Status.Refused)) }
     ensures cause { CountsStop result (H.faults host.old) (H.faults host.new) }
 {
-    match settled(script_asking(alloc, db, statement))? {
+    let telling = telling_of(ask);
+    match settled(script_asking(alloc, db, ask))? {
         Ok(script) => run_script(alloc, host, &script, telling),
-        Err(_) => unreachable!(),
-    }
-}
-
-/// Shows the header of a database and its pages.
-fn run_stat<H: Host>(alloc: Global, host: &mut H, db: &Name) -> Result<Status, Stop>
-    requires askable { IsAskable (plan_of db.now (ShowHeader ∷ ShowPages ∷ [])) }
-    ensures goes { Goes H.world H.tells result host.old host.new (Runs (Ok (ToRun (plan_of db.now (ShowHeader ∷ ShowPages ∷ [])) Telling.Quietly))) }
-    ensures done { IfOk result (λ status. (status ≡ Status.Done) ⊎ (status ≡ Status.Refused)) }
-    ensures cause { CountsStop result (H.faults host.old) (H.faults host.new) }
-{
-    match settled(script_showing(alloc, db))? {
-        Ok(script) => run_script(alloc, host, &script, Telling::Quietly),
         Err(_) => unreachable!(),
     }
 }
@@ -166,46 +151,9 @@ fn run_job<H: Host>(
     match job {
         Job::Run { script } => run_file(alloc, host, script, broken),
         Job::Gen { number, script } => run_generated(alloc, host, *number, script),
-        Job::Restore { .. } => run_turn(alloc, host, job),
-        Job::Fixup { .. } => run_turn(alloc, host, job),
-        Job::Apply { .. } => run_turn(alloc, host, job),
-        Job::Fold { .. } => run_turn(alloc, host, job),
+        Job::Attach { db, ask } => run_asking(alloc, host, db, ask),
+        Job::Turn { deed } => run_turn(alloc, host, deed),
         Job::Plan { keep, list } => plan_list(alloc, host, *keep, list, broken),
-        Job::Backup { level, db, file } => {
-            let name = file.copied();
-            run_asking(
-                alloc,
-                host,
-                db,
-                Statement::Backup {
-                    level: *level,
-                    name,
-                },
-                Telling::Quietly,
-            )
-        }
-        Job::BackupSince { guid, db, file } => {
-            let name = file.copied();
-            run_asking(
-                alloc,
-                host,
-                db,
-                Statement::BackupSince { guid: *guid, name },
-                Telling::Quietly,
-            )
-        }
-        Job::Stat { db } => run_stat(alloc, host, db),
-        Job::Check { db } => run_asking(alloc, host, db, Statement::Check, Telling::Quietly),
-        Job::Reclaim { db } => run_asking(alloc, host, db, Statement::Reclaim, Telling::Quietly),
-        Job::Lock { db } => run_asking(alloc, host, db, Statement::BeginBackup, Telling::Quietly),
-        Job::LockWithSize { db } => run_asking(
-            alloc,
-            host,
-            db,
-            Statement::BeginBackup,
-            Telling::WithSize,
-        ),
-        Job::Unlock { db } => run_asking(alloc, host, db, Statement::EndBackup, Telling::Quietly),
     }
 }
 
