@@ -74,12 +74,12 @@ pub(crate) fn telling_of(ask: &Ask) -> Telling
 {
     match ask {
         Ask::LockWithSize => Telling::WithSize,
-        Ask::Stat => Telling::Quietly,
-        Ask::Check => Telling::Quietly,
-        Ask::Reclaim => Telling::Quietly,
-        Ask::Backup { .. } => Telling::Quietly,
-        Ask::BackupSince { .. } => Telling::Quietly,
-        Ask::Lock => Telling::Quietly,
-        Ask::Unlock => Telling::Quietly,
+        Ask::Stat
+        | Ask::Check
+        | Ask::Reclaim
+        | Ask::Backup { .. }
+        | Ask::BackupSince { .. }
+        | Ask::Lock
+        | Ask::Unlock => Telling::Quietly,
     }
 }
