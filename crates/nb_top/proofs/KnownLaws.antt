@@ -30,8 +30,9 @@ use Rattle.nb_top.specs.Requests.{Asked, Runs, ToRun, FitsJob, request_asked, re
 use Rattle.nb_top.specs.Worlds.{HaveNames, account_of}
 use Rattle.nb_top.proofs.Deeds.{sound_deed}
 use Rattle.nb_top.proofs.FirstReady.{base_name}
-use Rattle.nb_top.proofs.RequestLaws.{askable_in, attach_askable, fits_words}
+use Rattle.nb_top.proofs.RequestLaws.{askable_in, attach_askable}
 use Rattle.nb_top.proofs.WordNames.{plain_database}
+use Rattle.nb_top.proofs.WordsFit.{fits_words}
 
 module _ (files : Files) (names : HaveNames files) where
   -- no difference file stands beside a long name

@@ -28,6 +28,7 @@ pub mod WellRuns
 pub mod SureFiles
 pub mod SureRuns
 pub mod WordNames
+pub mod WordsFit
 pub mod Deeds
 pub mod JobRuns
 pub mod RequestLaws

@@ -34,9 +34,10 @@ use Rattle.nb_top.specs.Touched.{OfAsked, OfTarget, ReadMakes, TouchesOnly}
 use Rattle.nb_top.specs.Worlds.{HaveNames, LeaveNames, StartsFrom}
 use Rattle.nb_top.proofs.Deeds.{sound_deed}
 use Rattle.nb_top.proofs.FirstReady.{base_name, named_further}
-use Rattle.nb_top.proofs.RequestLaws.{askable_in, attach_askable, fits_words}
+use Rattle.nb_top.proofs.RequestLaws.{askable_in, attach_askable}
 use Rattle.nb_top.proofs.ScriptRuns.{creates, first_opens, opens}
 use Rattle.nb_top.proofs.WordNames.{file_named}
+use Rattle.nb_top.proofs.WordsFit.{fits_words}
 
 -- ---- the name of a database's difference file
 

@@ -1,6 +1,6 @@
 -- The names that words may give.
 use Rattle.std.proofs.Common.{◌≡◌, ℕ, List, [], ◌∷◌, length, true, false, refl}
-use Rattle.std.specs.Prelude.{Bool, ◌&&◌, not, nat_le}
+use Rattle.std.specs.Prelude.{Bool, not, nat_le}
 use Rattle.std.specs.List.{AllByRecursion, list_all}
 use Rattle.std.proofs.lemmas.Bool.{and_parts}
 use Rattle.nb_host.specs.Names.{is_name, is_delta}
