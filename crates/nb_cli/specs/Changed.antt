@@ -4,7 +4,8 @@ use Rattle.nb_model.specs.declared.job.Job.{Job}
 use Rattle.nb_model.specs.declared.job.Job.TheVariants.{Run, Gen, Attach, Turn, Plan}
 use Rattle.nb_model.specs.declared.statement.Statement.{Statement}
 use Rattle.nb_model.specs.declared.statement.Statement.TheVariants.{CreateDb, OpenDb}
-use Rattle.nb_model.specs.Words.{database_of, writes}
+use Rattle.nb_model.specs.Jobs.{writes}
+use Rattle.nb_model.specs.Words.{database_of}
 
 -- the database that words change; a script is not read here
 abbrev pub changed_by_words : Job → Option (List ℕ)

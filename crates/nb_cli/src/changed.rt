@@ -1,6 +1,7 @@
 // The database that a run changes, which it is to hold alone from its first use on.
 ghost use Rattle.std.specs.Prelude.{◌≡◌, Some, None, IfSome, cond};
-ghost use Rattle.nb_model.specs.Words.{database_of, writes};
+ghost use Rattle.nb_model.specs.Jobs.{writes};
+ghost use Rattle.nb_model.specs.Words.{database_of};
 ghost use Rattle.nb_cli.specs.Changed.{changed_by_words, database_in};
 
 use crate::look::look_at;

@@ -39,6 +39,12 @@ asks_of Lock = BeginBackup ∷ []
 asks_of LockWithSize = BeginBackup ∷ []
 asks_of Unlock = EndBackup ∷ []
 
+-- it may write to the database
+abbrev pub writes : Ask → Bool
+writes Stat = false
+writes Check = false
+writes other = true
+
 -- of the first statement only a refusal is said
 abbrev pub refusal_in : Option Reply → Option Reply
 refusal_in (Some (Refused refusal)) = Some (Refused refusal)

@@ -1,4 +1,4 @@
--- Which job the words of the command line name.
+-- Which job the words of the command line name, and on which database.
 use Rattle.std.specs.Prelude.{ℕ, ◌-◌, ◌^◌, Bool, true, false, ◌&&◌, ◌||◌, ◌==◌, not, nat_le, nat_lt, nat_eq, List, [], ◌∷◌, ◌++◌, length, drop, slice_index, Option, None, Some, codes}
 use Rattle.std.specs.List.{list_all, list_any}
 use Rattle.std.specs.Str.Parse.{digits_value}
@@ -139,6 +139,7 @@ abbrev pub ask_job : Ask → List Word → Option Job
 ask_job ask (db ∷ []) = job_if (is_database db) (Attach db ask)
 ask_job ask other = None
 
+-- one copy becomes a database
 abbrev pub fixup_job : List Word → Option Job
 fixup_job (db ∷ []) = job_if (is_database db) (Turn (Fixup db))
 fixup_job other = None
@@ -172,9 +173,3 @@ database_of (Fixup db) = Some db
 database_of (Apply db file) = Some db
 database_of (Fold out files) = None
 database_of (PlanFiles keep files) = None
-
--- what is asked of a database may write to it
-abbrev pub writes : Ask → Bool
-writes Stat = false
-writes Check = false
-writes other = true

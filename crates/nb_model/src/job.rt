@@ -1,7 +1,8 @@
 ghost use Rattle.std.specs.Prelude.{◌≡◌, ◌<◌, [], ◌∷◌, ◌++◌, length, slice_get, Some, OnOk, OnErr, IfErr};
 ghost use Rattle.std.specs.Option.{option_copied};
 ghost use Rattle.nb_host.specs.declared.faults.Fault.TheVariants.{Memory};
-ghost use Rattle.nb_model.specs.Words.{database_of, writes};
+ghost use Rattle.nb_model.specs.Jobs.{writes};
+ghost use Rattle.nb_model.specs.Words.{database_of};
 
 use nb_host::{Fault, Name};
 use std::alloc::Global;
@@ -155,11 +156,8 @@ impl Deed {
         ensures { option_copied result ≡ database_of self.now }
     {
         match self {
-            Deed::Restore { db, .. } => Some(db),
-            Deed::Fixup { db } => Some(db),
-            Deed::Apply { db, .. } => Some(db),
-            Deed::Fold { .. } => None,
-            Deed::Plan { .. } => None,
+            Deed::Restore { db, .. } | Deed::Fixup { db } | Deed::Apply { db, .. } => Some(db),
+            Deed::Fold { .. } | Deed::Plan { .. } => None,
         }
     }
 }
