@@ -118,37 +118,40 @@ spelled_can bytes (Ok plan) is = answer_is_askable bytes (Ok plan) is
 spelled_can bytes (Err refusal) is = tt
 
 -- a list that some bytes spell has 1,000 names at most
-first_few : (most : ℕ) (name : List ℕ) (rest : Result (List (List ℕ)) Refusal) → IfOk rest (λ names. length names ≤ most) → IfOk (with_first name rest) (λ names. length names ≤ suc most)
+abbrev HasFew : (most : ℕ) → Result (List (List ℕ)) Refusal → Type 0
+HasFew most (Ok names) = length names ≤ most
+HasFew most (Err refusal) = Unit {0}
+
+first_few : (most : ℕ) (name : List ℕ) (rest : Result (List (List ℕ)) Refusal) → HasFew most rest → HasFew (suc most) (with_first name rest)
 first_few most name (Ok names) few = omega (arith, few)
 first_few most name (Err refusal) few = tt
 
-names_few : (most : ℕ) (before : List (List ℕ)) (lines : List Numbered) → IfOk (names_on most before lines) (λ names. length names ≤ most)
+names_few : (most : ℕ) (before : List (List ℕ)) (lines : List Numbered) → HasFew most (names_on most before lines)
 unfolding names_on
 names_few zero before [] = omega arith
 names_few (suc most) before [] = omega arith
 names_few zero before (line ∷ lines) = tt
 names_few (suc most) before (line ∷ lines) = by (is_next before line.1) (names_few most (before ++ line.1 ∷ []) lines)
   where
-    by : (b : Bool) → IfOk (names_on most (before ++ line.1 ∷ []) lines) (λ names. length names ≤ most)
-        → IfOk (if b then with_first line.1 (names_on most (before ++ line.1 ∷ []) lines) else Err (BadScript line.0)) (λ names. length names ≤ suc most)
+    by : (b : Bool) → HasFew most (names_on most (before ++ line.1 ∷ []) lines) → HasFew (suc most) (if b then with_first line.1 (names_on most (before ++ line.1 ∷ []) lines) else Err (BadScript line.0))
     by true rest = first_few most line.1 (names_on most (before ++ line.1 ∷ []) lines) rest
     by false rest = tt
 
-some_few : (count : ℕ) (lines : List Numbered) → IfOk (some_names_on count lines) (λ names. length names ≤ 1000)
+some_few : (count : ℕ) (lines : List Numbered) → HasFew 1000 (some_names_on count lines)
 unfolding some_names_on
 some_few count [] = tt
 some_few count (line ∷ lines) = names_few 1000 [] (line ∷ lines)
 
-list_few : (bytes : List ℕ) → IfOk (list_of bytes) (λ names. length names ≤ 1000)
+list_few : (bytes : List ℕ) → HasFew 1000 (list_of bytes)
 unfolding list_of
 list_few bytes = by (nat_lt 1048576 (length bytes))
   where
-    by : (b : Bool) → IfOk (if b then Err (ScriptLong (length bytes)) else some_names_on (length (lines_of bytes)) (left 0 bytes)) (λ names. length names ≤ 1000)
+    by : (b : Bool) → HasFew 1000 (if b then Err (ScriptLong (length bytes)) else some_names_on (length (lines_of bytes)) (left 0 bytes))
     by true = tt
     by false = some_few (length (lines_of bytes)) (left 0 bytes)
 
 -- so they can be planned for
-plan_can : (keep : ℕ) (names : Result (List (List ℕ)) Refusal) → IfOk names (λ ns. length ns ≤ 1000) → CanBeMet (to_plan keep names)
+plan_can : (keep : ℕ) (names : Result (List (List ℕ)) Refusal) → HasFew 1000 names → CanBeMet (to_plan keep names)
 plan_can keep (Ok names) few = few
 plan_can keep (Err refusal) few = tt
 
