@@ -171,7 +171,7 @@ one_turn files (Apply db name) = merging files db name
 one_turn files (Fold out names) = folding files out names
 one_turn files (Plan keep names) = planning files keep names
 
--- its names are those that words may give, or a list, and they are as many
+-- its names are those that words may give, or a list, and no more and no fewer
 abbrev pub FitsDeed : Deed → Type 0
 FitsDeed (Restore db names) = (is_database db ≡ true) × (1 ≤ length names) × (length names ≤ 10) × (list_all is_file names ≡ true)
 FitsDeed (Fixup db) = is_database db ≡ true
