@@ -45,6 +45,12 @@ writes Stat = false
 writes Check = false
 writes other = true
 
+-- the file that it makes, if it makes one
+abbrev pub file_made : Ask → Option (List ℕ)
+file_made (Backup level file) = Some file
+file_made (BackupSince guid file) = Some file
+file_made other = None
+
 -- of the first statement only a refusal is said
 abbrev pub refusal_in : Option Reply → Option Reply
 refusal_in (Some (Refused refusal)) = Some (Refused refusal)

@@ -166,7 +166,15 @@ job_read r = job_of_flags r.flags (
 unfoldable pub job_of : List Word → Option Job
 job_of words = elim (read_words words) [ None ↦ None | Some read ↦ job_read read ]
 
--- the database that a deed makes or changes, if it does so to one
+-- the file that a deed makes or changes, if it does so to one
+abbrev pub file_of : Deed → Option Word
+file_of (Restore db files) = Some db
+file_of (Fixup db) = Some db
+file_of (Apply db file) = Some db
+file_of (Fold out files) = Some out
+file_of (PlanFiles keep files) = None
+
+-- the same, where that is a database
 abbrev pub database_of : Deed → Option Word
 database_of (Restore db files) = Some db
 database_of (Fixup db) = Some db

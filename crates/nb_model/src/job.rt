@@ -1,8 +1,8 @@
 ghost use Rattle.std.specs.Prelude.{◌≡◌, ◌<◌, [], ◌∷◌, ◌++◌, length, slice_get, Some, OnOk, OnErr, IfErr};
 ghost use Rattle.std.specs.Option.{option_copied};
 ghost use Rattle.nb_host.specs.declared.faults.Fault.TheVariants.{Memory};
-ghost use Rattle.nb_model.specs.Jobs.{writes};
-ghost use Rattle.nb_model.specs.Words.{database_of};
+ghost use Rattle.nb_model.specs.Jobs.{file_made, writes};
+ghost use Rattle.nb_model.specs.Words.{database_of, file_of};
 
 use nb_host::{Fault, Name};
 use std::alloc::Global;
@@ -99,7 +99,9 @@ impl Ask {
     }
 
     /// The file that it makes, if it makes one.
-    pub fn file(&self) -> Option<&Name> {
+    pub fn file(&self) -> Option<&Name>
+        ensures { option_copied result ≡ file_made self.now }
+    {
         match self {
             Ask::Backup { file, .. } | Ask::BackupSince { file, .. } => Some(file),
             Ask::Stat
@@ -143,7 +145,9 @@ pub enum Deed {
 
 impl Deed {
     /// The file that it makes or changes, none where it only reads.
-    pub fn file(&self) -> Option<&Name> {
+    pub fn file(&self) -> Option<&Name>
+        ensures { option_copied result ≡ file_of self.now }
+    {
         match self {
             Deed::Restore { db, .. } | Deed::Fixup { db } | Deed::Apply { db, .. } => Some(db),
             Deed::Fold { out, .. } => Some(out),
