@@ -1,7 +1,7 @@
 // The database that a run changes, which it is to hold alone from its first use on.
 ghost use Rattle.std.specs.Prelude.{◌≡◌, Some, None, IfSome, cond};
 ghost use Rattle.nb_model.specs.Jobs.{writes};
-ghost use Rattle.nb_model.specs.Words.{database_of};
+ghost use Rattle.nb_model.specs.Words.{deed_database};
 ghost use Rattle.nb_cli.specs.Changed.{changed_by_words, database_in};
 
 use crate::look::look_at;
@@ -86,7 +86,7 @@ fn changed_by_script(script: &Script) -> Option<Name>
 
 /// The database that a deed makes or changes.
 fn changed_by_deed(deed: &Deed) -> Option<Name>
-    ensures { result ≡ database_of deed.now }
+    ensures { result ≡ deed_database deed.now }
 {
     match deed.database() {
         Some(db) => Some(db.copied()),

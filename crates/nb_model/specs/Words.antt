@@ -167,17 +167,17 @@ unfoldable pub job_of : List Word → Option Job
 job_of words = elim (read_words words) [ None ↦ None | Some read ↦ job_read read ]
 
 -- the file that a deed makes or changes, if it does so to one
-abbrev pub file_of : Deed → Option Word
-file_of (Restore db files) = Some db
-file_of (Fixup db) = Some db
-file_of (Apply db file) = Some db
-file_of (Fold out files) = Some out
-file_of (PlanFiles keep files) = None
+abbrev pub deed_file : Deed → Option Word
+deed_file (Restore db files) = Some db
+deed_file (Fixup db) = Some db
+deed_file (Apply db file) = Some db
+deed_file (Fold out files) = Some out
+deed_file (PlanFiles keep files) = None
 
 -- the same, where that is a database
-abbrev pub database_of : Deed → Option Word
-database_of (Restore db files) = Some db
-database_of (Fixup db) = Some db
-database_of (Apply db file) = Some db
-database_of (Fold out files) = None
-database_of (PlanFiles keep files) = None
+abbrev pub deed_database : Deed → Option Word
+deed_database (Restore db files) = Some db
+deed_database (Fixup db) = Some db
+deed_database (Apply db file) = Some db
+deed_database (Fold out files) = None
+deed_database (PlanFiles keep files) = None

@@ -2,7 +2,7 @@ ghost use Rattle.std.specs.Prelude.{◌≡◌, ◌<◌, [], ◌∷◌, ◌++◌,
 ghost use Rattle.std.specs.Option.{option_copied};
 ghost use Rattle.nb_host.specs.declared.faults.Fault.TheVariants.{Memory};
 ghost use Rattle.nb_model.specs.Jobs.{file_made, writes};
-ghost use Rattle.nb_model.specs.Words.{database_of, file_of};
+ghost use Rattle.nb_model.specs.Words.{deed_database, deed_file};
 
 use nb_host::{Fault, Name};
 use std::alloc::Global;
@@ -146,7 +146,7 @@ pub enum Deed {
 impl Deed {
     /// The file that it makes or changes, none where it only reads.
     pub fn file(&self) -> Option<&Name>
-        ensures { option_copied result ≡ file_of self.now }
+        ensures { option_copied result ≡ deed_file self.now }
     {
         match self {
             Deed::Restore { db, .. } | Deed::Fixup { db } | Deed::Apply { db, .. } => Some(db),
@@ -157,7 +157,7 @@ impl Deed {
 
     /// The same, where that is a database.
     pub fn database(&self) -> Option<&Name>
-        ensures { option_copied result ≡ database_of self.now }
+        ensures { option_copied result ≡ deed_database self.now }
     {
         match self {
             Deed::Restore { db, .. } | Deed::Fixup { db } | Deed::Apply { db, .. } => Some(db),
