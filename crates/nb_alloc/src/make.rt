@@ -23,14 +23,11 @@ use crate::bit::{mark, put_map};
 use crate::find::{hold_map, is_system_place, next_free};
 use crate::pages::{InventoryPage, ScnPage};
 use crate::put::raise_entry;
-use nb_fields::layouts::data;
+use nb_fields::layouts::{data, head};
 use nb_fields::{MOST_PAGES, PageKind};
 use nb_host::{Fault, Host, HostFault, Refusal};
 use nb_page::{read_head, stamp};
 use nb_state::Store;
-
-/// Where the payload of a page begins.
-const HEAD: usize = 16;
 
 /// What stands at a system place.
 fn system_kind(page_size: u32, place: u32) -> PageKind
@@ -178,8 +175,8 @@ fn put_payload(page: &mut [u8], payload: &[u8])
     requires short { length payload.now ≤ 1008 }
     ensures { page.new ≡ with_payload page.old payload.now }
 {
-    let end = HEAD + payload.len();
-    page[HEAD..end].copy_from_slice(payload);
+    let end = head::LENGTH + payload.len();
+    page[head::LENGTH..end].copy_from_slice(payload);
     page[end..].fill(0);
 }
 

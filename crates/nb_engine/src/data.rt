@@ -21,13 +21,10 @@ ghost use Rattle.nb_alloc.specs.Tries.{Tries};
 use crate::Engine;
 use nb_alloc::{ScnPage, find_lacking, is_there, lower_page, mark, put_page, take_system};
 use nb_fields::PageKind;
-use nb_fields::layouts::data;
+use nb_fields::layouts::{data, head};
 use nb_host::{Fault, Host, Refusal};
 use nb_pip::{covers, place_of};
 use nb_state::Store;
-
-/// Where the payload of a page begins.
-const HEAD: usize = 16;
 
 /// Takes over what these bytes have after the head of a page.
 fn put_behind(page: &mut [u8], bytes: &[u8])
@@ -35,7 +32,7 @@ fn put_behind(page: &mut [u8], bytes: &[u8])
     requires same { length bytes.now ≡ length page.old }
     ensures { page.new ≡ take 16 page.old ++ drop 16 bytes.now }
 {
-    page[HEAD..].copy_from_slice(&bytes[HEAD..]);
+    page[head::LENGTH..].copy_from_slice(&bytes[head::LENGTH..]);
 }
 
 /// Writes page `number`, a data page, with what these bytes have after the head. The refusals are `NotDatabase` of the page, where it is
