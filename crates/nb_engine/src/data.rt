@@ -1,11 +1,14 @@
 // Data pages, of which chains are made, are read, written and given back.
-ghost use Rattle.std.specs.Prelude.{◌≡◌, ◌≢◌, ◌+◌, ◌<◌, ◌≤◌, ◌++◌, IsTrue, IfErr, IfOk, OnOk, None, length, take, drop};
+ghost use Rattle.std.specs.Prelude.{◌≡◌, ◌≢◌, ◌+◌, ◌<◌, ◌≤◌, ◌++◌, true, IsTrue, IfErr, IfOk, OnOk, None, length, take, drop};
+ghost use Rattle.std.specs.List.{list_all};
 ghost use Rattle.nb_fields.specs.Places.{is_page_size};
 ghost use Rattle.nb_host.specs.declared.faults.Fault.TheVariants.{Memory};
 ghost use Rattle.nb_change.specs.Counts.{CountsDevice};
 ghost use Rattle.nb_page.specs.Quiet.{Quiet};
 ghost use Rattle.nb_model.specs.Causes.{not_kind, lowest_broken};
+ghost use Rattle.nb_model.specs.Chains.{is_slot, slots_in, next_in};
 ghost use Rattle.nb_model.specs.Forms.{drafted, give_page};
+ghost use Rattle.nb_model.specs.Image.{page_at};
 ghost use Rattle.nb_model.specs.Sound.{IsSoundImage};
 ghost use Rattle.nb_model.specs.Trail.{Trail};
 ghost use Rattle.nb_base.specs.Takes.{IsNoRefusal};
@@ -17,14 +20,16 @@ ghost use Rattle.nb_alloc.specs.Data.{not_data, put_data, data_cause};
 ghost use Rattle.nb_alloc.specs.Mark.{mark_cause};
 ghost use Rattle.nb_alloc.specs.Put.{Reads};
 ghost use Rattle.nb_alloc.specs.Tries.{Tries};
+ghost use Rattle.nb_walk.specs.Walks.{chain_by, not_linked};
 
 use crate::Engine;
-use nb_alloc::{ScnPage, find_lacking, is_there, lower_page, mark, put_page, take_system};
+use nb_alloc::{ScnPage, find_lacking, is_there, lower_page, mark, put_page, take_data, take_system};
 use nb_fields::PageKind;
-use nb_fields::layouts::{data, head};
-use nb_host::{Fault, Host, Refusal};
+use nb_fields::layouts::head;
+use nb_host::{Fault, Host};
 use nb_pip::{covers, place_of};
 use nb_state::Store;
+use nb_walk::{Chain, take_page};
 
 /// Takes over what these bytes have after the head of a page.
 fn put_behind(page: &mut [u8], bytes: &[u8])
@@ -86,17 +91,36 @@ impl Engine {
         ensures cause { CountsDevice result (H.faults host.old) (H.faults host.new) }
         ensures takes_none { IfErr result (λ fault. fault ≢ Memory) }
     {
-        // A page that is read is below the length, and so below the most pages that there may be.
-        let _count = self.store.count();
-        // Page 0 is the header, whatever the host gives for it.
-        if number == 0 {
-            return Err(Fault::Refused(Refusal::NotDatabase { page: number }));
-        }
-        take_system(&mut self.store, host, number, PageKind::Data, into)?;
-        if data::Owner::get(into) != u64::from(owner) {
-            return Err(Fault::Refused(Refusal::NotDatabase { page: number }));
-        }
-        Ok(())
+        take_data(&mut self.store, host, number, owner, into)
+    }
+
+    /// Reads page `number` of the chain into `page`, and answers the page that it is linked to, or 0. It takes one read at most, and no memory.
+    ///
+    /// The refusal is `NotDatabase` of the page, where it isn't one of the chain: it is past the end, or no data page, or of another owner, or one
+    /// of its slots isn't of the form.
+    pub fn take_page<H: Host>(
+        &mut self,
+        host: &mut H,
+        chain: Chain,
+        number: u32,
+        page: &mut [u8],
+    ) -> Result<u32, Fault>
+        requires size { length page.old ≡ self.old.files.page_size }
+        ensures test { (t : Trail) → IsTrue H.tells → IsOpen (H.world host.old) self.old t → Tested result (not_linked (chain_by chain) t.base.image number) }
+        ensures page { (t : Trail) → IsTrue H.tells → IsOpen (H.world host.old) self.old t → OnOk result (page.new ≡ page_at t.base.image number) }
+        ensures next { IfOk result (λ next. next ≡ next_in page.new) }
+        ensures form { OnOk result (list_all (is_slot (chain_by chain)) (slots_in page.new) ≡ true) }
+        ensures low { OnOk result (0 < number) }
+        ensures high { OnOk result (number < 1048576) }
+        ensures sized { length page.new ≡ length page.old }
+        ensures open { (t : Trail) → IsTrue H.tells → IsOpen (H.world host.old) self.old t → IsOpen (H.world host.new) self.new t }
+        ensures same { but_pages self.new ≡ but_pages self.old }
+        ensures quiet { Quiet (H.world host.old) (H.world host.new) }
+        ensures once { IsTrue H.tells → (H.world host.new).reads ≤ (H.world host.old).reads + 1 }
+        ensures cause { CountsDevice result (H.faults host.old) (H.faults host.new) }
+        ensures takes_none { IfErr result (λ fault. fault ≢ Memory) }
+    {
+        take_page(&mut self.store, host, chain, number, page)
     }
 
     /// Writes page `number`, a data page. Of the bytes that are given those after the head count: the next page, the owner and the slots.

@@ -11,7 +11,6 @@ pub mod CreateLaws
 pub mod CreateTurnLaws
 pub mod SlotLaws
 pub mod GatherLaws
-pub mod SpotLaws
 pub mod FindLaws
 pub mod SortedLaws
 pub mod ReadTurns

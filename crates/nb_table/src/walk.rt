@@ -17,7 +17,7 @@ ghost use Rattle.nb_walk.specs.Walks.{not_linked};
 use crate::look::{Found, MOST_TABLES, Place, SLOT, Sought, Walked};
 use nb_engine::Engine;
 use nb_host::{Fault, Host, Refusal};
-use nb_walk::{slot_at, slot_count, take_page, use_of};
+use nb_walk::{slot_at, slot_count, use_of};
 
 /// What a slot holds, and where it stands.
 fn found(slot: &[u8], place: Place) -> Found
@@ -102,7 +102,7 @@ fn take_link<H: Host>(
 {
     // Slots are counted by the size of a page, which is one of six.
     let _size = engine.page_size();
-    let next = take_page(host, engine, sought.chain(), number, page)?;
+    let next = engine.take_page(host, sought.chain(), number, page)?;
     add_slots(walked, sought, page, number);
     Ok(next)
 }

@@ -1,3 +1,4 @@
 pub mod SlotLaws
+pub mod SpotLaws
 pub mod LinkLaws
 pub mod WalkLaws
