@@ -1,23 +1,15 @@
--- Slots of the history, one by one: which are of the form, and what a walk comes by.
-use Rattle.std.proofs.Common.{◌≡◌, ◌≢◌, ℕ, zero, suc, List, [], ◌∷◌, ◌++◌, get_or, refl, sym, ap, ◌∙◌, arith}
-use Rattle.std.specs.Prelude.{Bool, true, false, ◌&&◌, ◌||◌, ◌==◌, nat_le, nat_eq, Option, Some, None, slice_index, is_some}
-use Rattle.nb_fields.specs.Bytes.{number_of, number_in, part}
-use Rattle.nb_host.specs.Names.{is_name}
-use Rattle.nb_model.specs.Chains.{History, Slot, Spot, is_used, is_slot, is_filled, length_in, file_in, first_such, last_such, free_spot}
-use Rattle.nb_model.proofs.ReadLaws.{eq_no, eq_yes}
+-- Slots of the history, one by one: what they hold, and what a walk comes by.
+use Rattle.std.proofs.Common.{◌≡◌, List, [], ◌∷◌, ◌++◌, ℕ, refl, sym, ap, ◌∙◌}
+use Rattle.std.specs.Prelude.{Bool, true, false, ◌&&◌, ◌==◌, nat_eq, Option, Some, None, slice_index, is_some}
+use Rattle.nb_fields.specs.Bytes.{number_in, part}
+use Rattle.nb_model.specs.Image.{Image}
+use Rattle.nb_model.specs.Chains.{Slot, Spot, is_used, file_in, spots_of, first_such, last_such, free_spot}
+use Rattle.nb_model.proofs.ReadLaws.{eq_yes}
 use Rattle.nb_engine.specs.declared.rows.HistoryRow.{HistoryRow}
 use Rattle.nb_engine.specs.declared.rows.Wanted.{Wanted}
 use Rattle.nb_engine.specs.declared.walk.Room.{Room}
 use Rattle.nb_engine.specs.declared.walk.Walked.{Walked}
 use Rattle.nb_engine.specs.History.{row_in, row_at, room_at, meets, gathered}
-
--- a number of one byte is that byte
-pub byte_at : (at : ℕ) (bytes : List ℕ) → number_in at 1 bytes ≡ get_or bytes at 0
-unfolding number_in number_of
-byte_at zero [] = refl
-byte_at zero (b ∷ bs) = omega arith
-byte_at (suc at) [] = refl
-byte_at (suc at) (b ∷ bs) = byte_at at bs
 
 -- a row, by its fields
 abbrev pub row_of : (time level : ℕ) (guid : List ℕ) (scn : ℕ) (name : List ℕ) → HistoryRow
@@ -28,28 +20,6 @@ pub row_is : (slot : Slot) (time level : ℕ) (guid : List ℕ) (scn : ℕ) (nam
 row_is slot time level guid scn name a b c d e =
     ap (λ (x : ℕ). row_of x level guid scn name) a ∙ ap (λ (x : ℕ). row_of (number_in 8 8 slot) x guid scn name) b ∙ ap (λ (x : List ℕ). row_of (number_in 8 8 slot) (slice_index slot 1) x scn name) c
     ∙ ap (λ (x : ℕ). row_of (number_in 8 8 slot) (slice_index slot 1) (part 16 16 slot) x name) d ∙ ap (λ (x : List ℕ). row_of (number_in 8 8 slot) (slice_index slot 1) (part 16 16 slot) (number_in 4 4 slot) x) e
-
--- the name of a used slot is of the form
-abbrev pub names : Slot → Bool
-names slot = nat_le (length_in slot) 100 && is_name (file_in slot)
-
--- which slots are of the form, by the first byte
-module _ (slot : Slot) where
-  abbrev first : ℕ
-  first = slice_index slot 0
-
-  pub slot_free : first ≡ 0 → is_slot History slot ≡ true
-  unfolding is_slot
-  slot_free e = ap (λ (t : Bool). t || (is_used slot && is_filled History slot)) (eq_yes first 0 e)
-
-  pub slot_used : first ≡ 1 → is_slot History slot ≡ names slot
-  unfolding is_slot
-  slot_used e = ap (λ (n : ℕ). n == 0 || (n == 1 && is_filled History slot)) e
-
-  pub slot_other : first ≢ 0 → first ≢ 1 → is_slot History slot ≡ false
-  unfolding is_slot
-  slot_other no_zero no_one =
-      ap (λ (t : Bool). t || (is_used slot && is_filled History slot)) (eq_no first 0 no_zero) ∙ ap (λ (t : Bool). t && is_filled History slot) (eq_no first 1 no_one)
 
 -- one more after a list
 module _ {X : Type 0} (test : X → Bool) (x : X) where
@@ -168,3 +138,12 @@ module _ (wanted : Wanted) (ss : List Spot) (s : Spot) (old : Walked) (is : old 
   pub used_other : slice_index s.bytes 0 ≡ 1 → meets wanted (row_in s.bytes) ≡ false → old ≡ gathered wanted more
   used_other e other =
       both _ _ _ _ (row_kept (ap (λ (n : ℕ). n == 1 && meets wanted (row_in s.bytes)) e ∙ other)) (room_kept (ap (λ (n : ℕ). nat_eq n 0) e))
+
+-- a walk has come by the slots of these pages
+abbrev pub Gathers : Wanted → Image → Walked → List ℕ → Type 0
+Gathers wanted image walked ps = walked ≡ gathered wanted (spots_of image ps)
+
+-- of none yet
+pub gathered_none : (wanted : Wanted) (image : Image) → Gathers wanted image (walked_of None None) []
+unfolding first_such last_such free_spot spots_of
+gathered_none wanted image = refl

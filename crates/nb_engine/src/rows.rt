@@ -1,5 +1,5 @@
 // The rows of the backup history, as its slots hold them.
-ghost use Rattle.std.specs.Prelude.{◌≡◌, ◌+◌, ◌*◌, ◌≤◌, ◌&&◌, nat_le, slice_index, length, is_some, IfSome};
+ghost use Rattle.std.specs.Prelude.{◌≡◌, ◌+◌, ◌*◌, ◌≤◌, ◌&&◌, nat_le, length, is_some, IfSome};
 ghost use Rattle.nb_fields.specs.Bytes.{with_part};
 ghost use Rattle.nb_host.specs.Names.{is_name};
 ghost use Rattle.nb_model.specs.Chains.{length_in, file_in, backup_slot};
@@ -72,14 +72,6 @@ pub(crate) fn read_row(slot: &[u8]) -> Option<HistoryRow>
         scn: scn as u32,
         name,
     })
-}
-
-/// The first byte of a slot: 1 where it is used, 0 where it is free.
-pub(crate) fn use_of(slot: &[u8]) -> u64
-    requires { length slot.now ≡ 256 }
-    ensures { result ≡ slice_index slot.now 0 }
-{
-    history::Used::get(slot)
 }
 
 /// Writes a row into a slot.

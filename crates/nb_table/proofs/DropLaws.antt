@@ -39,7 +39,7 @@ use Rattle.nb_alloc.proofs.TestLaws.{kind_is}
 use Rattle.nb_alloc.proofs.WhereLaws.{sure_of}
 use Rattle.nb_table.specs.Drops.{IsWholeTable, IsGivable, dropped, drop_broken}
 use Rattle.nb_table.proofs.DropCauseLaws.{AreBelow, slot_noted, slot_room, given_noted, noted_lowest}
-use Rattle.nb_table.proofs.SpotPages.{spot_on}
+use Rattle.nb_walk.proofs.SpotPages.{spot_on}
 
 unbroken : (ps : List ℕ) → lowest_broken ps ≡ None → ps ≡ []
 unfolding lowest_broken

@@ -1,5 +1,4 @@
 pub mod InTableLaws
-pub mod SpotPages
 pub mod PlaceLaws
 pub mod ChangeLaws
 pub mod DropLaws

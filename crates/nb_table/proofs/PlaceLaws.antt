@@ -24,7 +24,7 @@ use Rattle.nb_table.specs.declared.look.Place.{Place}
 use Rattle.nb_table.specs.declared.look.Found.{Found}
 use Rattle.nb_table.specs.Rows.{place_cause}
 use Rattle.nb_table.specs.Walks.{place_of, found_of, place_at, found_at}
-use Rattle.nb_table.proofs.SpotPages.{free_kind}
+use Rattle.nb_walk.proofs.SpotPages.{free_kind}
 
 -- nothing is noted of it
 pub wants_met : (image : Image) (kind p : ℕ) (d : Draft) → not_kind image kind p ≡ None → wants image kind p d ≡ d

@@ -2,3 +2,4 @@ pub mod SlotLaws
 pub mod SpotLaws
 pub mod LinkLaws
 pub mod WalkLaws
+pub mod SpotPages

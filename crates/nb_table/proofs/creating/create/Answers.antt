@@ -21,7 +21,7 @@ use Rattle.nb_state.specs.Does.{Does}
 use Rattle.nb_table.specs.declared.look.Place.{Place}
 use Rattle.nb_table.specs.Creates.{new_cause, created_in, created_behind}
 use Rattle.nb_table.proofs.CreateTurnLaws.{create_denied, create_refused, create_at, create_last, new_formed, place_data}
-use Rattle.nb_table.proofs.SpotPages.{last_kind}
+use Rattle.nb_walk.proofs.SpotPages.{last_kind}
 use Rattle.nb_table.proofs.creating.create.Goals as goal
 
 pub returns-in_err-check_access-clause-turn : goal.returns-in_err-check_access-clause-turn

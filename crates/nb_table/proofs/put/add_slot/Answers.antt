@@ -10,7 +10,7 @@ use Rattle.nb_engine.proofs.KeepLaws.{tries_other, tries_valued}
 use Rattle.nb_alloc.proofs.PutLaws.{none_of}
 use Rattle.nb_table.specs.Rows.{place_cause}
 use Rattle.nb_table.proofs.PlaceLaws.{place_kind, there_tries, behind_tries}
-use Rattle.nb_table.proofs.SpotPages.{last_kind}
+use Rattle.nb_walk.proofs.SpotPages.{last_kind}
 use Rattle.nb_table.proofs.put.add_slot.Goals as goal
 
 pub returns-in_err-put_slot-in-Some-clause-tries : goal.returns-in_err-put_slot-in-Some-clause-tries
