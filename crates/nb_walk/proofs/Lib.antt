@@ -1,3 +1,4 @@
+pub mod FirstLaws
 pub mod SlotLaws
 pub mod SpotLaws
 pub mod LinkLaws
