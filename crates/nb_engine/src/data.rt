@@ -1,6 +1,7 @@
 // Data pages, of which chains are made, are read, written and given back.
 ghost use Rattle.std.specs.Prelude.{◌≡◌, ◌≢◌, ◌+◌, ◌<◌, ◌≤◌, ◌++◌, true, IsTrue, IfErr, IfOk, OnOk, None, length, take, drop};
 ghost use Rattle.std.specs.List.{list_all};
+ghost use Rattle.nb_fields.specs.Bytes.{with_part};
 ghost use Rattle.nb_fields.specs.Places.{is_page_size};
 ghost use Rattle.nb_host.specs.declared.faults.Fault.TheVariants.{Memory};
 ghost use Rattle.nb_change.specs.Counts.{CountsDevice};
@@ -66,6 +67,46 @@ fn write_data<H: Host>(
     let _count = store.count();
     take_system(store, host, number, PageKind::Data, page)?;
     put_behind(page, bytes);
+    put_page(store, host, number, PageKind::Data, page, scn_page)
+}
+
+/// Writes these bytes into a page from place `at` on.
+fn put_bytes(page: &mut [u8], at: usize, bytes: &[u8])
+    requires { at + length bytes.now ≤ length page.old }
+    ensures { page.new ≡ with_part at bytes.now page.old }
+{
+    page[at..at + bytes.len()].copy_from_slice(bytes);
+}
+
+/// Writes these bytes into page `number`, a data page, from place `at` on, which is after the head. The refusals are `NotDatabase` of the page,
+/// where it is none, and of its SCN page, in this order.
+fn change_data<H: Host>(
+    store: &mut Store,
+    host: &mut H,
+    number: u32,
+    at: usize,
+    bytes: &[u8],
+    page: &mut [u8],
+    scn_page: &mut ScnPage,
+) -> Result<(), Fault>
+    requires size { IsTrue (is_page_size (length page.old)) }
+    requires room { length page.old ≡ store.old.files.page_size }
+    requires scn_room { length scn_page.old ≡ store.old.files.page_size }
+    requires low { 0 < number }
+    requires behind { 16 ≤ at }
+    requires inside { at + length bytes.now ≤ store.old.files.page_size }
+    ensures tries { (t : Trail) → IsTrue H.tells → IsOpen (H.world host.old) store.old t
+        → Tries result (H.world host.old) (H.world host.new) store.old store.new t (data_cause t.base.image number) (put_data number (with_part at bytes.now (page_at t.base.image number)) t.base.image).strokes }
+    ensures goes { Goes store.old store.new }
+    ensures scn_room { length scn_page.new ≡ length scn_page.old }
+    ensures once { IsTrue H.tells → (H.world host.new).reads ≤ (H.world host.old).reads + 2 }
+    ensures cause { CountsDevice result (H.faults host.old) (H.faults host.new) }
+    ensures takes_none { store.old.files.state ≢ 1 → IfErr result (λ fault. fault ≢ Memory) }
+{
+    // A page that is read is below the length, and so below the most pages that there may be.
+    let _count = store.count();
+    take_system(store, host, number, PageKind::Data, page)?;
+    put_bytes(page, at, bytes);
     put_page(store, host, number, PageKind::Data, page, scn_page)
 }
 
@@ -149,6 +190,42 @@ impl Engine {
             host,
             number,
             page,
+            &mut self.page,
+            &mut self.scn_page,
+        )
+    }
+
+    /// Writes these bytes into page `number`, a data page, from place `at` on, which is after the head: so a slot is changed. The rest of the page
+    /// is as it stands, but for the generation, which is raised, and the SCN, which is the current one. The SCN entry of the page is raised
+    /// before, where that is below the current SCN. It takes two reads at most, one of them of the page, and wants memory in the stalled state
+    /// alone.
+    ///
+    /// The refusals are `NotDatabase` of the page, where it is past the end or no data page, and of its SCN page, in this order. A refused
+    /// call changes nothing.
+    pub fn data_put<H: Host>(
+        &mut self,
+        host: &mut H,
+        number: u32,
+        at: usize,
+        bytes: &[u8],
+    ) -> Result<(), Fault>
+        requires low { 0 < number }
+        requires behind { 16 ≤ at }
+        requires inside { at + length bytes.now ≤ self.old.files.page_size }
+        ensures tries { (t : Trail) → IsTrue H.tells → IsOpen (H.world host.old) self.old t
+            → Tries result (H.world host.old) (H.world host.new) self.old self.new t (data_cause t.base.image number) (put_data number (with_part at bytes.now (page_at t.base.image number)) t.base.image).strokes }
+        ensures sure { (t : Trail) → IsTrue H.tells → IsOpen (H.world host.old) self.old t → IsSoundImage t.base.image → not_kind t.base.image 5 number ≡ None → IfErr result IsNoRefusal }
+        ensures goes { Goes self.old self.new }
+        ensures once { IsTrue H.tells → (H.world host.new).reads ≤ (H.world host.old).reads + 2 }
+        ensures cause { CountsDevice result (H.faults host.old) (H.faults host.new) }
+        ensures takes_none { self.old.files.state ≢ 1 → IfErr result (λ fault. fault ≢ Memory) }
+    {
+        change_data(
+            &mut self.store,
+            host,
+            number,
+            at,
+            bytes,
             &mut self.page,
             &mut self.scn_page,
         )

@@ -1,5 +1,5 @@
 -- What a walk has come by, and one slot more.
-use Rattle.std.proofs.Common.{◌≡◌, ◌≢◌, ℕ, ◌+◌, List, [], ◌∷◌, ◌++◌, length, refl, sym, ap, ◌∙◌, arith}
+use Rattle.std.proofs.Common.{◌≡◌, ◌≢◌, ℕ, ◌+◌, List, [], ◌∷◌, ◌++◌, length, refl, ap, ◌∙◌, arith}
 use Rattle.std.specs.Prelude.{Bool, true, false, ◌&&◌, nat_eq, min, Option, Some, None, slice_index, is_some}
 use Rattle.std.proofs.lemmas.Bool.{eqb-true}
 use Rattle.nb_model.specs.Chains.{Slot, Spot, is_used, first_such, free_spot, spots_of}

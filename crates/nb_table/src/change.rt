@@ -1,5 +1,5 @@
 // Rows are inserted, updated and deleted.
-ghost use Rattle.std.specs.Prelude.{◌≡◌, None, IsTrue, IfSome, length};
+ghost use Rattle.std.specs.Prelude.{◌≡◌, None, IsTrue, IfSome};
 ghost use Rattle.nb_change.specs.Counts.{CountsDevice};
 ghost use Rattle.nb_model.specs.Causes.{broken_at};
 ghost use Rattle.nb_model.specs.Chains.{Chain, pages_of, spots, row_spot};
@@ -32,9 +32,7 @@ fn put_found<H: Host>(
     found: &Option<Found>,
     key: u64,
     bytes: &[u8; SLOT],
-    page: &mut [u8],
 ) -> Result<(), Fault>
-    requires size { length page.old ≡ engine.old.files.page_size }
     requires placed { IfSome found.now (λ f. IsPlaced engine.old.files.page_size f.place) }
     ensures turn { (s : Seen) (t : Trail) (chain : Chain) → IsTrue H.tells → t.base ≡ s.base → IsOpen (H.world host.old) engine.old t → broken_at (pages_of chain t.base.image) ≡ None
         → found.now ≡ found_at (row_spot key (spots chain t.base.image))
@@ -45,7 +43,7 @@ fn put_found<H: Host>(
     let Some(row) = found else {
         return Err(Fault::Refused(Refusal::NoKey { key }));
     };
-    put_slot(host, engine, row.place, bytes, page)?;
+    put_slot(host, engine, row.place, bytes)?;
     Ok(())
 }
 
@@ -81,7 +79,6 @@ pub fn insert<H: Host>(
         rows.walked.room,
         rows.last,
         &bytes,
-        page,
     )?;
     Ok(())
 }
@@ -106,7 +103,7 @@ pub fn update<H: Host>(
     let page = &mut buffer[..engine.page_size() as usize];
     let rows = find_rows(host, engine, table, key, text, page)?;
     let bytes = row_bytes(key, text);
-    put_found(host, engine, &rows.walked.found, key, &bytes, page)?;
+    put_found(host, engine, &rows.walked.found, key, &bytes)?;
     Ok(())
 }
 
@@ -128,6 +125,6 @@ pub fn delete<H: Host>(
     let mut buffer = [0; LARGEST_PAGE];
     let page = &mut buffer[..engine.page_size() as usize];
     let rows = find_rows(host, engine, table, key, &[], page)?;
-    put_found(host, engine, &rows.walked.found, key, &FREE, page)?;
+    put_found(host, engine, &rows.walked.found, key, &FREE)?;
     Ok(())
 }

@@ -69,9 +69,7 @@ fn create_in<H: Host>(
     engine: &mut Engine,
     table: &TableName,
     place: Place,
-    page: &mut [u8],
 ) -> Result<(), Fault>
-    requires size { length page.old ≡ engine.old.files.page_size }
     requires placed { IsPlaced engine.old.files.page_size place }
     ensures tries { (t : Trail) → IsTrue H.tells → IsOpen (H.world host.old) engine.old t → IsOfSize (image_size t.base.image) t.base.image → is_kind t.base.image 5 place.page ≡ true
         → Tries result (H.world host.old) (H.world host.new) engine.old engine.new t (unmade t.base.image (created_in t.base.image table.now place)) (created_in t.base.image table.now place).strokes }
@@ -81,7 +79,7 @@ fn create_in<H: Host>(
     // Nothing is made where the slot isn't to be written after it.
     engine.room_for(host, 1, place.page)?;
     let first = engine.data_new(host, None, &[])?;
-    put_slot(host, engine, place, &table_bytes(table, first), page)?;
+    put_slot(host, engine, place, &table_bytes(table, first))?;
     Ok(())
 }
 
@@ -130,7 +128,7 @@ pub fn create<H: Host>(host: &mut H, engine: &mut Engine, table: &TableName) -> 
     let (free, last) = check_table(host, engine, table, page)?;
     match free {
         Some(place) => {
-            create_in(host, engine, table, place, page)?;
+            create_in(host, engine, table, place)?;
             Ok(())
         }
         None => {

@@ -214,7 +214,7 @@ fn drop_rows<H: Host>(
     ensures cause { CountsDevice result (H.faults host.old) (H.faults host.new) }
 {
     check_drop(host, engine, rows, page)?;
-    put_slot(host, engine, rows.table.place, &FREE, page)?;
+    put_slot(host, engine, rows.table.place, &FREE)?;
     give_all_back(host, engine, rows.first, page)?;
     Ok(())
 }
