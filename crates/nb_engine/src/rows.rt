@@ -7,6 +7,7 @@ ghost use Rattle.nb_engine.specs.History.{row_in, meets};
 
 use nb_fields::layouts::{data, history};
 use nb_host::Name;
+use nb_walk::backup_file;
 
 /// A backup that was closed, as the history has it.
 #[derive(Drop)]
@@ -41,26 +42,13 @@ impl Wanted {
     }
 }
 
-/// The name of the file in a slot of the history, and none where that is of no form.
-fn file_in(slot: &[u8]) -> Option<Name>
-    requires { length slot.now ≡ 256 }
-    ensures exact { is_some result ≡ (nat_le (length_in slot.now) 100 && is_name (file_in slot.now)) }
-    ensures same { IfSome result (λ name. name ≡ file_in slot.now) }
-{
-    let length = history::NameLength::get(slot) as usize;
-    if length > history::MOST_NAME {
-        return None;
-    }
-    Name::read_bytes(&slot[history::NAME_AT..history::NAME_AT + length])
-}
-
 /// The row in a used slot of the history, and none where its name is of no form.
 pub(crate) fn read_row(slot: &[u8]) -> Option<HistoryRow>
     requires { length slot.now ≡ 256 }
     ensures exact { is_some result ≡ (nat_le (length_in slot.now) 100 && is_name (file_in slot.now)) }
     ensures row { IfSome result (λ row. row ≡ row_in slot.now) }
 {
-    let name = file_in(slot)?;
+    let name = backup_file(slot)?;
     let level = history::Level::get(slot);
     let scn = history::Scn::get(slot);
     let time = history::Time::get(slot);

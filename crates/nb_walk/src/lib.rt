@@ -14,4 +14,4 @@ mod slots;
 
 pub use chain::Chain;
 pub use page::take_page;
-pub use slots::{first_page, slot_at, slot_count, table_name, use_of};
+pub use slots::{backup_file, first_page, slot_at, slot_count, table_name, use_of};
