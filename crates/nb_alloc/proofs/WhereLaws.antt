@@ -15,9 +15,9 @@ use Rattle.nb_model.specs.Causes.{Cause}
 use Rattle.nb_base.specs.Takes.{after_strokes, IsNoRefusal}
 use Rattle.nb_state.specs.Open.{Held, IsOpen, but_pages}
 use Rattle.nb_state.specs.Does.{Tested, WhereEnded, unless_by, Makes}
-use Rattle.nb_state.proofs.MakesLaws.{makes_none, makes_then, makes_front, makes_before, makes_after}
+use Rattle.nb_state.proofs.MakesLaws.{makes_then, makes_front, makes_before}
 use Rattle.nb_alloc.specs.Tries.{Tries}
-use Rattle.nb_alloc.specs.Make.{MakesSome, MakesWhere}
+use Rattle.nb_alloc.specs.Make.{MakesWhere}
 use Rattle.nb_alloc.proofs.DoesLaws.{unless_none, tries_passed}
 
 -- a failure is the same of a result of another type
@@ -31,14 +31,6 @@ makes_as S T fault old new a b t xs makes = record { left = makes.left; opened =
 
 pub makes_valued : {S T : Type 0} (v : S) (w : T) (old new : World) (a b : Held) (t : Trail) (xs : List Stroke) → Makes (Ok v) old new a b t xs → Makes (Ok w) old new a b t xs
 makes_valued v w old new a b t xs makes = record { left = makes.left; opened = makes.opened; goes = makes.goes; gave = makes.gave }
-
--- Calls that change nothing come before a call that makes some strokes.
-pub makes_some_after : {T : Type 0} (result : Result T Fault) (old mid new : World) (a b c : Held) (t : Trail) → but_pages b ≡ but_pages a → Quiet old mid → IsOpen old a t → MakesSome result mid new b c t → MakesSome result old new a c t
-makes_some_after result old mid new a b c t still quiet is some = record { made = some.made; makes = makes_after result old mid new a b c t some.made still quiet is some.makes }
-
--- or they are all that there is
-pub makes_some_none : {T : Type 0} (result : Result T Fault) (old new : World) (a b : Held) (t : Trail) → but_pages b ≡ but_pages a → Quiet old new → IsOpen old a t → IsOpen new b t → MakesSome result old new a b t
-makes_some_none result old new a b t still quiet is opened = record { made = []; makes = makes_none result old new a b t still quiet is opened }
 
 -- a test without a cause refuses nothing
 pub sure_of : {T : Type 0} (result : Result T Fault) (cause : Cause) → cause ≡ None → Tested result cause → IfErr result IsNoRefusal

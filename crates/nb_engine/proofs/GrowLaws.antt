@@ -24,16 +24,16 @@ use Rattle.nb_model.proofs.DraftLaws.{IsKept, IsOf, drafts_are, drafted_is, put_
 use Rattle.nb_model.proofs.DraftJoin.{join_put}
 use Rattle.nb_base.specs.Takes.{after_strokes, IsNoRefusal}
 use Rattle.nb_state.specs.Open.{Held}
-use Rattle.nb_state.specs.Does.{Makes, unless_by}
+use Rattle.nb_state.specs.Does.{Makes}
 use Rattle.nb_state.proofs.MakesLaws.{makes_then, makes_front}
 use Rattle.nb_alloc.specs.Data.{new_behind}
-use Rattle.nb_alloc.specs.Make.{MakesSome, page_strokes, new_of}
-use Rattle.nb_engine.specs.Room.{no_rows, linked_payload, link_cause, grow_cause, IsGrown}
+use Rattle.nb_alloc.specs.Make.{page_strokes, new_of}
+use Rattle.nb_engine.specs.Room.{no_rows, linked_payload, write_cause, grow_cause, IsGrown}
 use Rattle.nb_alloc.specs.Tries.{Tries}
 use Rattle.nb_alloc.proofs.DoesLaws.{unless_none, tries_made}
 use Rattle.nb_alloc.proofs.CauseLaws.{first_none, first_next, first_here}
 use Rattle.nb_alloc.proofs.NewLaws.{told, image_is}
-use Rattle.nb_engine.proofs.LinkLaws.{link_low}
+use Rattle.nb_engine.proofs.LinkLaws.{write_low}
 use Rattle.nb_alloc.proofs.WhereLaws.{makes_as, makes_valued, sure_of}
 
 -- the bytes of a page of the history without a row
@@ -122,8 +122,8 @@ module _ (chain : Chain) (slots : List ℕ) where
     after_long : last < length u.base.image
     after_long = (kind_parts u.base.image 5 last (ap (λ (x : Image). is_kind x 5 last) seen ∙ free.kind)).0
 
-    pub link_free : link_cause u.base.image last ≡ None
-    link_free = sym (link_low u.base.image last after_long) ∙ entry
+    pub link_free : write_cause u.base.image last ≡ None
+    link_free = sym (write_low u.base.image last after_long) ∙ entry
 
     pub strokes_are : (number : ℕ) → number ≡ (made_behind image).1 → xs ++ page_strokes u.base.image last 5 (linked_payload u.base.image last number) ≡ (grown chain pages slots (drafted image)).0.strokes
     strokes_are number same =
@@ -146,19 +146,19 @@ module _ (chain : Chain) (slots : List ℕ) where
 
     -- the link failed
     pub grown_failed : (number : ℕ) (fault : Fault) (old mid new : World) (a b c : Held) → number ≡ (made_behind image).1 → Makes (Ok number) old mid a b t xs
-        → Tries {T = Unit {0}} (Err fault) mid new b c u (link_cause u.base.image last) (links number) → Tries {T = ℕ} (Err fault) old new a c t None all
+        → Tries {T = Unit {0}} (Err fault) mid new b c u (write_cause u.base.image last) (links number) → Tries {T = ℕ} (Err fault) old new a c t None all
     grown_failed number fault old mid new a b c same first tries =
-        grown_all number (Err fault) old mid new a b c same first (sure_of {T = Unit {0}} (Err fault) (link_cause u.base.image last) link_free tries.test)
+        grown_all number (Err fault) old mid new a b c same first (sure_of {T = Unit {0}} (Err fault) (write_cause u.base.image last) link_free tries.test)
         (makes_as (Unit {0}) ℕ fault mid new b c u (links number)
-        (subst (λ (ss : List Stroke). Makes {T = Unit {0}} (Err fault) mid new b c u ss) (unless_none (link_cause u.base.image last) (links number) link_free) tries.makes))
+        (subst (λ (ss : List Stroke). Makes {T = Unit {0}} (Err fault) mid new b c u ss) (unless_none (write_cause u.base.image last) (links number) link_free) tries.makes))
 
     -- or is made
     pub grown_done : (number : ℕ) (old mid new : World) (a b c : Held) → number ≡ (made_behind image).1 → Makes (Ok number) old mid a b t xs
-        → Tries {T = Unit {0}} (Ok tt) mid new b c u (link_cause u.base.image last) (links number) → Tries (Ok number) old new a c t None all
+        → Tries {T = Unit {0}} (Ok tt) mid new b c u (write_cause u.base.image last) (links number) → Tries (Ok number) old new a c t None all
     grown_done number old mid new a b c same first tries =
         grown_all number (Ok number) old mid new a b c same first tt
         (makes_valued {S = Unit {0}} tt number mid new b c u (links number)
-        (subst (λ (ss : List Stroke). Makes {T = Unit {0}} (Ok tt) mid new b c u ss) (unless_none (link_cause u.base.image last) (links number) link_free) tries.makes))
+        (subst (λ (ss : List Stroke). Makes {T = Unit {0}} (Ok tt) mid new b c u ss) (unless_none (write_cause u.base.image last) (links number) link_free) tries.makes))
 
 -- the new page is below the length
 pub new_below : (t : Trail) (kind : ℕ) (payload : ℕ → List ℕ) (number : ℕ) (strokes : List Stroke) → number < length (after_strokes t strokes).base.image → strokes ≡ (new_of kind payload t.base.image).0.strokes → number < length (new_of kind payload t.base.image).0.image
@@ -188,21 +188,6 @@ module _ (image : Image) (pages : List ℕ) where
 
   pub grow_free : draft_cause history ≡ None → no_scn image ≡ None → grow_cause image pages ≡ None
   grow_free room scn = grow_is ∙ first_next (draft_cause history) (no_scn image ∷ []) room ∙ first_next (no_scn image) [] scn ∙ first_none
-
--- Whatever is in the database: strokes were made, and then those of the link.
-pub some_failed : (number : ℕ) (fault : Fault) (old mid new : World) (a b c : Held) (t : Trail) (made : List Stroke) → Makes (Ok number) old mid a b t made → (cause : Cause) (ys : List Stroke)
-    → Tries {T = Unit {0}} (Err fault) mid new b c (after_strokes t made) cause ys → MakesSome {T = ℕ} (Err fault) old new a c t
-some_failed number fault old mid new a b c t made first cause ys tries = record {
-  made = made ++ unless_by cause ys;
-  makes = makes_then number (Err fault) old mid new a b c t made (unless_by cause ys) first (makes_as (Unit {0}) ℕ fault mid new b c (after_strokes t made) (unless_by cause ys) tries.makes);
-}
-
-pub some_done : (number : ℕ) (old mid new : World) (a b c : Held) (t : Trail) (made : List Stroke) → Makes (Ok number) old mid a b t made → (cause : Cause) (ys : List Stroke)
-    → Tries {T = Unit {0}} (Ok tt) mid new b c (after_strokes t made) cause ys → MakesSome (Ok number) old new a c t
-some_done number old mid new a b c t made first cause ys tries = record {
-  made = made ++ unless_by cause ys;
-  makes = makes_then number (Ok number) old mid new a b c t made (unless_by cause ys) first (makes_valued {S = Unit {0}} tt number mid new b c (after_strokes t made) (unless_by cause ys) tries.makes);
-}
 
 -- the number alone
 pub grown_is : (result : Result ℕ Fault) (image : Image) (chain : Chain) (pages slots : List ℕ) → IfOk result (IsGrown image chain pages slots) → IfOk result (λ number. number ≡ (grown chain pages slots (drafted image)).1)

@@ -12,7 +12,7 @@ ghost use Rattle.nb_model.specs.Trail.{Trail};
 ghost use Rattle.nb_state.specs.Open.{IsOpen, but_pages};
 ghost use Rattle.nb_state.specs.Does.{Tested, Goes};
 ghost use Rattle.nb_alloc.specs.Data.{new_data, second_data, unmade, unmade_behind};
-ghost use Rattle.nb_alloc.specs.Make.{MakesSome, new_of};
+ghost use Rattle.nb_alloc.specs.Make.{new_of};
 ghost use Rattle.nb_alloc.specs.Search.{IsShort};
 ghost use Rattle.nb_alloc.specs.Tries.{Tries};
 
@@ -61,9 +61,6 @@ impl Engine {
         ensures value { (t : Trail) → IsTrue H.tells → IsOpen (H.world host.old) self.old t → IsOfSize (image_size t.base.image) t.base.image → IfOk result (λ number. number ≡ (new_data owner slots.now t.base.image).1) }
 
         ensures sizes { (t : Trail) → IsTrue H.tells → IsOpen (H.world host.old) self.old t → IsOfSize (image_size t.base.image) t.base.image → OnOk result (IsOfSize (image_size (new_data owner slots.now t.base.image).0.image) (new_data owner slots.now t.base.image).0.image) }
-
-        // Whatever is in the database: it makes some strokes and is open after them, so only its two files are touched.
-        ensures some { (t : Trail) → IsTrue H.tells → IsOpen (H.world host.old) self.old t → MakesSome result (H.world host.old) (H.world host.new) self.old self.new t }
         ensures least { IfOk result (λ number. 5 ≤ number) }
         ensures most { IfOk result (λ number. number < 1048576) }
         ensures goes { Goes self.old self.new }
@@ -111,7 +108,6 @@ impl Engine {
             → Tries result (H.world host.old) (H.world host.new) self.old self.new t (unmade t.base.image (grown chain pages slots.now (drafted t.base.image)).0) (grown chain pages slots.now (drafted t.base.image)).0.strokes }
         ensures value { (t : Trail) (chain : Chain) (pages : List ℕ) → IsTrue H.tells → IsOpen (H.world host.old) self.old t → IsOfSize (image_size t.base.image) t.base.image → owner ≡ owner_of chain → is_kind t.base.image 5 last ≡ true
             → IfOk result (λ number. number ≡ (grown chain pages slots.now (drafted t.base.image)).1) }
-        ensures some { (t : Trail) → IsTrue H.tells → IsOpen (H.world host.old) self.old t → MakesSome result (H.world host.old) (H.world host.new) self.old self.new t }
         ensures least { IfOk result (λ number. 5 ≤ number) }
         ensures most { IfOk result (λ number. number < 1048576) }
         ensures goes { Goes self.old self.new }

@@ -15,9 +15,7 @@ ghost use Rattle.nb_state.specs.Open.{IsOpen, but_pages};
 ghost use Rattle.nb_base.specs.Takes.{IsNoRefusal};
 ghost use Rattle.nb_state.specs.Does.{Tested, Goes};
 ghost use Rattle.nb_engine.specs.History.{row_at, IsPlaced};
-ghost use Rattle.nb_alloc.specs.Make.{MakesSome};
-ghost use Rattle.nb_alloc.specs.Put.{entry_cause};
-ghost use Rattle.nb_engine.specs.Room.{room_cause, IsRoomIn};
+ghost use Rattle.nb_engine.specs.Room.{room_cause, write_cause, IsRoomIn};
 ghost use Rattle.nb_alloc.specs.Tries.{Tries};
 
 use crate::Engine;
@@ -85,9 +83,6 @@ impl Engine {
             → Tries result (H.world host.old) (H.world host.new) self.old self.new t (room_cause t.base.image) (room_in t.base.image).draft.strokes }
         ensures room { (t : Trail) → IsTrue H.tells → IsOpen (H.world host.old) self.old t → IsOfSize (image_size t.base.image) t.base.image → IfOk result (IsRoomIn t.base.image) }
         ensures below { (t : Trail) → IsTrue H.tells → IsOpen (H.world host.old) self.old t → IsOfSize (image_size t.base.image) t.base.image → IfOk result (λ room. room.page < length (room_in t.base.image).draft.image) }
-
-        // Whatever is in the database: it makes some strokes and is open after them, so only its two files are touched.
-        ensures some { (t : Trail) → IsTrue H.tells → IsOpen (H.world host.old) self.old t → MakesSome result (H.world host.old) (H.world host.new) self.old self.new t }
         ensures placed { IfOk result (IsPlaced self.old.files.page_size) }
         ensures goes { Goes self.old self.new }
         ensures cause { CountsDevice result (H.faults host.old) (H.faults host.new) }
@@ -136,13 +131,10 @@ impl Engine {
         row: &HistoryRow,
     ) -> Result<(), Fault>
         requires placed { IsPlaced self.old.files.page_size room.now }
-        ensures tries { (t : Trail) → IsTrue H.tells → IsOpen (H.world host.old) self.old t → room.now.page < length t.base.image
-            → Tries result (H.world host.old) (H.world host.new) self.old self.new t (entry_cause t.base.image room.now.page)
+        ensures tries { (t : Trail) → IsTrue H.tells → IsOpen (H.world host.old) self.old t
+            → Tries result (H.world host.old) (H.world host.new) self.old self.new t (write_cause t.base.image room.now.page)
             (put_slot room.now.page room.now.slot (backup_slot row.now.level row.now.scn row.now.time row.now.guid row.now.name) (drafted t.base.image)).strokes }
         ensures sure { (t : Trail) → IsTrue H.tells → IsOpen (H.world host.old) self.old t → room.now.page < length t.base.image → IsSoundImage t.base.image → IfErr result IsNoRefusal }
-
-        // Whatever is in the database: it makes some strokes and is open after them, so only its two files are touched.
-        ensures some { (t : Trail) → IsTrue H.tells → IsOpen (H.world host.old) self.old t → MakesSome result (H.world host.old) (H.world host.new) self.old self.new t }
         ensures goes { Goes self.old self.new }
         ensures cause { CountsDevice result (H.faults host.old) (H.faults host.new) }
         ensures takes_none { self.old.files.state ≢ 1 → IfErr result (λ fault. fault ≢ Memory) }

@@ -80,7 +80,7 @@ returns-in_err-room-clause-asks g c t tells is =
     let old = g.H.Host.world c.args.host.now in
     let mid = g.H.Host.world c.check_start.new.host in
     let here = c.check_start.ensures.open t tells is in
-    (replicate 16 0, refl, inl ((c.in_err-room.ensures.some t tells here).makes.gave.guids ∙ c.check_start.ensures.quiet.guids))
+    (replicate 16 0, refl, inl ((c.in_err-room.ensures.makes t tells here (open_sized _ _ t here)).makes.gave.guids ∙ c.check_start.ensures.quiet.guids))
 
 pub returns-in_err-make-clause-turn : goal.returns-in_err-make-clause-turn
 returns-in_err-make-clause-turn g c s t tells same runs is free plain given =
@@ -106,7 +106,7 @@ returns-in_err-make-clause-turn g c s t tells same runs is free plain given =
 pub returns-in_err-make-clause-asks : goal.returns-in_err-make-clause-asks
 returns-in_err-make-clause-asks g c t tells is =
     let here = c.check_start.ensures.open t tells is in
-    (replicate 16 0, refl, inl (c.in_err-make.ensures.log.guids ∙ (c.in_ok-room.ensures.some t tells here).makes.gave.guids ∙ c.check_start.ensures.quiet.guids))
+    (replicate 16 0, refl, inl (c.in_err-make.ensures.log.guids ∙ (c.in_ok-room.ensures.makes t tells here (open_sized _ _ t here)).makes.gave.guids ∙ c.check_start.ensures.quiet.guids))
 
 pub returns-in_err-head-2-clause-turn : goal.returns-in_err-head-2-clause-turn
 returns-in_err-head-2-clause-turn g c s t tells same runs is free plain given =
@@ -148,7 +148,7 @@ returns-in_err-head-2-clause-asks g c t tells is =
     let made = g.H.Host.world c.make.new.self in
     let here = c.check_start.ensures.open t tells is in
     let log = c.in_ok-make.ensures.log in
-    let gave = nothing_joined old there made (nothing_joined old mid there (quiet_gave old mid c.check_start.ensures.quiet) (c.in_ok-room.ensures.some t tells here).makes.gave) (record { guids = log.guids; times = log.times }) in
+    let gave = nothing_joined old there made (nothing_joined old mid there (quiet_gave old mid c.check_start.ensures.quiet) (c.in_ok-room.ensures.makes t tells here (open_sized _ _ t here)).makes.gave) (record { guids = log.guids; times = log.times }) in
     let asks = c.begin.ensures.asks tells in
     (asks.0, asks.1, given_before old made (g.H.Host.world c.begin.new.host) asks.0 gave asks.2)
 
@@ -160,7 +160,7 @@ returns-clause-asks g c t tells is =
     let made = g.H.Host.world c.make.new.self in
     let here = c.check_start.ensures.open t tells is in
     let log = c.in_ok-make.ensures.log in
-    let gave = nothing_joined old there made (nothing_joined old mid there (quiet_gave old mid c.check_start.ensures.quiet) (c.in_ok-room.ensures.some t tells here).makes.gave) (record { guids = log.guids; times = log.times }) in
+    let gave = nothing_joined old there made (nothing_joined old mid there (quiet_gave old mid c.check_start.ensures.quiet) (c.in_ok-room.ensures.makes t tells here (open_sized _ _ t here)).makes.gave) (record { guids = log.guids; times = log.times }) in
     let asks = c.begin.ensures.asks tells in
     (asks.0, asks.1, given_before old made (g.H.Host.world c.begin.new.host) asks.0 gave asks.2)
 
@@ -217,14 +217,16 @@ returns-in_err-file-clause-made_first g c t tells is plain = let check = c.in_ok
 pub returns-in_err-room-clause-made_first : goal.returns-in_err-room-clause-made_first
 returns-in_err-room-clause-made_first g c t tells is plain =
     let check = c.in_ok-head.ensures in
-    let makes = (c.in_err-room.ensures.some t tells (check.open t tells is)).makes in
+    let here = check.open t tells is in
+    let makes = (c.in_err-room.ensures.makes t tells here (open_sized _ _ t here)).makes in
     inl (nothing_joined _ _ _ (quiet_gave _ _ check.quiet) makes.gave, goes_on _ _ _ (goes_nowhere _ _ check.same) makes.goes)
 
 pub returns-in_err-make-clause-made_first : goal.returns-in_err-make-clause-made_first
 returns-in_err-make-clause-made_first g c t tells is plain =
     let check = c.in_ok-head.ensures in
     let log = c.in_err-make.ensures.log in
-    let makes = (c.in_ok-room.ensures.some t tells (check.open t tells is)).makes in
+    let here = check.open t tells is in
+    let makes = (c.in_ok-room.ensures.makes t tells here (open_sized _ _ t here)).makes in
     inl (nothing_joined _ _ _ (nothing_joined _ _ _ (quiet_gave _ _ check.quiet) makes.gave) (record { guids = log.guids; times = log.times }), goes_on _ _ _ (goes_nowhere _ _ check.same) makes.goes)
 
 pub returns-in_err-head-2-clause-made_first : goal.returns-in_err-head-2-clause-made_first
@@ -234,7 +236,8 @@ returns-in_err-head-2-clause-made_first g c t tells is plain =
     let b = c.history_room.new.self in
     let name : List ℕ = c.args.name.now in
     let make = c.in_ok-make.ensures in
-    let makes = (c.in_ok-room.ensures.some t tells (check.open t tells is)).makes in
+    let here = check.open t tells is in
+    let makes = (c.in_ok-room.ensures.makes t tells here (open_sized _ _ t here)).makes in
     let file = remade_alone _ _ (g.H.Host.world c.history_room.new.host) (g.H.Host.world c.make.new.self) name _ IsEmpty tells (g.met.H.Host.timely _) make.files make.log.said make.time refl in
     let own = makes.goes.name ∙ ap name_of check.same in
     let apart : OfFiles (name_of b) name → ⊥ = λ its. free_apart (g.H.Host.world c.args.host.now) a t name is (check.free tells) plain (subst (λ (n : List ℕ). OfFiles n name) own its) in
@@ -251,7 +254,8 @@ returns-clause-made_first g c t tells is plain =
     let b = c.history_room.new.self in
     let name : List ℕ = c.args.name.now in
     let make = c.in_ok-make.ensures in
-    let makes = (c.in_ok-room.ensures.some t tells (check.open t tells is)).makes in
+    let here = check.open t tells is in
+    let makes = (c.in_ok-room.ensures.makes t tells here (open_sized _ _ t here)).makes in
     let file = remade_alone _ _ (g.H.Host.world c.history_room.new.host) (g.H.Host.world c.make.new.self) name _ IsEmpty tells (g.met.H.Host.timely _) make.files make.log.said make.time refl in
     let own = makes.goes.name ∙ ap name_of check.same in
     let apart : OfFiles (name_of b) name → ⊥ = λ its. free_apart (g.H.Host.world c.args.host.now) a t name is (check.free tells) plain (subst (λ (n : List ℕ). OfFiles n name) own its) in

@@ -8,11 +8,10 @@ use Rattle.nb_model.proofs.SearchLaws.{draft_cause}
 use Rattle.nb_base.specs.Takes.{after_strokes}
 use Rattle.nb_state.specs.Does.{Makes}
 use Rattle.nb_alloc.specs.Data.{new_behind}
-use Rattle.nb_alloc.specs.Make.{MakesSome, page_strokes, new_of}
-use Rattle.nb_engine.specs.Room.{linked_payload, link_cause}
+use Rattle.nb_alloc.specs.Make.{new_of}
 use Rattle.nb_alloc.specs.Tries.{Tries}
 use Rattle.nb_alloc.proofs.DoesLaws.{tries_passed}
-use Rattle.nb_engine.proofs.GrowLaws.{grown_number, new_below, grown_below, grown_front, grown_failed, grown_done, some_failed, some_done}
+use Rattle.nb_engine.proofs.GrowLaws.{grown_number, new_below, grown_below, grown_front, grown_failed, grown_done}
 use Rattle.nb_alloc.proofs.RoomsLaws.{free_behind}
 use Rattle.nb_engine.proofs.grow.grow_from.Goals as goal
 
@@ -79,29 +78,3 @@ returns-clause-grown g c t chain pages slots tells is may =
       is = subst (λ (xs : List ℕ). n ≡ (new_of 5 (λ p. xs) image).1) may.bytes (c.in_ok-number.ensures.value t tells is may.at may.holds may.searchable full) ∙ sym (grown_number chain slots image pages);
       below = grown_below chain slots image pages n inside;
     }
-
-pub returns-in_err-number-clause-some : goal.returns-in_err-number-clause-some
-returns-in_err-number-clause-some g c t tells is at holds =
-    let fault = c.in_err-number.field-0.0 in
-    tries_passed c.from_residual.result fault (λ r. MakesSome r (g.H.Host.world c.args.host.now) (g.H.Host.world c.make_new.new.host) c.args.store.now c.make_new.new.store t) c.from_residual.ensures
-    (c.in_err-number.ensures.makes t tells is at holds).some
-
-pub returns-in_err-link-clause-some : goal.returns-in_err-link-clause-some
-returns-in_err-link-clause-some g c t tells is at holds =
-    let w = g.H.Host.world c.args.host.now in
-    let fault = c.in_err-link.field-0.0 in
-    let n : ℕ = c.in_ok-number.number in
-    let some = (c.in_ok-number.ensures.makes t tells is at holds).some in
-    let u = after_strokes t some.made in
-    tries_passed c.from_residual-in_err-link.result fault (λ r. MakesSome r w (g.H.Host.world c.link.new.host) c.args.store.now c.link.new.store t) c.from_residual-in_err-link.ensures
-    (some_failed n fault w (g.H.Host.world c.make_new.new.host) (g.H.Host.world c.link.new.host) c.args.store.now c.make_new.new.store c.link.new.store t some.made some.makes (link_cause u.base.image c.args.last)
-    (page_strokes u.base.image c.args.last 5 (linked_payload u.base.image c.args.last n)) (c.in_err-link.ensures.tries u tells some.makes.opened))
-
-pub returns-clause-some : goal.returns-clause-some
-returns-clause-some g c t tells is at holds =
-    let w = g.H.Host.world c.args.host.now in
-    let n : ℕ = c.in_ok-number.number in
-    let some = (c.in_ok-number.ensures.makes t tells is at holds).some in
-    let u = after_strokes t some.made in
-    some_done n w (g.H.Host.world c.make_new.new.host) (g.H.Host.world c.link.new.host) c.args.store.now c.make_new.new.store c.link.new.store t some.made some.makes (link_cause u.base.image c.args.last)
-    (page_strokes u.base.image c.args.last 5 (linked_payload u.base.image c.args.last n)) (c.in_ok-link.ensures.tries u tells some.makes.opened)

@@ -31,7 +31,7 @@ returns-in-Ok-More-clause-turn g c how now t more tells ready makes here goes =
     let later : Backed = c.turn.new.self in
     let rest : ℕ = file_count copier.file - file_next copier.file in
     let may : MayGoOn a t copier = may_go_on old a t now session copier more ready makes.going here goes.1 in
-    let asked = c.in-Ok-More.ensures.asks t tells ready.opened may.stalled goes.0 may.below may.apart in
+    let asked = c.in-Ok-More.ensures.asks t tells ready.opened may.stalled goes.0 may.apart in
     let turns = λ (given : Given) (most : GaveTimeAtMost old mid (next_time given)).
     subst (λ (p : Progress). BackupTurn (Ok p) old mid a b copier later t (next_time given) (close_backup (seen_with now given) copier.backing).strokes) c.in-Ok-More.field-0-is
     (c.in-Ok-More.ensures.turn (seen_with now given) t tells ready.base ready.opened may.stalled may.entry goes.0 may.below may.apart most) in
@@ -53,7 +53,7 @@ returns-in-Ok-Finished-clause-turn g c how now t more tells ready makes here goe
     let later : Backed = c.turn.new.self in
     let rest : ℕ = file_count copier.file - file_next copier.file in
     let may : MayGoOn a t copier = may_go_on old a t now session copier more ready makes.going here goes.1 in
-    let asked = c.in-Ok-Finished.ensures.asks t tells ready.opened may.stalled goes.0 may.below may.apart in
+    let asked = c.in-Ok-Finished.ensures.asks t tells ready.opened may.stalled goes.0 may.apart in
     let turns = λ (given : Given) (most : GaveTimeAtMost old mid (next_time given)).
     subst (λ (p : Progress). BackupTurn (Ok p) old mid a b copier later t (next_time given) (close_backup (seen_with now given) copier.backing).strokes) c.in-Ok-Finished.field-0-is
     (c.in-Ok-Finished.ensures.turn (seen_with now given) t tells ready.base ready.opened may.stalled may.entry goes.0 may.below may.apart most) in
@@ -76,7 +76,7 @@ returns-in_err-say_refused-in-Err-Refused-clause-turn g c how now t more tells r
     let later : Backed = c.turn.new.self in
     let rest : ℕ = file_count copier.file - file_next copier.file in
     let may : MayGoOn a t copier = may_go_on old a t now session copier more ready makes.going here goes.1 in
-    let asked = c.in-Err-Refused.ensures.asks t tells ready.opened may.stalled goes.0 may.below may.apart in
+    let asked = c.in-Err-Refused.ensures.asks t tells ready.opened may.stalled goes.0 may.apart in
     let turns = λ (given : Given) (most : GaveTimeAtMost old mid (next_time given)).
     subst (λ (f : Fault). BackupTurn (Err f) old mid a b copier later t (next_time given) (close_backup (seen_with now given) copier.backing).strokes) c.in-Err-Refused.field-0-is
     (c.in-Err-Refused.ensures.turn (seen_with now given) t tells ready.base ready.opened may.stalled may.entry goes.0 may.below may.apart most) in
@@ -94,7 +94,7 @@ returns-in_ok-say_refused-in-Err-Refused-clause-turn g c how now t more tells re
     let later : Backed = c.turn.new.self in
     let rest : ℕ = file_count copier.file - file_next copier.file in
     let may : MayGoOn a t copier = may_go_on old a t now session copier more ready makes.going here goes.1 in
-    let asked = c.in-Err-Refused.ensures.asks t tells ready.opened may.stalled goes.0 may.below may.apart in
+    let asked = c.in-Err-Refused.ensures.asks t tells ready.opened may.stalled goes.0 may.apart in
     let turns = λ (given : Given) (most : GaveTimeAtMost old mid (next_time given)).
     subst (λ (f : Fault). BackupTurn (Err f) old mid a b copier later t (next_time given) (close_backup (seen_with now given) copier.backing).strokes) c.in-Err-Refused.field-0-is
     (c.in-Err-Refused.ensures.turn (seen_with now given) t tells ready.base ready.opened may.stalled may.entry goes.0 may.below may.apart most) in
@@ -112,7 +112,7 @@ returns-in-Err-Device-clause-turn g c how now t more tells ready makes here goes
     let later : Backed = c.turn.new.self in
     let rest : ℕ = file_count copier.file - file_next copier.file in
     let may : MayGoOn a t copier = may_go_on old a t now session copier more ready makes.going here goes.1 in
-    let asked = c.in-Err-Device.ensures.asks t tells ready.opened may.stalled goes.0 may.below may.apart in
+    let asked = c.in-Err-Device.ensures.asks t tells ready.opened may.stalled goes.0 may.apart in
     let turns = λ (given : Given) (most : GaveTimeAtMost old mid (next_time given)).
     subst (λ (f : Fault). BackupTurn (Err f) old mid a b copier later t (next_time given) (close_backup (seen_with now given) copier.backing).strokes) c.in-Err-Device.field-0-is
     (c.in-Err-Device.ensures.turn (seen_with now given) t tells ready.base ready.opened may.stalled may.entry goes.0 may.below may.apart most) in
@@ -132,7 +132,7 @@ returns-in-Err-Memory-clause-turn g c how now t more tells ready makes here goes
     let later : Backed = c.turn.new.self in
     let rest : ℕ = file_count copier.file - file_next copier.file in
     let may : MayGoOn a t copier = may_go_on old a t now session copier more ready makes.going here goes.1 in
-    let asked = c.in-Err-Memory.ensures.asks t tells ready.opened may.stalled goes.0 may.below may.apart in
+    let asked = c.in-Err-Memory.ensures.asks t tells ready.opened may.stalled goes.0 may.apart in
     let turns = λ (given : Given) (most : GaveTimeAtMost old mid (next_time given)).
     subst (λ (f : Fault). BackupTurn (Err f) old mid a b copier later t (next_time given) (close_backup (seen_with now given) copier.backing).strokes) c.in-Err-Memory.field-0-is
     (c.in-Err-Memory.ensures.turn (seen_with now given) t tells ready.base ready.opened may.stalled may.entry goes.0 may.below may.apart most) in

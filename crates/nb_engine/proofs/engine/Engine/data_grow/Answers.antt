@@ -1,5 +1,5 @@
 use Rattle.std.proofs.Common.{◌≡◌, ◌≤◌, ℕ, length, refl, sym, ap, subst, ◌∙◌, arith}
-use Rattle.std.specs.Prelude.{Some, None, Err}
+use Rattle.std.specs.Prelude.{Some, None}
 use Rattle.nb_fields.specs.Payloads.{data_payload}
 use Rattle.nb_host.specs.declared.faults.Fault.TheVariants.{Refused}
 use Rattle.nb_host.specs.declared.refusals.Refusal.TheVariants.{NotDatabase}
@@ -7,7 +7,6 @@ use Rattle.nb_page.proofs.QuietLemmas.{quiet_begun}
 use Rattle.nb_model.specs.Forms.{drafted}
 use Rattle.nb_model.specs.Chains.{owner_of, grown}
 use Rattle.nb_state.specs.Open.{Held, IsOpen, but_pages}
-use Rattle.nb_alloc.proofs.WhereLaws.{makes_some_none, makes_some_after}
 use Rattle.nb_alloc.specs.Behind.{behind_cause}
 use Rattle.nb_alloc.specs.Data.{new_behind, unmade}
 use Rattle.nb_alloc.specs.Search.{IsShort}
@@ -78,23 +77,6 @@ returns-clause-value g c t chain pages tells is sizes owner is_data =
     let still = tests.open t tells here in
     let bytes = c.fill_payload.ensures ∙ ap (λ (n : ℕ). data_payload 0 n slots) owner in
     grown_is c.grow_from.result image chain pages slots (c.grow_from.ensures.grown t chain pages slots tells still (record { at = tests.value t tells here; holds = tests.map t tells here refl; searchable = shaped; free = none; bytes = bytes }))
-
-pub returns-then-count-lt-FIRST_TO_GIVE-clause-some : goal.returns-then-count-lt-FIRST_TO_GIVE-clause-some
-returns-then-count-lt-FIRST_TO_GIVE-clause-some g c t tells is =
-    let w = g.H.Host.world c.args.host.now in
-    makes_some_none {T = ℕ} (Err (Refused (NotDatabase c.count-count.result))) w w c.args.self.now c.args.self.now t refl (quiet_begun w (g.met.H.Host.timely c.args.host.now)) is is
-
-pub returns-in_err-first-clause-some : goal.returns-in_err-first-clause-some
-returns-in_err-first-clause-some g c t tells is =
-    let here = subst (λ (h : Held). IsOpen (g.H.Host.world c.args.host.now) h t) (sym c.self.view_is) is in
-    let tests = c.in_err-first.ensures in
-    makes_some_none c.from_residual.result _ _ _ _ t (tests.same ∙ ap but_pages c.self.view_is) tests.quiet is (tests.open t tells here)
-
-pub returns-clause-some : goal.returns-clause-some
-returns-clause-some g c t tells is =
-    let here = subst (λ (h : Held). IsOpen (g.H.Host.world c.args.host.now) h t) (sym c.self.view_is) is in
-    let tests = c.in_ok-first.ensures in
-    makes_some_after c.grow_from.result _ _ _ _ _ _ t (tests.same ∙ ap but_pages c.self.view_is) tests.quiet is (c.grow_from.ensures.some t tells (tests.open t tells here) (tests.value t tells here) (tests.map t tells here refl))
 
 pub grow_from-requires-clause-inside : goal.grow_from-requires-clause-inside
 grow_from-requires-clause-inside g c = omega (arith, c.in_ok-first.ensures.within (omega (arith, c.count-count.ensures.value, c.if-count-lt-FIRST_TO_GIVE.false)), ap (λ (h : Held). h.files.count) c.in_ok-first.ensures.same)

@@ -1,5 +1,5 @@
 use Rattle.std.proofs.Common.{◌≡◌, ◌≤◌, ℕ, length, refl, sym, ap, subst, ◌∙◌, arith}
-use Rattle.std.specs.Prelude.{Some, None, Err, IfOk}
+use Rattle.std.specs.Prelude.{Some, None, IfOk}
 use Rattle.nb_fields.specs.Payloads.{data_payload}
 use Rattle.nb_host.specs.declared.faults.Fault.TheVariants.{Refused}
 use Rattle.nb_host.specs.declared.refusals.Refusal.TheVariants.{NotDatabase}
@@ -8,7 +8,6 @@ use Rattle.nb_model.specs.Forms.{Draft}
 use Rattle.nb_model.proofs.SearchLaws.{draft_cause}
 use Rattle.nb_state.specs.Open.{Held, IsOpen, but_pages}
 use Rattle.nb_state.specs.Does.{Makes}
-use Rattle.nb_alloc.proofs.WhereLaws.{makes_some_none, makes_some_after}
 use Rattle.nb_alloc.specs.Data.{owner_by, new_data, unmade}
 use Rattle.nb_alloc.specs.Search.{IsShort}
 use Rattle.nb_alloc.proofs.ContentLaws.{new_named, data_short}
@@ -82,23 +81,6 @@ returns-clause-sizes g c t tells is sizes =
     let shaped = searchable_of w _ t here c.self.invariant.0 long sizes in
     let short : IsShort (λ p. data_payload 0 (owner_by c.args.owner p) c.args.slots.now) = λ p. data_short (owner_by c.args.owner p) c.args.slots.now c.requires.short in
     on_ok c.make_new.result (c.in_ok-first.ensures.shaped t 5 (λ p. data_payload 0 (owner_by c.args.owner p) c.args.slots.now) tells here shaped short).sizes
-
-pub returns-then-count-lt-FIRST_TO_GIVE-clause-some : goal.returns-then-count-lt-FIRST_TO_GIVE-clause-some
-returns-then-count-lt-FIRST_TO_GIVE-clause-some g c t tells is =
-    let w = g.H.Host.world c.args.host.now in
-    makes_some_none {T = ℕ} (Err (Refused (NotDatabase c.count-count.result))) w w c.args.self.now c.args.self.now t refl (quiet_begun w (g.met.H.Host.timely c.args.host.now)) is is
-
-pub returns-in_err-first-clause-some : goal.returns-in_err-first-clause-some
-returns-in_err-first-clause-some g c t tells is =
-    let here = subst (λ (h : Held). IsOpen (g.H.Host.world c.args.host.now) h t) (sym c.self.view_is) is in
-    let tests = c.in_err-first.ensures in
-    makes_some_none c.from_residual.result _ _ _ _ t (tests.same ∙ ap but_pages c.self.view_is) tests.quiet is (tests.open t tells here)
-
-pub returns-clause-some : goal.returns-clause-some
-returns-clause-some g c t tells is =
-    let here = subst (λ (h : Held). IsOpen (g.H.Host.world c.args.host.now) h t) (sym c.self.view_is) is in
-    let tests = c.in_ok-first.ensures in
-    makes_some_after c.make_new.result _ _ _ _ _ _ t (tests.same ∙ ap but_pages c.self.view_is) tests.quiet is (c.make_new.ensures.makes t tells (tests.open t tells here) (tests.value t tells here) (tests.map t tells here)).some
 
 pub make_new-requires-clause-inside : goal.make_new-requires-clause-inside
 make_new-requires-clause-inside g c = omega (arith, c.in_ok-first.ensures.within (omega (arith, c.count-count.ensures.value, c.if-count-lt-FIRST_TO_GIVE.false)), ap (λ (h : Held). h.files.count) c.in_ok-first.ensures.same)

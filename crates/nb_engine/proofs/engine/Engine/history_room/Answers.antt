@@ -12,10 +12,9 @@ use Rattle.nb_model.specs.Chains.{History, pages_of, found_pages, spots, free_sp
 use Rattle.nb_model.specs.Backups.{room_in}
 use Rattle.nb_state.specs.Open.{Held, IsOpen, but_pages}
 use Rattle.nb_state.specs.Does.{Makes}
-use Rattle.nb_state.proofs.MakesLaws.{makes_none, makes_after}
+use Rattle.nb_state.proofs.MakesLaws.{makes_none}
 use Rattle.nb_engine.specs.declared.walk.Room.{Room}
 use Rattle.nb_engine.specs.declared.walk.Walked.{Walked}
-use Rattle.nb_alloc.specs.Make.{MakesSome}
 use Rattle.nb_engine.specs.Room.{room_cause, taken_draft, grow_cause}
 use Rattle.nb_alloc.specs.Search.{IsSearchable}
 use Rattle.nb_alloc.specs.Tries.{Tries}
@@ -26,7 +25,6 @@ use Rattle.nb_alloc.proofs.MakeLaws.{tries_named}
 use Rattle.nb_engine.proofs.NewTurn.{searchable_of}
 use Rattle.nb_model.proofs.StepLaws.{kind_from}
 use Rattle.nb_engine.proofs.WalkLaws.{last_data, spot_data, history_least}
-use Rattle.nb_alloc.proofs.WhereLaws.{makes_as, makes_valued}
 use Rattle.nb_engine.proofs.engine.Engine.history_room.Goals as goal
 use Rattle.nb_engine.proofs.engine.Engine.history_room.Goals.{In-Some, In-None}
 
@@ -145,41 +143,3 @@ pub returns-in_ok-number-in-None-clause-below : goal.returns-in_ok-number-in-Non
 returns-in_ok-number-in-None-clause-below g c t tells is sizes =
     let at = (goal.at.returns-in_ok-number-in-None-clause-below g c).In-None in
     grown_low t.base.image (none g at t tells is) c.in_ok-number-in-None.number (c.in_ok-number-in-None.ensures.grown t (found_pages History t.base.image) tells (walked_none g at t tells is) (shaped g at t tells is sizes) (is_data g at t tells is)).below
-
-pub returns-in_err-walked-clause-some : goal.returns-in_err-walked-clause-some
-returns-in_err-walked-clause-some g c t tells is =
-    let here = subst (λ (h : Held). IsOpen (g.H.Host.world c.args.host.now) h t) (sym c.self.view_is) is in
-    record { made = _; makes = makes_none {T = Room} c.from_residual.result _ _ _ _ t (c.in_err-walked.ensures.same ∙ ap but_pages c.self.view_is) c.in_err-walked.ensures.quiet is (c.in_err-walked.ensures.open t tells here) }
-
-pub returns-in_err-check_room-in-Some-clause-some : goal.returns-in_err-check_room-in-Some-clause-some
-returns-in_err-check_room-in-Some-clause-some g c t tells is =
-    let here = subst (λ (h : Held). IsOpen (g.H.Host.world c.args.host.now) h t) (sym c.self.view_is) is in
-    let walked = c.in_ok-walked.ensures in
-    let tests = c.in_err-check_room-in-Some.ensures in
-    record { made = _; makes = makes_none {T = Room} c.from_residual-in_err-check_room-in-Some.result _ _ _ _ t (tests.same ∙ walked.same ∙ ap but_pages c.self.view_is) (quiet_joined _ _ _ walked.quiet tests.quiet) is (tests.open t tells (walked.open t tells here)) }
-
-pub returns-in_ok-check_room-in-Some-clause-some : goal.returns-in_ok-check_room-in-Some-clause-some
-returns-in_ok-check_room-in-Some-clause-some g c t tells is =
-    let here = subst (λ (h : Held). IsOpen (g.H.Host.world c.args.host.now) h t) (sym c.self.view_is) is in
-    let walked = c.in_ok-walked.ensures in
-    let tests = c.in_ok-check_room-in-Some.ensures in
-    record { made = _; makes = makes_none (Ok c.in-Some.room) _ _ _ _ t (tests.same ∙ walked.same ∙ ap but_pages c.self.view_is) (quiet_joined _ _ _ walked.quiet tests.quiet) is (tests.open t tells (walked.open t tells here)) }
-
-pub returns-in_err-number-in-None-clause-some : goal.returns-in_err-number-in-None-clause-some
-returns-in_err-number-in-None-clause-some g c t tells is =
-    let walked = c.in_ok-walked.ensures in
-    let still = walked_none g (goal.at.returns-in_err-number-in-None-clause-some g c).In-None t tells is in
-    let fault = c.in_err-number-in-None.field-0.0 in
-    let new = g.H.Host.world c.grow.new.host in
-    let some = c.in_err-number-in-None.ensures.some t tells still in
-    tries_passed c.from_residual-in_err-number-in-None.result fault (λ r. MakesSome r (g.H.Host.world c.args.host.now) new c.args.self.now c.grow.new.store t) c.from_residual-in_err-number-in-None.ensures
-    (record { made = some.made; makes = makes_after {T = Room} (Err fault) _ _ new _ _ _ t some.made (walked.same ∙ ap but_pages c.self.view_is) walked.quiet is (makes_as ℕ Room fault _ new _ _ t some.made some.makes) })
-
-pub returns-in_ok-number-in-None-clause-some : goal.returns-in_ok-number-in-None-clause-some
-returns-in_ok-number-in-None-clause-some g c t tells is =
-    let walked = c.in_ok-walked.ensures in
-    let still = walked_none g (goal.at.returns-in_ok-number-in-None-clause-some g c).In-None t tells is in
-    let room : Room = record { page = c.in_ok-number-in-None.number; slot = 0 } in
-    let new = g.H.Host.world c.grow.new.host in
-    let some = c.in_ok-number-in-None.ensures.some t tells still in
-    record { made = some.made; makes = makes_after (Ok room) _ _ new _ _ _ t some.made (walked.same ∙ ap but_pages c.self.view_is) walked.quiet is (makes_valued c.in_ok-number-in-None.number room _ new _ _ t some.made some.makes) }

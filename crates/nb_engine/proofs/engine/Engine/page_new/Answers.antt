@@ -1,7 +1,6 @@
 use Rattle.std.proofs.Common.{◌≡◌, ◌≤◌, ℕ, List, [], ◌∷◌, length, refl, sym, subst, ◌∙◌, arith, ap}
-use Rattle.std.specs.Prelude.{true, false, Err, IfOk}
+use Rattle.std.specs.Prelude.{true, false, IfOk}
 use Rattle.nb_fields.specs.Payloads.{text_payload}
-use Rattle.nb_host.specs.declared.faults.Fault.TheVariants.{Refused}
 use Rattle.nb_host.specs.declared.refusals.Refusal.TheVariants.{Access, NotDatabase}
 use Rattle.nb_page.proofs.QuietLemmas.{quiet_begun}
 use Rattle.nb_model.specs.Account.{Base}
@@ -15,7 +14,6 @@ use Rattle.nb_model.proofs.SearchLaws.{draft_cause}
 use Rattle.nb_state.specs.Open.{Held, IsOpen, but_pages}
 use Rattle.nb_state.specs.Does.{Makes}
 use Rattle.nb_state.proofs.MakesLaws.{makes_after}
-use Rattle.nb_alloc.proofs.WhereLaws.{makes_some_none, makes_some_after}
 use Rattle.nb_alloc.specs.Make.{new_raw, new_of}
 use Rattle.nb_engine.specs.Replies.{page_made}
 use Rattle.nb_alloc.proofs.DoesLaws.{seeing, tested_does, refused_does}
@@ -68,28 +66,6 @@ returns-clause-turn g c s t tells same is sizes =
     made_does c.make_new.result w _ c.args.self.now c.make_new.new.store t s (new_raw image).1 (new_raw image).0.strokes same (new_says (seeing s t.base) free long room)
     (subst (λ (xs : List ℕ). IfOk c.make_new.result (λ number. number ≡ (new_of 8 (λ p. xs) image).1)) empty_is (c.make_new.ensures.value t tells (tests.open t tells here) (tests.value t tells here) (tests.map t tells here) shaped for_zeros)) these.sure
     (makes_after c.make_new.result w _ _ _ _ _ t (new_raw image).0.strokes (tests.same ∙ ap but_pages c.self.view_is) tests.quiet is (subst (λ (xs : List ℕ). Makes c.make_new.result (g.H.Host.world c.check_new.new.host) (g.H.Host.world c.make_new.new.host) c.check_new.new.store c.make_new.new.store t (new_of 8 (λ p. xs) image).0.strokes) empty_is these.makes))
-
-pub returns-then-is_read_only-clause-some : goal.returns-then-is_read_only-clause-some
-returns-then-is_read_only-clause-some g c t tells is =
-    let w = g.H.Host.world c.args.host.now in
-    makes_some_none {T = ℕ} (Err (Refused (Access 1))) w w c.args.self.now c.args.self.now t refl (quiet_begun w (g.met.H.Host.timely c.args.host.now)) is is
-
-pub returns-then-count-lt-FIRST_TO_GIVE-clause-some : goal.returns-then-count-lt-FIRST_TO_GIVE-clause-some
-returns-then-count-lt-FIRST_TO_GIVE-clause-some g c t tells is =
-    let w = g.H.Host.world c.args.host.now in
-    makes_some_none {T = ℕ} (Err (Refused (NotDatabase c.count-count.result))) w w c.args.self.now c.args.self.now t refl (quiet_begun w (g.met.H.Host.timely c.args.host.now)) is is
-
-pub returns-in_err-first-clause-some : goal.returns-in_err-first-clause-some
-returns-in_err-first-clause-some g c t tells is =
-    let here = subst (λ (h : Held). IsOpen (g.H.Host.world c.args.host.now) h t) (sym c.self.view_is) is in
-    let tests = c.in_err-first.ensures in
-    makes_some_none c.from_residual.result _ _ _ _ t (tests.same ∙ ap but_pages c.self.view_is) tests.quiet is (tests.open t tells here)
-
-pub returns-clause-some : goal.returns-clause-some
-returns-clause-some g c t tells is =
-    let here = subst (λ (h : Held). IsOpen (g.H.Host.world c.args.host.now) h t) (sym c.self.view_is) is in
-    let tests = c.in_ok-first.ensures in
-    makes_some_after c.make_new.result _ _ _ _ _ _ t (tests.same ∙ ap but_pages c.self.view_is) tests.quiet is (c.make_new.ensures.makes t tells (tests.open t tells here) (tests.value t tells here) (tests.map t tells here)).some
 
 pub returns-clause-once : goal.returns-clause-once
 returns-clause-once g c t tells is sizes =
