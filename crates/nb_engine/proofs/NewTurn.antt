@@ -10,20 +10,21 @@ use Rattle.nb_host.specs.declared.refusals.Refusal.{Refusal}
 use Rattle.nb_host.specs.declared.refusals.Refusal.TheVariants.{Access, NotDatabase}
 use Rattle.nb_model.specs.declared.reply.Reply.{Reply}
 use Rattle.nb_model.specs.declared.reply.Reply.TheVariants.{Refused, PageMade}
-use Rattle.nb_model.specs.Image.{Image, image_size, image_scn, is_read_only}
+use Rattle.nb_model.specs.Image.{Image, image_scn, is_read_only}
 use Rattle.nb_model.specs.Strokes.{Stroke}
 use Rattle.nb_model.specs.Trail.{Trail}
 use Rattle.nb_model.specs.Forms.{Draft}
 use Rattle.nb_model.specs.Causes.{first_cause, read_only, too_short}
 use Rattle.nb_model.specs.Outcomes.{Seen, says}
 use Rattle.nb_model.specs.Pages.{new_turn}
-use Rattle.nb_model.specs.Sound.{IsSoundImage, HasHeader, IsOfSize}
+use Rattle.nb_model.specs.Sound.{IsSoundImage, HasHeader}
 use Rattle.nb_model.proofs.ReadLaws.{lt_no, lt_yes}
 use Rattle.nb_model.proofs.SearchLaws.{draft_cause}
 use Rattle.nb_model.proofs.StepLaws.{IsShaped}
 use Rattle.nb_base.specs.Takes.{IsNoRefusal}
 use Rattle.nb_state.specs.Open.{Held, IsOpen}
 use Rattle.nb_state.specs.Does.{Makes, Does}
+use Rattle.nb_state.proofs.SizeLaws.{open_sized}
 use Rattle.nb_alloc.specs.Make.{IsWell, new_raw}
 use Rattle.nb_engine.specs.Replies.{page_made}
 use Rattle.nb_alloc.specs.Search.{IsSearchable}
@@ -43,11 +44,11 @@ header_of w held t is scn = record { header = is.files.agrees.header; scn = scn 
 pub well_of : (w : World) (held : Held) (t : Trail) → IsOpen w held t → IsTrue (is_page_size held.files.page_size) → image_scn t.base.image < 4294967296 → IsSoundImage t.base.image → IsWell t.base.image
 well_of w held t is size scn sound = record { sound = sound; size = subst (λ (n : ℕ). IsTrue (is_page_size n)) is.files.agrees.page_size size; scn = scn }
 
-pub shaped_of : (w : World) (held : Held) (t : Trail) → IsOpen w held t → IsTrue (is_page_size held.files.page_size) → 3 ≤ length t.base.image → IsOfSize (image_size t.base.image) t.base.image → IsShaped t.base.image
-shaped_of w held t is size least sizes = record { size = subst (λ (n : ℕ). IsTrue (is_page_size n)) is.files.agrees.page_size size; least = least; sizes = sizes }
+pub shaped_of : (w : World) (held : Held) (t : Trail) → IsOpen w held t → IsTrue (is_page_size held.files.page_size) → 3 ≤ length t.base.image → IsShaped t.base.image
+shaped_of w held t is size least = record { size = subst (λ (n : ℕ). IsTrue (is_page_size n)) is.files.agrees.page_size size; least = least; sizes = open_sized w held t is }
 
-pub searchable_of : (w : World) (held : Held) (t : Trail) → IsOpen w held t → IsTrue (is_page_size held.files.page_size) → 5 ≤ length t.base.image → IsOfSize (image_size t.base.image) t.base.image → IsSearchable t.base.image
-searchable_of w held t is size long sizes = record { shaped = shaped_of w held t is size (omega (arith, long)) sizes; long = long }
+pub searchable_of : (w : World) (held : Held) (t : Trail) → IsOpen w held t → IsTrue (is_page_size held.files.page_size) → 5 ≤ length t.base.image → IsSearchable t.base.image
+searchable_of w held t is size long = record { shaped = shaped_of w held t is size (omega (arith, long)); long = long }
 
 -- the turn, by its causes
 module _ (s : Seen) where

@@ -8,8 +8,7 @@ ghost use Rattle.nb_model.specs.Causes.{broken_at};
 ghost use Rattle.nb_model.specs.Backups.{room_in};
 ghost use Rattle.nb_model.specs.Chains.{History, pages_of, found_pages, backup_spot, level_in, guid_in, put_slot, backup_slot};
 ghost use Rattle.nb_model.specs.Forms.{drafted};
-ghost use Rattle.nb_model.specs.Image.{image_size};
-ghost use Rattle.nb_model.specs.Sound.{IsSoundImage, IsOfSize};
+ghost use Rattle.nb_model.specs.Sound.{IsSoundImage};
 ghost use Rattle.nb_model.specs.Trail.{Trail};
 ghost use Rattle.nb_state.specs.Open.{IsOpen, but_pages};
 ghost use Rattle.nb_base.specs.Takes.{IsNoRefusal};
@@ -79,10 +78,10 @@ impl Engine {
     /// page itself, where it is free; for a new page those that it needs, the SCN page of the last page, and that page itself, where the search
     /// for the new page makes a system page of it. All is tested before the first write: a refused call changes nothing.
     pub fn history_room<H: Host>(&mut self, host: &mut H) -> Result<Room, Fault>
-        ensures makes { (t : Trail) → IsTrue H.tells → IsOpen (H.world host.old) self.old t → IsOfSize (image_size t.base.image) t.base.image
+        ensures makes { (t : Trail) → IsTrue H.tells → IsOpen (H.world host.old) self.old t
             → Tries result (H.world host.old) (H.world host.new) self.old self.new t (room_cause t.base.image) (room_in t.base.image).draft.strokes }
-        ensures room { (t : Trail) → IsTrue H.tells → IsOpen (H.world host.old) self.old t → IsOfSize (image_size t.base.image) t.base.image → IfOk result (IsRoomIn t.base.image) }
-        ensures below { (t : Trail) → IsTrue H.tells → IsOpen (H.world host.old) self.old t → IsOfSize (image_size t.base.image) t.base.image → IfOk result (λ room. room.page < length (room_in t.base.image).draft.image) }
+        ensures room { (t : Trail) → IsTrue H.tells → IsOpen (H.world host.old) self.old t → IfOk result (IsRoomIn t.base.image) }
+        ensures below { (t : Trail) → IsTrue H.tells → IsOpen (H.world host.old) self.old t → IfOk result (λ room. room.page < length (room_in t.base.image).draft.image) }
         ensures placed { IfOk result (IsPlaced self.old.files.page_size) }
         ensures goes { Goes self.old self.new }
         ensures cause { CountsDevice result (H.faults host.old) (H.faults host.new) }

@@ -5,8 +5,6 @@ ghost use Rattle.nb_change.specs.Counts.{CountsDevice};
 ghost use Rattle.nb_model.specs.Causes.{not_kind, broken_at};
 ghost use Rattle.nb_model.specs.Chains.{Chain, owner_of, pages_of, found_pages, spots, free_spot, last_of, put_slot, place_slot};
 ghost use Rattle.nb_model.specs.Forms.{drafted};
-ghost use Rattle.nb_model.specs.Image.{image_size};
-ghost use Rattle.nb_model.specs.Sound.{IsOfSize};
 ghost use Rattle.nb_model.specs.Trail.{Trail};
 ghost use Rattle.nb_engine.specs.Put.{entry_cause};
 ghost use Rattle.nb_engine.specs.Tries.{Tries};
@@ -68,7 +66,7 @@ pub(crate) fn add_slot<H: Host>(
     requires placed { IfSome room (IsPlaced engine.old.files.page_size) }
     requires low { 0 < last }
     requires high { last < 1048576 }
-    ensures tries { (t : Trail) (chain : Chain) → IsTrue H.tells → IsOpen (H.world host.old) engine.old t → IsOfSize (image_size t.base.image) t.base.image → owner ≡ owner_of chain → broken_at (pages_of chain t.base.image) ≡ None
+    ensures tries { (t : Trail) (chain : Chain) → IsTrue H.tells → IsOpen (H.world host.old) engine.old t → owner ≡ owner_of chain → broken_at (pages_of chain t.base.image) ≡ None
         → room ≡ place_at (free_spot (spots chain t.base.image)) → last ≡ last_of (found_pages chain t.base.image)
         → Tries result (H.world host.old) (H.world host.new) engine.old engine.new t (place_cause chain t.base.image bytes.now)
         (place_slot chain (found_pages chain t.base.image) bytes.now (drafted t.base.image)).strokes }

@@ -19,7 +19,7 @@ use Rattle.nb_alloc.proofs.RoomsLaws.{unmade_short, grown_unmade}
 use Rattle.nb_engine.proofs.engine.Engine.data_grow.Goals as goal
 
 pub returns-then-count-lt-FIRST_TO_GIVE-clause-makes : goal.returns-then-count-lt-FIRST_TO_GIVE-clause-makes
-returns-then-count-lt-FIRST_TO_GIVE-clause-makes g c t chain pages tells is sizes owner last is_data =
+returns-then-count-lt-FIRST_TO_GIVE-clause-makes g c t chain pages tells is owner last is_data =
     let w = g.H.Host.world c.args.host.now in
     let here = subst (λ (h : Held). IsOpen w h t) (sym c.self.view_is) is in
     let grows = (grown chain pages c.args.slots.now (drafted t.base.image)).0 in
@@ -28,13 +28,13 @@ returns-then-count-lt-FIRST_TO_GIVE-clause-makes g c t chain pages tells is size
     (unmade_short t.base.image grows (omega (arith, count, c.if-count-lt-FIRST_TO_GIVE.true)) ∙ ap (λ (n : ℕ). Some (NotDatabase n)) (sym count)) refl (quiet_begun w (g.met.H.Host.timely c.args.host.now)) is is
 
 pub returns-in_err-first-clause-makes : goal.returns-in_err-first-clause-makes
-returns-in_err-first-clause-makes g c t chain pages tells is sizes owner last is_data =
+returns-in_err-first-clause-makes g c t chain pages tells is owner last is_data =
     let w = g.H.Host.world c.args.host.now in
     let here = subst (λ (h : Held). IsOpen w h t) (sym c.self.view_is) is in
     let image = t.base.image in
     let slots = c.args.slots.now in
     let long : 5 ≤ length image = omega (arith, here.files.agrees.count, c.count-count.ensures.value, c.if-count-lt-FIRST_TO_GIVE.false) in
-    let shaped = searchable_of w _ t here c.self.invariant.0 long sizes in
+    let shaped = searchable_of w _ t here c.self.invariant.0 long in
     let grows = (grown chain pages slots (drafted image)).0 in
     let short : IsShort (λ p. data_payload 0 (owner_of chain) slots) = λ p. data_short (owner_of chain) slots c.requires.short in
     let cause : unmade image grows ≡ behind_cause (new_behind chain slots image).0 c.args.last = grown_unmade image chain pages slots long ∙ ap (behind_cause (new_behind chain slots image).0) (sym last) in
@@ -43,13 +43,13 @@ returns-in_err-first-clause-makes g c t chain pages tells is sizes owner last is
     (tests.one t (λ p. data_payload 0 (owner_of chain) slots) tells here shaped short is_data refl) (tests.same ∙ ap but_pages c.self.view_is) tests.quiet is (tests.open t tells here)
 
 pub returns-clause-makes : goal.returns-clause-makes
-returns-clause-makes g c t chain pages tells is sizes owner last is_data =
+returns-clause-makes g c t chain pages tells is owner last is_data =
     let w = g.H.Host.world c.args.host.now in
     let here = subst (λ (h : Held). IsOpen w h t) (sym c.self.view_is) is in
     let image = t.base.image in
     let slots = c.args.slots.now in
     let long : 5 ≤ length image = omega (arith, here.files.agrees.count, c.count-count.ensures.value, c.if-count-lt-FIRST_TO_GIVE.false) in
-    let shaped = searchable_of w _ t here c.self.invariant.0 long sizes in
+    let shaped = searchable_of w _ t here c.self.invariant.0 long in
     let grows = (grown chain pages slots (drafted image)).0 in
     let short : IsShort (λ p. data_payload 0 (owner_of chain) slots) = λ p. data_short (owner_of chain) slots c.requires.short in
     let cause : unmade image grows ≡ behind_cause (new_behind chain slots image).0 c.args.last = grown_unmade image chain pages slots long ∙ ap (behind_cause (new_behind chain slots image).0) (sym last) in
@@ -63,13 +63,13 @@ returns-clause-makes g c t chain pages tells is sizes owner last is_data =
     (c.grow_from.ensures.tries t chain pages slots tells still (record { at = tests.value t tells here; holds = tests.map t tells here refl; searchable = shaped; free = none; bytes = bytes }) last))
 
 pub returns-clause-value : goal.returns-clause-value
-returns-clause-value g c t chain pages tells is sizes owner is_data =
+returns-clause-value g c t chain pages tells is owner is_data =
     let w = g.H.Host.world c.args.host.now in
     let here = subst (λ (h : Held). IsOpen w h t) (sym c.self.view_is) is in
     let image = t.base.image in
     let slots = c.args.slots.now in
     let long : 5 ≤ length image = omega (arith, here.files.agrees.count, c.count-count.ensures.value, c.if-count-lt-FIRST_TO_GIVE.false) in
-    let shaped = searchable_of w _ t here c.self.invariant.0 long sizes in
+    let shaped = searchable_of w _ t here c.self.invariant.0 long in
     let grows = (grown chain pages slots (drafted image)).0 in
     let short : IsShort (λ p. data_payload 0 (owner_of chain) slots) = λ p. data_short (owner_of chain) slots c.requires.short in
     let tests = c.in_ok-first.ensures in

@@ -2,10 +2,9 @@ use Rattle.std.proofs.Common.{◌≡◌, ℕ, List, [], ◌∷◌, sym, ap, subs
 use Rattle.std.specs.Prelude.{IsTrue, true, None, Ok, Err}
 use Rattle.nb_fields.specs.Page.{kind_of}
 use Rattle.nb_page.proofs.QuietLemmas.{quiet_joined}
-use Rattle.nb_model.specs.Image.{page_at, image_size}
+use Rattle.nb_model.specs.Image.{page_at}
 use Rattle.nb_model.specs.Strokes.{Stroke}
 use Rattle.nb_model.specs.Trail.{Trail}
-use Rattle.nb_model.specs.Sound.{IsOfSize}
 use Rattle.nb_model.specs.Forms.{drafted, is_kind}
 use Rattle.nb_model.specs.Causes.{first_cause, broken_at, not_of_form, no_room, no_scn, short_for}
 use Rattle.nb_model.specs.Chains.{History, pages_of, found_pages, spots, free_spot, last_of, grown}
@@ -68,11 +67,11 @@ module _ (g : _) (c : goal.In-None g) (t : Trail) (tells : IsTrue g.H.Host.tells
       let data_page = last_data t.base.image linked_none in
       ap (is_kind t.base.image 5) last_is ∙ kind_from t.base.image 5 (last_of (found_pages History t.base.image)) data_page.low data_page.kind
 
-  shaped : IsOfSize (image_size t.base.image) t.base.image → IsSearchable t.base.image
+  shaped : IsSearchable t.base.image
   shaped = searchable_of _ _ t (subst (λ (h : Held). IsOpen (g.H.Host.world c.args.host.now) h t) (sym c.self.view_is) is) c.self.invariant.0 (history_least t.base.image linked_none)
 
 pub returns-in_err-walked-clause-makes : goal.returns-in_err-walked-clause-makes
-returns-in_err-walked-clause-makes g c t tells is sizes =
+returns-in_err-walked-clause-makes g c t tells is =
     let w = g.H.Host.world c.args.host.now in
     let here = subst (λ (h : Held). IsOpen w h t) (sym c.self.view_is) is in
     let image = t.base.image in
@@ -81,7 +80,7 @@ returns-in_err-walked-clause-makes g c t tells is sizes =
     (λ r e. first_here (broken_at (pages_of History image)) (short_for (free_spot (spots History image)) image ∷ not_of_form (room_in image).draft ∷ no_room (room_in image).draft ∷ no_scn image ∷ []) r e) (walked.test t tells here) (walked.same ∙ ap but_pages c.self.view_is) walked.quiet is (walked.open t tells here)
 
 pub returns-in_err-check_room-in-Some-clause-makes : goal.returns-in_err-check_room-in-Some-clause-makes
-returns-in_err-check_room-in-Some-clause-makes g c t tells is sizes =
+returns-in_err-check_room-in-Some-clause-makes g c t tells is =
     let at = (goal.at.returns-in_err-check_room-in-Some-clause-makes g c).In-Some in
     let walked = c.in_ok-walked.ensures in
     let tests = c.in_err-check_room-in-Some.ensures in
@@ -89,7 +88,7 @@ returns-in_err-check_room-in-Some-clause-makes g c t tells is sizes =
     (tests.test t tells (walked_some g at t tells is) (kind g at t tells is)) (tests.same ∙ walked.same ∙ ap but_pages c.self.view_is) (quiet_joined _ _ _ walked.quiet tests.quiet) is (tests.open t tells (walked_some g at t tells is))
 
 pub returns-in_ok-check_room-in-Some-clause-makes : goal.returns-in_ok-check_room-in-Some-clause-makes
-returns-in_ok-check_room-in-Some-clause-makes g c t tells is sizes =
+returns-in_ok-check_room-in-Some-clause-makes g c t tells is =
     let at = (goal.at.returns-in_ok-check_room-in-Some-clause-makes g c).In-Some in
     let slot = kept g at t tells is in
     let walked = c.in_ok-walked.ensures in
@@ -99,7 +98,7 @@ returns-in_ok-check_room-in-Some-clause-makes g c t tells is sizes =
     (makes_none (Ok c.in-Some.room) _ _ _ _ t (tests.same ∙ walked.same ∙ ap but_pages c.self.view_is) (quiet_joined _ _ _ walked.quiet tests.quiet) is (tests.open t tells (walked_some g at t tells is))))
 
 pub returns-in_err-number-in-None-clause-makes : goal.returns-in_err-number-in-None-clause-makes
-returns-in_err-number-in-None-clause-makes g c t tells is sizes =
+returns-in_err-number-in-None-clause-makes g c t tells is =
     let at = (goal.at.returns-in_err-number-in-None-clause-makes g c).In-None in
     let image = t.base.image in
     let pages : List ℕ = found_pages History image in
@@ -110,10 +109,10 @@ returns-in_err-number-in-None-clause-makes g c t tells is sizes =
     (tries_named {T = Room} (Err fault) w new c.args.self.now c.grow.new.store t (grow_cause image pages) (room_cause image) (grown History pages [] (drafted image)).0.strokes (room_in image).draft.strokes (grown_cause image (none g at t tells is) (linked_none g at t tells is)) (sym (grown_draft image (none g at t tells is)))
     (tries_other ℕ Room fault _ _ _ _ t _ _
     (tries_after {T = ℕ} (Err fault) _ _ _ _ _ _ t _ _ (c.in_ok-walked.ensures.same ∙ ap but_pages c.self.view_is) c.in_ok-walked.ensures.quiet is
-    (c.in_err-number-in-None.ensures.makes t pages tells (walked_none g at t tells is) (shaped g at t tells is sizes) (last_is g at t tells is) (is_data g at t tells is)))))
+    (c.in_err-number-in-None.ensures.makes t pages tells (walked_none g at t tells is) (shaped g at t tells is) (last_is g at t tells is) (is_data g at t tells is)))))
 
 pub returns-in_ok-number-in-None-clause-makes : goal.returns-in_ok-number-in-None-clause-makes
-returns-in_ok-number-in-None-clause-makes g c t tells is sizes =
+returns-in_ok-number-in-None-clause-makes g c t tells is =
     let at = (goal.at.returns-in_ok-number-in-None-clause-makes g c).In-None in
     let image = t.base.image in
     let pages : List ℕ = found_pages History image in
@@ -121,25 +120,25 @@ returns-in_ok-number-in-None-clause-makes g c t tells is sizes =
     tries_named (Ok room) _ _ c.args.self.now c.grow.new.store t (grow_cause image pages) (room_cause image) (grown History pages [] (drafted image)).0.strokes (room_in image).draft.strokes (grown_cause image (none g at t tells is) (linked_none g at t tells is)) (sym (grown_draft image (none g at t tells is)))
     (tries_valued c.in_ok-number-in-None.number room _ _ _ _ t _ _
     (tries_after (Ok c.in_ok-number-in-None.number) _ _ _ _ _ _ t _ _ (c.in_ok-walked.ensures.same ∙ ap but_pages c.self.view_is) c.in_ok-walked.ensures.quiet is
-    (c.in_ok-number-in-None.ensures.makes t pages tells (walked_none g at t tells is) (shaped g at t tells is sizes) (last_is g at t tells is) (is_data g at t tells is))))
+    (c.in_ok-number-in-None.ensures.makes t pages tells (walked_none g at t tells is) (shaped g at t tells is) (last_is g at t tells is) (is_data g at t tells is))))
 
 pub returns-in_ok-check_room-in-Some-clause-room : goal.returns-in_ok-check_room-in-Some-clause-room
-returns-in_ok-check_room-in-Some-clause-room g c t tells is sizes =
+returns-in_ok-check_room-in-Some-clause-room g c t tells is =
     let slot = kept g (goal.at.returns-in_ok-check_room-in-Some-clause-room g c).In-Some t tells is in
     kept_room t.base.image slot.spot slot.is c.in-Some.room slot.page slot.slot
 
 pub returns-in_ok-number-in-None-clause-room : goal.returns-in_ok-number-in-None-clause-room
-returns-in_ok-number-in-None-clause-room g c t tells is sizes =
+returns-in_ok-number-in-None-clause-room g c t tells is =
     let at = (goal.at.returns-in_ok-number-in-None-clause-room g c).In-None in
-    grown_room t.base.image (none g at t tells is) c.in_ok-number-in-None.number (c.in_ok-number-in-None.ensures.grown t (found_pages History t.base.image) tells (walked_none g at t tells is) (shaped g at t tells is sizes) (is_data g at t tells is)).is
+    grown_room t.base.image (none g at t tells is) c.in_ok-number-in-None.number (c.in_ok-number-in-None.ensures.grown t (found_pages History t.base.image) tells (walked_none g at t tells is) (shaped g at t tells is) (is_data g at t tells is)).is
 
 pub returns-in_ok-check_room-in-Some-clause-below : goal.returns-in_ok-check_room-in-Some-clause-below
-returns-in_ok-check_room-in-Some-clause-below g c t tells is sizes =
+returns-in_ok-check_room-in-Some-clause-below g c t tells is =
     let at = (goal.at.returns-in_ok-check_room-in-Some-clause-below g c).In-Some in
     let slot = kept g at t tells is in
     kept_below t.base.image slot.spot slot.is c.in-Some.room slot.page (spot_data t.base.image (linked_some g at t tells is) slot.spot slot.is)
 
 pub returns-in_ok-number-in-None-clause-below : goal.returns-in_ok-number-in-None-clause-below
-returns-in_ok-number-in-None-clause-below g c t tells is sizes =
+returns-in_ok-number-in-None-clause-below g c t tells is =
     let at = (goal.at.returns-in_ok-number-in-None-clause-below g c).In-None in
-    grown_low t.base.image (none g at t tells is) c.in_ok-number-in-None.number (c.in_ok-number-in-None.ensures.grown t (found_pages History t.base.image) tells (walked_none g at t tells is) (shaped g at t tells is sizes) (is_data g at t tells is)).below
+    grown_low t.base.image (none g at t tells is) c.in_ok-number-in-None.number (c.in_ok-number-in-None.ensures.grown t (found_pages History t.base.image) tells (walked_none g at t tells is) (shaped g at t tells is) (is_data g at t tells is)).below

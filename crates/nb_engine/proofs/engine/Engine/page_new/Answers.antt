@@ -3,12 +3,10 @@ use Rattle.std.specs.Prelude.{true, false, IfOk}
 use Rattle.nb_fields.specs.Payloads.{text_payload}
 use Rattle.nb_host.specs.declared.refusals.Refusal.TheVariants.{Access, NotDatabase}
 use Rattle.nb_page.proofs.QuietLemmas.{quiet_begun}
-use Rattle.nb_model.specs.Account.{Base}
-use Rattle.nb_model.specs.Image.{image_size, is_read_only}
+use Rattle.nb_model.specs.Image.{is_read_only}
 use Rattle.nb_model.specs.declared.reply.Reply.TheVariants.{Refused as RefusedBy}
 use Rattle.nb_model.specs.Outcomes.{says}
 use Rattle.nb_model.specs.Pages.{new_turn}
-use Rattle.nb_model.specs.Sound.{IsOfSize}
 use Rattle.nb_model.proofs.NewSound.{empty_text}
 use Rattle.nb_model.proofs.SearchLaws.{draft_cause}
 use Rattle.nb_state.specs.Open.{Held, IsOpen, but_pages}
@@ -22,14 +20,14 @@ use Rattle.nb_alloc.proofs.NewReads.{new_read}
 use Rattle.nb_engine.proofs.engine.Engine.page_new.Goals as goal
 
 pub returns-then-is_read_only-clause-turn : goal.returns-then-is_read_only-clause-turn
-returns-then-is_read_only-clause-turn g c s t tells same is sizes =
+returns-then-is_read_only-clause-turn g c s t tells same is =
     let w = g.H.Host.world c.args.host.now in
     let here = subst (λ (h : Held). IsOpen w h t) (sym c.self.view_is) is in
     let closed : is_read_only t.base.image ≡ true = sym here.agrees.read_only ∙ sym c.is_read_only.ensures ∙ c.if-is_read_only.true in
     refused_does page_made (Access 1) w w _ _ t s new_turn same refl (quiet_begun w (g.met.H.Host.timely c.args.host.now)) is is (new_closed (seeing s t.base) closed)
 
 pub returns-then-count-lt-FIRST_TO_GIVE-clause-turn : goal.returns-then-count-lt-FIRST_TO_GIVE-clause-turn
-returns-then-count-lt-FIRST_TO_GIVE-clause-turn g c s t tells same is sizes =
+returns-then-count-lt-FIRST_TO_GIVE-clause-turn g c s t tells same is =
     let w = g.H.Host.world c.args.host.now in
     let here = subst (λ (h : Held). IsOpen w h t) (sym c.self.view_is) is in
     let image = t.base.image in
@@ -40,25 +38,25 @@ returns-then-count-lt-FIRST_TO_GIVE-clause-turn g c s t tells same is sizes =
     (subst (λ (n : ℕ). new_turn (seeing s t.base) ≡ says (seeing s t.base) (RefusedBy (NotDatabase n)) []) (sym count) short)
 
 pub returns-in_err-first-clause-turn : goal.returns-in_err-first-clause-turn
-returns-in_err-first-clause-turn g c s t tells same is sizes =
+returns-in_err-first-clause-turn g c s t tells same is =
     let w = g.H.Host.world c.args.host.now in
     let here = subst (λ (h : Held). IsOpen w h t) (sym c.self.view_is) is in
     let image = t.base.image in
     let free : is_read_only image ≡ false = sym here.agrees.read_only ∙ sym c.is_read_only.ensures ∙ c.if-is_read_only.false in
     let long : 5 ≤ length image = omega (arith, here.files.agrees.count, c.count-count.ensures.value, c.if-count-lt-FIRST_TO_GIVE.false) in
-    let shaped = searchable_of w _ t here c.self.invariant.0 long (subst (λ (b : Base). IsOfSize (image_size b.image) b.image) (sym same) sizes) in
+    let shaped = searchable_of w _ t here c.self.invariant.0 long in
     let tests = c.in_err-first.ensures in
     tested_does ℕ ℕ page_made _ _ _ _ _ _ t s new_turn (draft_cause (new_raw image).0) c.from_residual.ensures same (tests.same ∙ ap but_pages c.self.view_is) tests.quiet is (tests.open t tells here)
     (tests.test t 8 (λ p. text_payload []) tells here shaped empty_text) (new_refused (seeing s t.base) free long)
 
 pub returns-clause-turn : goal.returns-clause-turn
-returns-clause-turn g c s t tells same is sizes =
+returns-clause-turn g c s t tells same is =
     let w = g.H.Host.world c.args.host.now in
     let here = subst (λ (h : Held). IsOpen w h t) (sym c.self.view_is) is in
     let image = t.base.image in
     let free : is_read_only image ≡ false = sym here.agrees.read_only ∙ sym c.is_read_only.ensures ∙ c.if-is_read_only.false in
     let long : 5 ≤ length image = omega (arith, here.files.agrees.count, c.count-count.ensures.value, c.if-count-lt-FIRST_TO_GIVE.false) in
-    let shaped = searchable_of w _ t here c.self.invariant.0 long (subst (λ (b : Base). IsOfSize (image_size b.image) b.image) (sym same) sizes) in
+    let shaped = searchable_of w _ t here c.self.invariant.0 long in
     let tests = c.in_ok-first.ensures in
     let room = tests.test t 8 (λ p. text_payload []) tells here shaped empty_text in
     let for_zeros = tests.test t 8 (λ p. 0 ∷ 0 ∷ []) tells here shaped (λ p. omega arith) in
@@ -68,12 +66,12 @@ returns-clause-turn g c s t tells same is sizes =
     (makes_after c.make_new.result w _ _ _ _ _ t (new_raw image).0.strokes (tests.same ∙ ap but_pages c.self.view_is) tests.quiet is (subst (λ (xs : List ℕ). Makes c.make_new.result (g.H.Host.world c.check_new.new.host) (g.H.Host.world c.make_new.new.host) c.check_new.new.store c.make_new.new.store t (new_of 8 (λ p. xs) image).0.strokes) empty_is these.makes))
 
 pub returns-clause-once : goal.returns-clause-once
-returns-clause-once g c t tells is sizes =
+returns-clause-once g c t tells is =
     let w = g.H.Host.world c.args.host.now in
     let here = subst (λ (h : Held). IsOpen w h t) (sym c.self.view_is) is in
     let image = t.base.image in
     let long : 5 ≤ length image = omega (arith, here.files.agrees.count, c.count-count.ensures.value, c.if-count-lt-FIRST_TO_GIVE.false) in
-    let shaped = searchable_of w _ t here c.self.invariant.0 long sizes in
+    let shaped = searchable_of w _ t here c.self.invariant.0 long in
     let tests = c.in_ok-first.ensures in
     let for_zeros = tests.test t 8 (λ p. 0 ∷ 0 ∷ []) tells here shaped (λ p. omega arith) in
     new_read c.make_new.result image c.in_ok-first.first (new_of 8 (λ p. 0 ∷ 0 ∷ []) image).1 _ _ _ (tests.value t tells here)
