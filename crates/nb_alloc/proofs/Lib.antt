@@ -9,7 +9,6 @@ pub mod FindLaws
 pub mod PlaceTests
 pub mod MakeLaws
 pub mod FullLaws
-pub mod WhereLaws
 pub mod NewLaws
 pub mod BehindLaws
 pub mod NeedReads

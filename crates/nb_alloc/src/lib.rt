@@ -10,7 +10,8 @@
 //! where its cause holds. A call that writes makes its strokes in order, in every backup state: the SCN entry of a page before the page
 //! (`raise_entry`, `put_page`), the page before its bit (`make_new`); at each moment a crash leaves what may be left after a front of them, and
 //! the database is open after all of them once the call has answered a value or a refusal. It wants memory in the stalled state alone. The
-//! search for a new page is told before the first write: where `check_new` or `check_rooms` has answered, `make_new` isn't refused.
+//! search for a new page is told before the first write: where `check_new` or `check_rooms` has answered, `make_new` isn't refused, and it is
+//! for such a database alone.
 #![tactic(auto)]
 
 mod behind;

@@ -16,7 +16,7 @@ ghost use Rattle.nb_state.specs.Does.{Goes};
 ghost use Rattle.nb_alloc.specs.Tries.{Tries};
 ghost use Rattle.nb_alloc.specs.Put.{entry_cause};
 ghost use Rattle.nb_alloc.specs.Find.{HoldsMap};
-ghost use Rattle.nb_alloc.specs.Make.{IsSupplied, GoesOn, IsOnward, MakesWhere, page_strokes, system_strokes, system_cause, content, new_of, round};
+ghost use Rattle.nb_alloc.specs.Make.{IsSupplied, GoesOn, IsOnward, page_strokes, system_strokes, system_cause, content, new_of, round};
 ghost use Rattle.nb_alloc.specs.Search.{IsSearchable};
 
 use crate::bit::{mark, put_map};
@@ -247,8 +247,8 @@ fn take_place<H: Host>(
     requires low { 5 ≤ place }
     requires high { place < 1048576 }
     requires inside { place ≤ store.old.files.count }
-    ensures makes { (t : Trail) → IsTrue H.tells → IsOpen (H.world host.old) store.old t → is_system_place (image_size t.base.image) place ≡ true
-        → MakesWhere (IsSupplied t.base.image place) (λ value image. place < length image) result (H.world host.old) (H.world host.new) store.old store.new t (round t.base.image place).strokes }
+    ensures makes { (t : Trail) → IsTrue H.tells → IsOpen (H.world host.old) store.old t → IsSupplied t.base.image place → is_system_place (image_size t.base.image) place ≡ true
+        → Tries result (H.world host.old) (H.world host.new) store.old store.new t None (round t.base.image place).strokes }
     ensures added { OnOk result (place < store.new.files.count) }
     ensures goes { Goes store.old store.new }
     ensures map_room { length map.new ≡ length map.old }
@@ -283,8 +283,9 @@ fn take_new<H: Host>(
     requires inside { number ≤ store.old.files.count }
     requires short { length payload.now ≤ 1008 }
     requires owner { own ≡ true → 8 ≤ length payload.now }
-    ensures makes { (t : Trail) → IsTrue H.tells → IsOpen (H.world host.old) store.old t → is_system_place (image_size t.base.image) number ≡ false → HoldsMap t.base.image number map.old
-        → MakesWhere (IsSupplied t.base.image number) (λ value image. number < length image) result (H.world host.old) (H.world host.new) store.old store.new t (take_page number (put number (code_of kind) (content own payload.now number) (drafted t.base.image))).strokes }
+    ensures makes { (t : Trail) → IsTrue H.tells → IsOpen (H.world host.old) store.old t → IsSupplied t.base.image number → is_system_place (image_size t.base.image) number ≡ false → HoldsMap t.base.image number map.old
+        → Tries result (H.world host.old) (H.world host.new) store.old store.new t None (take_page number (put number (code_of kind) (content own payload.now number) (drafted t.base.image))).strokes }
+    ensures added { OnOk result (number < store.new.files.count) }
     ensures goes { Goes store.old store.new }
     ensures map_room { length map.new ≡ length map.old }
     ensures scn_room { length scn_page.new ≡ length scn_page.old }
@@ -315,8 +316,10 @@ fn pass_place<H: Host>(
     requires low { 5 ≤ place }
     requires high { place < 1048576 }
     requires inside { place ≤ store.old.files.count }
-    ensures makes { (t : Trail) → IsTrue H.tells → IsOpen (H.world host.old) store.old t → is_system_place (image_size t.base.image) place ≡ true
-        → MakesWhere (IsSupplied t.base.image place × GoesOn t.base.image place) (λ next image. IsOnward image place next map.new) result (H.world host.old) (H.world host.new) store.old store.new t (round t.base.image place).strokes }
+    ensures makes { (t : Trail) → IsTrue H.tells → IsOpen (H.world host.old) store.old t → IsSupplied t.base.image place → GoesOn t.base.image place → is_system_place (image_size t.base.image) place ≡ true
+        → Tries result (H.world host.old) (H.world host.new) store.old store.new t None (round t.base.image place).strokes }
+    ensures onward { (t : Trail) → IsTrue H.tells → IsOpen (H.world host.old) store.old t → IsSupplied t.base.image place → is_system_place (image_size t.base.image) place ≡ true
+        → IfOk result (λ next. IsOnward (round t.base.image place).image place next map.new) }
     ensures later { IfOk result (λ next. place < next) }
     ensures most { IfOk result (λ next. next < 1048576) }
     ensures within { IfOk result (λ next. next ≤ store.new.files.count) }
@@ -341,8 +344,9 @@ fn pass_place<H: Host>(
 /// at `first`, its inventory page is in `map`, and isn't read again. It takes three reads at most for the page, and six for each page between
 /// that the search went past; it wants memory in the stalled state alone.
 ///
-/// It isn't refused where `check_new`, or `check_rooms` for one page, has answered `first` and nothing was written since. Else the refusals are
-/// `NotDatabase` of a page that isn't of its kind, and `Full`, and what was written before them stands.
+/// It is for a database on which `check_new`, or `check_rooms` for one page, has answered `first` and to which nothing was written since: then it
+/// isn't refused, and contracts say what it makes of such a database alone. Else the refusals are `NotDatabase` of a page that isn't of its kind,
+/// and `Full`, and what was written before them stands.
 pub fn make_new<H: Host>(
     store: &mut Store,
     host: &mut H,
@@ -364,11 +368,13 @@ pub fn make_new<H: Host>(
     requires short { length payload.now ≤ 1008 }
     requires owner { own ≡ true → 8 ≤ length payload.now }
     ensures makes { (t : Trail) → IsTrue H.tells → IsOpen (H.world host.old) store.old t → first ≡ lowest_free t.base.image → HoldsMap t.base.image first map.old
-        → MakesWhere (IsSearchable t.base.image × (draft_cause (new_of (code_of kind) (content own payload.now) t.base.image).0 ≡ None)) (λ number image. number < length image) result (H.world host.old) (H.world host.new) store.old store.new t (new_of (code_of kind) (content own payload.now) t.base.image).0.strokes }
+        → IsSearchable t.base.image → draft_cause (new_of (code_of kind) (content own payload.now) t.base.image).0 ≡ None
+        → Tries result (H.world host.old) (H.world host.new) store.old store.new t None (new_of (code_of kind) (content own payload.now) t.base.image).0.strokes }
     ensures value { (t : Trail) → IsTrue H.tells → IsOpen (H.world host.old) store.old t → first ≡ lowest_free t.base.image → HoldsMap t.base.image first map.old
         → IsSearchable t.base.image → draft_cause (new_of (code_of kind) (content own payload.now) t.base.image).0 ≡ None → IfOk result (λ number. number ≡ (new_of (code_of kind) (content own payload.now) t.base.image).1) }
     ensures least { IfOk result (λ number. 5 ≤ number) }
     ensures most { IfOk result (λ number. number < 1048576) }
+    ensures added { IfOk result (λ number. number < store.new.files.count) }
     ensures goes { Goes store.old store.new }
     ensures map_room { length map.new ≡ length map.old }
     ensures scn_room { length scn_page.new ≡ length scn_page.old }

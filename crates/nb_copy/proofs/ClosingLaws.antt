@@ -40,9 +40,8 @@ use Rattle.nb_engine.specs.Put.{entry_cause}
 use Rattle.nb_engine.specs.Room.{write_cause}
 use Rattle.nb_engine.specs.Tries.{Tries}
 use Rattle.nb_engine.proofs.LinkLaws.{write_low}
-use Rattle.nb_alloc.proofs.DoesLaws.{unless_none}
+use Rattle.nb_alloc.proofs.DoesLaws.{unless_none, sure_of}
 use Rattle.nb_alloc.proofs.PutLaws.{no_entry_cause, entry_cause-is}
-use Rattle.nb_alloc.proofs.WhereLaws.{sure_of}
 use Rattle.nb_model.specs.Making.{kept_of}
 use Rattle.nb_gather.specs.Making.{IsKept, IsUnfinishedOr}
 use Rattle.nb_copy.proofs.LevelLaws.{below_all}

@@ -1,6 +1,6 @@
 -- What making a new page does of its turn.
 use Rattle.std.proofs.Common.{◌≡◌, ◌<◌, ◌≤◌, ℕ, List, [], ◌∷◌, length, refl, sym, ap, subst, ◌∙◌, arith}
-use Rattle.std.specs.Prelude.{true, false, IsTrue, Some, None, Result, Ok, Err, IfOk, IfErr}
+use Rattle.std.specs.Prelude.{true, false, IsTrue, Some, None, Result, Ok, Err, IfOk}
 use Rattle.nb_fields.specs.Bytes.{bytes_of}
 use Rattle.nb_fields.specs.Places.{is_page_size}
 use Rattle.nb_fields.specs.Payloads.{text_payload}
@@ -21,16 +21,16 @@ use Rattle.nb_model.specs.Sound.{IsSoundImage, HasHeader}
 use Rattle.nb_model.proofs.ReadLaws.{lt_no, lt_yes}
 use Rattle.nb_model.proofs.SearchLaws.{draft_cause}
 use Rattle.nb_model.proofs.StepLaws.{IsShaped}
-use Rattle.nb_base.specs.Takes.{IsNoRefusal}
 use Rattle.nb_state.specs.Open.{Held, IsOpen}
-use Rattle.nb_state.specs.Does.{Makes, Does}
+use Rattle.nb_state.specs.Does.{Does}
 use Rattle.nb_state.proofs.SizeLaws.{open_sized}
 use Rattle.nb_alloc.specs.Make.{IsWell, new_raw}
 use Rattle.nb_engine.specs.Replies.{page_made}
 use Rattle.nb_alloc.specs.Search.{IsSearchable}
+use Rattle.nb_alloc.specs.Tries.{Tries}
 use Rattle.nb_alloc.proofs.TestLaws.{applies, rests}
 use Rattle.nb_alloc.proofs.CauseLaws.{unless_refused, unless_allowed, first_none, first_next, first_here, refused_by, judged_by}
-use Rattle.nb_alloc.proofs.DoesLaws.{seeing, tries_made, tries_does}
+use Rattle.nb_alloc.proofs.DoesLaws.{seeing, tries_does}
 
 -- the bytes of the empty text
 pub empty_is : 0 ∷ 0 ∷ [] ≡ text_payload []
@@ -91,8 +91,8 @@ number_said (Err fault) n same = tt
 
 -- a run of calls that made the strokes does the turn
 pub made_does : (result : Result ℕ Fault) (old new : World) (a b : Held) (t : Trail) (s : Seen) (n : ℕ) (strokes : List Stroke) → t.base ≡ s.base
-    → new_turn (seeing s t.base) ≡ says (seeing s t.base) (PageMade n) strokes → IfOk result (λ number. number ≡ n) → IfErr result IsNoRefusal → Makes result old new a b t strokes
+    → new_turn (seeing s t.base) ≡ says (seeing s t.base) (PageMade n) strokes → IfOk result (λ number. number ≡ n) → Tries result old new a b t None strokes
     → Does page_made result old new a b t (new_turn s)
-made_does result old new a b t s n strokes same turn number sure makes =
+made_does result old new a b t s n strokes same turn number tries =
     tries_does page_made result old new a b t s new_turn None (PageMade n) refl strokes same
-    (turn ∙ sym (unless_allowed (seeing s t.base) None (says (seeing s t.base) (PageMade n) strokes) refl)) (number_said result n number) (tries_made result old new a b t None strokes refl sure makes)
+    (turn ∙ sym (unless_allowed (seeing s t.base) None (says (seeing s t.base) (PageMade n) strokes) refl)) (number_said result n number) tries

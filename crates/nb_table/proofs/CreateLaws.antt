@@ -28,13 +28,12 @@ use Rattle.nb_engine.specs.Search.{IsShort}
 use Rattle.nb_engine.specs.Tries.{Tries}
 use Rattle.nb_alloc.proofs.CauseLaws.{first_next, one_cause}
 use Rattle.nb_alloc.proofs.ContentLaws.{data_short}
-use Rattle.nb_alloc.proofs.DoesLaws.{unless_none, tries_front, tries_then}
+use Rattle.nb_alloc.proofs.DoesLaws.{unless_none, tries_front, tries_then, sure_of, makes_as, makes_valued}
 use Rattle.nb_engine.proofs.GrowLaws.{new_longer}
 use Rattle.nb_alloc.proofs.MakeLaws.{tries_named}
 use Rattle.nb_alloc.proofs.NewLaws.{image_is}
 use Rattle.nb_alloc.proofs.RoomsLaws.{IsFreeBehind, free_behind, grown_named, slot_named, unmade_is, joined_clear}
 use Rattle.nb_alloc.proofs.TestLaws.{rests}
-use Rattle.nb_alloc.proofs.WhereLaws.{sure_of, makes_as, makes_valued}
 use Rattle.nb_model.proofs.ReadLaws.{lt_no}
 use Rattle.nb_table.specs.declared.look.Place.{Place}
 use Rattle.nb_table.specs.Creates.{first_made, created_in, created_behind}

@@ -5,8 +5,7 @@ use Rattle.nb_model.specs.Forms.{drafted, is_kind}
 use Rattle.nb_model.specs.Chains.{found_pages, last_of, grown, place_slot}
 use Rattle.nb_engine.specs.Data.{unmade}
 use Rattle.nb_engine.specs.Tries.{Tries}
-use Rattle.nb_alloc.proofs.DoesLaws.{tries_passed}
-use Rattle.nb_engine.proofs.KeepLaws.{tries_other, tries_valued}
+use Rattle.nb_alloc.proofs.DoesLaws.{tries_passed, tries_other, tries_valued}
 use Rattle.nb_alloc.proofs.PutLaws.{none_of}
 use Rattle.nb_table.specs.Rows.{place_cause}
 use Rattle.nb_table.proofs.PlaceLaws.{place_kind, there_tries, behind_tries}

@@ -7,11 +7,12 @@ use Rattle.nb_page.proofs.QuietLemmas.{quiet_begun}
 use Rattle.nb_model.specs.Forms.{Draft}
 use Rattle.nb_model.proofs.SearchLaws.{draft_cause}
 use Rattle.nb_state.specs.Open.{Held, IsOpen, but_pages}
-use Rattle.nb_state.specs.Does.{Makes}
+use Rattle.nb_alloc.specs.Tries.{Tries}
 use Rattle.nb_alloc.specs.Data.{owner_by, new_data, unmade}
 use Rattle.nb_alloc.specs.Search.{IsShort}
 use Rattle.nb_alloc.proofs.ContentLaws.{new_named, data_short}
-use Rattle.nb_alloc.proofs.DoesLaws.{tries_early, tries_failed, tries_made, tries_after}
+use Rattle.nb_alloc.proofs.DoesLaws.{tries_early, tries_failed, tries_after}
+use Rattle.nb_alloc.proofs.MakeLaws.{tries_named}
 use Rattle.nb_engine.proofs.NewTurn.{searchable_of}
 use Rattle.nb_alloc.proofs.RoomsLaws.{unmade_short, unmade_long}
 use Rattle.nb_engine.proofs.engine.Engine.data_new.Goals as goal
@@ -52,10 +53,10 @@ returns-clause-makes g c t tells is =
     let room = subst (λ (m : Draft × ℕ). draft_cause m.0 ≡ None) (sym same) none in
     let new = g.H.Host.world c.make_new.new.host in
     let mid = g.H.Host.world c.check_new.new.host in
-    let these = (c.make_new.ensures.makes t tells (tests.open t tells here) (tests.value t tells here) (tests.map t tells here)).these (shaped, room) in
-    let makes = subst (λ (m : Draft × ℕ). Makes c.make_new.result mid new c.check_new.new.store c.make_new.new.store t m.0.strokes) same these.makes in
+    let makes = subst (λ (m : Draft × ℕ). Tries c.make_new.result mid new c.check_new.new.store c.make_new.new.store t None m.0.strokes) same
+    (c.make_new.ensures.makes t tells (tests.open t tells here) (tests.value t tells here) (tests.map t tells here) shaped room) in
     tries_after c.make_new.result w mid new _ _ _ t _ _ (tests.same ∙ ap but_pages c.self.view_is) tests.quiet is
-    (tries_made c.make_new.result mid new c.check_new.new.store c.make_new.new.store t (unmade image made.0) made.0.strokes (unmade_long image made.0 long ∙ none) these.sure makes)
+    (tries_named c.make_new.result mid new c.check_new.new.store c.make_new.new.store t None (unmade image made.0) made.0.strokes made.0.strokes (sym (unmade_long image made.0 long ∙ none)) refl makes)
 
 pub returns-clause-value : goal.returns-clause-value
 returns-clause-value g c t tells is =

@@ -7,7 +7,7 @@ use Rattle.nb_alloc.specs.Tries.{Tries}
 use Rattle.nb_engine.proofs.DataLaws.{data_there, by_entry}
 use Rattle.nb_alloc.proofs.MakeLaws.{entry_none}
 use Rattle.nb_engine.proofs.NewTurn.{well_of}
-use Rattle.nb_alloc.proofs.WhereLaws.{sure_of}
+use Rattle.nb_alloc.proofs.DoesLaws.{sure_of}
 use Rattle.nb_engine.proofs.engine.Engine.data_write.Goals as goal
 
 pub returns-clause-sure : goal.returns-clause-sure

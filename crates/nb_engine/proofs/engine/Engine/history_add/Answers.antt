@@ -9,9 +9,8 @@ use Rattle.nb_model.proofs.PutSound.{IsPlace}
 use Rattle.nb_state.specs.Open.{Held, IsOpen}
 use Rattle.nb_alloc.specs.Tries.{Tries}
 use Rattle.nb_alloc.specs.Put.{entry_cause}
-use Rattle.nb_alloc.proofs.DoesLaws.{tries_failed}
+use Rattle.nb_alloc.proofs.DoesLaws.{tries_failed, sure_of}
 use Rattle.nb_alloc.proofs.MakeLaws.{entry_none, tries_named}
-use Rattle.nb_alloc.proofs.WhereLaws.{sure_of}
 use Rattle.nb_engine.specs.Room.{write_cause}
 use Rattle.nb_engine.proofs.LinkLaws.{write_low, write_past}
 use Rattle.nb_engine.proofs.NewTurn.{well_of}

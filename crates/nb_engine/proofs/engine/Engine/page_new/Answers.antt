@@ -1,5 +1,5 @@
 use Rattle.std.proofs.Common.{◌≡◌, ◌≤◌, ℕ, List, [], ◌∷◌, length, refl, sym, subst, ◌∙◌, arith, ap}
-use Rattle.std.specs.Prelude.{true, false, IfOk}
+use Rattle.std.specs.Prelude.{true, false, None, IfOk}
 use Rattle.nb_fields.specs.Payloads.{text_payload}
 use Rattle.nb_host.specs.declared.refusals.Refusal.TheVariants.{Access, NotDatabase}
 use Rattle.nb_page.proofs.QuietLemmas.{quiet_begun}
@@ -10,11 +10,10 @@ use Rattle.nb_model.specs.Pages.{new_turn}
 use Rattle.nb_model.proofs.NewSound.{empty_text}
 use Rattle.nb_model.proofs.SearchLaws.{draft_cause}
 use Rattle.nb_state.specs.Open.{Held, IsOpen, but_pages}
-use Rattle.nb_state.specs.Does.{Makes}
-use Rattle.nb_state.proofs.MakesLaws.{makes_after}
+use Rattle.nb_alloc.specs.Tries.{Tries}
 use Rattle.nb_alloc.specs.Make.{new_raw, new_of}
 use Rattle.nb_engine.specs.Replies.{page_made}
-use Rattle.nb_alloc.proofs.DoesLaws.{seeing, tested_does, refused_does}
+use Rattle.nb_alloc.proofs.DoesLaws.{seeing, tries_after, tested_does, refused_does}
 use Rattle.nb_engine.proofs.NewTurn.{empty_is, searchable_of, new_closed, new_short, new_refused, new_says, made_does}
 use Rattle.nb_alloc.proofs.NewReads.{new_read}
 use Rattle.nb_engine.proofs.engine.Engine.page_new.Goals as goal
@@ -60,10 +59,11 @@ returns-clause-turn g c s t tells same is =
     let tests = c.in_ok-first.ensures in
     let room = tests.test t 8 (λ p. text_payload []) tells here shaped empty_text in
     let for_zeros = tests.test t 8 (λ p. 0 ∷ 0 ∷ []) tells here shaped (λ p. omega arith) in
-    let these = (c.make_new.ensures.makes t tells (tests.open t tells here) (tests.value t tells here) (tests.map t tells here)).these (shaped, for_zeros) in
+    let made = c.make_new.ensures.makes t tells (tests.open t tells here) (tests.value t tells here) (tests.map t tells here) shaped for_zeros in
     made_does c.make_new.result w _ c.args.self.now c.make_new.new.store t s (new_raw image).1 (new_raw image).0.strokes same (new_says (seeing s t.base) free long room)
-    (subst (λ (xs : List ℕ). IfOk c.make_new.result (λ number. number ≡ (new_of 8 (λ p. xs) image).1)) empty_is (c.make_new.ensures.value t tells (tests.open t tells here) (tests.value t tells here) (tests.map t tells here) shaped for_zeros)) these.sure
-    (makes_after c.make_new.result w _ _ _ _ _ t (new_raw image).0.strokes (tests.same ∙ ap but_pages c.self.view_is) tests.quiet is (subst (λ (xs : List ℕ). Makes c.make_new.result (g.H.Host.world c.check_new.new.host) (g.H.Host.world c.make_new.new.host) c.check_new.new.store c.make_new.new.store t (new_of 8 (λ p. xs) image).0.strokes) empty_is these.makes))
+    (subst (λ (xs : List ℕ). IfOk c.make_new.result (λ number. number ≡ (new_of 8 (λ p. xs) image).1)) empty_is (c.make_new.ensures.value t tells (tests.open t tells here) (tests.value t tells here) (tests.map t tells here) shaped for_zeros))
+    (tries_after c.make_new.result w _ _ _ _ _ t None (new_raw image).0.strokes (tests.same ∙ ap but_pages c.self.view_is) tests.quiet is
+    (subst (λ (xs : List ℕ). Tries c.make_new.result (g.H.Host.world c.check_new.new.host) (g.H.Host.world c.make_new.new.host) c.check_new.new.store c.make_new.new.store t None (new_of 8 (λ p. xs) image).0.strokes) empty_is made))
 
 pub returns-clause-once : goal.returns-clause-once
 returns-clause-once g c t tells is =
