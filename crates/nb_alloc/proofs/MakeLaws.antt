@@ -1,4 +1,4 @@
--- Making a page: its strokes and what they leave, whatever is in the database, and what they are where its inventories agree with its pages.
+-- Making a page: its strokes and what they leave, and what is never refused where the inventories agree with the pages.
 use Rattle.std.proofs.Common.{◌≡◌, ◌≢◌, ℕ, ◌+◌, ◌-◌, ◌/◌, ◌<◌, ◌≤◌, List, [], ◌∷◌, ◌++◌, length, take, drop, replicate, refl, sym, ap, subst, ◌∙◌, arith}
 use Rattle.std.specs.Prelude.{Bool, true, false, not, ◌&&◌, ◌==◌, IsTrue, None, Result, Ok, IsErr, IsErrAnd, IfErr, max}
 use Rattle.nb_fields.specs.Kinds.{code_of}
@@ -41,7 +41,7 @@ use Rattle.nb_alloc.specs.Find.{IsMap}
 use Rattle.nb_alloc.specs.Make.{IsWell, page_strokes, system_strokes, system_cause}
 use Rattle.nb_alloc.proofs.CauseLaws.{first_none, first_next}
 use Rattle.nb_alloc.proofs.DoesLaws.{tries_opened, tries_passed, tries_then}
-use Rattle.nb_alloc.proofs.PutLaws.{stroke_long, is_kind-parts, none_of, may_raise, raised_once, raised_not, no_entry_cause, entry_cause-is, draft_raised}
+use Rattle.nb_alloc.proofs.PutLaws.{stroke_long, is_kind-parts, none_of, may_raise, raised_once, raised_not, no_entry_cause, entry_cause-is}
 use Rattle.nb_alloc.proofs.MarkLaws.{there}
 use Rattle.nb_alloc.proofs.PageLaws.{makes_one}
 use Rattle.nb_alloc.proofs.TestLaws.{kind_is}
@@ -158,12 +158,6 @@ module _ (b : Base) (p kind : ℕ) (payload : List ℕ) (none : entry_cause b.im
         page = held.page ∙ sym read ∙ ap (page_at paged.image) (sym same);
       }
 
--- where the inventories agree, the strokes are those of the draft
-pub put_strokes_are : (b : Base) (p kind : ℕ) (payload : List ℕ) → IsWell b.image → IsPlace b.image p → page_strokes b.image p kind payload ≡ (put p kind payload (drafted b.image)).strokes
-put_strokes_are b p kind payload is at =
-    let bytes : Page = stamped (old_page p b.image) kind payload (image_scn b.image) p in
-    sym (rounds.put_strokes b.image (well b.image is) p at kind payload ∙ ap (λ (ss : List Stroke). ss ++ page p bytes ∷ []) (draft_raised b p (entry_none b.image p is at)).strokes)
-
 -- no page is of kind 0
 pub kind_some : (kind : PageKind) → (code_of kind == 0) ≡ false
 kind_some Header = refl
@@ -247,12 +241,3 @@ module _ (image : Image) (p : ℕ) where
 
   pub system_asks : is_kind image (system_kind image p) p ≡ false → system_cause image p ≡ entry_cause image p
   system_asks e = ap (λ (t : Bool). elim t as (λ z. Cause) [ true ↦ None | false ↦ entry_cause image p ]) e
-
--- and where the inventories agree it is that of the draft, and nothing is refused
-module _ (b : Base) (p : ℕ) (is : IsWell b.image) (at : IsPlace b.image p) where
-  pub system_none : system_cause b.image p ≡ None
-  system_none = by (is_kind b.image (system_kind b.image p) p) refl
-    where
-      by : (t : Bool) → is_kind b.image (system_kind b.image p) p ≡ t → system_cause b.image p ≡ None
-      by true e = system_free b.image p e
-      by false e = system_asks b.image p e ∙ entry_none b.image p is at
