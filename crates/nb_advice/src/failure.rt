@@ -1,7 +1,8 @@
 // What stands after a run that failed.
+use crate::deeds;
 use crate::seen::{Seen, There};
 use nb_host::Name;
-use nb_model::Job;
+use nb_model::{Ask, Job};
 use std::alloc::{AllocError, Global};
 
 /// Whether a backup file is whole, as far as it was seen: one of level 0 has its header last, and a further one its end.
@@ -50,18 +51,21 @@ fn of_database(
     Ok(Some(text))
 }
 
-/// What stands of a fold.
-fn of_fold(alloc: Global, out: &Name, seen: &Seen) -> Result<Option<String>, AllocError> {
-    let text = match seen.there {
-        There::Unfinished => format!(in alloc;
-            "{out} isn't whole, and its name is free: give the same words again"
-        )?,
-        There::PartOfLevel => format!(in alloc;
-            "{out} isn't whole: remove it, and give the same words again"
-        )?,
-        _ => return Ok(None),
-    };
-    Ok(Some(text))
+/// What stands of a database that was asked this.
+fn of_ask(
+    alloc: Global,
+    db: &Name,
+    ask: &Ask,
+    whose: &str,
+    seen: &Seen,
+) -> Result<Option<String>, AllocError> {
+    match ask {
+        Ask::Backup { file, .. } | Ask::BackupSince { file, .. } => {
+            of_backup(alloc, db, file, whose, seen)
+        }
+        Ask::Lock | Ask::LockWithSize | Ask::Unlock => of_database(alloc, db, whose, seen),
+        Ask::Stat | Ask::Check | Ask::Reclaim => Ok(None),
+    }
 }
 
 /// What is to be said after a run of a job by words that ended early, by what is seen then and by the backup state that was seen before it.
@@ -78,19 +82,8 @@ pub fn standing(
         ""
     };
     match job {
-        Job::Backup { db, file, .. } | Job::BackupSince { db, file, .. } => {
-            of_backup(alloc, db, file, whose, seen)
-        }
-        Job::Lock { db } | Job::LockWithSize { db } | Job::Unlock { db } => {
-            of_database(alloc, db, whose, seen)
-        }
-        Job::Restore { db, .. } if seen.there == There::Unfinished => Ok(Some(format!(in alloc;
-            "{db} isn't whole, and its name is free: give the same words again"
-        )?)),
-        Job::Fold { out, .. } => of_fold(alloc, out, seen),
-        Job::Apply { db, .. } if seen.state == Some(3) => Ok(Some(format!(in alloc;
-            "{db} is half merged: give the same words again, with the same file"
-        )?)),
-        _ => Ok(None),
+        Job::Attach { db, ask } => of_ask(alloc, db, ask, whose, seen),
+        Job::Turn { deed } => deeds::standing(alloc, deed, seen),
+        Job::Run { .. } | Job::Gen { .. } | Job::Plan { .. } => Ok(None),
     }
 }

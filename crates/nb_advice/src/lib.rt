@@ -8,6 +8,7 @@
 mod backup;
 mod chain;
 mod check;
+mod deeds;
 mod failure;
 mod fixup;
 mod levels;

@@ -292,10 +292,6 @@ page_cause (Some p) = refl
 pub lacking_cause : (o : Option ℕ) (pages : List ℕ) → page_in o ≡ pages → need_cause o ≡ lowest_broken pages
 lacking_cause o pages is = sym (page_cause o) ∙ ap lowest_broken is
 
-pub lacking_causes : (result : Result (Option ℕ) Fault) (pages : List ℕ) → IfOk result (λ o. page_in o ≡ pages) → IfOk result (λ o. need_cause o ≡ lowest_broken pages)
-lacking_causes (Ok o) pages is = lacking_cause o pages is
-lacking_causes (Err fault) pages is = tt
-
 -- of two pages the lower
 pub lower_cause : (page other : ℕ) → lowest_broken (other ∷ page ∷ []) ≡ Some (NotDatabase (min other page))
 unfolding lowest_broken

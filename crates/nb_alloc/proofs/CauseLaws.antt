@@ -67,12 +67,6 @@ pub judged_by : (s : Seen) (causes : List Cause) (d : Draft) (reply : Reply) →
 unfolding changes
 judged_by s causes d reply e = ap (λ (c : Cause). unless s c (says s reply d.strokes)) (first_rest causes (not_of_form d ∷ no_room d ∷ []) e)
 
--- or allowed
-pub allowed : (s : Seen) (causes : List Cause) (d : Draft) (reply : Reply) → first_cause causes ≡ None → not_of_form d ≡ None → no_room d ≡ None → changes s causes d reply ≡ says s reply d.strokes
-allowed s causes d reply e form room =
-    judged_by s causes d reply e
-    ∙ unless_allowed s _ (says s reply d.strokes) (first_next (not_of_form d) (no_room d ∷ []) form ∙ first_next (no_room d) [] room ∙ first_none)
-
 -- strokes that are the same where no cause applies
 pub unless_these : (s : Seen) (cause : Cause) (reply : Reply) (xs ys : List Stroke) → (cause ≡ None → xs ≡ ys) → unless s cause (says s reply xs) ≡ unless s cause (says s reply ys)
 unfolding unless

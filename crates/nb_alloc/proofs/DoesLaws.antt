@@ -16,9 +16,9 @@ use Rattle.nb_model.specs.Causes.{Cause}
 use Rattle.nb_model.specs.Outcomes.{Seen, Outcome, says, unless}
 use Rattle.nb_base.specs.Takes.{after_strokes, IsNoRefusal}
 use Rattle.nb_state.specs.Open.{Held, IsOpen, but_pages}
-use Rattle.nb_state.specs.Does.{Tested, Answers, only_tells, unless_by, Makes, Does}
+use Rattle.nb_state.specs.Does.{Tested, Answers, WhereEnded, only_tells, unless_by, Makes, Does}
 use Rattle.nb_change.proofs.ResultLaws.{passed_on}
-use Rattle.nb_state.proofs.MakesLaws.{makes_none, makes_not, makes_then, makes_front, makes_after}
+use Rattle.nb_state.proofs.MakesLaws.{makes_none, makes_not, makes_then, makes_front, makes_before, makes_after}
 use Rattle.nb_alloc.specs.Tries.{Tries}
 use Rattle.nb_alloc.proofs.CauseLaws.{told_some}
 
@@ -72,6 +72,36 @@ tested_none (Err Memory) cause none never = tt
 
 none_some : {r : Refusal} → None ≡ Some r → ⊥
 none_some e = cc
+
+-- a test without a cause refuses nothing
+pub sure_of : {T : Type 0} (result : Result T Fault) (cause : Cause) → cause ≡ None → Tested result cause → IfErr result IsNoRefusal
+sure_of (Ok value) cause none tested = tt
+sure_of (Err (RefusedFault r)) cause none tested = absurd (none_some (sym none ∙ tested))
+sure_of (Err Device) cause none tested = tt
+sure_of (Err Memory) cause none tested = tt
+
+-- a failure is the same of a result of another type
+pub makes_as : (S T : Type 0) (fault : Fault) (old new : World) (a b : Held) (t : Trail) (xs : List Stroke) → Makes {T = S} (Err fault) old new a b t xs → Makes {T = T} (Err fault) old new a b t xs
+makes_as S T fault old new a b t xs makes = record { left = makes.left; opened = by fault _ makes.opened; goes = makes.goes; gave = makes.gave }
+  where
+    by : (f : Fault) (P : Type 0) → WhereEnded {T = S} (Err f) P → WhereEnded {T = T} (Err f) P
+    by (RefusedFault r) P is = is
+    by Device P is = tt
+    by Memory P is = tt
+
+pub tries_other : (S T : Type 0) (fault : Fault) (old new : World) (a b : Held) (t : Trail) (cause : Cause) (xs : List Stroke) → Tries {T = S} (Err fault) old new a b t cause xs → Tries {T = T} (Err fault) old new a b t cause xs
+tries_other S T fault old new a b t cause xs tries = record {
+  test = tested_as S T fault cause cause (λ r e. e) tries.test;
+  makes = makes_as S T fault old new a b t (unless_by cause xs) tries.makes;
+  idle = tries.idle;
+}
+
+-- and so is a call that answers by what another has answered
+pub makes_valued : {S T : Type 0} (v : S) (w : T) (old new : World) (a b : Held) (t : Trail) (xs : List Stroke) → Makes (Ok v) old new a b t xs → Makes (Ok w) old new a b t xs
+makes_valued v w old new a b t xs makes = record { left = makes.left; opened = makes.opened; goes = makes.goes; gave = makes.gave }
+
+pub tries_valued : {S T : Type 0} (v : S) (w : T) (old new : World) (a b : Held) (t : Trail) (cause : Cause) (xs : List Stroke) → Tries (Ok v) old new a b t cause xs → Tries (Ok w) old new a b t cause xs
+tries_valued v w old new a b t cause xs tries = record { test = tries.test; makes = makes_valued v w old new a b t (unless_by cause xs) tries.makes; idle = tries.idle }
 
 -- a test ended the call before any stroke
 pub tries_failed : (T : Type 0) (fault : Fault) (old new : World) (a b : Held) (t : Trail) (cause : Cause) (xs : List Stroke) → Tested {T = T} (Err fault) cause → but_pages b ≡ but_pages a → Quiet old new → IsOpen old a t → IsOpen new b t
@@ -133,6 +163,22 @@ tries_front S T fault old new a b t cause xs ys first = by fault first
         }
     by Device first = record { test = tt; makes = failed Device cause tt first.makes; idle = first.idle }
     by Memory first = record { test = tt; makes = failed Memory cause tt first.makes; idle = first.idle }
+
+-- the same where `?` passes the fault of the last call on
+pub tries_on : (S T : Type 0) (result : Result T Fault) (fault : Fault) (old new : World) (a b : Held) (t : Trail) (cause : Cause) (xs : List Stroke) → IsErr result × IsErrAnd result (λ f. f ≡ fault)
+    → Tries {T = S} (Err fault) old new a b t cause xs → Tries result old new a b t cause xs
+tries_on S T result fault old new a b t cause xs passed tries = tries_passed result fault (λ r. Tries r old new a b t cause xs) passed (tries_other S T fault old new a b t cause xs tries)
+
+-- Another call follows, and no cause applies to either.
+pub tries_next : {S T : Type 0} (value : S) (result : Result T Fault) (old mid new : World) (a b c : Held) (t : Trail) (xs ys : List Stroke) → Tries (Ok value) old mid a b t None xs
+    → Tries result mid new b c (after_strokes t xs) None ys → Tries result old new a c t None (xs ++ ys)
+tries_next value result old mid new a b c t xs ys first second = tries_then value result old mid new a b c t None xs ys first (sure_of result None refl second.test) second.makes
+
+-- or calls that change nothing, and aren't refused
+pub tries_before : {S T : Type 0} (value : S) (result : Result T Fault) (old mid new : World) (a b c : Held) (t : Trail) (xs : List Stroke) → Tries (Ok value) old mid a b t None xs
+    → but_pages c ≡ but_pages b → Quiet mid new → ((u : Trail) → IsOpen mid b u → IsOpen new c u) → IfErr result IsNoRefusal → Tries result old new a c t None xs
+tries_before value result old mid new a b c t xs first still quiet opens sure =
+    tries_made result old new a c t None xs refl sure (makes_before value result old mid new a b c t xs first.makes still quiet opens)
 
 -- calls that change nothing before it
 pub tries_after : {T : Type 0} (result : Result T Fault) (old mid new : World) (a b c : Held) (t : Trail) (cause : Cause) (xs : List Stroke) → but_pages b ≡ but_pages a → Quiet old mid → IsOpen old a t → Tries result mid new b c t cause xs

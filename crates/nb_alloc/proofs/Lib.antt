@@ -9,7 +9,6 @@ pub mod FindLaws
 pub mod PlaceTests
 pub mod MakeLaws
 pub mod FullLaws
-pub mod WhereLaws
 pub mod NewLaws
 pub mod BehindLaws
 pub mod NeedReads
@@ -22,3 +21,4 @@ pub mod ReadyLaws
 pub mod ContentLaws
 pub mod SearchReads
 pub mod NewReads
+pub mod DataLaws

@@ -1,4 +1,4 @@
--- Making a page: its strokes and what they leave, whatever is in the database, and what they are where its inventories agree with its pages.
+-- Making a page: its strokes and what they leave, and what is never refused where the inventories agree with the pages.
 use Rattle.std.proofs.Common.{◌≡◌, ◌≢◌, ℕ, ◌+◌, ◌-◌, ◌/◌, ◌<◌, ◌≤◌, List, [], ◌∷◌, ◌++◌, length, take, drop, replicate, refl, sym, ap, subst, ◌∙◌, arith}
 use Rattle.std.specs.Prelude.{Bool, true, false, not, ◌&&◌, ◌==◌, IsTrue, None, Result, Ok, IsErr, IsErrAnd, IfErr, max}
 use Rattle.nb_fields.specs.Kinds.{code_of}
@@ -36,13 +36,12 @@ use Rattle.nb_state.specs.Does.{Makes, unless_by}
 use Rattle.nb_state.proofs.MakesLaws.{makes_not}
 use Rattle.nb_alloc.specs.Tries.{Tries}
 use Rattle.nb_alloc.specs.Put.{entry_cause, must_raise, raise_strokes}
-use Rattle.nb_alloc.specs.Mark.{mark_cause, mark_stroke, mark_strokes}
+use Rattle.nb_alloc.specs.Mark.{mark_cause}
 use Rattle.nb_alloc.specs.Find.{IsMap}
 use Rattle.nb_alloc.specs.Make.{IsWell, page_strokes, system_strokes, system_cause}
 use Rattle.nb_alloc.proofs.CauseLaws.{first_none, first_next}
 use Rattle.nb_alloc.proofs.DoesLaws.{tries_opened, tries_passed, tries_then}
-use Rattle.nb_alloc.proofs.PutLaws.{stroke_long, is_kind-parts, none_of, may_raise, raised_once, raised_not, no_entry_cause, entry_cause-is, draft_raised}
-use Rattle.nb_alloc.proofs.MarkLaws.{there, marked-is, mark_cause-is, entries_some}
+use Rattle.nb_alloc.proofs.PutLaws.{stroke_long, is_kind-parts, none_of, may_raise, raised_once, raised_not, no_entry_cause, entry_cause-is}
 use Rattle.nb_alloc.proofs.PageLaws.{makes_one}
 use Rattle.nb_alloc.proofs.TestLaws.{kind_is}
 
@@ -133,7 +132,7 @@ module _ (b : Base) (p kind : ℕ) (payload : List ℕ) (none : entry_cause b.im
   there_still : p ≤ length raised_base.image
   there_still = omega (arith, low, alone.long)
 
-  pub page_long : length paged.image ≡ max (length b.image) (p + 1)
+  page_long : length paged.image ≡ max (length b.image) (p + 1)
   page_long =
       ap (λ (x : Base). length x.image) paged_is ∙ ap length (stroke_page raised_base p bytes) ∙ with_page_length p (merged_page p bytes raised_base.image) raised_base.image there_still ∙ ap (λ (n : ℕ). max n (p + 1)) alone.long
 
@@ -157,25 +156,6 @@ module _ (b : Base) (p kind : ℕ) (payload : List ℕ) (none : entry_cause b.im
         kind = ap (λ (r : ℕ). not_kind paged.image 2 r) same ∙ kind_is paged.image 2 q inside (ap kind_of read ∙ parts.1);
         page = held.page ∙ sym read ∙ ap (page_at paged.image) (sym same);
       }
-
--- a bit that is written leaves the length
-pub mark_long : (b : Base) (p bit : ℕ) → IsTrue (is_page_size (image_size b.image)) → mark_cause b.image p ≡ None → not_kind b.image 2 (inventory_of b.image p) ≡ None
-    → length (base_after b (mark_strokes b.image p bit)).image ≡ length b.image
-unfolding base_after
-mark_long b p bit is none form =
-    let q : ℕ = inventory_of b.image p in
-    let entry : entry_cause b.image q ≡ None = sym (mark_cause-is b p form) ∙ none in
-    let alone : RaisesAlone b.image (base_after b (raise_strokes b.image q)).image q = raise_alone b q entry in
-    let inside : q < length b.image = there b p form in
-    ap (λ (ss : List Stroke). length (base_after b ss).image) (marked-is b p form bit none (entries_some (image_size b.image) b.image is refl))
-    ∙ ap (λ (x : Base). length x.image) (base_after-append b (raise_strokes b.image q) (mark_stroke b.image p bit ∷ []))
-    ∙ stroke_long (base_after b (raise_strokes b.image q)) q _ (omega (arith, inside, alone.long)) ∙ alone.long
-
--- where the inventories agree, the strokes are those of the draft
-pub put_strokes_are : (b : Base) (p kind : ℕ) (payload : List ℕ) → IsWell b.image → IsPlace b.image p → page_strokes b.image p kind payload ≡ (put p kind payload (drafted b.image)).strokes
-put_strokes_are b p kind payload is at =
-    let bytes : Page = stamped (old_page p b.image) kind payload (image_scn b.image) p in
-    sym (rounds.put_strokes b.image (well b.image is) p at kind payload ∙ ap (λ (ss : List Stroke). ss ++ page p bytes ∷ []) (draft_raised b p (entry_none b.image p is at)).strokes)
 
 -- no page is of kind 0
 pub kind_some : (kind : PageKind) → (code_of kind == 0) ≡ false
@@ -260,26 +240,3 @@ module _ (image : Image) (p : ℕ) where
 
   pub system_asks : is_kind image (system_kind image p) p ≡ false → system_cause image p ≡ entry_cause image p
   system_asks e = ap (λ (t : Bool). elim t as (λ z. Cause) [ true ↦ None | false ↦ entry_cause image p ]) e
-
--- the page is there then
-pub system_long : (b : Base) (p : ℕ) → p ≤ length b.image → system_cause b.image p ≡ None → p < length (base_after b (system_strokes b.image p)).image
-unfolding base_after
-system_long b p low none = by (is_kind b.image (system_kind b.image p) p) refl
-  where
-    after : List Stroke → Type 0
-    after ss = p < length (base_after b ss).image
-
-    by : (t : Bool) → is_kind b.image (system_kind b.image p) p ≡ t → after (system_strokes b.image p)
-    by true e = subst after (sym (system_made b.image p e)) (is_kind-parts b.image (system_kind b.image p) p e).0
-    by false e =
-        subst after (sym (system_unmade b.image p e))
-        (let long = page_long b p (system_kind b.image p) (system_payload b.image p) (sym (system_asks b.image p e) ∙ none) low in omega (arith, long))
-
--- and where the inventories agree it is that of the draft, and nothing is refused
-module _ (b : Base) (p : ℕ) (is : IsWell b.image) (at : IsPlace b.image p) where
-  pub system_none : system_cause b.image p ≡ None
-  system_none = by (is_kind b.image (system_kind b.image p) p) refl
-    where
-      by : (t : Bool) → is_kind b.image (system_kind b.image p) p ≡ t → system_cause b.image p ≡ None
-      by true e = system_free b.image p e
-      by false e = system_asks b.image p e ∙ entry_none b.image p is at

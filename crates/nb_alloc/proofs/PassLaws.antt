@@ -1,19 +1,17 @@
 -- The tests of a search for new pages at one page, each as a need that is met or not.
 use Rattle.std.proofs.Common.{◌≡◌, ◌≢◌, ℕ, ◌-◌, List, [], ◌∷◌, ◌++◌, length, refl, sym, ap, ◌∙◌}
-use Rattle.std.specs.Prelude.{Bool, true, false, not, ◌==◌, ◌&&◌, nat_lt, IsTrue, Option, Some, None, Result, Ok, Err, OnOk}
+use Rattle.std.specs.Prelude.{Bool, true, false, not, ◌==◌, ◌&&◌, nat_lt, IsTrue, Option, Some, None}
 use Rattle.std.proofs.lemmas.Bool.{true≢false}
 use Rattle.nb_fields.specs.Places.{is_page_size, is_inventory_place, is_scn_place, is_system_place}
-use Rattle.nb_host.specs.declared.faults.Fault.{Fault}
 use Rattle.nb_host.specs.declared.refusals.Refusal.{Refusal}
 use Rattle.nb_host.specs.declared.refusals.Refusal.TheVariants.{NotDatabase, Full}
-use Rattle.nb_model.specs.Image.{Page, Image, page_at, image_size}
+use Rattle.nb_model.specs.Image.{Image, image_size}
 use Rattle.nb_model.specs.Forms.{is_kind, inventory_of, scn_page_of, has_entry, free_from, system_kind, Need, first_not, entry_page, is_kept}
 use Rattle.nb_model.specs.Causes.{Cause, first_cause, when, not_kind}
 use Rattle.nb_model.proofs.ReadLaws.{eq_no, eq_yes}
 use Rattle.nb_model.proofs.NeedLaws.{first_behind, first_append, behind_none, behind_some, first_none}
 use Rattle.nb_model.proofs.NewSound.{plain_place, places_apart}
-use Rattle.nb_alloc.specs.Put.{Reads}
-use Rattle.nb_alloc.specs.Find.{IsMap, need_cause}
+use Rattle.nb_alloc.specs.Find.{need_cause}
 use Rattle.nb_model.specs.Way.{next_place, maps_up_to, maps_on, entry_on, map_entry_on, own_entry_on, needed_on, IsMadeBehind, same_made, made_here, IsFreshBehind, same_fresh, fresh_here}
 use Rattle.nb_alloc.specs.Way.{way_cause}
 use Rattle.nb_alloc.proofs.CauseLaws.{first_next, first_here, none_behind}
@@ -141,11 +139,6 @@ maps_cause x from fresh p other at =
 -- nothing is refused for no cause
 pub none_is : (r : Refusal) (c : Cause) → None ≡ Some r → c ≡ Some r
 none_is r c e = cc
-
--- the inventory page of page p was read
-pub map_read : (result : Result (Unit {0}) Fault) (x : Image) (p place : ℕ) (map : Page) → place ≡ inventory_of x p → Reads result x (not_kind x 2 place) place map → OnOk result (IsMap x p map)
-map_read (Ok value) x p place map there read = record { kind = ap (not_kind x 2) (sym there) ∙ read.test; page = read.page ∙ ap (page_at x) there }
-map_read (Err fault) x p place map there read = tt
 
 -- The places of system pages that were passed without their pages, after page p.
 module _ (x : Image) (p : ℕ) (size : IsTrue (is_page_size (image_size x))) where

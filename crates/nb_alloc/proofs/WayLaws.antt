@@ -1,6 +1,6 @@
 -- The search for new pages on a database that nothing was written to yet: it is refused as the draft of the new page is.
 use Rattle.std.proofs.Common.{◌≡◌, ◌≢◌, inl, inr, ℕ, zero, suc, ◌+◌, ◌-◌, ◌/◌, ◌<◌, ◌≤◌, List, [], ◌∷◌, length, refl, sym, ap, subst, ◌∙◌, arith}
-use Rattle.std.specs.Prelude.{Bool, true, false, ◌==◌, IsTrue, Option, Some, None, Result, Ok, Err, OnOk, IsErr, IsErrAnd}
+use Rattle.std.specs.Prelude.{Bool, true, false, ◌==◌, IsTrue, Option, Some, None, Result, Ok, Err, IsErr, IsErrAnd}
 use Rattle.nb_host.specs.declared.faults.Fault.{Fault}
 use Rattle.nb_host.specs.declared.faults.Fault.TheVariants.{Refused as RefusedFault, Device, Memory}
 use Rattle.nb_change.proofs.ResultLaws.{passed_on}
@@ -19,7 +19,7 @@ use Rattle.nb_model.proofs.NewSound.{plain_place, places_apart}
 use Rattle.nb_model.proofs.ReadLaws.{eq_yes}
 use Rattle.nb_model.proofs.FirstFree.{IsLowestFree, free_from_is, lowest_is}
 use Rattle.nb_model.proofs.PlaceOrder.{div_rises, map_place_is}
-use Rattle.nb_model.proofs.StepLaws.{IsShaped, IsReady, Visits, system_visits, plain_visits}
+use Rattle.nb_model.proofs.StepLaws.{IsReady, Visits, system_visits, plain_visits}
 use Rattle.nb_model.specs.Way.{next_place, needed_on, IsMadeBehind, same_made, made_here, IsFreshBehind, same_fresh, fresh_here}
 use Rattle.nb_model.proofs.OnwardLaws.{IsOnTheWay, way_begins, way_further}
 use Rattle.nb_model.proofs.SoundLaws.{inventory_place_some}
@@ -501,9 +501,3 @@ ends_tested (Ok value) old start from made fresh before after kind payload short
 ends_tested (Err (RefusedFault r)) old start from made fresh before after kind payload short ends = ends.cause kind payload
 ends_tested (Err Device) old start from made fresh before after kind payload short ends = tt
 ends_tested (Err Memory) old start from made fresh before after kind payload short ends = tt
-
--- and of the image after it
-pub ends_shaped : {T : Type 0} (result : Result T Fault) (old start : Image) (from made fresh : ℕ) (before after : Behind) (kind : ℕ) (payload : ℕ → List ℕ) → IsShort payload → EndsBy result old start from made fresh before after
-    → OnOk result (IsShaped (new_page kind payload (drafted start)).0.image)
-ends_shaped (Ok value) old start from made fresh before after kind payload short ends = (ends.way kind payload short).shaped
-ends_shaped (Err fault) old start from made fresh before after kind payload short ends = tt

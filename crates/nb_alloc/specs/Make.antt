@@ -1,21 +1,15 @@
 -- What making a new page does of an open database.
-use Rattle.std.specs.Prelude.{◌≡◌, ◌<◌, ◌≤◌, ℕ, ◌+◌, ◌-◌, ◌*◌, ◌/◌, List, [], ◌∷◌, ◌++◌, length, Bool, true, false, None, Result, OnOk, IfOk, IfErr, IsTrue}
+use Rattle.std.specs.Prelude.{◌≡◌, ◌<◌, ◌≤◌, ℕ, ◌+◌, ◌-◌, ◌*◌, ◌/◌, List, [], ◌∷◌, ◌++◌, length, Bool, true, false, None, IsTrue}
 use Rattle.nb_fields.specs.Bytes.{bytes_of, with_part}
 use Rattle.nb_fields.specs.Places.{is_page_size, bits_in, inventory_place}
 use Rattle.nb_fields.specs.Page.{stamped}
 use Rattle.nb_fields.specs.Payloads.{text_payload}
-use Rattle.nb_host.specs.World.{World}
-use Rattle.nb_host.specs.declared.faults.Fault.{Fault}
 use Rattle.nb_model.specs.Image.{Page, Image, image_size, image_scn}
 use Rattle.nb_model.specs.Strokes.{Stroke, page}
-use Rattle.nb_model.specs.Trail.{Trail}
 use Rattle.nb_model.specs.Forms.{Draft, drafted, old_page, is_kind, system_kind, system_payload, take_page, system_page, free_from, lowest_free, new_page}
 use Rattle.nb_model.specs.Causes.{Cause}
 use Rattle.nb_model.specs.Sound.{IsSoundImage}
 use Rattle.nb_model.proofs.StepLaws.{IsShaped, IsReady}
-use Rattle.nb_base.specs.Takes.{after_strokes, IsNoRefusal}
-use Rattle.nb_state.specs.Open.{Held}
-use Rattle.nb_state.specs.Does.{Makes}
 use Rattle.nb_alloc.specs.Put.{entry_cause, raise_strokes}
 use Rattle.nb_alloc.specs.Find.{HoldsMap}
 
@@ -66,27 +60,11 @@ pub record GoesOn (image : Image) (p : ℕ) : Type 0 where
   pub below : behind image p < 1048576
   pub maps : (k : ℕ) → k ≤ behind image p / bits_in (image_size (round image p).image) → is_kind (round image p).image 2 (inventory_place (image_size (round image p).image) k) ≡ true
 
--- The search goes on after that place to the lowest free page, or the length. The map is the inventory page of that page.
+-- The search goes on after that place to the lowest free page, or the length. The map is the inventory page of that page, unless a system
+-- page stands there.
 pub record IsOnward (image : Image) (place next : ℕ) (map : Page) : Type 0 where
   pub found : next ≡ free_from (length image - (place + 1)) (place + 1) image
   pub holds : HoldsMap image next map
-
--- The call makes strokes in order, whatever they are.
-pub record MakesSome {T : Type 0} (result : Result T Fault) (old new : World) (before after : Held) (t : Trail) : Type 0 where
-  pub made : List Stroke
-  pub makes : Makes result old new before after t made
-
--- It makes these strokes, and isn't refused. At Ok it is they that it made.
-pub record MakesThese {T : Type 0} (result : Result T Fault) (old new : World) (before after : Held) (t : Trail) (made strokes : List Stroke) : Type 0 where
-  pub sure : IfErr result IsNoRefusal
-  pub makes : Makes result old new before after t strokes
-  pub same : OnOk result (made ≡ strokes)
-
--- The call makes some strokes, and where P holds it makes these. Its value and the image after what it made have Q.
-pub record MakesWhere {T : Type 0} (P : Type 0) (Q : T → Image → Type 0) (result : Result T Fault) (old new : World) (before after : Held) (t : Trail) (strokes : List Stroke) : Type 0 where
-  pub some : MakesSome result old new before after t
-  pub ends : IfOk result (λ value. Q value (after_strokes t some.made).base.image)
-  pub these : P → MakesThese result old new before after t some.made strokes
 
 -- How many reads a new page makes at most where the search for it ends at that page: the inventory pages up to that of the lowest free
 -- page, six pages for the new one, and eleven for each page between that the search went past.

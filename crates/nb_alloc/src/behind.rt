@@ -2,7 +2,7 @@
 // stands, or the SCN page with its entry, so whether it may be written is known once the search has ended.
 ghost use Rattle.std.specs.Prelude.{◌≡◌, ◌≢◌, ◌<◌, ◌++◌, ◌∷◌, ◌==◌, ◌||◌, ℕ, List, [], Bool, true, false, Some, None, IsTrue, IfErr, IfOk, OnOk, IfSome, Ok, length, nat_lt};
 ghost use Rattle.nb_host.specs.declared.faults.Fault.TheVariants.{Memory};
-ghost use Rattle.nb_change.specs.Counts.{CountsDevice};
+ghost use Rattle.nb_host.specs.Causes.{CountsDevice, CountsFault};
 ghost use Rattle.nb_page.specs.Quiet.{Quiet};
 ghost use Rattle.nb_host.specs.declared.refusals.Refusal.TheVariants.{NotDatabase};
 ghost use Rattle.nb_model.specs.Causes.{lowest_broken};
@@ -14,7 +14,7 @@ ghost use Rattle.nb_alloc.specs.Behind.{judged, entry_broken, page_in, page_if, 
 
 use crate::pages::{InventoryPage, ScnPage};
 use crate::way::{Way, is_there};
-use nb_host::{Fault, Host, Refusal};
+use nb_host::{Fault, Host, HostFault, Refusal};
 use nb_state::Store;
 
 /// A page that is written after a search for new pages, and what the search leaves of it.
@@ -40,19 +40,18 @@ impl Behind {
         }
     }
 
-    /// Page `number`, a data page, before the search begins. The SCN page with its entry is read. It refuses nothing.
+    /// Page `number`, a data page, before the search begins. The SCN page with its entry is read.
     pub(crate) fn at<H: Host>(
         store: &mut Store,
         host: &mut H,
         number: u32,
         map: &mut InventoryPage,
         scn_page: &mut ScnPage,
-    ) -> Result<Behind, Fault>
+    ) -> Result<Behind, HostFault>
         requires map_room { length map.old ≡ store.old.files.page_size }
         requires scn_room { length scn_page.old ≡ store.old.files.page_size }
         requires low { 0 < number }
         requires number { number < 1048576 }
-        ensures test { Tested result None }
         ensures known { (t : Trail) → IsTrue H.tells → IsOpen (H.world host.old) store.old t → is_kind t.base.image 5 number ≡ true → IfOk result (IsKnown t.base.image t.base.image) }
         ensures page { IfOk result (λ b. b.page ≡ number) }
         ensures map_room { length map.new ≡ length map.old }
@@ -60,8 +59,7 @@ impl Behind {
         ensures open { (t : Trail) → IsTrue H.tells → IsOpen (H.world host.old) store.old t → IsOpen (H.world host.new) store.new t }
         ensures same { but_pages store.new ≡ but_pages store.old }
         ensures quiet { Quiet (H.world host.old) (H.world host.new) }
-        ensures cause { CountsDevice result (H.faults host.old) (H.faults host.new) }
-        ensures takes_none { IfErr result (λ fault. fault ≢ Memory) }
+        ensures cause { CountsFault result (H.faults host.old) (H.faults host.new) }
     {
         // Contracts ask for it.
         let _page_size = store.page_size();
@@ -103,19 +101,18 @@ impl Behind {
 }
 
 /// The SCN page with the entry of page `number`, if it has one and that isn't of its kind: the page for which writing page `number` would be
-/// refused. `map` and `scn_page` are room to look at it. It refuses nothing, and wants no memory.
+/// refused. `map` and `scn_page` are room to look at it.
 pub fn find_lacking<H: Host>(
     store: &mut Store,
     host: &mut H,
     number: u32,
     map: &mut InventoryPage,
     scn_page: &mut ScnPage,
-) -> Result<Option<u32>, Fault>
+) -> Result<Option<u32>, HostFault>
     requires map_room { length map.old ≡ store.old.files.page_size }
     requires scn_room { length scn_page.old ≡ store.old.files.page_size }
     requires low { 0 < number }
     requires number { number < 1048576 }
-    ensures test { Tested result None }
     ensures value { (t : Trail) → IsTrue H.tells → IsOpen (H.world host.old) store.old t → IfOk result (λ lacking. page_in lacking ≡ entry_broken t.base.image number) }
     ensures place { (t : Trail) → IsTrue H.tells → IsOpen (H.world host.old) store.old t → IfOk result (λ lacking. IfSome lacking (λ p. p ≡ scn_page_of t.base.image number)) }
     ensures map_room { length map.new ≡ length map.old }
@@ -123,8 +120,7 @@ pub fn find_lacking<H: Host>(
     ensures open { (t : Trail) → IsTrue H.tells → IsOpen (H.world host.old) store.old t → IsOpen (H.world host.new) store.new t }
     ensures same { but_pages store.new ≡ but_pages store.old }
     ensures quiet { Quiet (H.world host.old) (H.world host.new) }
-    ensures cause { CountsDevice result (H.faults host.old) (H.faults host.new) }
-    ensures takes_none { IfErr result (λ fault. fault ≢ Memory) }
+    ensures cause { CountsFault result (H.faults host.old) (H.faults host.new) }
 {
     let page_size = store.page_size();
     if nb_scn::is_place(page_size, number) {

@@ -2,12 +2,13 @@
 ghost use Rattle.std.specs.Prelude.{◌≡◌, ◌≢◌, ◌+◌, ◌/◌, ◌<◌, ◌≤◌, [], ◌∷◌, IsTrue, IfErr, Err, None, length};
 ghost use Rattle.nb_fields.specs.Places.{bits_in, inventory_place};
 ghost use Rattle.nb_host.specs.declared.faults.Fault.TheVariants.{Memory};
-ghost use Rattle.nb_change.specs.Counts.{CountsDevice};
+ghost use Rattle.nb_host.specs.Causes.{CountsDevice, CountsRun};
+ghost use Rattle.nb_host.specs.Faults.{as_answer};
 ghost use Rattle.nb_model.specs.Image.{page_at};
 ghost use Rattle.nb_model.specs.Forms.{inventory_of};
 ghost use Rattle.nb_model.specs.Causes.{not_kind};
 ghost use Rattle.nb_model.specs.Trail.{Trail};
-ghost use Rattle.nb_base.specs.Takes.{Strikes, IsNoRefusal};
+ghost use Rattle.nb_base.specs.Takes.{Strikes};
 ghost use Rattle.nb_state.specs.Open.{IsOpen, name_of};
 ghost use Rattle.nb_state.specs.Does.{Goes, Makes};
 ghost use Rattle.nb_alloc.specs.Tries.{Tries, StopsBehind};
@@ -16,7 +17,7 @@ ghost use Rattle.nb_alloc.specs.Mark.{bit_for, bit_stroke, mark_cause, mark_stro
 
 use crate::pages::{InventoryPage, ScnPage};
 use crate::put::raise_entry;
-use nb_host::{Fault, Host};
+use nb_host::{Fault, Host, RunError};
 use nb_pip::{covers, place_of};
 use nb_state::Store;
 
@@ -28,21 +29,20 @@ fn write_bit<H: Host>(
     index: u32,
     free: bool,
     map: &mut InventoryPage,
-) -> Result<(), Fault>
+) -> Result<(), RunError>
     requires room { length map.old ≡ store.old.files.page_size }
     requires low { 0 < place }
     requires high { place < 1048576 }
     requires inside { place < store.old.files.count }
     requires index { index < bits_in store.old.files.page_size }
     ensures makes { (t : Trail) → IsTrue H.tells → IsOpen (H.world host.old) store.old t → map.old ≡ page_at t.base.image place
-        → Makes result (H.world host.old) (H.world host.new) store.old store.new t (bit_stroke t.base.image place index (bit_for free) ∷ []) }
+        → Makes (as_answer result) (H.world host.old) (H.world host.new) store.old store.new t (bit_stroke t.base.image place index (bit_for free) ∷ []) }
     ensures goes { Goes store.old store.new }
     ensures room { length map.new ≡ length map.old }
     ensures reads { (H.world host.new).reads ≡ (H.world host.old).reads }
-    ensures cause { CountsDevice result (H.faults host.old) (H.faults host.new) }
-    ensures not_refused { IfErr result IsNoRefusal }
-    ensures takes_none { store.old.files.state ≢ 1 → IfErr result (λ fault. fault ≢ Memory) }
-    ensures on_memory { (t : Trail) → IsTrue H.tells → IsOpen (H.world host.old) store.old t → result ≡ Err Memory
+    ensures cause { CountsRun result (H.faults host.old) (H.faults host.new) }
+    ensures takes_none { store.old.files.state ≢ 1 → IfErr result (λ error. error ≢ RunError.Memory) }
+    ensures on_memory { (t : Trail) → IsTrue H.tells → IsOpen (H.world host.old) store.old t → result ≡ Err RunError.Memory
         → Strikes (H.world host.old) (H.world host.new) (name_of store.old) t [] × IsOpen (H.world host.new) store.new t }
 {
     map.set(index, free, store.scn(), place);
@@ -79,7 +79,8 @@ pub(crate) fn put_map<H: Host>(
     let (k, index) = covers(page_size, number);
     let place = place_of(page_size, k);
     raise_entry(store, host, place, scn_page)?;
-    write_bit(store, host, place, index, free, map)
+    write_bit(store, host, place, index, free, map)?;
+    Ok(())
 }
 
 /// Writes into its inventory page that page `number` is free, or taken; the SCN entry of the inventory page is raised before. It takes two reads

@@ -2,7 +2,7 @@
 ghost use Rattle.std.specs.Prelude.{◌≡◌, ◌≢◌, ◌+◌, ◌-◌, ◌*◌, ◌/◌, ◌<◌, ◌≤◌, true, IsTrue, IfErr, IfOk, OnOk, IfSome, MatchOption, length};
 ghost use Rattle.nb_fields.specs.Places.{is_page_size, bits_in, is_system_place};
 ghost use Rattle.nb_host.specs.declared.faults.Fault.TheVariants.{Memory};
-ghost use Rattle.nb_change.specs.Counts.{CountsDevice};
+ghost use Rattle.nb_host.specs.Causes.{CountsDevice};
 ghost use Rattle.nb_page.specs.Quiet.{Quiet};
 ghost use Rattle.nb_model.specs.Image.{Page, Image, image_size};
 ghost use Rattle.nb_model.specs.Causes.{not_kind};

@@ -3,9 +3,8 @@ ghost use Rattle.std.specs.Prelude.{◌≡◌, ◌≢◌, ℕ, ◌+◌, ◌-◌,
 ghost use Rattle.nb_fields.specs.Kinds.{code_of};
 ghost use Rattle.nb_fields.specs.Page.{with_payload};
 ghost use Rattle.nb_fields.specs.Places.{is_page_size, is_system_place};
-ghost use Rattle.nb_host.specs.Causes.{CountsFault};
+ghost use Rattle.nb_host.specs.Causes.{CountsDevice, CountsFault};
 ghost use Rattle.nb_host.specs.declared.faults.Fault.TheVariants.{Memory};
-ghost use Rattle.nb_change.specs.Counts.{CountsDevice};
 ghost use Rattle.nb_page.specs.Quiet.{Quiet};
 ghost use Rattle.nb_model.specs.Image.{Image, image_size, image_scn};
 ghost use Rattle.nb_model.specs.Trail.{Trail};
@@ -16,21 +15,18 @@ ghost use Rattle.nb_state.specs.Does.{Goes};
 ghost use Rattle.nb_alloc.specs.Tries.{Tries};
 ghost use Rattle.nb_alloc.specs.Put.{entry_cause};
 ghost use Rattle.nb_alloc.specs.Find.{HoldsMap};
-ghost use Rattle.nb_alloc.specs.Make.{IsSupplied, GoesOn, IsOnward, MakesWhere, page_strokes, system_strokes, system_cause, content, new_of, round};
+ghost use Rattle.nb_alloc.specs.Make.{IsSupplied, GoesOn, IsOnward, page_strokes, system_strokes, system_cause, content, new_of, round};
 ghost use Rattle.nb_alloc.specs.Search.{IsSearchable};
 
 use crate::bit::{mark, put_map};
 use crate::find::{hold_map, is_system_place, next_free};
 use crate::pages::{InventoryPage, ScnPage};
 use crate::put::raise_entry;
-use nb_fields::layouts::data;
+use nb_fields::layouts::{data, head};
 use nb_fields::{MOST_PAGES, PageKind};
 use nb_host::{Fault, Host, HostFault, Refusal};
 use nb_page::{read_head, stamp};
 use nb_state::Store;
-
-/// Where the payload of a page begins.
-const HEAD: usize = 16;
 
 /// What stands at a system place.
 fn system_kind(page_size: u32, place: u32) -> PageKind
@@ -138,7 +134,8 @@ pub fn put_page<H: Host>(
 {
     stamp(page, kind.code(), store.scn(), number);
     raise_entry(store, host, number, scn_page)?;
-    store.write(host, number, page)
+    store.write(host, number, page)?;
+    Ok(())
 }
 
 /// Makes the system page of that place, unless a page of its kind stands there. The refusal is `NotDatabase` of its SCN page.
@@ -178,8 +175,8 @@ fn put_payload(page: &mut [u8], payload: &[u8])
     requires short { length payload.now ≤ 1008 }
     ensures { page.new ≡ with_payload page.old payload.now }
 {
-    let end = HEAD + payload.len();
-    page[HEAD..end].copy_from_slice(payload);
+    let end = head::LENGTH + payload.len();
+    page[head::LENGTH..end].copy_from_slice(payload);
     page[end..].fill(0);
 }
 
@@ -247,8 +244,8 @@ fn take_place<H: Host>(
     requires low { 5 ≤ place }
     requires high { place < 1048576 }
     requires inside { place ≤ store.old.files.count }
-    ensures makes { (t : Trail) → IsTrue H.tells → IsOpen (H.world host.old) store.old t → is_system_place (image_size t.base.image) place ≡ true
-        → MakesWhere (IsSupplied t.base.image place) (λ value image. place < length image) result (H.world host.old) (H.world host.new) store.old store.new t (round t.base.image place).strokes }
+    ensures makes { (t : Trail) → IsTrue H.tells → IsOpen (H.world host.old) store.old t → IsSupplied t.base.image place → is_system_place (image_size t.base.image) place ≡ true
+        → Tries result (H.world host.old) (H.world host.new) store.old store.new t None (round t.base.image place).strokes }
     ensures added { OnOk result (place < store.new.files.count) }
     ensures goes { Goes store.old store.new }
     ensures map_room { length map.new ≡ length map.old }
@@ -283,8 +280,9 @@ fn take_new<H: Host>(
     requires inside { number ≤ store.old.files.count }
     requires short { length payload.now ≤ 1008 }
     requires owner { own ≡ true → 8 ≤ length payload.now }
-    ensures makes { (t : Trail) → IsTrue H.tells → IsOpen (H.world host.old) store.old t → is_system_place (image_size t.base.image) number ≡ false → HoldsMap t.base.image number map.old
-        → MakesWhere (IsSupplied t.base.image number) (λ value image. number < length image) result (H.world host.old) (H.world host.new) store.old store.new t (take_page number (put number (code_of kind) (content own payload.now number) (drafted t.base.image))).strokes }
+    ensures makes { (t : Trail) → IsTrue H.tells → IsOpen (H.world host.old) store.old t → IsSupplied t.base.image number → is_system_place (image_size t.base.image) number ≡ false → HoldsMap t.base.image number map.old
+        → Tries result (H.world host.old) (H.world host.new) store.old store.new t None (take_page number (put number (code_of kind) (content own payload.now number) (drafted t.base.image))).strokes }
+    ensures added { OnOk result (number < store.new.files.count) }
     ensures goes { Goes store.old store.new }
     ensures map_room { length map.new ≡ length map.old }
     ensures scn_room { length scn_page.new ≡ length scn_page.old }
@@ -315,8 +313,10 @@ fn pass_place<H: Host>(
     requires low { 5 ≤ place }
     requires high { place < 1048576 }
     requires inside { place ≤ store.old.files.count }
-    ensures makes { (t : Trail) → IsTrue H.tells → IsOpen (H.world host.old) store.old t → is_system_place (image_size t.base.image) place ≡ true
-        → MakesWhere (IsSupplied t.base.image place × GoesOn t.base.image place) (λ next image. IsOnward image place next map.new) result (H.world host.old) (H.world host.new) store.old store.new t (round t.base.image place).strokes }
+    ensures makes { (t : Trail) → IsTrue H.tells → IsOpen (H.world host.old) store.old t → IsSupplied t.base.image place → GoesOn t.base.image place → is_system_place (image_size t.base.image) place ≡ true
+        → Tries result (H.world host.old) (H.world host.new) store.old store.new t None (round t.base.image place).strokes }
+    ensures onward { (t : Trail) → IsTrue H.tells → IsOpen (H.world host.old) store.old t → IsSupplied t.base.image place → is_system_place (image_size t.base.image) place ≡ true
+        → IfOk result (λ next. IsOnward (round t.base.image place).image place next map.new) }
     ensures later { IfOk result (λ next. place < next) }
     ensures most { IfOk result (λ next. next < 1048576) }
     ensures within { IfOk result (λ next. next ≤ store.new.files.count) }
@@ -341,8 +341,9 @@ fn pass_place<H: Host>(
 /// at `first`, its inventory page is in `map`, and isn't read again. It takes three reads at most for the page, and six for each page between
 /// that the search went past; it wants memory in the stalled state alone.
 ///
-/// It isn't refused where `check_new`, or `check_rooms` for one page, has answered `first` and nothing was written since. Else the refusals are
-/// `NotDatabase` of a page that isn't of its kind, and `Full`, and what was written before them stands.
+/// It is for a database on which `check_new`, or `check_rooms` for one page, has answered `first` and to which nothing was written since: then it
+/// isn't refused, and contracts say what it makes of such a database alone. Else the refusals are `NotDatabase` of a page that isn't of its kind,
+/// and `Full`, and what was written before them stands.
 pub fn make_new<H: Host>(
     store: &mut Store,
     host: &mut H,
@@ -364,11 +365,13 @@ pub fn make_new<H: Host>(
     requires short { length payload.now ≤ 1008 }
     requires owner { own ≡ true → 8 ≤ length payload.now }
     ensures makes { (t : Trail) → IsTrue H.tells → IsOpen (H.world host.old) store.old t → first ≡ lowest_free t.base.image → HoldsMap t.base.image first map.old
-        → MakesWhere (IsSearchable t.base.image × (draft_cause (new_of (code_of kind) (content own payload.now) t.base.image).0 ≡ None)) (λ number image. number < length image) result (H.world host.old) (H.world host.new) store.old store.new t (new_of (code_of kind) (content own payload.now) t.base.image).0.strokes }
+        → IsSearchable t.base.image → draft_cause (new_of (code_of kind) (content own payload.now) t.base.image).0 ≡ None
+        → Tries result (H.world host.old) (H.world host.new) store.old store.new t None (new_of (code_of kind) (content own payload.now) t.base.image).0.strokes }
     ensures value { (t : Trail) → IsTrue H.tells → IsOpen (H.world host.old) store.old t → first ≡ lowest_free t.base.image → HoldsMap t.base.image first map.old
         → IsSearchable t.base.image → draft_cause (new_of (code_of kind) (content own payload.now) t.base.image).0 ≡ None → IfOk result (λ number. number ≡ (new_of (code_of kind) (content own payload.now) t.base.image).1) }
     ensures least { IfOk result (λ number. 5 ≤ number) }
     ensures most { IfOk result (λ number. number < 1048576) }
+    ensures added { IfOk result (λ number. number < store.new.files.count) }
     ensures goes { Goes store.old store.new }
     ensures map_room { length map.new ≡ length map.old }
     ensures scn_room { length scn_page.new ≡ length scn_page.old }

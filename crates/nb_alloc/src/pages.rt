@@ -4,7 +4,7 @@ ghost use Rattle.nb_fields.specs.Bytes.{bytes_of, with_part, is_zeros};
 ghost use Rattle.nb_fields.specs.Page.{stamped};
 ghost use Rattle.nb_fields.specs.Places.{is_page_size, entries_in, bits_in};
 ghost use Rattle.nb_host.specs.declared.faults.Fault.TheVariants.{Memory};
-ghost use Rattle.nb_change.specs.Counts.{CountsDevice};
+ghost use Rattle.nb_host.specs.Causes.{CountsDevice};
 ghost use Rattle.nb_page.specs.Quiet.{Quiet};
 ghost use Rattle.nb_pip.specs.Bits.{bits, AreUsed, IsLowestFree};
 ghost use Rattle.nb_scn.specs.Entries.{entries};

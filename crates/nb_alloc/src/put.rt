@@ -2,12 +2,13 @@
 ghost use Rattle.std.specs.Prelude.{◌≡◌, ◌≢◌, ◌+◌, ◌/◌, ◌<◌, ◌≤◌, [], ◌∷◌, true, IsTrue, IfOk, IfErr, Err, None, length};
 ghost use Rattle.nb_fields.specs.Places.{is_page_size, entries_in, scn_place};
 ghost use Rattle.nb_host.specs.declared.faults.Fault.TheVariants.{Memory};
-ghost use Rattle.nb_change.specs.Counts.{CountsDevice};
+ghost use Rattle.nb_host.specs.Causes.{CountsDevice, CountsRun};
+ghost use Rattle.nb_host.specs.Faults.{as_answer};
 ghost use Rattle.nb_page.specs.Quiet.{Quiet};
 ghost use Rattle.nb_model.specs.Image.{page_at};
 ghost use Rattle.nb_model.specs.Forms.{scn_page_of};
 ghost use Rattle.nb_model.specs.Trail.{Trail};
-ghost use Rattle.nb_base.specs.Takes.{Strikes, IsNoRefusal};
+ghost use Rattle.nb_base.specs.Takes.{Strikes};
 ghost use Rattle.nb_state.specs.Open.{IsOpen, but_pages, name_of};
 ghost use Rattle.nb_state.specs.Does.{Goes, Makes};
 ghost use Rattle.nb_alloc.specs.Tries.{Tries};
@@ -15,7 +16,7 @@ ghost use Rattle.nb_alloc.specs.Put.{TellsRaise, entry_cause, must_raise, raise_
 
 use crate::pages::ScnPage;
 use nb_fields::PageKind;
-use nb_host::{Fault, Host};
+use nb_host::{Fault, Host, RunError};
 use nb_page::{put_text, stamp};
 use nb_state::Store;
 
@@ -55,20 +56,19 @@ fn raise<H: Host>(
     host: &mut H,
     number: u32,
     scn_page: &mut ScnPage,
-) -> Result<(), Fault>
+) -> Result<(), RunError>
     requires room { length scn_page.old ≡ store.old.files.page_size }
     requires number { number < 1048576 }
     requires inside { scn_place store.old.files.page_size (number / entries_in store.old.files.page_size) < store.old.files.count }
     ensures makes { (t : Trail) → IsTrue H.tells → IsOpen (H.world host.old) store.old t → entry_cause t.base.image number ≡ None → must_raise t.base.image number ≡ true
         → scn_page.old ≡ page_at t.base.image (scn_page_of t.base.image number)
-        → Makes result (H.world host.old) (H.world host.new) store.old store.new t (raise_stroke t.base.image number ∷ []) }
+        → Makes (as_answer result) (H.world host.old) (H.world host.new) store.old store.new t (raise_stroke t.base.image number ∷ []) }
     ensures goes { Goes store.old store.new }
     ensures room { length scn_page.new ≡ length scn_page.old }
     ensures reads { (H.world host.new).reads ≡ (H.world host.old).reads }
-    ensures cause { CountsDevice result (H.faults host.old) (H.faults host.new) }
-    ensures not_refused { IfErr result IsNoRefusal }
-    ensures takes_none { store.old.files.state ≢ 1 → IfErr result (λ fault. fault ≢ Memory) }
-    ensures on_memory { (t : Trail) → IsTrue H.tells → IsOpen (H.world host.old) store.old t → result ≡ Err Memory
+    ensures cause { CountsRun result (H.faults host.old) (H.faults host.new) }
+    ensures takes_none { store.old.files.state ≢ 1 → IfErr result (λ error. error ≢ RunError.Memory) }
+    ensures on_memory { (t : Trail) → IsTrue H.tells → IsOpen (H.world host.old) store.old t → result ≡ Err RunError.Memory
         → Strikes (H.world host.old) (H.world host.new) (name_of store.old) t [] × IsOpen (H.world host.new) store.new t }
 {
     let page_size = store.page_size();
@@ -107,15 +107,15 @@ pub fn raise_entry<H: Host>(
 }
 
 /// Gives raw page `number`, which is in `page` as it stands, a text of at most 200 bytes, and writes it: its generation is raised, and it is
-/// stamped with the current SCN. Its SCN entry has to be raised before (`raise_entry`). It refuses nothing, and wants memory in the stalled
-/// state alone, where it has written nothing then.
+/// stamped with the current SCN. Its SCN entry has to be raised before (`raise_entry`). It wants memory in the stalled state alone, and has
+/// written nothing then.
 pub fn write_raw<H: Host>(
     store: &mut Store,
     host: &mut H,
     number: u32,
     text: &[u8],
     page: &mut [u8],
-) -> Result<(), Fault>
+) -> Result<(), RunError>
     requires size { IsTrue (is_page_size (length page.old)) }
     requires room { length page.old ≡ store.old.files.page_size }
     requires low { 0 < number }
@@ -123,13 +123,12 @@ pub fn write_raw<H: Host>(
     requires inside { number < store.old.files.count }
     requires short { length text.now ≤ 200 }
     ensures makes { (t : Trail) → IsTrue H.tells → IsOpen (H.world host.old) store.old t → page.old ≡ page_at t.base.image number
-        → Makes result (H.world host.old) (H.world host.new) store.old store.new t (raw_stroke t.base.image number text.now ∷ []) }
+        → Makes (as_answer result) (H.world host.old) (H.world host.new) store.old store.new t (raw_stroke t.base.image number text.now ∷ []) }
     ensures goes { Goes store.old store.new }
     ensures reads { (H.world host.new).reads ≡ (H.world host.old).reads }
-    ensures cause { CountsDevice result (H.faults host.old) (H.faults host.new) }
-    ensures not_refused { IfErr result IsNoRefusal }
-    ensures takes_none { store.old.files.state ≢ 1 → IfErr result (λ fault. fault ≢ Memory) }
-    ensures on_memory { (t : Trail) → IsTrue H.tells → IsOpen (H.world host.old) store.old t → result ≡ Err Memory
+    ensures cause { CountsRun result (H.faults host.old) (H.faults host.new) }
+    ensures takes_none { store.old.files.state ≢ 1 → IfErr result (λ error. error ≢ RunError.Memory) }
+    ensures on_memory { (t : Trail) → IsTrue H.tells → IsOpen (H.world host.old) store.old t → result ≡ Err RunError.Memory
         → Strikes (H.world host.old) (H.world host.new) (name_of store.old) t [] × IsOpen (H.world host.new) store.new t }
 {
     put_text(page, text);

@@ -3,16 +3,18 @@ ghost use Rattle.std.specs.Prelude.{◌≡◌, ◌≢◌, ◌+◌, ◌<◌, ◌�
 ghost use Rattle.nb_fields.specs.Kinds.{code_of};
 ghost use Rattle.nb_fields.specs.Places.{is_page_size};
 ghost use Rattle.nb_host.specs.declared.faults.Fault.TheVariants.{Memory};
-ghost use Rattle.nb_change.specs.Counts.{CountsDevice};
+ghost use Rattle.nb_host.specs.Causes.{CountsDevice};
 ghost use Rattle.nb_page.specs.Quiet.{Quiet};
 ghost use Rattle.nb_model.specs.Causes.{not_kind, not_raw};
 ghost use Rattle.nb_model.specs.Trail.{Trail};
 ghost use Rattle.nb_state.specs.Open.{IsOpen, but_pages};
 ghost use Rattle.nb_state.specs.Does.{Tested};
+ghost use Rattle.nb_alloc.specs.Data.{not_data};
 ghost use Rattle.nb_alloc.specs.Put.{Reads, not_taken};
 
 use crate::pages::InventoryPage;
 use nb_fields::PageKind;
+use nb_fields::layouts::data;
 use nb_host::{Fault, Host, Refusal};
 use nb_page::read_head;
 use nb_pip::{covers, place_of};
@@ -46,6 +48,44 @@ pub fn take_system<H: Host>(
     store.read(host, place, into)?;
     if read_head(into).kind != kind.code() {
         return Err(Fault::Refused(Refusal::NotDatabase { page: place }));
+    }
+    Ok(())
+}
+
+/// Reads page `number`, which has to be a data page of that owner, into `into`, which has the size of a page. It takes one read at most; it
+/// changes nothing but which pages are in memory, and wants no memory.
+///
+/// The refusal is `NotDatabase` of the page, where it is past the end, of another kind, or of another owner. What `into` holds after an error
+/// isn't said.
+pub fn take_data<H: Host>(
+    store: &mut Store,
+    host: &mut H,
+    number: u32,
+    owner: u32,
+    into: &mut [u8],
+) -> Result<(), Fault>
+    requires size { IsTrue (is_page_size (length into.old)) }
+    requires room { length into.old ≡ store.old.files.page_size }
+    ensures reads { (t : Trail) → IsTrue H.tells → IsOpen (H.world host.old) store.old t → Reads result t.base.image (not_data t.base.image owner number) number into.new }
+    ensures low { OnOk result (0 < number) }
+    ensures high { OnOk result (number < 1048576) }
+    ensures below { OnOk result (number < store.old.files.count) }
+    ensures open { (t : Trail) → IsTrue H.tells → IsOpen (H.world host.old) store.old t → IsOpen (H.world host.new) store.new t }
+    ensures same { but_pages store.new ≡ but_pages store.old }
+    ensures quiet { Quiet (H.world host.old) (H.world host.new) }
+    ensures once { IsTrue H.tells → (H.world host.new).reads ≤ (H.world host.old).reads + 1 }
+    ensures cause { CountsDevice result (H.faults host.old) (H.faults host.new) }
+    ensures takes_none { IfErr result (λ fault. fault ≢ Memory) }
+{
+    // A page that is read is below the length, and so below the most pages that there may be.
+    let _count = store.count();
+    // Page 0 is the header, whatever the host gives for it.
+    if number == 0 {
+        return Err(Fault::Refused(Refusal::NotDatabase { page: number }));
+    }
+    take_system(store, host, number, PageKind::Data, into)?;
+    if data::Owner::get(into) != u64::from(owner) {
+        return Err(Fault::Refused(Refusal::NotDatabase { page: number }));
     }
     Ok(())
 }

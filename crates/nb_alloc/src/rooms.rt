@@ -2,12 +2,11 @@
 ghost use Rattle.std.specs.Prelude.{◌≡◌, ◌≢◌, ◌+◌, ◌-◌, ◌*◌, ◌/◌, ◌<◌, ◌≤◌, ℕ, List, true, false, IsTrue, IfErr, IfOk, OnOk, length};
 ghost use Rattle.nb_fields.specs.Places.{bits_in};
 ghost use Rattle.nb_host.specs.declared.faults.Fault.TheVariants.{Memory};
-ghost use Rattle.nb_change.specs.Counts.{CountsDevice};
+ghost use Rattle.nb_host.specs.Causes.{CountsDevice};
 ghost use Rattle.nb_page.specs.Quiet.{Quiet};
 ghost use Rattle.nb_model.specs.Image.{image_size};
 ghost use Rattle.nb_model.specs.Forms.{is_kind, lowest_free};
 ghost use Rattle.nb_model.specs.Trail.{Trail};
-ghost use Rattle.nb_model.proofs.StepLaws.{IsShaped};
 ghost use Rattle.nb_model.proofs.SearchLaws.{draft_cause};
 ghost use Rattle.nb_state.specs.Open.{IsOpen, but_pages};
 ghost use Rattle.nb_state.specs.Does.{Tested};
@@ -37,7 +36,6 @@ pub fn check_new<H: Host>(
     requires map_room { length map.old ≡ store.old.files.page_size }
     requires scn_room { length scn_page.old ≡ store.old.files.page_size }
     ensures test { (t : Trail) (kind : ℕ) (payload : ℕ → List ℕ) → IsTrue H.tells → IsOpen (H.world host.old) store.old t → IsSearchable t.base.image → IsShort payload → Tested result (draft_cause (new_of kind payload t.base.image).0) }
-    ensures shaped { (t : Trail) (kind : ℕ) (payload : ℕ → List ℕ) → IsTrue H.tells → IsOpen (H.world host.old) store.old t → IsSearchable t.base.image → IsShort payload → OnOk result (IsShaped (new_of kind payload t.base.image).0.image) }
     ensures value { (t : Trail) → IsTrue H.tells → IsOpen (H.world host.old) store.old t → IfOk result (λ page. page ≡ lowest_free t.base.image) }
     ensures map { (t : Trail) → IsTrue H.tells → IsOpen (H.world host.old) store.old t → IfOk result (λ page. HoldsMap t.base.image page map.new) }
     ensures least { IfOk result (λ page. 5 ≤ page) }

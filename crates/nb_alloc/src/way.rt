@@ -1,8 +1,8 @@
 // The search for new pages, told before the first of them is made. Nothing changes.
-ghost use Rattle.std.specs.Prelude.{◌≡◌, ◌≢◌, ℕ, ◌+◌, ◌-◌, ◌*◌, ◌/◌, ◌<◌, ◌≤◌, ◌==◌, ◌&&◌, nat_lt, true, false, None, IsTrue, IfErr, IfOk, OnOk, length};
+ghost use Rattle.std.specs.Prelude.{◌≡◌, ◌≢◌, ℕ, ◌+◌, ◌-◌, ◌*◌, ◌/◌, ◌<◌, ◌≤◌, ◌==◌, ◌&&◌, nat_lt, true, false, IsTrue, IfErr, IfOk, OnOk, length};
 ghost use Rattle.nb_fields.specs.Places.{is_page_size, bits_in, inventory_place, is_system_place};
 ghost use Rattle.nb_host.specs.declared.faults.Fault.TheVariants.{Memory};
-ghost use Rattle.nb_change.specs.Counts.{CountsDevice};
+ghost use Rattle.nb_host.specs.Causes.{CountsDevice, CountsFault};
 ghost use Rattle.nb_page.specs.Quiet.{Quiet};
 ghost use Rattle.nb_model.specs.Image.{Image};
 ghost use Rattle.nb_model.specs.Forms.{inventory_of, is_kind, system_kind, first_not};
@@ -20,7 +20,7 @@ use crate::behind::Behind;
 use crate::find::{FIRST_TO_GIVE, hold_map, is_system_place, next_free};
 use crate::pages::{InventoryPage, ScnPage};
 use nb_fields::MOST_PAGES;
-use nb_host::{Fault, Host, Refusal};
+use nb_host::{Fault, Host, HostFault, Refusal};
 use nb_pip::{covers, place_of};
 use nb_state::Store;
 
@@ -170,36 +170,34 @@ fn check_map_entry<H: Host>(
     check_unless(store, host, place, way.made, scn_page)
 }
 
-/// Whether a page is of its kind, by how its read ended: it was refused where the page isn't.
-fn was_there(read: Result<(), Fault>) -> Result<bool, Fault>
-    ensures test { Tested result None }
+/// Whether a page is of its kind, by how its read ended: it was refused where the page isn't. No read wants memory.
+fn was_there(read: Result<(), Fault>) -> Result<bool, HostFault>
+    requires { IfErr read (λ fault. fault ≢ Memory) }
     ensures value { (image : Image) (kind place : ℕ) → Tested read (not_kind image kind place) → IfOk result (λ there. there ≡ is_kind image kind place) }
-    ensures cause { (old new : ℕ) → CountsDevice read old new → CountsDevice result old new }
-    ensures takes_none { IfErr read (λ fault. fault ≢ Memory) → IfErr result (λ fault. fault ≢ Memory) }
+    ensures cause { (old new : ℕ) → CountsDevice read old new → CountsFault result old new }
 {
     match read {
         Ok(()) => Ok(true),
         Err(fault) => match fault {
             Fault::Refused(_) => Ok(false),
-            Fault::Device => Err(Fault::Device),
-            Fault::Memory => Err(Fault::Memory),
+            Fault::Device => Err(HostFault),
+            Fault::Memory => unreachable!(),
         },
     }
 }
 
 /// Whether the system page of that place, of a page inventory or of an SCN inventory, stands there; `map` and `scn_page` are room for it. It
-/// takes one read at most where that isn't page 0, refuses nothing, and wants no memory.
+/// takes one read at most where that isn't page 0.
 pub fn is_there<H: Host>(
     store: &mut Store,
     host: &mut H,
     place: u32,
     map: &mut InventoryPage,
     scn_page: &mut ScnPage,
-) -> Result<bool, Fault>
+) -> Result<bool, HostFault>
     requires map_room { length map.old ≡ store.old.files.page_size }
     requires scn_room { length scn_page.old ≡ store.old.files.page_size }
     requires place { place < 1048576 }
-    ensures test { Tested result None }
     ensures value { (t : Trail) → IsTrue H.tells → IsOpen (H.world host.old) store.old t → IfOk result (λ there. there ≡ is_kind t.base.image (system_kind t.base.image place) place) }
     ensures map_room { length map.new ≡ length map.old }
     ensures scn_room { length scn_page.new ≡ length scn_page.old }
@@ -207,8 +205,7 @@ pub fn is_there<H: Host>(
     ensures same { but_pages store.new ≡ but_pages store.old }
     ensures quiet { Quiet (H.world host.old) (H.world host.new) }
     ensures once { IsTrue H.tells → 0 < place → (H.world host.new).reads ≤ (H.world host.old).reads + 1 }
-    ensures cause { CountsDevice result (H.faults host.old) (H.faults host.new) }
-    ensures takes_none { IfErr result (λ fault. fault ≢ Memory) }
+    ensures cause { CountsFault result (H.faults host.old) (H.faults host.new) }
 {
     let page_size = store.page_size();
     if nb_pip::is_place(page_size, place) {

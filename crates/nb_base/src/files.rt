@@ -2,8 +2,7 @@ ghost use Rattle.std.specs.Prelude.{◌≡◌, ◌≢◌, ◌↔◌, ◌<◌, �
 ghost use Rattle.nb_fields.specs.Bytes.{is_zeros, number_in};
 ghost use Rattle.nb_fields.specs.Places.{is_page_size};
 ghost use Rattle.nb_host.specs.Calls.{IsSilent};
-ghost use Rattle.nb_host.specs.Causes.{CountsFault};
-ghost use Rattle.nb_change.specs.Counts.{CountsDevice};
+ghost use Rattle.nb_host.specs.Causes.{CountsFault, CountsRun};
 ghost use Rattle.nb_change.specs.Gave.{GaveNothing};
 ghost use Rattle.nb_page.specs.Quiet.{Quiet};
 ghost use Rattle.nb_model.specs.Account.{Base};
@@ -14,7 +13,7 @@ ghost use Rattle.nb_model.specs.Trail.{Trail, settled, ShowsIn};
 ghost use Rattle.nb_base.specs.Firm.{must_sync};
 ghost use Rattle.nb_base.specs.Open.{IsOpen, Agrees, Fits, AreMerged};
 ghost use Rattle.nb_base.specs.Seen.{IsSeen, IsWrite, noted_in};
-ghost use Rattle.nb_base.specs.Takes.{TakesFirm, IsNoRefusal};
+ghost use Rattle.nb_base.specs.Takes.{TakesFirm};
 ghost use Rattle.nb_base.specs.Touches.{WritesIn};
 
 use crate::reads::{read_owned, read_page};
@@ -23,7 +22,7 @@ use crate::writes::{is_synced, write_plain, write_stalled};
 use nb_cases::{Case, Event, case_of};
 use nb_delta::Delta;
 use nb_fields::layouts::header;
-use nb_host::{Fault, Host, HostFault, Name};
+use nb_host::{Host, HostFault, Name, RunError};
 use std::alloc::Global;
 use std::marker::Model;
 
@@ -140,7 +139,7 @@ impl TwoFiles {
     /// normal state the difference file isn't touched, and in the stalled state the main file isn't.
     ///
     /// It wants memory in the stalled state alone, and then nothing has changed.
-    pub fn write<H: Host>(&mut self, host: &mut H, number: u32, page: &[u8]) -> Result<(), Fault>
+    pub fn write<H: Host>(&mut self, host: &mut H, number: u32, page: &[u8]) -> Result<(), RunError>
         requires size { length page.now ≡ self.old.page_size }
         requires most { number < 1048576 }
         requires some { is_zeros page.now ≡ false }
@@ -158,10 +157,9 @@ impl TwoFiles {
         ensures entries { self.old.state ≡ 2 → self.new.entries ≡ self.old.entries }
         ensures name { self.new.name ≡ self.old.name }
         ensures page_size { self.new.page_size ≡ self.old.page_size }
-        ensures cause { CountsDevice result (H.faults host.old) (H.faults host.new) }
-        ensures not_refused { IfErr result IsNoRefusal }
-        ensures on_memory { result ≡ Err Fault.Memory → (self.new ≡ self.old) × (host.new ≡ host.old) }
-        ensures takes_none { self.old.state ≢ 1 → IfErr result (λ fault. fault ≢ Fault.Memory) }
+        ensures cause { CountsRun result (H.faults host.old) (H.faults host.new) }
+        ensures on_memory { result ≡ Err RunError.Memory → (self.new ≡ self.old) × (host.new ≡ host.old) }
+        ensures takes_none { self.old.state ≢ 1 → IfErr result (λ error. error ≢ RunError.Memory) }
     {
         let synced = is_synced(self.forced, self.page.len() as u32, self.count, number);
         self.put(host, number, page, synced)?;
@@ -189,7 +187,7 @@ impl TwoFiles {
         number: u32,
         page: &[u8],
         synced: bool,
-    ) -> Result<(), Fault>
+    ) -> Result<(), RunError>
         requires size { length page.now ≡ self.old.page_size }
         requires most { number < 1048576 }
         requires none_waits { self.old.drafted ≡ 0 }
@@ -205,10 +203,9 @@ impl TwoFiles {
         ensures page_size { self.new.page_size ≡ self.old.page_size }
         ensures count { self.new.count ≡ self.old.count }
         ensures log { IsSilent (H.world host.old) (H.world host.new) }
-        ensures cause { CountsDevice result (H.faults host.old) (H.faults host.new) }
-        ensures not_refused { IfErr result IsNoRefusal }
-        ensures on_memory { result ≡ Err Fault.Memory → (self.new ≡ self.old) × (host.new ≡ host.old) }
-        ensures takes_none { self.old.state ≢ 1 → IfErr result (λ fault. fault ≢ Fault.Memory) }
+        ensures cause { CountsRun result (H.faults host.old) (H.faults host.new) }
+        ensures on_memory { result ≡ Err RunError.Memory → (self.new ≡ self.old) × (host.new ≡ host.old) }
+        ensures takes_none { self.old.state ≢ 1 → IfErr result (λ error. error ≢ RunError.Memory) }
     {
         if is_diverted(self.state) {
             write_stalled(host, &mut self.delta, number, page, synced)?;

@@ -1,7 +1,7 @@
 // Pages that waited go into their slots in the stalled state, and after them the drafted entries into the table.
 ghost use Rattle.std.specs.Prelude.{◌≡◌, ◌≢◌, ◌<◌, ℕ, Bool, false, length, IsTrue, IfErr, OnOk, OnErr};
 ghost use Rattle.nb_host.specs.Causes.{CountsFault};
-ghost use Rattle.nb_host.specs.declared.faults.Fault.TheVariants.{Memory};
+ghost use Rattle.nb_host.specs.declared.faults.RunError.TheVariants.{Memory};
 ghost use Rattle.nb_change.specs.Changes.{Only, Changes};
 ghost use Rattle.nb_change.specs.Gave.{GaveNothing};
 ghost use Rattle.nb_model.specs.Owner.{delta_name};
@@ -10,7 +10,7 @@ ghost use Rattle.nb_base.specs.Open.{IsOpen};
 ghost use Rattle.nb_base.specs.Going.{GoesIn, MaySlot, Drafts};
 
 use crate::TwoFiles;
-use nb_host::{Fault, Host, HostFault};
+use nb_host::{Host, HostFault, RunError};
 
 impl TwoFiles {
     /// How many of the entries are drafted.
@@ -23,12 +23,12 @@ impl TwoFiles {
 
     /// Gives page `number` an entry in the stalled state, unless it has one. The entry is drafted, and no call is made. Where it wants
     /// memory nothing has changed.
-    pub fn draft<H: Host>(&mut self, host: &mut H, number: u32) -> Result<(), Fault>
+    pub fn draft<H: Host>(&mut self, host: &mut H, number: u32) -> Result<(), RunError>
         requires stalled { self.old.state ≡ 1 }
         requires below { number < 1048576 }
         ensures drafts { OnOk result (Drafts number self.old self.new) }
         ensures no_call { host.new ≡ host.old }
-        ensures only_memory { IfErr result (λ fault. (fault ≡ Memory) × (self.new ≡ self.old)) }
+        ensures only_memory { IfErr result (λ error. (error ≡ Memory) × (self.new ≡ self.old)) }
     {
         match self.delta.slot_of(host, number)? {
             Some(_) => Ok(()),

@@ -1,12 +1,11 @@
 // A page is written into the file that owns it, or into both.
-ghost use Rattle.std.specs.Prelude.{◌≡◌, ◌≢◌, ◌⊎◌, ◌++◌, ◌*◌, ◌<◌, ◌≤◌, ◌||◌, ℕ, List, [], ◌∷◌, length, IsTrue, IfErr, OnOk, Some, None, nat_le};
+ghost use Rattle.std.specs.Prelude.{◌≡◌, ◌≢◌, ◌⊎◌, ◌++◌, ◌*◌, ◌<◌, ◌≤◌, ◌||◌, ℕ, List, [], ◌∷◌, length, IsTrue, OnOk, Some, None, nat_le};
 ghost use Rattle.nb_fields.specs.Places.{is_page_size};
 ghost use Rattle.nb_fields.specs.Table.{slot_place};
 ghost use Rattle.nb_host.specs.Calls.{IsSilent};
 ghost use Rattle.nb_host.specs.Files.{with_file, with_page};
-ghost use Rattle.nb_host.specs.Causes.{CountsFault};
+ghost use Rattle.nb_host.specs.Causes.{CountsFault, CountsRun};
 ghost use Rattle.nb_change.specs.Changes.{Only};
-ghost use Rattle.nb_change.specs.Counts.{CountsDevice};
 ghost use Rattle.nb_delta.specs.Entries.{place_of};
 ghost use Rattle.nb_delta.specs.Slots.{HasTable, SlotPut};
 ghost use Rattle.nb_model.specs.Image.{image_state};
@@ -16,14 +15,14 @@ ghost use Rattle.nb_model.specs.Trail.{Trail};
 ghost use Rattle.nb_base.specs.Firm.{is_kept_place, must_sync};
 ghost use Rattle.nb_base.specs.Open.{Held, OfFiles, AreMerged};
 ghost use Rattle.nb_base.specs.Seen.{IsSeen, IsWrite};
-ghost use Rattle.nb_base.specs.Takes.{TakesFirm, IsNoRefusal};
+ghost use Rattle.nb_base.specs.Takes.{TakesFirm};
 ghost use Rattle.nb_base.specs.Touches.{Touches, WritesIn};
 
 use crate::control::{MERGE, STALLED};
 use nb_cases::syncs_of;
 use nb_delta::Delta;
 use nb_fields::is_scn_place;
-use nb_host::{Fault, Host, HostFault, Name};
+use nb_host::{Host, HostFault, Name, RunError};
 
 /// Whether a write of page `number` is kept for good: writes are forced, or it makes the database of `count` pages longer, or it is
 /// of page 0 or of an SCN inventory page.
@@ -108,7 +107,7 @@ pub fn add_entry<H: Host>(
     number: u32,
     page: &[u8],
     synced: bool,
-) -> Result<(), Fault>
+) -> Result<(), RunError>
     requires size { length page.now ≡ delta.old.page_size }
     requires fresh { place_of delta.old.entries number ≡ None }
     requires below { number < 1048576 }
@@ -118,11 +117,10 @@ pub fn add_entry<H: Host>(
         → TakesFirm result (H.world host.old) (H.world host.new) name (IsSeen (H.world host.new) name) t (page_stroke number page.now ∷ []) }
     ensures touches { IsTrue H.tells → HasTable delta.old.page_size ((H.world host.old).files delta.old.name) delta.old.entries → Touches (H.world host.old) (H.world host.new) (Only delta.old.name) }
     ensures known { OnOk result (delta.new ≡ record delta.old { entries = delta.old.entries ++ number ∷ [] }) }
-    ensures on_device { result ≡ Err Fault.Device → delta.new ≡ record delta.old { entries = delta.old.entries ++ number ∷ [] } }
-    ensures on_memory { result ≡ Err Fault.Memory → (delta.new ≡ delta.old) × (host.new ≡ host.old) }
+    ensures on_device { result ≡ Err RunError.Device → delta.new ≡ record delta.old { entries = delta.old.entries ++ number ∷ [] } }
+    ensures on_memory { result ≡ Err RunError.Memory → (delta.new ≡ delta.old) × (host.new ≡ host.old) }
     ensures log { IsSilent (H.world host.old) (H.world host.new) }
-    ensures cause { CountsDevice result (H.faults host.old) (H.faults host.new) }
-    ensures not_refused { IfErr result IsNoRefusal }
+    ensures cause { CountsRun result (H.faults host.old) (H.faults host.new) }
 {
     delta.add(host, number, page, synced)?;
     Ok(())
@@ -163,7 +161,7 @@ pub fn write_stalled<H: Host>(
     number: u32,
     page: &[u8],
     synced: bool,
-) -> Result<(), Fault>
+) -> Result<(), RunError>
     requires size { length page.now ≡ delta.old.page_size }
     requires below { number < 1048576 }
     requires none_waits { delta.old.drafted ≡ 0 }
@@ -173,10 +171,9 @@ pub fn write_stalled<H: Host>(
     ensures touches { IsTrue H.tells → HasTable delta.old.page_size ((H.world host.old).files delta.old.name) delta.old.entries → Touches (H.world host.old) (H.world host.new) (Only delta.old.name) }
     ensures known { OnOk result (delta.new ≡ record delta.old { entries = noted number delta.old.entries }) }
     ensures as_it_is { (delta.new ≡ delta.old) ⊎ (delta.new ≡ record delta.old { entries = delta.old.entries ++ number ∷ [] }) }
-    ensures on_memory { result ≡ Err Fault.Memory → (delta.new ≡ delta.old) × (host.new ≡ host.old) }
+    ensures on_memory { result ≡ Err RunError.Memory → (delta.new ≡ delta.old) × (host.new ≡ host.old) }
     ensures log { IsSilent (H.world host.old) (H.world host.new) }
-    ensures cause { CountsDevice result (H.faults host.old) (H.faults host.new) }
-    ensures not_refused { IfErr result IsNoRefusal }
+    ensures cause { CountsRun result (H.faults host.old) (H.faults host.new) }
 {
     match delta.slot_of(host, number)? {
         Some(slot) => {

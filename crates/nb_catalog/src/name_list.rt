@@ -1,7 +1,7 @@
 ghost use Rattle.std.specs.Prelude.{◌≡◌, ◌≤◌, ℕ, [], length, is_some, IfSome, IfOk};
 ghost use Rattle.nb_host.specs.declared.faults.Fault.TheVariants.{Refused};
 ghost use Rattle.nb_host.specs.declared.refusals.Refusal.TheVariants.{BadScript};
-ghost use Rattle.nb_level.specs.Answers.{CountsDevice};
+ghost use Rattle.nb_host.specs.Causes.{CountsDevice};
 ghost use Rattle.nb_model.specs.Words.{is_file};
 ghost use Rattle.nb_script.specs.Lines.{left};
 ghost use Rattle.nb_catalog.specs.Answers.{Says};

@@ -1,6 +1,6 @@
 ghost use Rattle.std.specs.Prelude.{◌+◌, ◌<◌, ◌≤◌, ◌^◌, length, IsTrue, IfOk};
 ghost use Rattle.nb_page.specs.Quiet.{Quiet};
-ghost use Rattle.nb_level.specs.Answers.{CountsDevice};
+ghost use Rattle.nb_host.specs.Causes.{CountsDevice};
 ghost use Rattle.nb_catalog.specs.Answers.{Says};
 ghost use Rattle.nb_catalog.specs.Chained.{KeepsChains};
 ghost use Rattle.nb_catalog.specs.Plans.{IsWithin};

@@ -1,9 +1,8 @@
 ghost use Rattle.std.specs.Prelude.{◌≡◌, ◌+◌, ◌<◌, ◌≤◌, ◌^◌, List, ℕ, Some, true, false, length, Contains, IsTrue, IfOk};
-ghost use Rattle.nb_host.specs.Causes.{CountsFault};
+ghost use Rattle.nb_host.specs.Causes.{CountsDevice, CountsFault};
 ghost use Rattle.nb_host.specs.Files.{bytes_of};
 ghost use Rattle.nb_model.specs.Levels.{begins_level};
 ghost use Rattle.nb_page.specs.Quiet.{Quiet};
-ghost use Rattle.nb_level.specs.Answers.{CountsDevice};
 ghost use Rattle.nb_catalog.specs.Answers.{Says};
 ghost use Rattle.nb_catalog.specs.declared.entry.Entry.{Entry};
 ghost use Rattle.nb_catalog.specs.Chained.{IsChained};

@@ -2,7 +2,7 @@ ghost use Rattle.std.specs.Prelude.{◌≡◌, ◌≤◌, length, drop, IsTrue, 
 ghost use Rattle.nb_fields.specs.Places.{is_page_size};
 ghost use Rattle.nb_page.specs.Header.{HasForm};
 ghost use Rattle.nb_page.specs.Quiet.{Quiet};
-ghost use Rattle.nb_level.specs.Answers.{CountsDevice};
+ghost use Rattle.nb_host.specs.Causes.{CountsDevice};
 ghost use Rattle.nb_chain.specs.Chain.{CheckSays, IsFirstOf};
 ghost use Rattle.nb_chain.specs.Next.{LevelsSay, tip_link, header_link};
 

@@ -4,7 +4,7 @@ ghost use Rattle.nb_page.specs.Header.{header_in, HasForm};
 ghost use Rattle.nb_page.specs.Quiet.{Quiet};
 ghost use Rattle.nb_model.specs.Levels.{begins_level};
 ghost use Rattle.nb_model.specs.Restoring.{not_whole};
-ghost use Rattle.nb_level.specs.Answers.{CountsDevice};
+ghost use Rattle.nb_host.specs.Causes.{CountsDevice};
 ghost use Rattle.nb_chain.specs.First.{FirstSays, IsRefused, Tested, is_bad_count};
 
 use crate::start::read_start;

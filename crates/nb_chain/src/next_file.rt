@@ -7,7 +7,7 @@ ghost use Rattle.nb_host.specs.declared.refusals.Refusal.TheVariants.{BadLevel, 
 ghost use Rattle.nb_page.specs.Quiet.{Quiet};
 ghost use Rattle.nb_model.specs.Levels.{Contents};
 ghost use Rattle.nb_model.specs.Restoring.{not_behind};
-ghost use Rattle.nb_level.specs.Answers.{CountsDevice};
+ghost use Rattle.nb_host.specs.Causes.{CountsDevice};
 ghost use Rattle.nb_level.specs.Heads.{head_of};
 ghost use Rattle.nb_chain.specs.First.{Tested};
 ghost use Rattle.nb_chain.specs.Next.{NextSays, tip_link};

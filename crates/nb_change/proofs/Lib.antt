@@ -1,6 +1,7 @@
 pub mod MomentLaws
 pub mod NameLaws
 pub mod ResultLaws
+pub mod FaultLaws
 pub mod ChangesLaws
 pub mod CallLaws
 pub mod MovedLaws

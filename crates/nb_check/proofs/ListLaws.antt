@@ -9,8 +9,7 @@ use Rattle.nb_model.specs.Causes.{Cause, first_cause, broken_at}
 use Rattle.nb_model.specs.Chains.{Chain, Catalogue, History, RowsFrom, Slot, Spot, is_used, first_in, slots_from, slots_in, spots_on, spots_of, spots, pages_of, found_pages}
 use Rattle.nb_model.specs.Rows.{used, table_chains, chains, pages_of_all}
 use Rattle.nb_model.specs.Leaks.{reached}
-use Rattle.nb_engine.proofs.WalkLaws.{slots_step}
-use Rattle.nb_walk.proofs.SlotLaws.{spots_both}
+use Rattle.nb_walk.proofs.SlotLaws.{slots_step, spots_both}
 use Rattle.nb_check.specs.Sets.{IsWithout}
 use Rattle.nb_model.specs.Checks.{chains_cause}
 use Rattle.nb_check.specs.Walks.{chains_on}

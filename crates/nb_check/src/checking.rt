@@ -1,7 +1,7 @@
 // A check of an open database, and giving back the pages that it finds leaked.
 ghost use Rattle.std.specs.Prelude.{◌≡◌, ◌≢◌, ◌+◌, ◌*◌, ◌≤◌, ℕ, List, IsTrue, IfErr, IfOk, IsSome, OnOk, Err, None, length};
 ghost use Rattle.nb_host.specs.declared.faults.Fault.TheVariants.{Memory};
-ghost use Rattle.nb_change.specs.Counts.{CountsDevice};
+ghost use Rattle.nb_host.specs.Causes.{CountsDevice};
 ghost use Rattle.nb_page.specs.Quiet.{Quiet};
 ghost use Rattle.nb_model.specs.declared.reply.Reply.TheVariants.{Leaked, Freed};
 ghost use Rattle.nb_model.specs.Chains.{Catalogue, found_pages};

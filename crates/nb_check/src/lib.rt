@@ -1,7 +1,7 @@
 //! Whether the inventories, the chains and the pages of an open database agree, which of its pages are taken and reached by nothing, and
 //! giving those back.
 //!
-//! It rests on `nb_walk`, which takes the pages of chains, and on the engine, of which it knows two things: that a read gives the page and
+//! It rests on the engine, of which it knows three things: that a page of a chain is taken as `nb_walk` says, that a read gives the page and
 //! changes nothing but which pages are in memory, and that a data page is given back by the short form of that name. A layer above may rely
 //! on this: a check is refused exactly where the inventories aren't sound, by the lowest fact that fails and the lowest page at which it
 //! does, or where a chain isn't of the form; otherwise it answers the leaked pages of the database as it is seen, in every backup state. A

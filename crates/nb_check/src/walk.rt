@@ -1,7 +1,7 @@
 // Walks over the chains of data pages, page by page along their links. Nothing changes.
 ghost use Rattle.std.specs.Prelude.{◌≡◌, ◌≢◌, ◌+◌, ◌≤◌, IsTrue, IfErr, None, OnOk, length};
 ghost use Rattle.nb_host.specs.declared.faults.Fault.TheVariants.{Memory};
-ghost use Rattle.nb_change.specs.Counts.{CountsDevice};
+ghost use Rattle.nb_host.specs.Causes.{CountsDevice};
 ghost use Rattle.nb_page.specs.Quiet.{Quiet};
 ghost use Rattle.nb_model.specs.Causes.{broken_at};
 ghost use Rattle.nb_model.specs.Chains.{Catalogue, spots, pages_of, found_pages};
@@ -19,7 +19,7 @@ use crate::set::PageSet;
 use nb_engine::Engine;
 use nb_fields::layouts::header;
 use nb_host::{Fault, Host, Refusal};
-use nb_walk::{Chain, first_page, slot_at, slot_count, take_page, use_of};
+use nb_walk::{Chain, first_page, slot_at, slot_count, use_of};
 
 /// Takes the pages of a chain out of the set. The refusal is `NotDatabase` of the first page that breaks the form: a chain that leads back
 /// into itself has more pages than the database. Each page of the chain takes one read at most.
@@ -45,7 +45,7 @@ fn leave_out<H: Host>(
     let mut number = chain.first();
     let mut left = engine.count();
     while left > 0 {
-        let next = take_page(host, engine, chain, number, page)?;
+        let next = engine.take_page(host, chain, number, page)?;
         rest.remove(number);
         if next == 0 {
             return Ok(());
@@ -120,7 +120,7 @@ fn leave_out_tables<H: Host>(
     let mut number = header::CATALOGUE_PAGE;
     let mut left = engine.count();
     while left > 0 {
-        let next = take_page(host, engine, Chain::Tables, number, listed)?;
+        let next = engine.take_page(host, Chain::Tables, number, listed)?;
         leave_out_listed(host, engine, listed, page, rest)?;
         if next == 0 {
             return Ok(());

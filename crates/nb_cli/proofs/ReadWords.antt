@@ -9,7 +9,8 @@ use Rattle.nb_host.specs.declared.faults.Fault.TheVariants.{Refused, Device, Mem
 use Rattle.nb_host.specs.declared.refusals.Refusal.TheVariants.{Usage}
 use Rattle.nb_model.specs.declared.job.Job.{Job}
 use Rattle.nb_top.specs.Requests.{Asked, IsAskedBy, IsReadJob}
-use Rattle.nb_top.proofs.RequestLaws.{asked_job, asked_usage, fits_words}
+use Rattle.nb_top.proofs.RequestLaws.{asked_job, asked_usage}
+use Rattle.nb_top.proofs.WordsFit.{fits_words}
 use Rattle.nb_cli.specs.Ended.{IsAskedOf, IsReadOf}
 
 -- the bytes of the words

@@ -1,10 +1,12 @@
 // The database that a run changes, which it is to hold alone from its first use on.
-ghost use Rattle.std.specs.Prelude.{◌≡◌, Some, IfSome};
+ghost use Rattle.std.specs.Prelude.{◌≡◌, Some, None, IfSome, cond};
+ghost use Rattle.nb_model.specs.Jobs.{writes};
+ghost use Rattle.nb_model.specs.Words.{deed_database};
 ghost use Rattle.nb_cli.specs.Changed.{changed_by_words, database_in};
 
 use crate::look::look_at;
 use nb_host::Name;
-use nb_model::{Job, Statement};
+use nb_model::{Ask, Deed, Job, Statement};
 use nb_script::{MOST_BYTES, Script, parse};
 use std::alloc::Global;
 use std::os::unix::fs::FileExt;
@@ -14,7 +16,7 @@ use std::rt::Files;
 const GENERATED: &str = "gen.db";
 
 /// The database that a first statement creates or opens.
-fn database_of(first: &Statement) -> Option<Name>
+fn opened_by(first: &Statement) -> Option<Name>
     ensures { result ≡ database_in first.now }
 {
     match first {
@@ -76,7 +78,28 @@ fn changed_by_script(script: &Script) -> Option<Name>
     ensures { IfSome result (λ name. database_in script.now.first ≡ Some name) }
 {
     if script_changes(script) {
-        database_of(script.first())
+        opened_by(script.first())
+    } else {
+        None
+    }
+}
+
+/// The database that a deed makes or changes.
+fn changed_by_deed(deed: &Deed) -> Option<Name>
+    ensures { result ≡ deed_database deed.now }
+{
+    match deed.database() {
+        Some(db) => Some(db.copied()),
+        None => None,
+    }
+}
+
+/// The database that what is asked of it may change.
+fn changed_by_ask(db: &Name, ask: &Ask) -> Option<Name>
+    ensures { result ≡ cond (writes ask.now) (Some db.now) None }
+{
+    if ask.writes() {
+        Some(db.copied())
     } else {
         None
     }
@@ -87,21 +110,11 @@ fn changed_by_words(job: &Job) -> Option<Name>
     ensures { result ≡ changed_by_words job.now }
 {
     match job {
-        Job::Run { .. }
-        | Job::Stat { .. }
-        | Job::Check { .. }
-        | Job::Fold { .. }
-        | Job::Plan { .. } => None,
+        Job::Run { .. } => None,
         Job::Gen { .. } => Name::read(GENERATED),
-        Job::Backup { db, .. }
-        | Job::BackupSince { db, .. }
-        | Job::Restore { db, .. }
-        | Job::Apply { db, .. }
-        | Job::Lock { db }
-        | Job::LockWithSize { db }
-        | Job::Unlock { db }
-        | Job::Reclaim { db }
-        | Job::Fixup { db } => Some(db.copied()),
+        Job::Attach { db, ask } => changed_by_ask(db, ask),
+        Job::Turn { deed } => changed_by_deed(deed),
+        Job::Plan { .. } => None,
     }
 }
 

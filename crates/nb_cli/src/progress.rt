@@ -1,7 +1,7 @@
 // What is shown of a run while it goes on.
 use nb_file::{Counted, Manner, Progress};
 use nb_host::{MOST_BASE_NAME, Name};
-use nb_model::{Job, NameList};
+use nb_model::{Ask, Deed, Job, NameList};
 use std::alloc::{AllocError, Global};
 
 /// How progress is shown: by lines where the environment asks for it, and else on a terminal, unless it asks for none.
@@ -45,65 +45,72 @@ fn merging(alloc: Global, db: &Name, manner: Manner) -> Result<Option<Progress>,
     }))
 }
 
+/// What is shown of a job that opens a database and asks it this, none where it takes no time.
+fn asking(
+    alloc: Global,
+    db: &Name,
+    ask: &Ask,
+    manner: Manner,
+) -> Result<Option<Progress>, AllocError> {
+    let (job, counted, whole) = match ask {
+        Ask::Stat => ("reading", Counted::ReadOf(db.copied()), one(alloc, db)?),
+        Ask::Check | Ask::Reclaim => { ("checking", Counted::ReadOf(db.copied()), one(alloc, db)?) }
+        Ask::Backup { level: 0, file } => (
+            "backing up",
+            Counted::WrittenTo(file.copied()),
+            one(alloc, db)?,
+        ),
+        Ask::Backup { file, .. } | Ask::BackupSince { file, .. } => (
+            "backing up",
+            Counted::WrittenTo(file.copied()),
+            Vec::new(alloc),
+        ),
+        Ask::Unlock => return merging(alloc, db, manner),
+        Ask::Lock | Ask::LockWithSize => return Ok(None),
+    };
+    Ok(Some(Progress {
+        job,
+        name: db.copied(),
+        counted,
+        whole,
+        manner,
+    }))
+}
+
+/// What is shown of a deed, none where it takes no time.
+fn doing(alloc: Global, deed: &Deed, manner: Manner) -> Result<Option<Progress>, AllocError> {
+    let (job, name, whole) = match deed {
+        Deed::Restore { db, files } => ("restoring", db, copied(alloc, files)?),
+        Deed::Apply { db, file } => ("merging into", db, one(alloc, file)?),
+        Deed::Fold { out, files } => ("folding into", out, copied(alloc, files)?),
+        Deed::Fixup { .. } | Deed::Plan { .. } => return Ok(None),
+    };
+    Ok(Some(Progress {
+        job,
+        name: name.copied(),
+        counted: Counted::WrittenTo(name.copied()),
+        whole,
+        manner,
+    }))
+}
+
 /// What is shown of a job, none where it takes no time.
 pub fn progress_of(
     alloc: Global,
     job: &Job,
     manner: Manner,
 ) -> Result<Option<Progress>, AllocError> {
-    let (job, name, counted, whole) = match job {
-        Job::Run { script } => ("running", script, Counted::All, Vec::new(alloc)),
-        Job::Gen { script, .. } => ("running", script, Counted::All, Vec::new(alloc)),
-        Job::Stat { db } => ("reading", db, Counted::ReadOf(db.copied()), one(alloc, db)?),
-        Job::Check { db } | Job::Reclaim { db } => {
-            (
-                "checking",
-                db,
-                Counted::ReadOf(db.copied()),
-                one(alloc, db)?,
-            )
-        }
-        Job::Backup { level: 0, db, file } => (
-            "backing up",
-            db,
-            Counted::WrittenTo(file.copied()),
-            one(alloc, db)?,
-        ),
-        Job::Backup { db, file, .. } | Job::BackupSince { db, file, .. } => (
-            "backing up",
-            db,
-            Counted::WrittenTo(file.copied()),
-            Vec::new(alloc),
-        ),
-        Job::Restore { db, files } => (
-            "restoring",
-            db,
-            Counted::WrittenTo(db.copied()),
-            copied(alloc, files)?,
-        ),
-        Job::Apply { db, file } => (
-            "merging into",
-            db,
-            Counted::WrittenTo(db.copied()),
-            one(alloc, file)?,
-        ),
-        Job::Fold { out, files } => (
-            "folding into",
-            out,
-            Counted::WrittenTo(out.copied()),
-            copied(alloc, files)?,
-        ),
-        Job::Plan { list, .. } => ("planning for", list, Counted::All, Vec::new(alloc)),
-        Job::Unlock { db } => return merging(alloc, db, manner),
-        Job::Lock { .. } | Job::LockWithSize { .. } | Job::Fixup { .. } => {
-            return Ok(None);
-        }
+    let (job, name) = match job {
+        Job::Run { script } | Job::Gen { script, .. } => ("running", script),
+        Job::Plan { list, .. } => ("planning for", list),
+        Job::Attach { db, ask } => return asking(alloc, db, ask, manner),
+        Job::Turn { deed } => return doing(alloc, deed, manner),
     };
     Ok(Some(Progress {
         job,
         name: name.copied(),
-        counted,
-        whole,
+        counted: Counted::All,
+        whole: Vec::new(alloc),
         manner,
     }))
 }

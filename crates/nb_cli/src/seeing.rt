@@ -2,7 +2,7 @@
 use crate::look::look_at;
 use nb_advice::{Levels, Refused, Seen};
 use nb_host::{MOST_BASE_NAME, Name};
-use nb_model::Job;
+use nb_model::{Deed, Job};
 use std::alloc::Global;
 use std::fs;
 use std::os::unix::fs::FileExt;
@@ -11,27 +11,21 @@ use std::rt::Files;
 /// The database that a job by words names.
 pub fn database_of(job: &Job) -> Option<&Name> {
     match job {
-        Job::Run { .. } | Job::Gen { .. } | Job::Fold { .. } | Job::Plan { .. } => None,
-        Job::Stat { db }
-        | Job::Check { db }
-        | Job::Reclaim { db }
-        | Job::Backup { db, .. }
-        | Job::BackupSince { db, .. }
-        | Job::Restore { db, .. }
-        | Job::Apply { db, .. }
-        | Job::Lock { db }
-        | Job::LockWithSize { db }
-        | Job::Unlock { db }
-        | Job::Fixup { db } => Some(db),
+        Job::Attach { db, .. } => Some(db),
+        Job::Turn { deed } => deed.database(),
+        Job::Run { .. } | Job::Gen { .. } | Job::Plan { .. } => None,
     }
 }
 
 /// The file that a job by words makes, or else its database.
 fn file_of(job: &Job) -> Option<&Name> {
     match job {
-        Job::Backup { file, .. } | Job::BackupSince { file, .. } => Some(file),
-        Job::Fold { out, .. } => Some(out),
-        _ => database_of(job),
+        Job::Attach { db, ask } => match ask.file() {
+            Some(file) => Some(file),
+            None => Some(db),
+        },
+        Job::Turn { deed } => deed.file(),
+        Job::Run { .. } | Job::Gen { .. } | Job::Plan { .. } => None,
     }
 }
 
@@ -114,7 +108,10 @@ fn is_merged<R: Files>(rt: &R, job: &Job) -> Option<bool>
 where
     R::File: FileExt,
 {
-    let Job::Apply { db, file } = job else {
+    let Job::Turn {
+        deed: Deed::Apply { db, file },
+    } = job
+    else {
         return None;
     };
     let standby = look_at(rt, db.as_str())?.header()?;

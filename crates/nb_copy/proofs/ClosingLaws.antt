@@ -1,5 +1,5 @@
 -- The turns of a backup: the file alone is touched, and then the two files of the database.
-use Rattle.std.proofs.Common.{◌≡◌, ◌≢◌, ◌⊎◌, inl, inr, ⊎_elim, ℕ, List, [], ◌∷◌, ◌++◌, length, drop, refl, sym, ap, subst, ◌∙◌, arith, length-append, drop_at}
+use Rattle.std.proofs.Common.{◌≡◌, ◌≢◌, ◌<◌, ◌⊎◌, inl, inr, ⊎_elim, ℕ, List, [], ◌∷◌, ◌++◌, length, drop, refl, sym, ap, subst, ◌∙◌, arith, length-append, drop_at}
 use Rattle.std.specs.Prelude.{Bool, true, false, not, None, Some, Result, Ok, Err, OnOk}
 use Rattle.nb_host.specs.Files.{File, Files, with_file}
 use Rattle.nb_host.specs.World.{World}
@@ -37,10 +37,11 @@ use Rattle.nb_state.specs.declared.turns.Progress.TheVariants.{More, Finished}
 use Rattle.nb_state.specs.Does.{WhereEnded, unless_by}
 use Rattle.nb_state.proofs.TurnLaws.{still_struck, struck_front}
 use Rattle.nb_engine.specs.Put.{entry_cause}
+use Rattle.nb_engine.specs.Room.{write_cause}
 use Rattle.nb_engine.specs.Tries.{Tries}
-use Rattle.nb_alloc.proofs.DoesLaws.{unless_none}
+use Rattle.nb_engine.proofs.LinkLaws.{write_low}
+use Rattle.nb_alloc.proofs.DoesLaws.{unless_none, sure_of}
 use Rattle.nb_alloc.proofs.PutLaws.{no_entry_cause, entry_cause-is}
-use Rattle.nb_alloc.proofs.WhereLaws.{sure_of}
 use Rattle.nb_model.specs.Making.{kept_of}
 use Rattle.nb_gather.specs.Making.{IsKept, IsUnfinishedOr}
 use Rattle.nb_copy.proofs.LevelLaws.{below_all}
@@ -94,21 +95,21 @@ module _ (old mid : World) (a : Held) (t : Trail) (is : IsOpen old a t) (timely 
   }
 
   -- the row is written
-  pub close_row : (result : Result (Unit {0}) Fault) (new : World) (b : Held) (time p : ℕ) (xs : List Stroke) → mid.times ≡ old.times ++ time ∷ [] → HasItsEntry t.base.image p
-      → Tries result mid new a b t (entry_cause t.base.image p) xs → Closes result old new a b t time xs
-  close_row result new b time p xs gave entry tries = record {
+  pub close_row : (result : Result (Unit {0}) Fault) (new : World) (b : Held) (time p : ℕ) (xs : List Stroke) → mid.times ≡ old.times ++ time ∷ [] → HasItsEntry t.base.image p → p < length t.base.image
+      → Tries result mid new a b t (write_cause t.base.image p) xs → Closes result old new a b t time xs
+  close_row result new b time p xs gave entry low tries = record {
     left = still_struck old mid new a t xs is timely still silent passes (subst (λ (ss : List Stroke). Strikes mid new (name_of a) t ss) made tries.makes.left);
     opened = ended_ok result _ (subst (λ (ss : List Stroke). WhereEnded result (IsOpen new b (after_strokes t ss))) made tries.makes.opened);
     times = on_ok result (tries.makes.gave.times ∙ gave);
     guids = tries.makes.gave.guids ∙ guids;
-    sure = sure_of result (entry_cause t.base.image p) none tries.test;
+    sure = sure_of result (write_cause t.base.image p) none tries.test;
   }
     where
-      none : entry_cause t.base.image p ≡ None
-      none = entry_there t.base.image p entry
+      none : write_cause t.base.image p ≡ None
+      none = sym (write_low t.base.image p low) ∙ entry_there t.base.image p entry
 
-      made : unless_by (entry_cause t.base.image p) xs ≡ xs
-      made = unless_none (entry_cause t.base.image p) xs none
+      made : unless_by (write_cause t.base.image p) xs ≡ xs
+      made = unless_none (write_cause t.base.image p) xs none
 
 -- The file of a backup of a database that is open.
 module _ (old : World) (a : Held) (t : Trail) (is : IsOpen old a t) (name whole : List ℕ) (apart : OfFiles (name_of a) name → ⊥) (reads : Leaves old name (old.files name)) where

@@ -1,18 +1,15 @@
 -- Why no backup may begin, test by test.
-use Rattle.std.proofs.Common.{◌≡◌, inl, inr, ◌+◌, ◌≤◌, ℕ, zero, suc, List, [], ◌∷◌, replicate, refl, sym, ap, subst, ◌∙◌, arith}
-use Rattle.std.specs.Prelude.{Bool, true, false, min, Option, Some, None, is_none, not, nat_eq, nat_lt}
-use Rattle.std.proofs.lemmas.Bool.{true≢false, lt-ltb}
-use Rattle.std.proofs.lemmas.Bool.Decides.{leb_tells}
+use Rattle.std.proofs.Common.{◌≡◌, ◌+◌, ℕ, zero, suc, List, [], ◌∷◌, replicate, refl, sym, ap, subst, ◌∙◌, arith}
+use Rattle.std.specs.Prelude.{Bool, true, false, min, Option, Some, None, is_none, not, nat_eq}
 use Rattle.nb_host.specs.Names.{same_name}
 use Rattle.nb_host.specs.declared.refusals.Refusal.{Refusal}
 use Rattle.nb_host.specs.declared.refusals.Refusal.TheVariants.{Access, FileExists, NoHistory}
 use Rattle.nb_model.specs.Account.{Ask}
-use Rattle.nb_model.specs.Image.{Image, image_scn, is_read_only}
+use Rattle.nb_model.specs.Image.{Image, is_read_only}
 use Rattle.nb_model.specs.Backups.{ask_of, level_behind}
-use Rattle.nb_model.specs.Causes.{Cause, first_cause, when, read_only, no_scn, not_state, not_free, is_free_entry, broken_at}
+use Rattle.nb_model.specs.Causes.{Cause, first_cause, when, read_only, not_state, not_free, is_free_entry, broken_at}
 use Rattle.nb_model.specs.Chains.{History, Spot, pages_of, backup_spot, level_in, guid_in}
 use Rattle.nb_model.specs.Outcomes.{Seen}
-use Rattle.nb_model.proofs.PutSound.{no_first, not_when}
 use Rattle.nb_engine.specs.declared.rows.HistoryRow.{HistoryRow}
 use Rattle.nb_engine.specs.History.{row_at}
 use Rattle.nb_alloc.proofs.CauseLaws.{first_none, first_next, first_here}
@@ -123,13 +120,3 @@ last_cause (Some r) = refl
 
 pub after_none : (c d : Cause) → c ≡ None → d ≡ first_cause (c ∷ d ∷ [])
 after_none c d none = sym (first_next c (d ∷ []) none ∙ last_cause d)
-
--- where a backup may begin there is an SCN for it and for its end
-pub scn_room : (image : Image) → first_cause (read_only image ∷ not_state 0 image ∷ no_scn image ∷ []) ≡ None → image_scn image ≤ 4294967293
-scn_room image none =
-    let state = no_first (read_only image) (not_state 0 image ∷ no_scn image ∷ []) none in
-    let scn = no_first (not_state 0 image) (no_scn image ∷ []) state.1 in
-    at_most (not_when (nat_lt 4294967293 (image_scn image)) _ (no_first (no_scn image) [] scn.1).0)
-  where
-    at_most : nat_lt 4294967293 (image_scn image) ≡ false → image_scn image ≤ 4294967293
-    at_most is = elim (leb_tells (image_scn image) 4294967293) [ inl w ↦ w.1 | inr w ↦ absurd (true≢false (sym (lt-ltb 4294967293 (image_scn image) (omega (arith, w.1))) ∙ is)) ]

@@ -1,6 +1,6 @@
 ghost use Rattle.std.specs.Prelude.{◌≡◌, ◌⊎◌, ◌+◌, ◌-◌, ◌<◌, ◌≤◌, ℕ, length, [], ◌∷◌, Option, Some, List, true, IsTrue, IfOk, OnOk};
 ghost use Rattle.nb_fields.specs.Places.{is_page_size};
-ghost use Rattle.nb_change.specs.Counts.{CountsDevice};
+ghost use Rattle.nb_host.specs.Causes.{CountsDevice};
 ghost use Rattle.nb_change.specs.Gave.{GaveNothing};
 ghost use Rattle.nb_page.specs.Free.{is_free_name};
 ghost use Rattle.nb_page.specs.Quiet.{Quiet};
@@ -296,7 +296,7 @@ impl Copier {
         ensures closes { (s : Seen) (t : Trail) → IsTrue H.tells → t.base ≡ s.base → IsOpen (H.world host.old) engine.old t → HasItsEntry t.base.image self.now.backing.page → self.now.backing.page < length t.base.image
             → GaveTimeAtMost (H.world host.old) (H.world host.new) (next_time s.given)
             → Closes result (H.world host.old) (H.world host.new) engine.old engine.new t (next_time s.given) (close_backup s self.now.backing).strokes }
-        ensures asks { (t : Trail) → IsTrue H.tells → IsOpen (H.world host.old) engine.old t → self.now.backing.page < length t.base.image → (time : ℕ) × GaveTimeAtMost (H.world host.old) (H.world host.new) time }
+        ensures asks { (t : Trail) → IsTrue H.tells → IsOpen (H.world host.old) engine.old t → (time : ℕ) × GaveTimeAtMost (H.world host.old) (H.world host.new) time }
         ensures goes { Goes engine.old engine.new }
         ensures cause { CountsDevice result (H.faults host.old) (H.faults host.new) }
     {
@@ -323,7 +323,7 @@ impl Copier {
             → IsBackingUp (H.world host.old) self.old t.base.frozen → self.old.backing.page < length t.base.image → (OfFiles engine.old.files.name self.old.backing.name → ⊥)
             → GaveTimeAtMost (H.world host.old) (H.world host.new) (next_time s.given)
             → BackupTurn result (H.world host.old) (H.world host.new) engine.old engine.new self.old self.new t (next_time s.given) (close_backup s self.old.backing).strokes }
-        ensures asks { (t : Trail) → IsTrue H.tells → IsOpen (H.world host.old) engine.old t → engine.old.files.state ≡ 1 → IsBackingUp (H.world host.old) self.old t.base.frozen → self.old.backing.page < length t.base.image
+        ensures asks { (t : Trail) → IsTrue H.tells → IsOpen (H.world host.old) engine.old t → engine.old.files.state ≡ 1 → IsBackingUp (H.world host.old) self.old t.base.frozen
             → (OfFiles engine.old.files.name self.old.backing.name → ⊥) → (time : ℕ) × GaveTimeAtMost (H.world host.old) (H.world host.new) time }
 
         // While pages are left a turn of level 0 reads its page, and one of a level of 1 to 9 page 0, an SCN page, or what has changed since the

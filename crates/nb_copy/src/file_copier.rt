@@ -1,10 +1,9 @@
 // A copy of the frozen file of a stalled database, which no history names.
 ghost use Rattle.std.specs.Prelude.{◌≡◌, ◌+◌, ◌-◌, ◌≤◌, IsTrue, IfOk, IfErr, OnOk, None, Some, Result, true};
 ghost use Rattle.nb_host.specs.Calls.{IsSilent};
-ghost use Rattle.nb_host.specs.Causes.{CountsFault};
+ghost use Rattle.nb_host.specs.Causes.{CountsDevice, CountsFault};
 ghost use Rattle.nb_host.specs.declared.faults.Fault.{Fault};
 ghost use Rattle.nb_change.specs.Changes.{Changes, Only, Remade};
-ghost use Rattle.nb_change.specs.Counts.{CountsDevice};
 ghost use Rattle.nb_change.specs.Gave.{GaveNothing};
 ghost use Rattle.nb_page.specs.Free.{is_free_name};
 ghost use Rattle.nb_page.specs.Quiet.{Quiet};

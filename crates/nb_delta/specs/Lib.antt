@@ -1,5 +1,4 @@
 pub mod Entries
-pub mod Causes
 pub mod Reading
 pub mod Known
 pub mod Slots

@@ -1,15 +1,13 @@
 ghost use Rattle.std.specs.Prelude.{◌≡◌, ℕ, ◌+◌, ◌/◌, ◌<◌, ◌≤◌, IsTrue, List, [], ◌∷◌, ◌++◌, length, replicate, Some, None, Ok, Err, OnOk, OnErr, IfOk, IfErr, IsOk, slice_index, option_map};
-ghost use Rattle.nb_host.specs.declared.faults.Fault.TheVariants.{Device, Memory};
+ghost use Rattle.nb_host.specs.declared.faults.Fault.TheVariants.{Memory};
 ghost use Rattle.nb_host.specs.Crash.{IsDurable};
 ghost use Rattle.nb_host.specs.Calls.{IsSilent};
-ghost use Rattle.nb_host.specs.Causes.{CountsFault};
+ghost use Rattle.nb_host.specs.Causes.{CountsDevice, CountsFault, CountsRun};
 ghost use Rattle.nb_fields.specs.Places.{is_page_size, slots_in};
 ghost use Rattle.nb_fields.specs.Table.{slot_place};
 ghost use Rattle.nb_page.specs.Quiet.{Quiet};
 ghost use Rattle.nb_delta.specs.Entries.{place_of, AreEntries};
 ghost use Rattle.nb_change.specs.Changes.{Only, Changes, Moved, Remade};
-ghost use Rattle.nb_change.specs.Counts.{CountsDevice};
-ghost use Rattle.nb_delta.specs.Causes.{IsNoRefusal};
 ghost use Rattle.nb_delta.specs.Slots.{HasTable, HasZeros, slot_page, SlotStep, SlotPut, Adds, AddStep, IsBlank};
 ghost use Rattle.nb_delta.specs.Waiting.{Waits, FrontStep, HasAll};
 ghost use Rattle.nb_delta.specs.Attaching.{IsFor, Attaches};
@@ -19,7 +17,7 @@ use crate::places::slot_of;
 use crate::reading::read_table;
 use crate::waiting::put_waiting;
 use crate::writing::{make_file, put_entry, remove_file, rewrite_slot};
-use nb_host::{Fault, Host, HostFault, Name, Refusal};
+use nb_host::{Fault, Host, HostFault, Name, Refusal, RunError};
 use std::alloc::Global;
 use std::marker::Model;
 
@@ -144,14 +142,14 @@ impl Delta {
         page: u32,
         bytes: &[u8],
         forced: bool,
-    ) -> Result<u32, Fault>
+    ) -> Result<u32, RunError>
         requires size { length bytes.now ≡ self.old.page_size }
         requires fresh { place_of self.old.entries page ≡ None }
         requires below { page < 1048576 }
         requires none_waits { self.old.drafted ≡ 0 }
         ensures slot { IfOk result (λ slot. slot ≡ slot_place self.old.page_size (length self.old.entries)) }
         ensures known { OnOk result (self.new ≡ record self.old { entries = self.old.entries ++ page ∷ [] }) }
-        ensures on_device { result ≡ Err Device → self.new ≡ record self.old { entries = self.old.entries ++ page ∷ [] } }
+        ensures on_device { result ≡ Err RunError.Device → self.new ≡ record self.old { entries = self.old.entries ++ page ∷ [] } }
         ensures added { IsTrue H.tells → HasTable self.old.page_size ((H.world host.old).files self.old.name) self.old.entries
             → OnOk result (Adds self.old.page_size self.old.entries page bytes.now ((H.world host.old).files self.old.name) ((H.world host.new).files self.old.name)) }
 
@@ -160,10 +158,9 @@ impl Delta {
         ensures changes { IsTrue H.tells → HasTable self.old.page_size ((H.world host.old).files self.old.name) self.old.entries
             → Changes (H.world host.old) (H.world host.new) (Only self.old.name) (Moved (H.world host.old) self.old.name (AddStep self.old.page_size self.old.entries page bytes.now ((H.world host.old).files self.old.name))) }
         ensures durable { IsTrue H.tells → IsTrue forced → OnOk result (IsDurable (H.world host.new) self.old.name ((H.world host.new).files self.old.name)) }
-        ensures on_memory { result ≡ Err Memory → (self.new ≡ self.old) × (host.new ≡ host.old) }
+        ensures on_memory { result ≡ Err RunError.Memory → (self.new ≡ self.old) × (host.new ≡ host.old) }
         ensures log { IsSilent (H.world host.old) (H.world host.new) }
-        ensures cause { CountsDevice result (H.faults host.old) (H.faults host.new) }
-        ensures not_refused { IfErr result IsNoRefusal }
+        ensures cause { CountsRun result (H.faults host.old) (H.faults host.new) }
     {
         let place = self.entries.len();
         self.entries.add(page)?;
@@ -263,12 +260,12 @@ impl Delta {
 
     /// Adds an entry for a page that has none, which waits, and answers its slot. It makes no call. Where it wants memory
     /// nothing has changed.
-    pub fn draft(&mut self, page: u32) -> Result<u32, Fault>
+    pub fn draft(&mut self, page: u32) -> Result<u32, RunError>
         requires fresh { place_of self.old.entries page ≡ None }
         requires below { page < 1048576 }
         ensures slot { IfOk result (λ slot. slot ≡ slot_place self.old.page_size (length self.old.entries)) }
         ensures drafted { OnOk result (self.new ≡ record self.old { entries = self.old.entries ++ page ∷ []; drafted = self.old.drafted + 1 }) }
-        ensures only_memory { IfErr result (λ fault. (fault ≡ Memory) × (self.new ≡ self.old)) }
+        ensures only_memory { IfErr result (λ error. (error ≡ RunError.Memory) × (self.new ≡ self.old)) }
     {
         let place = self.entries.len();
         self.entries.add(page)?;

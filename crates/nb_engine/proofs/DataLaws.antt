@@ -1,57 +1,34 @@
--- Whether a page is a data page, and what it then is written as.
-use Rattle.std.proofs.Common.{◌≡◌, ℕ, ◌-◌, ◌<◌, List, [], ◌∷◌, ◌++◌, length, take, drop, refl, sym, ap, ◌∙◌, arith, length-drop}
-use Rattle.std.specs.Prelude.{Bool, true, false, not, ◌&&◌, ◌==◌, Some, None}
+-- A data page is there, and what it then is written as.
+use Rattle.std.proofs.Common.{◌≡◌, ℕ, ◌-◌, ◌<◌, List, [], ◌∷◌, ◌++◌, length, take, drop, refl, sym, ap, subst, ◌∙◌, arith, length-drop}
+use Rattle.std.specs.Prelude.{Some, None, Result, IfErr, IsTrue}
 use Rattle.std.proofs.lemmas.List.{append-nil, drop_all}
 use Rattle.nb_fields.proofs.PageLemmas.{padded_whole}
-use Rattle.nb_fields.specs.Header.{is_header}
 use Rattle.nb_fields.specs.Page.{with_payload}
+use Rattle.nb_fields.specs.Places.{is_page_size}
+use Rattle.nb_host.specs.World.{World}
+use Rattle.nb_host.specs.declared.faults.Fault.{Fault}
 use Rattle.nb_host.specs.declared.refusals.Refusal.{Refusal}
 use Rattle.nb_host.specs.declared.refusals.Refusal.TheVariants.{NotDatabase}
-use Rattle.nb_model.specs.Image.{Image, page_at, first_page}
+use Rattle.nb_page.specs.Quiet.{Quiet}
+use Rattle.nb_model.specs.Image.{Page, Image, image_scn}
 use Rattle.nb_model.specs.Forms.{is_kind}
-use Rattle.nb_model.specs.Causes.{when, not_kind}
-use Rattle.nb_model.specs.Chains.{owner_in}
-use Rattle.nb_model.proofs.HeaderLaws.{header-kind}
-use Rattle.nb_model.proofs.ReadLaws.{eq_yes}
-use Rattle.nb_alloc.specs.Data.{not_data, data_cause}
+use Rattle.nb_model.specs.Causes.{not_kind}
+use Rattle.nb_model.specs.Sound.{IsSoundImage}
+use Rattle.nb_model.specs.Trail.{Trail}
+use Rattle.nb_model.proofs.PutSound.{IsPlace}
+use Rattle.nb_base.specs.Takes.{IsNoRefusal}
+use Rattle.nb_state.specs.Open.{Held, IsOpen, but_pages}
+use Rattle.nb_state.specs.Does.{Tested}
+use Rattle.nb_alloc.specs.Data.{data_cause, put_data}
+use Rattle.nb_alloc.specs.Make.{page_strokes}
 use Rattle.nb_alloc.specs.Put.{entry_cause}
+use Rattle.nb_alloc.specs.Tries.{Tries}
 use Rattle.nb_alloc.proofs.CauseLaws.{first_next, first_here, one_cause}
+use Rattle.nb_alloc.proofs.DoesLaws.{sure_of, tries_after, tries_these}
+use Rattle.nb_alloc.proofs.MakeLaws.{entry_none, tries_named}
 use Rattle.nb_alloc.proofs.PutLaws.{is_kind-parts, none_of}
-
--- tests of the owner after tests of the kind
-by_kind : (kind owner : Bool) (r s : Refusal) → when (not kind) r ≡ Some s → when (not (kind && owner)) r ≡ Some s
-by_kind false owner r s e = e
-by_kind true owner r s e = cc
-
-by_owner : (kind owner : Bool) (r : Refusal) → when (not kind) r ≡ None → when (not (kind && owner)) r ≡ when (not owner) r
-by_owner false owner r e = cc
-by_owner true owner r e = refl
-
-module _ (image : Image) (owner p : ℕ) where
-  -- the page is past the end or of another kind
-  pub kind_fails : (r : Refusal) → not_kind image 5 p ≡ Some r → not_data image owner p ≡ Some r
-  kind_fails r e = by_kind (is_kind image 5 p) (owner_in (page_at image p) == owner) (NotDatabase p) r e
-
-  -- it is a data page
-  module _ (kind : not_kind image 5 p ≡ None) where
-    pub owner_is : owner_in (page_at image p) ≡ owner → not_data image owner p ≡ None
-    owner_is same =
-        by_owner (is_kind image 5 p) (owner_in (page_at image p) == owner) (NotDatabase p) kind ∙ ap (λ (t : Bool). when (not t) (NotDatabase p)) (eq_yes (owner_in (page_at image p)) owner same)
-
--- page 0 of a database is none
-header_kind : (image : Image) → is_header (first_page image) ≡ true → is_kind image 5 0 ≡ true → ⊥
-header_kind image header is = absurd (omega (arith, (is_kind-parts image 5 0 is).1, header-kind (page_at image 0) header))
-
-pub header_none : (image : Image) → is_header (first_page image) ≡ true → not_kind image 5 0 ≡ Some (NotDatabase 0)
-header_none image header = by (is_kind image 5 0) refl
-  where
-    by : (t : Bool) → is_kind image 5 0 ≡ t → not_kind image 5 0 ≡ Some (NotDatabase 0)
-    by false e = ap (λ (t : Bool). when (not t) (NotDatabase 0)) e
-    by true e = absurd (header_kind image header e)
-
-pub no_data_first : (image : Image) (owner p : ℕ) → is_header (first_page image) ≡ true → p ≡ 0 → not_data image owner p ≡ Some (NotDatabase p)
-no_data_first image owner p header e =
-    ap (λ (n : ℕ). not_data image owner n) e ∙ kind_fails image owner 0 (NotDatabase 0) (header_none image header) ∙ ap (λ (n : ℕ). Some (NotDatabase n)) (sym e)
+use Rattle.nb_engine.proofs.LinkLaws.{any_strokes}
+use Rattle.nb_engine.proofs.NewTurn.{well_of}
 
 -- a data page is below the length
 pub data_there : (image : Image) (p : ℕ) → not_kind image 5 p ≡ None → p < length image
@@ -63,6 +40,27 @@ none_there image p r e = first_here (not_kind image 5 p) (entry_cause image p �
 
 pub by_entry : (image : Image) (p : ℕ) → not_kind image 5 p ≡ None → entry_cause image p ≡ data_cause image p
 by_entry image p kind = sym (first_next (not_kind image 5 p) (entry_cause image p ∷ []) kind ∙ one_cause (entry_cause image p))
+
+-- A data page that was read is written with what these bytes have after the head.
+pub put_tries : {T : Type 0} (result : Result T Fault) (old mid new : World) (a b c : Held) (t : Trail) (p : ℕ) (bytes : Page) → IsOpen old a t → IsTrue (is_page_size a.files.page_size) → not_kind t.base.image 5 p ≡ None
+    → but_pages b ≡ but_pages a → Quiet old mid → Tries result mid new b c t (entry_cause t.base.image p) (page_strokes t.base.image p 5 (drop 16 bytes)) → Tries result old new a c t (data_cause t.base.image p) (put_data p bytes t.base.image).strokes
+put_tries result old mid new a b c t p bytes is size kind same quiet tries =
+    let image = t.base.image in
+    let sized = subst (λ (n : ℕ). IsTrue (is_page_size n)) is.files.agrees.page_size size in
+    let strokes = (put_data p bytes image).strokes in
+    tries_named result old new a c t (entry_cause image p) (data_cause image p) strokes strokes (by_entry image p kind) refl
+    (tries_these result old new a c t (entry_cause image p) _ strokes (λ none. any_strokes t.base p sized none 5 (drop 16 bytes) (data_there image p kind)) (tries_after result old mid new a b c t _ _ same quiet is tries))
+
+-- in a sound database it isn't refused
+pub data_sure : {T : Type 0} (result : Result T Fault) (w : World) (held : Held) (t : Trail) (p : ℕ) → IsOpen w held t → IsTrue (is_page_size held.files.page_size) → IsSoundImage t.base.image → 0 < p
+    → not_kind t.base.image 5 p ≡ None → Tested result (data_cause t.base.image p) → IfErr result IsNoRefusal
+data_sure result w held t p is size sound some kind =
+    let image = t.base.image in
+    let scn : image_scn image < 4294967296 = omega (arith, is.agrees.scn, is.agrees.four) in
+    let is_well = well_of w held t is size scn sound in
+    let low : p < length image = data_there image p kind in
+    let at : IsPlace image p = record { behind = omega (arith, some); there = omega (arith, low); most = (let most = sound.most in omega (arith, most, low)) } in
+    sure_of result (data_cause image p) (sym (by_entry image p kind) ∙ entry_none image p is_well at)
 
 -- the bytes after the head are the payload
 pub behind_payload : (old bytes : List ℕ) → length bytes ≡ length old → take 16 old ++ drop 16 bytes ≡ with_payload old (drop 16 bytes)

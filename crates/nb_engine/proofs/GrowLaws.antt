@@ -1,6 +1,6 @@
 -- A chain grows by a page: the new page, and then the link to it.
 use Rattle.std.proofs.Common.{◌≡◌, ℕ, ◌+◌, ◌<◌, ◌≤◌, List, [], ◌∷◌, ◌++◌, length, refl, sym, ap, subst, ◌∙◌, arith, length-append}
-use Rattle.std.specs.Prelude.{Bool, true, false, IsTrue, nat_lt, slice_set, Some, None, Result, Ok, Err, IfOk, IfErr}
+use Rattle.std.specs.Prelude.{Bool, true, false, IsTrue, nat_lt, slice_set, Some, None, Result, Ok, Err}
 use Rattle.std.proofs.lemmas.List.{length-set}
 use Rattle.nb_fields.specs.Bytes.{bytes_of}
 use Rattle.nb_fields.specs.Payloads.{data_payload}
@@ -22,19 +22,17 @@ use Rattle.nb_model.specs.Causes.{Cause, first_cause, not_of_form, no_room, no_s
 use Rattle.nb_model.specs.Chains.{Chain, History, owner_of, last_of, grown}
 use Rattle.nb_model.proofs.DraftLaws.{IsKept, IsOf, drafts_are, drafted_is, put_keeps, new_keeps}
 use Rattle.nb_model.proofs.DraftJoin.{join_put}
-use Rattle.nb_base.specs.Takes.{after_strokes, IsNoRefusal}
+use Rattle.nb_base.specs.Takes.{after_strokes}
 use Rattle.nb_state.specs.Open.{Held}
-use Rattle.nb_state.specs.Does.{Makes, unless_by}
-use Rattle.nb_state.proofs.MakesLaws.{makes_then, makes_front}
 use Rattle.nb_alloc.specs.Data.{new_behind}
-use Rattle.nb_alloc.specs.Make.{MakesSome, page_strokes, new_of}
-use Rattle.nb_engine.specs.Room.{no_rows, linked_payload, link_cause, grow_cause, IsGrown}
+use Rattle.nb_alloc.specs.Make.{page_strokes, new_of}
+use Rattle.nb_engine.specs.Room.{no_rows, linked_payload, write_cause, grow_cause}
 use Rattle.nb_alloc.specs.Tries.{Tries}
-use Rattle.nb_alloc.proofs.DoesLaws.{unless_none, tries_made}
+use Rattle.nb_alloc.proofs.DoesLaws.{tries_other, tries_valued, tries_front, tries_next}
+use Rattle.nb_alloc.proofs.MakeLaws.{tries_named}
 use Rattle.nb_alloc.proofs.CauseLaws.{first_none, first_next, first_here}
 use Rattle.nb_alloc.proofs.NewLaws.{told, image_is}
-use Rattle.nb_engine.proofs.LinkLaws.{link_low}
-use Rattle.nb_alloc.proofs.WhereLaws.{makes_as, makes_valued, sure_of}
+use Rattle.nb_engine.proofs.LinkLaws.{write_low}
 
 -- the bytes of a page of the history without a row
 pub rows_are : 0 ∷ 0 ∷ 0 ∷ 0 ∷ 1 ∷ 0 ∷ 0 ∷ 0 ∷ 0 ∷ 0 ∷ 0 ∷ 0 ∷ 0 ∷ 0 ∷ 0 ∷ 0 ∷ [] ≡ no_rows
@@ -92,12 +90,10 @@ module _ (chain : Chain) (slots : List ℕ) where
       omega (arith, low, long)
 
   -- the new page failed
-  pub grown_front : (t : Trail) (pages : List ℕ) (fault : Fault) (old new : World) (a b : Held) → IsNoRefusal fault → Makes {T = ℕ} (Err fault) old new a b t (made_behind t.base.image).0.strokes
+  pub grown_front : (t : Trail) (pages : List ℕ) (fault : Fault) (old new : World) (a b : Held) → Tries {T = ℕ} (Err fault) old new a b t None (made_behind t.base.image).0.strokes
       → Tries {T = ℕ} (Err fault) old new a b t None (grown chain pages slots (drafted t.base.image)).0.strokes
-  grown_front t pages fault old new a b sure first =
-      let all : List Stroke = (grown chain pages slots (drafted t.base.image)).0.strokes in
-      tries_made {T = ℕ} (Err fault) old new a b t None all refl sure
-      (subst (λ (ss : List Stroke). Makes {T = ℕ} (Err fault) old new a b t ss) (sym (grown_strokes t.base.image pages)) (makes_front ℕ ℕ fault old new a b t (made_behind t.base.image).0.strokes _ sure first))
+  grown_front t pages fault old new a b first =
+      subst (λ (ss : List Stroke). Tries {T = ℕ} (Err fault) old new a b t None ss) (sym (grown_strokes t.base.image pages)) (tries_front ℕ ℕ fault old new a b t None (made_behind t.base.image).0.strokes _ first)
 
   -- The link after the new page.
   module _ (t : Trail) (pages : List ℕ) (last : ℕ) (free : IsFreeBehind (made_behind t.base.image).0 last) (size : IsTrue (is_page_size (image_size (after_strokes t (made_behind t.base.image).0.strokes).base.image))) (last_is : last ≡ last_of pages) where
@@ -122,8 +118,8 @@ module _ (chain : Chain) (slots : List ℕ) where
     after_long : last < length u.base.image
     after_long = (kind_parts u.base.image 5 last (ap (λ (x : Image). is_kind x 5 last) seen ∙ free.kind)).0
 
-    pub link_free : link_cause u.base.image last ≡ None
-    link_free = sym (link_low u.base.image last after_long) ∙ entry
+    pub link_free : write_cause u.base.image last ≡ None
+    link_free = sym (write_low u.base.image last after_long) ∙ entry
 
     pub strokes_are : (number : ℕ) → number ≡ (made_behind image).1 → xs ++ page_strokes u.base.image last 5 (linked_payload u.base.image last number) ≡ (grown chain pages slots (drafted image)).0.strokes
     strokes_are number same =
@@ -138,33 +134,29 @@ module _ (chain : Chain) (slots : List ℕ) where
     abbrev links : ℕ → List Stroke
     links number = page_strokes u.base.image last 5 (linked_payload u.base.image last number)
 
-    grown_all : (number : ℕ) (result : Result ℕ Fault) (old mid new : World) (a b c : Held) → number ≡ (made_behind image).1 → Makes (Ok number) old mid a b t xs → IfErr result IsNoRefusal → Makes result mid new b c u (links number)
+    grown_all : (number : ℕ) (result : Result ℕ Fault) (old mid new : World) (a b c : Held) → number ≡ (made_behind image).1 → Tries (Ok number) old mid a b t None xs → Tries result mid new b c u (write_cause u.base.image last) (links number)
         → Tries result old new a c t None all
-    grown_all number result old mid new a b c same first sure second =
-        tries_made result old new a c t None all refl sure
-        (subst (λ (ss : List Stroke). Makes result old new a c t ss) (strokes_are number same) (makes_then number result old mid new a b c t xs (links number) first second))
+    grown_all number result old mid new a b c same first tries =
+        subst (λ (ss : List Stroke). Tries result old new a c t None ss) (strokes_are number same)
+        (tries_next number result old mid new a b c t xs (links number) first (tries_named result mid new b c u (write_cause u.base.image last) None (links number) (links number) link_free refl tries))
 
     -- the link failed
-    pub grown_failed : (number : ℕ) (fault : Fault) (old mid new : World) (a b c : Held) → number ≡ (made_behind image).1 → Makes (Ok number) old mid a b t xs
-        → Tries {T = Unit {0}} (Err fault) mid new b c u (link_cause u.base.image last) (links number) → Tries {T = ℕ} (Err fault) old new a c t None all
+    pub grown_failed : (number : ℕ) (fault : Fault) (old mid new : World) (a b c : Held) → number ≡ (made_behind image).1 → Tries (Ok number) old mid a b t None xs
+        → Tries {T = Unit {0}} (Err fault) mid new b c u (write_cause u.base.image last) (links number) → Tries {T = ℕ} (Err fault) old new a c t None all
     grown_failed number fault old mid new a b c same first tries =
-        grown_all number (Err fault) old mid new a b c same first (sure_of {T = Unit {0}} (Err fault) (link_cause u.base.image last) link_free tries.test)
-        (makes_as (Unit {0}) ℕ fault mid new b c u (links number)
-        (subst (λ (ss : List Stroke). Makes {T = Unit {0}} (Err fault) mid new b c u ss) (unless_none (link_cause u.base.image last) (links number) link_free) tries.makes))
+        grown_all number (Err fault) old mid new a b c same first (tries_other (Unit {0}) ℕ fault mid new b c u (write_cause u.base.image last) (links number) tries)
 
     -- or is made
-    pub grown_done : (number : ℕ) (old mid new : World) (a b c : Held) → number ≡ (made_behind image).1 → Makes (Ok number) old mid a b t xs
-        → Tries {T = Unit {0}} (Ok tt) mid new b c u (link_cause u.base.image last) (links number) → Tries (Ok number) old new a c t None all
+    pub grown_done : (number : ℕ) (old mid new : World) (a b c : Held) → number ≡ (made_behind image).1 → Tries (Ok number) old mid a b t None xs
+        → Tries {T = Unit {0}} (Ok tt) mid new b c u (write_cause u.base.image last) (links number) → Tries (Ok number) old new a c t None all
     grown_done number old mid new a b c same first tries =
-        grown_all number (Ok number) old mid new a b c same first tt
-        (makes_valued {S = Unit {0}} tt number mid new b c u (links number)
-        (subst (λ (ss : List Stroke). Makes {T = Unit {0}} (Ok tt) mid new b c u ss) (unless_none (link_cause u.base.image last) (links number) link_free) tries.makes))
+        grown_all number (Ok number) old mid new a b c same first (tries_valued {S = Unit {0}} tt number mid new b c u (write_cause u.base.image last) (links number) tries)
 
 -- the new page is below the length
-pub new_below : (t : Trail) (kind : ℕ) (payload : ℕ → List ℕ) (number : ℕ) (strokes : List Stroke) → number < length (after_strokes t strokes).base.image → strokes ≡ (new_of kind payload t.base.image).0.strokes → number < length (new_of kind payload t.base.image).0.image
-new_below t kind payload number strokes low same =
+pub new_below : (t : Trail) (kind : ℕ) (payload : ℕ → List ℕ) (number : ℕ) → number < length (after_strokes t (new_of kind payload t.base.image).0.strokes).base.image → number < length (new_of kind payload t.base.image).0.image
+new_below t kind payload number low =
     let of : IsOf t.base (new_of kind payload t.base.image).0 = new_keeps (IsOf t.base) (drafts_are t.base) (length t.base.image + 4) kind payload (drafted t.base.image) (drafted_is t.base) in
-    subst (λ (x : Image). number < length x) (image_is t 0 (new_of kind payload t.base.image).0 of strokes same) low
+    subst (λ (x : Image). number < length x) (image_is t 0 (new_of kind payload t.base.image).0 of (new_of kind payload t.base.image).0.strokes refl) low
 
 first_grouped : (a b c : Cause) → first_cause (a ∷ b ∷ c ∷ []) ≡ first_cause (first_cause (a ∷ b ∷ []) ∷ c ∷ [])
 unfolding first_cause
@@ -188,23 +180,3 @@ module _ (image : Image) (pages : List ℕ) where
 
   pub grow_free : draft_cause history ≡ None → no_scn image ≡ None → grow_cause image pages ≡ None
   grow_free room scn = grow_is ∙ first_next (draft_cause history) (no_scn image ∷ []) room ∙ first_next (no_scn image) [] scn ∙ first_none
-
--- Whatever is in the database: strokes were made, and then those of the link.
-pub some_failed : (number : ℕ) (fault : Fault) (old mid new : World) (a b c : Held) (t : Trail) (made : List Stroke) → Makes (Ok number) old mid a b t made → (cause : Cause) (ys : List Stroke)
-    → Tries {T = Unit {0}} (Err fault) mid new b c (after_strokes t made) cause ys → MakesSome {T = ℕ} (Err fault) old new a c t
-some_failed number fault old mid new a b c t made first cause ys tries = record {
-  made = made ++ unless_by cause ys;
-  makes = makes_then number (Err fault) old mid new a b c t made (unless_by cause ys) first (makes_as (Unit {0}) ℕ fault mid new b c (after_strokes t made) (unless_by cause ys) tries.makes);
-}
-
-pub some_done : (number : ℕ) (old mid new : World) (a b c : Held) (t : Trail) (made : List Stroke) → Makes (Ok number) old mid a b t made → (cause : Cause) (ys : List Stroke)
-    → Tries {T = Unit {0}} (Ok tt) mid new b c (after_strokes t made) cause ys → MakesSome (Ok number) old new a c t
-some_done number old mid new a b c t made first cause ys tries = record {
-  made = made ++ unless_by cause ys;
-  makes = makes_then number (Ok number) old mid new a b c t made (unless_by cause ys) first (makes_valued {S = Unit {0}} tt number mid new b c (after_strokes t made) (unless_by cause ys) tries.makes);
-}
-
--- the number alone
-pub grown_is : (result : Result ℕ Fault) (image : Image) (chain : Chain) (pages slots : List ℕ) → IfOk result (IsGrown image chain pages slots) → IfOk result (λ number. number ≡ (grown chain pages slots (drafted image)).1)
-grown_is (Ok number) image chain pages slots is = is.is
-grown_is (Err fault) image chain pages slots is = tt

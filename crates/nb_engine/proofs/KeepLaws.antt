@@ -1,29 +1,19 @@
 -- Where a slot is kept for a row of the history, and why none is.
-use Rattle.std.proofs.Common.{◌≡◌, ℕ, ◌<◌, List, [], ◌∷◌, length, refl, sym, ap, subst, ◌∙◌, arith}
-use Rattle.std.specs.Prelude.{Bool, true, false, Option, Some, None, Ok, Err}
-use Rattle.std.proofs.lemmas.List.{append-nil}
-use Rattle.nb_host.specs.World.{World}
-use Rattle.nb_host.specs.declared.faults.Fault.{Fault}
+use Rattle.std.proofs.Common.{◌≡◌, ℕ, ◌<◌, List, [], ◌∷◌, length, refl, sym, ap, ◌∙◌, arith}
+use Rattle.std.specs.Prelude.{Bool, true, false, Option, Some, None}
 use Rattle.nb_host.specs.declared.refusals.Refusal.TheVariants.{Full}
 use Rattle.nb_alloc.proofs.TestLaws.{rests}
 use Rattle.nb_model.proofs.ReadLaws.{lt_no}
 use Rattle.nb_model.specs.Image.{Image}
-use Rattle.nb_model.specs.Strokes.{Stroke}
-use Rattle.nb_model.specs.Trail.{Trail}
 use Rattle.nb_model.specs.Forms.{Draft, drafted, needs, is_kind, is_free_page, inventory_of, scn_page_of}
 use Rattle.nb_model.specs.Causes.{Cause, first_cause, when, broken_at, not_of_form, no_room, no_scn, too_short, short_for}
 use Rattle.nb_model.specs.Chains.{History, Spot, pages_of, found_pages, spots, free_spot, grown}
 use Rattle.nb_model.specs.Backups.{Room as Kept, room_in, needs_taken}
 use Rattle.nb_model.proofs.PutSound.{needs_image}
-use Rattle.nb_state.specs.Open.{Held}
-use Rattle.nb_state.specs.Does.{unless_by}
 use Rattle.nb_engine.specs.declared.walk.Room.{Room}
 use Rattle.nb_engine.specs.History.{room_at}
 use Rattle.nb_engine.specs.Room.{room_cause, IsRoomIn, taken_draft, grow_cause}
 use Rattle.nb_alloc.proofs.CauseLaws.{first_next}
-use Rattle.nb_alloc.specs.Tries.{Tries}
-use Rattle.nb_alloc.proofs.DoesLaws.{tries_front}
-use Rattle.nb_alloc.proofs.WhereLaws.{makes_valued}
 use Rattle.nb_engine.proofs.WalkLaws.{IsData, history_least}
 
 -- what a test of inventories leaves
@@ -163,10 +153,3 @@ room_none (Some s) e = absurd (some_none e)
   where
     some_none : room_at (Some s) ≡ None → ⊥
     some_none d = cc
-
--- what a call does does also one that answers by it
-pub tries_other : (S T : Type 0) (fault : Fault) (old new : World) (a b : Held) (t : Trail) (cause : Cause) (xs : List Stroke) → Tries {T = S} (Err fault) old new a b t cause xs → Tries {T = T} (Err fault) old new a b t cause xs
-tries_other S T fault old new a b t cause xs tries = subst (λ (ss : List Stroke). Tries {T = T} (Err fault) old new a b t cause ss) (append-nil xs) (tries_front S T fault old new a b t cause xs [] tries)
-
-pub tries_valued : {S T : Type 0} (v : S) (w : T) (old new : World) (a b : Held) (t : Trail) (cause : Cause) (xs : List Stroke) → Tries (Ok v) old new a b t cause xs → Tries (Ok w) old new a b t cause xs
-tries_valued v w old new a b t cause xs tries = record { test = tries.test; makes = makes_valued v w old new a b t (unless_by cause xs) tries.makes; idle = tries.idle }

@@ -19,7 +19,7 @@ use Rattle.nb_model.proofs.ReadLaws.{le_no}
 use Rattle.nb_model.proofs.SoundLaws.{scn_page_there, scn_place_some}
 use Rattle.nb_alloc.specs.Put.{entry_cause, raise_strokes}
 use Rattle.nb_alloc.specs.Make.{page_strokes}
-use Rattle.nb_engine.specs.Room.{link_cause}
+use Rattle.nb_engine.specs.Room.{write_cause}
 use Rattle.nb_alloc.proofs.CauseLaws.{first_next, first_here, one_cause}
 use Rattle.nb_alloc.proofs.TestLaws.{applies, rests, le_yes}
 use Rattle.nb_alloc.proofs.PutLaws.{Keeps, put_stroke-after, draft_raised, not_raised, raised_not, scn_page-without}
@@ -87,9 +87,9 @@ pub slot_strokes : (b : Base) (p slot : ℕ) (bytes : Slot) → IsTrue (is_page_
 unfolding put_slot
 slot_strokes b p slot bytes size low none = any_strokes b p size none 5 (drop 16 (with_part (32 + 256 * slot) bytes (page_at b.image p))) low
 
--- why a page isn't linked
-pub link_low : (image : Image) (p : ℕ) → p < length image → entry_cause image p ≡ link_cause image p
-link_low image p low = sym (first_next (when (nat_le (length image) p) (NotDatabase p)) (entry_cause image p ∷ []) (rests _ _ (le_no (length image) p low)) ∙ one_cause (entry_cause image p))
+-- why a page isn't written
+pub write_low : (image : Image) (p : ℕ) → p < length image → entry_cause image p ≡ write_cause image p
+write_low image p low = sym (first_next (when (nat_le (length image) p) (NotDatabase p)) (entry_cause image p ∷ []) (rests _ _ (le_no (length image) p low)) ∙ one_cause (entry_cause image p))
 
-pub link_past : (image : Image) (p : ℕ) → length image ≤ p → link_cause image p ≡ Some (NotDatabase p)
-link_past image p far = first_here (when (nat_le (length image) p) (NotDatabase p)) (entry_cause image p ∷ []) (NotDatabase p) (applies _ _ (le_yes (length image) p far))
+pub write_past : (image : Image) (p : ℕ) → length image ≤ p → write_cause image p ≡ Some (NotDatabase p)
+write_past image p far = first_here (when (nat_le (length image) p) (NotDatabase p)) (entry_cause image p ∷ []) (NotDatabase p) (applies _ _ (le_yes (length image) p far))

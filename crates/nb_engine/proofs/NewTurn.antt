@@ -1,6 +1,7 @@
 -- What making a new page does of its turn.
 use Rattle.std.proofs.Common.{◌≡◌, ◌<◌, ◌≤◌, ℕ, List, [], ◌∷◌, length, refl, sym, ap, subst, ◌∙◌, arith}
-use Rattle.std.specs.Prelude.{true, false, IsTrue, Some, None, Result, Ok, Err, IfOk, IfErr}
+use Rattle.std.specs.Prelude.{true, false, IsTrue, Some, None, Result, IfOk}
+use Rattle.std.proofs.lemmas.Result.{IfOk-weaker}
 use Rattle.nb_fields.specs.Bytes.{bytes_of}
 use Rattle.nb_fields.specs.Places.{is_page_size}
 use Rattle.nb_fields.specs.Payloads.{text_payload}
@@ -10,26 +11,27 @@ use Rattle.nb_host.specs.declared.refusals.Refusal.{Refusal}
 use Rattle.nb_host.specs.declared.refusals.Refusal.TheVariants.{Access, NotDatabase}
 use Rattle.nb_model.specs.declared.reply.Reply.{Reply}
 use Rattle.nb_model.specs.declared.reply.Reply.TheVariants.{Refused, PageMade}
-use Rattle.nb_model.specs.Image.{Image, image_size, image_scn, is_read_only}
+use Rattle.nb_model.specs.Image.{Image, image_scn, is_read_only}
 use Rattle.nb_model.specs.Strokes.{Stroke}
 use Rattle.nb_model.specs.Trail.{Trail}
 use Rattle.nb_model.specs.Forms.{Draft}
 use Rattle.nb_model.specs.Causes.{first_cause, read_only, too_short}
 use Rattle.nb_model.specs.Outcomes.{Seen, says}
 use Rattle.nb_model.specs.Pages.{new_turn}
-use Rattle.nb_model.specs.Sound.{IsSoundImage, HasHeader, IsOfSize}
+use Rattle.nb_model.specs.Sound.{IsSoundImage, HasHeader}
 use Rattle.nb_model.proofs.ReadLaws.{lt_no, lt_yes}
 use Rattle.nb_model.proofs.SearchLaws.{draft_cause}
 use Rattle.nb_model.proofs.StepLaws.{IsShaped}
-use Rattle.nb_base.specs.Takes.{IsNoRefusal}
 use Rattle.nb_state.specs.Open.{Held, IsOpen}
-use Rattle.nb_state.specs.Does.{Makes, Does}
+use Rattle.nb_state.specs.Does.{Does}
+use Rattle.nb_state.proofs.SizeLaws.{open_sized}
 use Rattle.nb_alloc.specs.Make.{IsWell, new_raw}
 use Rattle.nb_engine.specs.Replies.{page_made}
 use Rattle.nb_alloc.specs.Search.{IsSearchable}
+use Rattle.nb_alloc.specs.Tries.{Tries}
 use Rattle.nb_alloc.proofs.TestLaws.{applies, rests}
 use Rattle.nb_alloc.proofs.CauseLaws.{unless_refused, unless_allowed, first_none, first_next, first_here, refused_by, judged_by}
-use Rattle.nb_alloc.proofs.DoesLaws.{seeing, tries_made, tries_does}
+use Rattle.nb_alloc.proofs.DoesLaws.{seeing, tries_does}
 
 -- the bytes of the empty text
 pub empty_is : 0 ∷ 0 ∷ [] ≡ text_payload []
@@ -43,11 +45,11 @@ header_of w held t is scn = record { header = is.files.agrees.header; scn = scn 
 pub well_of : (w : World) (held : Held) (t : Trail) → IsOpen w held t → IsTrue (is_page_size held.files.page_size) → image_scn t.base.image < 4294967296 → IsSoundImage t.base.image → IsWell t.base.image
 well_of w held t is size scn sound = record { sound = sound; size = subst (λ (n : ℕ). IsTrue (is_page_size n)) is.files.agrees.page_size size; scn = scn }
 
-pub shaped_of : (w : World) (held : Held) (t : Trail) → IsOpen w held t → IsTrue (is_page_size held.files.page_size) → 3 ≤ length t.base.image → IsOfSize (image_size t.base.image) t.base.image → IsShaped t.base.image
-shaped_of w held t is size least sizes = record { size = subst (λ (n : ℕ). IsTrue (is_page_size n)) is.files.agrees.page_size size; least = least; sizes = sizes }
+pub shaped_of : (w : World) (held : Held) (t : Trail) → IsOpen w held t → IsTrue (is_page_size held.files.page_size) → 3 ≤ length t.base.image → IsShaped t.base.image
+shaped_of w held t is size least = record { size = subst (λ (n : ℕ). IsTrue (is_page_size n)) is.files.agrees.page_size size; least = least; sizes = open_sized w held t is }
 
-pub searchable_of : (w : World) (held : Held) (t : Trail) → IsOpen w held t → IsTrue (is_page_size held.files.page_size) → 5 ≤ length t.base.image → IsOfSize (image_size t.base.image) t.base.image → IsSearchable t.base.image
-searchable_of w held t is size long sizes = record { shaped = shaped_of w held t is size (omega (arith, long)) sizes; long = long }
+pub searchable_of : (w : World) (held : Held) (t : Trail) → IsOpen w held t → IsTrue (is_page_size held.files.page_size) → 5 ≤ length t.base.image → IsSearchable t.base.image
+searchable_of w held t is size long = record { shaped = shaped_of w held t is size (omega (arith, long)); long = long }
 
 -- the turn, by its causes
 module _ (s : Seen) where
@@ -83,15 +85,10 @@ module _ (s : Seen) where
       unfolding new_turn
       new_says none = judged_by s (read_only image ∷ too_short image ∷ []) draft reply open_to_change ∙ unless_allowed s (draft_cause draft) (says s reply draft.strokes) none
 
--- what is said of a number is said of an equal one
-number_said : (result : Result ℕ Fault) (n : ℕ) → IfOk result (λ number. number ≡ n) → IfOk result (λ number. page_made number ≡ PageMade n)
-number_said (Ok number) n same = ap PageMade same
-number_said (Err fault) n same = tt
-
 -- a run of calls that made the strokes does the turn
 pub made_does : (result : Result ℕ Fault) (old new : World) (a b : Held) (t : Trail) (s : Seen) (n : ℕ) (strokes : List Stroke) → t.base ≡ s.base
-    → new_turn (seeing s t.base) ≡ says (seeing s t.base) (PageMade n) strokes → IfOk result (λ number. number ≡ n) → IfErr result IsNoRefusal → Makes result old new a b t strokes
+    → new_turn (seeing s t.base) ≡ says (seeing s t.base) (PageMade n) strokes → IfOk result (λ number. number ≡ n) → Tries result old new a b t None strokes
     → Does page_made result old new a b t (new_turn s)
-made_does result old new a b t s n strokes same turn number sure makes =
+made_does result old new a b t s n strokes same turn number tries =
     tries_does page_made result old new a b t s new_turn None (PageMade n) refl strokes same
-    (turn ∙ sym (unless_allowed (seeing s t.base) None (says (seeing s t.base) (PageMade n) strokes) refl)) (number_said result n number) (tries_made result old new a b t None strokes refl sure makes)
+    (turn ∙ sym (unless_allowed (seeing s t.base) None (says (seeing s t.base) (PageMade n) strokes) refl)) (IfOk-weaker result _ _ (λ value is. ap PageMade is) number) tries

@@ -1,23 +1,16 @@
--- Slots of the history, one by one: which are of the form, and what a walk comes by.
-use Rattle.std.proofs.Common.{◌≡◌, ◌≢◌, ℕ, zero, suc, List, [], ◌∷◌, ◌++◌, get_or, refl, sym, ap, ◌∙◌, arith}
-use Rattle.std.specs.Prelude.{Bool, true, false, ◌&&◌, ◌||◌, ◌==◌, nat_le, nat_eq, Option, Some, None, slice_index, is_some}
-use Rattle.nb_fields.specs.Bytes.{number_of, number_in, part}
-use Rattle.nb_host.specs.Names.{is_name}
-use Rattle.nb_model.specs.Chains.{History, Slot, Spot, is_used, is_slot, is_filled, length_in, file_in, first_such, last_such, free_spot}
-use Rattle.nb_model.proofs.ReadLaws.{eq_no, eq_yes}
+-- Slots of the history, one by one: what they hold, and what a walk comes by.
+use Rattle.std.proofs.Common.{◌≡◌, List, [], ◌∷◌, ◌++◌, ℕ, refl, sym, ap, ◌∙◌}
+use Rattle.std.specs.Prelude.{Bool, true, false, ◌&&◌, ◌==◌, nat_eq, Option, Some, None, slice_index, is_some}
+use Rattle.nb_fields.specs.Bytes.{number_in, part}
+use Rattle.nb_model.specs.Image.{Image}
+use Rattle.nb_model.specs.Chains.{Slot, Spot, is_used, file_in, spots_of, first_such, last_such, free_spot}
+use Rattle.nb_model.proofs.ReadLaws.{eq_yes}
+use Rattle.nb_walk.proofs.FirstLaws.{stays, misses, hits}
 use Rattle.nb_engine.specs.declared.rows.HistoryRow.{HistoryRow}
 use Rattle.nb_engine.specs.declared.rows.Wanted.{Wanted}
 use Rattle.nb_engine.specs.declared.walk.Room.{Room}
 use Rattle.nb_engine.specs.declared.walk.Walked.{Walked}
 use Rattle.nb_engine.specs.History.{row_in, row_at, room_at, meets, gathered}
-
--- a number of one byte is that byte
-pub byte_at : (at : ℕ) (bytes : List ℕ) → number_in at 1 bytes ≡ get_or bytes at 0
-unfolding number_in number_of
-byte_at zero [] = refl
-byte_at zero (b ∷ bs) = omega arith
-byte_at (suc at) [] = refl
-byte_at (suc at) (b ∷ bs) = byte_at at bs
 
 -- a row, by its fields
 abbrev pub row_of : (time level : ℕ) (guid : List ℕ) (scn : ℕ) (name : List ℕ) → HistoryRow
@@ -29,29 +22,7 @@ row_is slot time level guid scn name a b c d e =
     ap (λ (x : ℕ). row_of x level guid scn name) a ∙ ap (λ (x : ℕ). row_of (number_in 8 8 slot) x guid scn name) b ∙ ap (λ (x : List ℕ). row_of (number_in 8 8 slot) (slice_index slot 1) x scn name) c
     ∙ ap (λ (x : ℕ). row_of (number_in 8 8 slot) (slice_index slot 1) (part 16 16 slot) x name) d ∙ ap (λ (x : List ℕ). row_of (number_in 8 8 slot) (slice_index slot 1) (part 16 16 slot) (number_in 4 4 slot) x) e
 
--- the name of a used slot is of the form
-abbrev pub names : Slot → Bool
-names slot = nat_le (length_in slot) 100 && is_name (file_in slot)
-
--- which slots are of the form, by the first byte
-module _ (slot : Slot) where
-  abbrev first : ℕ
-  first = slice_index slot 0
-
-  pub slot_free : first ≡ 0 → is_slot History slot ≡ true
-  unfolding is_slot
-  slot_free e = ap (λ (t : Bool). t || (is_used slot && is_filled History slot)) (eq_yes first 0 e)
-
-  pub slot_used : first ≡ 1 → is_slot History slot ≡ names slot
-  unfolding is_slot
-  slot_used e = ap (λ (n : ℕ). n == 0 || (n == 1 && is_filled History slot)) e
-
-  pub slot_other : first ≢ 0 → first ≢ 1 → is_slot History slot ≡ false
-  unfolding is_slot
-  slot_other no_zero no_one =
-      ap (λ (t : Bool). t || (is_used slot && is_filled History slot)) (eq_no first 0 no_zero) ∙ ap (λ (t : Bool). t && is_filled History slot) (eq_no first 1 no_one)
-
--- one more after a list
+-- the last that passes a test, and one more after the list
 module _ {X : Type 0} (test : X → Bool) (x : X) where
   pub last_hit : (xs : List X) → test x ≡ true → last_such test (xs ++ x ∷ []) ≡ Some x
   unfolding last_such
@@ -62,38 +33,6 @@ module _ {X : Type 0} (test : X → Bool) (x : X) where
   unfolding last_such
   last_miss [] e = ap (λ (t : Bool). elim t as (λ z. Option X) [ true ↦ Some x | false ↦ None ]) e
   last_miss (y ∷ ys) e = ap (λ (o : Option X). elim o as (λ z. Option X) [ Some z ↦ Some z | None ↦ elim (test y) as (λ z. Option X) [ true ↦ Some y | false ↦ None ] ]) (last_miss ys e)
-
-  abbrev next_such : (y : X) → (ys : List X) → Bool → Option X
-  next_such y ys t = elim t [ true ↦ Some y | false ↦ first_such test ys ]
-
-  pub first_held : (xs : List X) (z : X) → first_such test xs ≡ Some z → first_such test (xs ++ x ∷ []) ≡ Some z
-  unfolding first_such
-  first_held [] z e = absurd (none_some e)
-    where
-      none_some : None ≡ Some z → ⊥
-      none_some d = cc
-  first_held (y ∷ ys) z e = by (first_held ys z) (test y) refl
-    where
-      by : (first_such test ys ≡ Some z → first_such test (ys ++ x ∷ []) ≡ Some z) → (t : Bool) → test y ≡ t → next_such y (ys ++ x ∷ []) (test y) ≡ Some z
-      by behind true d = ap (next_such y (ys ++ x ∷ [])) d ∙ sym (ap (next_such y ys) d) ∙ e
-      by behind false d = ap (next_such y (ys ++ x ∷ [])) d ∙ behind (sym (ap (next_such y ys) d) ∙ e)
-
-  pub first_hit : (xs : List X) → first_such test xs ≡ None → test x ≡ true → first_such test (xs ++ x ∷ []) ≡ Some x
-  unfolding first_such
-  first_hit [] e here = ap (next_such x []) here
-  first_hit (y ∷ ys) e here = by (λ d. first_hit ys d here) (test y) refl
-    where
-      some_none : Some y ≡ None → ⊥
-      some_none d = cc
-
-      by : (first_such test ys ≡ None → first_such test (ys ++ x ∷ []) ≡ Some x) → (t : Bool) → test y ≡ t → next_such y (ys ++ x ∷ []) (test y) ≡ Some x
-      by behind true d = absurd (some_none (sym (ap (next_such y ys) d) ∙ e))
-      by behind false d = ap (next_such y (ys ++ x ∷ [])) d ∙ behind (sym (ap (next_such y ys) d) ∙ e)
-
-  pub first_miss : (xs : List X) → test x ≡ false → first_such test (xs ++ x ∷ []) ≡ first_such test xs
-  unfolding first_such
-  first_miss [] e = ap (next_such x []) e
-  first_miss (y ∷ ys) e = ap (λ (o : Option X). elim (test y) as (λ z. Option X) [ true ↦ Some y | false ↦ o ]) (first_miss ys e)
 
 abbrev pub walked_of : Option HistoryRow → Option Room → Walked
 walked_of row room = record { row = row; room = room }
@@ -122,42 +61,23 @@ module _ (wanted : Wanted) (ss : List Spot) (s : Spot) (old : Walked) (is : old 
   row_kept : taken s ≡ false → old.row ≡ row_at (last_such taken more)
   row_kept e = ap (λ (x : Walked). x.row) is ∙ ap row_at (sym (last_miss taken s ss e))
 
+  room_is : old.room ≡ room_at (first_such unused ss)
+  unfolding free_spot
+  room_is = ap (λ (x : Walked). x.room) is
+
   room_kept : unused s ≡ false → old.room ≡ room_at (free_spot more)
   unfolding free_spot
-  room_kept e = ap (λ (x : Walked). x.room) is ∙ ap room_at (sym (first_miss unused s ss e))
-
-  -- the first free slot before it, if there is one
-  none_before : is_some old.room ≡ false → first_such unused ss ≡ None
-  unfolding free_spot
-  none_before e = by (first_such unused ss) refl
-    where
-      true_false : true ≡ false → ⊥
-      true_false d = cc
-
-      by : (o : Option Spot) → first_such unused ss ≡ o → first_such unused ss ≡ None
-      by None d = d
-      by (Some y) d = absurd (true_false (sym (ap (λ (x : Walked). is_some x.room) is ∙ ap (λ (x : Option Spot). is_some (room_at x)) d) ∙ e))
-
-  some_before : is_some old.room ≡ true → first_such unused more ≡ first_such unused ss
-  unfolding free_spot
-  some_before e = by (first_such unused ss) refl
-    where
-      true_false : false ≡ true → ⊥
-      true_false d = cc
-
-      by : (o : Option Spot) → first_such unused ss ≡ o → first_such unused more ≡ first_such unused ss
-      by (Some y) d = first_held unused s ss y d ∙ sym d
-      by None d = absurd (true_false (sym (ap (λ (x : Walked). is_some x.room) is ∙ ap (λ (x : Option Spot). is_some (room_at x)) d) ∙ e))
+  room_kept e = misses room_at unused ss s old.room room_is refl (λ x. refl) e
 
   -- the first free slot
   pub free_first : is_some old.room ≡ false → slice_index s.bytes 0 ≡ 0 → walked_of old.row (Some place) ≡ gathered wanted more
   unfolding free_spot
-  free_first none e = both _ _ _ _ (row_kept (free_not e)) (sym (ap room_at (first_hit unused s ss (none_before none) (eq_yes (slice_index s.bytes 0) 0 e))))
+  free_first none e = both _ _ _ _ (row_kept (free_not e)) (hits room_at unused ss s old.room room_is refl (λ x. refl) none (eq_yes (slice_index s.bytes 0) 0 e))
 
   -- a free slot more
   pub free_more : is_some old.room ≡ true → slice_index s.bytes 0 ≡ 0 → old ≡ gathered wanted more
   unfolding free_spot
-  free_more some e = both _ _ _ _ (row_kept (free_not e)) (ap (λ (x : Walked). x.room) is ∙ ap room_at (sym (some_before some)))
+  free_more some e = both _ _ _ _ (row_kept (free_not e)) (stays room_at unused ss s old.room room_is refl (λ x. refl) some)
 
   -- a row that is looked for
   pub used_met : slice_index s.bytes 0 ≡ 1 → meets wanted (row_in s.bytes) ≡ true → walked_of (Some (row_in s.bytes)) old.room ≡ gathered wanted more
@@ -168,3 +88,12 @@ module _ (wanted : Wanted) (ss : List Spot) (s : Spot) (old : Walked) (is : old 
   pub used_other : slice_index s.bytes 0 ≡ 1 → meets wanted (row_in s.bytes) ≡ false → old ≡ gathered wanted more
   used_other e other =
       both _ _ _ _ (row_kept (ap (λ (n : ℕ). n == 1 && meets wanted (row_in s.bytes)) e ∙ other)) (room_kept (ap (λ (n : ℕ). nat_eq n 0) e))
+
+-- a walk has come by the slots of these pages
+abbrev pub Gathers : Wanted → Image → Walked → List ℕ → Type 0
+Gathers wanted image walked ps = walked ≡ gathered wanted (spots_of image ps)
+
+-- of none yet
+pub gathered_none : (wanted : Wanted) (image : Image) → Gathers wanted image (walked_of None None) []
+unfolding first_such last_such free_spot spots_of
+gathered_none wanted image = refl

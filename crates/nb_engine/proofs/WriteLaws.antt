@@ -1,25 +1,35 @@
 -- Why a raw page isn't written, and the turn that writes it.
 use Rattle.std.proofs.Common.{◌≡◌, ◌≢◌, inl, inr, ℕ, ◌<◌, List, [], ◌∷◌, ◌++◌, length, refl, sym, ap, ◌∙◌, arith}
-use Rattle.std.specs.Prelude.{Bool, true, false, not, ◌==◌, nat_le, Some, None}
+use Rattle.std.specs.Prelude.{Bool, true, false, not, ◌==◌, nat_le, Some, None, Result, Ok, IfErr}
 use Rattle.std.proofs.lemmas.Bool.{eqb-true}
 use Rattle.std.proofs.lemmas.Bool.Decides.{leb_tells}
 use Rattle.nb_fields.specs.Header.{is_header}
 use Rattle.nb_fields.specs.Places.{entries_in}
 use Rattle.nb_fields.specs.Page.{kind_of}
 use Rattle.nb_fields.specs.Payloads.{text_payload}
+use Rattle.nb_host.specs.World.{World}
+use Rattle.nb_host.specs.declared.faults.Fault.{Fault}
 use Rattle.nb_host.specs.declared.refusals.Refusal.{Refusal}
 use Rattle.nb_host.specs.declared.refusals.Refusal.TheVariants.{SystemPage}
 use Rattle.nb_model.specs.declared.reply.Reply.TheVariants.{Refused, Done}
-use Rattle.nb_model.specs.Image.{Image, first_page, page_at, image_size}
+use Rattle.nb_model.specs.Image.{Page, Image, first_page, page_at, image_size}
 use Rattle.nb_model.specs.Account.{Base}
 use Rattle.nb_model.specs.Forms.{Draft, drafted, put, inventory_of}
 use Rattle.nb_model.specs.Causes.{Cause, first_cause, when, past_end, read_only, not_kind, not_raw, too_long, not_of_form, no_room}
 use Rattle.nb_model.specs.Outcomes.{Seen, says, unless}
 use Rattle.nb_model.specs.Pages.{write_turn}
+use Rattle.nb_model.specs.Trail.{Trail}
 use Rattle.nb_model.proofs.HeaderLaws.{header-kind}
+use Rattle.nb_base.specs.Takes.{IsNoRefusal}
+use Rattle.nb_state.specs.Open.{Held, IsOpen}
+use Rattle.nb_state.specs.Does.{Makes, Does}
 use Rattle.nb_alloc.specs.Put.{entry_cause, raise_strokes, raw_stroke}
+use Rattle.nb_alloc.specs.Tries.{Tries}
 use Rattle.nb_alloc.proofs.CauseLaws.{first_none, first_next, first_here, refused_by, judged_by, unless_these}
-use Rattle.nb_alloc.proofs.PutLaws.{put_strokes, put_form, put_room, put_refused}
+use Rattle.nb_alloc.proofs.DoesLaws.{seeing, tries_does, if_ok}
+use Rattle.nb_alloc.proofs.PageLaws.{then_page}
+use Rattle.nb_alloc.proofs.PutLaws.{put_stroke-after, put_strokes, put_form, put_room, put_refused}
+use Rattle.nb_engine.specs.Replies.{done}
 
 -- no cause of a list applies
 no_causes : (c : Cause) (cs : List Cause) → first_cause (c ∷ cs) ≡ None → (c ≡ None) × (first_cause cs ≡ None)
@@ -109,3 +119,12 @@ module _ (s : Seen) (p : ℕ) (text : List ℕ) where
         judged_by s (not_raw image p ∷ own) draft Done (first_next (not_raw image p) own raw ∙ free)
         ∙ ap (λ (c : Cause). unless s c (says s Done draft.strokes)) (put_cause s.base p 8 (text_payload text))
         ∙ unless_these s (entry_cause image p) Done draft.strokes _ (λ none. let is = is_raw image p raw in put_strokes s.base p 8 (text_payload text) is.low is.plain some none)
+
+-- The text is written into a page that was read before its entry was raised.
+pub write_does : (result : Result (Unit {0}) Fault) (old mid new : World) (a b c : Held) (t : Trail) (s : Seen) (p : ℕ) (text : List ℕ) (read : Page) → t.base ≡ s.base → not_raw t.base.image p ≡ None
+    → first_cause (read_only t.base.image ∷ too_long text ∷ []) ≡ None → 0 < entries_in (image_size t.base.image) → Tries {T = Unit {0}} (Ok tt) old mid a b t (entry_cause t.base.image p) (raise_strokes t.base.image p)
+    → read ≡ page_at t.base.image p → IfErr result IsNoRefusal → ((u : Trail) → IsOpen mid b u → read ≡ page_at u.base.image p → Makes result mid new b c u (raw_stroke u.base.image p text ∷ [])) → Does done result old new a c t (write_turn s p text)
+write_does result old mid new a b c t s p text read same raw free some first is never writes =
+    tries_does done result old new a c t s (λ (x : Seen). write_turn x p text) (entry_cause t.base.image p) Done refl (raise_strokes t.base.image p ++ raw_stroke t.base.image p text ∷ []) same
+    (write_is (seeing s t.base) p text raw free some) (if_ok result (λ value. done value ≡ Done) (λ value. refl))
+    (then_page old mid a b t p (is_raw t.base.image p raw).plain some first result new c read (λ (x : Image). raw_stroke x p text) is (put_stroke-after t.base.image _ p 8 (text_payload text)) never writes)

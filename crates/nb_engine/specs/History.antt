@@ -1,11 +1,8 @@
 -- What a walk over the backup history comes by.
-use Rattle.std.specs.Prelude.{ℕ, ◌+◌, ◌*◌, ◌<◌, ◌≤◌, List, Option, Some, None, Bool, false, not, nat_eq, ◌&&◌}
+use Rattle.std.specs.Prelude.{ℕ, ◌+◌, ◌*◌, ◌<◌, ◌≤◌, List, Option, Some, None, Bool, false, nat_eq, ◌&&◌}
 use Rattle.nb_fields.specs.Bytes.{number_in}
 use Rattle.nb_host.specs.Names.{same_name}
-use Rattle.nb_host.specs.declared.refusals.Refusal.TheVariants.{NotDatabase}
-use Rattle.nb_model.specs.Image.{Image}
-use Rattle.nb_model.specs.Causes.{Cause, when}
-use Rattle.nb_model.specs.Chains.{History, Slot, Spot, is_used, is_in_chain, level_in, scn_in, guid_in, file_in, last_such, free_spot}
+use Rattle.nb_model.specs.Chains.{Slot, Spot, is_used, level_in, scn_in, guid_in, file_in, last_such, free_spot}
 use Rattle.nb_engine.specs.declared.rows.HistoryRow.{HistoryRow}
 use Rattle.nb_engine.specs.declared.rows.Wanted.{Wanted}
 use Rattle.nb_engine.specs.declared.rows.Wanted.TheVariants.{Level, Guid, Nothing}
@@ -35,10 +32,6 @@ meets Nothing row = false
 -- what a walk over these slots comes by: the last row that is looked for, and the first free slot
 abbrev pub gathered : Wanted → List Spot → Walked
 gathered wanted ss = record { row = row_at (last_such (λ s. is_used s.bytes && meets wanted (row_in s.bytes)) ss); room = room_at (free_spot ss) }
-
--- the page isn't one of the history
-abbrev pub not_linked : Image → ℕ → Cause
-not_linked image p = when (not (is_in_chain History image p)) (NotDatabase p)
 
 -- The slot is in a page of that size, which isn't page 0.
 pub record IsPlaced (page_size : ℕ) (room : Room) : Type 0 where

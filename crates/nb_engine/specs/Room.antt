@@ -36,9 +36,9 @@ no_rows = data_payload 0 1 []
 abbrev pub linked_payload : Image → (p next : ℕ) → List ℕ
 linked_payload image p next = drop 16 (with_part 16 (bytes_of 4 next) (page_at image p))
 
--- why it isn't linked
-abbrev pub link_cause : Image → ℕ → Cause
-link_cause image p = first_cause (when (nat_le (length image) p) (NotDatabase p) ∷ entry_cause image p ∷ [])
+-- why page p, which may be past the end, isn't written
+abbrev pub write_cause : Image → (p : ℕ) → Cause
+write_cause image p = first_cause (when (nat_le (length image) p) (NotDatabase p) ∷ entry_cause image p ∷ [])
 
 -- A page with these slots may be made after page `last` of the chain: the search for its place comes to page `first` at first, whose
 -- inventory page is that map, and all that the page and the link to it change is of its kind. The payload is what it has after its head.

@@ -1,18 +1,17 @@
 // A backup begins and ends, and what was changed meanwhile is merged.
 ghost use Rattle.std.specs.Prelude.{◌≡◌, ◌≢◌, ℕ, List, length, IsTrue, IfErr, IfOk, OnOk, Option, Some};
 ghost use Rattle.nb_host.specs.declared.faults.Fault.TheVariants.{Memory};
-ghost use Rattle.nb_change.specs.Counts.{CountsDevice};
+ghost use Rattle.nb_host.specs.Causes.{CountsDevice, CountsFault};
 ghost use Rattle.nb_model.specs.Account.{Ask};
 ghost use Rattle.nb_model.specs.Outcomes.{Seen, next_guid};
 ghost use Rattle.nb_model.specs.Pages.{begin_turn, end_turn, end_scn};
 ghost use Rattle.nb_model.specs.Trail.{Trail};
-ghost use Rattle.nb_base.specs.Takes.{IsNoRefusal};
 ghost use Rattle.nb_state.specs.Open.{IsOpen};
 ghost use Rattle.nb_state.specs.Turns.{GaveAtMost, GoesOn, PutsOn, Merges};
 ghost use Rattle.nb_engine.specs.Turns.{DoesBegin, DoesEnd, Starts};
 
 use crate::Engine;
-use nb_host::{Fault, Host, Refusal};
+use nb_host::{Fault, Host, HostFault, Refusal};
 use nb_state::Progress;
 
 impl Engine {
@@ -58,16 +57,14 @@ impl Engine {
 
     /// Merges one page that was changed in the stalled state, which changes that page of the main file and nothing else, or finishes the merge once
     /// all are, which removes the difference file. Whatever the files hold.
-    pub fn merge_turn<H: Host>(&mut self, host: &mut H) -> Result<Progress, Fault>
+    pub fn merge_turn<H: Host>(&mut self, host: &mut H) -> Result<Progress, HostFault>
         requires merge { self.old.files.state ≡ 2 }
         ensures merges { (t : Trail) → IsTrue H.tells → IsOpen (H.world host.old) self.old t → Merges result (H.world host.old) (H.world host.new) self.old self.new t }
         ensures goes { IfOk result (λ progress. GoesOn progress self.old self.new) }
         ensures puts { IsTrue H.tells → IfOk result (λ progress. PutsOn progress (H.world host.old).files (H.world host.new).files self.old) }
         ensures page_size { self.new.files.page_size ≡ self.old.files.page_size }
         ensures cap { self.new.cap ≡ self.old.cap }
-        ensures cause { CountsDevice result (H.faults host.old) (H.faults host.new) }
-        ensures not_refused { IfErr result IsNoRefusal }
-        ensures takes_none { IfErr result (λ fault. fault ≢ Memory) }
+        ensures cause { CountsFault result (H.faults host.old) (H.faults host.new) }
     {
         self.store.merge_turn(host)
     }

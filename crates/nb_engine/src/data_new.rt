@@ -2,17 +2,15 @@
 ghost use Rattle.std.specs.Prelude.{◌≡◌, ◌≢◌, ◌+◌, ◌<◌, ◌≤◌, ℕ, List, true, IsTrue, IfErr, IfOk, OnOk, length};
 ghost use Rattle.nb_fields.specs.Payloads.{data_payload};
 ghost use Rattle.nb_host.specs.declared.faults.Fault.TheVariants.{Memory};
-ghost use Rattle.nb_change.specs.Counts.{CountsDevice};
+ghost use Rattle.nb_host.specs.Causes.{CountsDevice};
 ghost use Rattle.nb_page.specs.Quiet.{Quiet};
 ghost use Rattle.nb_model.specs.Chains.{Chain, owner_of, last_of, grown};
 ghost use Rattle.nb_model.specs.Forms.{drafted, is_kind};
-ghost use Rattle.nb_model.specs.Image.{image_size};
-ghost use Rattle.nb_model.specs.Sound.{IsOfSize};
 ghost use Rattle.nb_model.specs.Trail.{Trail};
 ghost use Rattle.nb_state.specs.Open.{IsOpen, but_pages};
 ghost use Rattle.nb_state.specs.Does.{Tested, Goes};
 ghost use Rattle.nb_alloc.specs.Data.{new_data, second_data, unmade, unmade_behind};
-ghost use Rattle.nb_alloc.specs.Make.{MakesSome, new_of};
+ghost use Rattle.nb_alloc.specs.Make.{new_of};
 ghost use Rattle.nb_alloc.specs.Search.{IsShort};
 ghost use Rattle.nb_alloc.specs.Tries.{Tries};
 
@@ -56,14 +54,9 @@ impl Engine {
         slots: &[u8],
     ) -> Result<u32, Fault>
         requires short { length slots.now ≤ 992 }
-        ensures makes { (t : Trail) → IsTrue H.tells → IsOpen (H.world host.old) self.old t → IsOfSize (image_size t.base.image) t.base.image
+        ensures makes { (t : Trail) → IsTrue H.tells → IsOpen (H.world host.old) self.old t
             → Tries result (H.world host.old) (H.world host.new) self.old self.new t (unmade t.base.image (new_data owner slots.now t.base.image).0) (new_data owner slots.now t.base.image).0.strokes }
-        ensures value { (t : Trail) → IsTrue H.tells → IsOpen (H.world host.old) self.old t → IsOfSize (image_size t.base.image) t.base.image → IfOk result (λ number. number ≡ (new_data owner slots.now t.base.image).1) }
-
-        ensures sizes { (t : Trail) → IsTrue H.tells → IsOpen (H.world host.old) self.old t → IsOfSize (image_size t.base.image) t.base.image → OnOk result (IsOfSize (image_size (new_data owner slots.now t.base.image).0.image) (new_data owner slots.now t.base.image).0.image) }
-
-        // Whatever is in the database: it makes some strokes and is open after them, so only its two files are touched.
-        ensures some { (t : Trail) → IsTrue H.tells → IsOpen (H.world host.old) self.old t → MakesSome result (H.world host.old) (H.world host.new) self.old self.new t }
+        ensures value { (t : Trail) → IsTrue H.tells → IsOpen (H.world host.old) self.old t → IfOk result (λ number. number ≡ (new_data owner slots.now t.base.image).1) }
         ensures least { IfOk result (λ number. 5 ≤ number) }
         ensures most { IfOk result (λ number. number < 1048576) }
         ensures goes { Goes self.old self.new }
@@ -107,11 +100,10 @@ impl Engine {
         requires low { 0 < last }
         requires high { last < 1048576 }
         requires short { length slots.now ≤ 992 }
-        ensures makes { (t : Trail) (chain : Chain) (pages : List ℕ) → IsTrue H.tells → IsOpen (H.world host.old) self.old t → IsOfSize (image_size t.base.image) t.base.image → owner ≡ owner_of chain → last ≡ last_of pages → is_kind t.base.image 5 last ≡ true
+        ensures makes { (t : Trail) (chain : Chain) (pages : List ℕ) → IsTrue H.tells → IsOpen (H.world host.old) self.old t → owner ≡ owner_of chain → last ≡ last_of pages → is_kind t.base.image 5 last ≡ true
             → Tries result (H.world host.old) (H.world host.new) self.old self.new t (unmade t.base.image (grown chain pages slots.now (drafted t.base.image)).0) (grown chain pages slots.now (drafted t.base.image)).0.strokes }
-        ensures value { (t : Trail) (chain : Chain) (pages : List ℕ) → IsTrue H.tells → IsOpen (H.world host.old) self.old t → IsOfSize (image_size t.base.image) t.base.image → owner ≡ owner_of chain → is_kind t.base.image 5 last ≡ true
+        ensures value { (t : Trail) (chain : Chain) (pages : List ℕ) → IsTrue H.tells → IsOpen (H.world host.old) self.old t → owner ≡ owner_of chain → is_kind t.base.image 5 last ≡ true
             → IfOk result (λ number. number ≡ (grown chain pages slots.now (drafted t.base.image)).1) }
-        ensures some { (t : Trail) → IsTrue H.tells → IsOpen (H.world host.old) self.old t → MakesSome result (H.world host.old) (H.world host.new) self.old self.new t }
         ensures least { IfOk result (λ number. 5 ≤ number) }
         ensures most { IfOk result (λ number. number < 1048576) }
         ensures goes { Goes self.old self.new }
@@ -156,11 +148,11 @@ impl Engine {
         requires few { pages ≤ 2 }
         requires low { 0 < behind }
         requires high { behind < 1048576 }
-        ensures one { (t : Trail) (first : ℕ → List ℕ) → IsTrue H.tells → IsOpen (H.world host.old) self.old t → IsOfSize (image_size t.base.image) t.base.image → IsShort first → is_kind t.base.image 5 behind ≡ true → pages ≡ 1
+        ensures one { (t : Trail) (first : ℕ → List ℕ) → IsTrue H.tells → IsOpen (H.world host.old) self.old t → IsShort first → is_kind t.base.image 5 behind ≡ true → pages ≡ 1
             → Tested result (unmade_behind t.base.image (new_of 5 first t.base.image).0 behind) }
-        ensures two { (t : Trail) (first second : ℕ → List ℕ) → IsTrue H.tells → IsOpen (H.world host.old) self.old t → IsOfSize (image_size t.base.image) t.base.image → IsShort first → IsShort second → is_kind t.base.image 5 behind ≡ true → pages ≡ 2
+        ensures two { (t : Trail) (first second : ℕ → List ℕ) → IsTrue H.tells → IsOpen (H.world host.old) self.old t → IsShort first → IsShort second → is_kind t.base.image 5 behind ≡ true → pages ≡ 2
             → Tested result (unmade_behind t.base.image (second_data first second t.base.image).0 behind) }
-        ensures still { (t : Trail) (first : ℕ → List ℕ) → IsTrue H.tells → IsOpen (H.world host.old) self.old t → IsOfSize (image_size t.base.image) t.base.image → IsShort first → is_kind t.base.image 5 behind ≡ true → pages ≡ 2
+        ensures still { (t : Trail) (first : ℕ → List ℕ) → IsTrue H.tells → IsOpen (H.world host.old) self.old t → IsShort first → is_kind t.base.image 5 behind ≡ true → pages ≡ 2
             → OnOk result (is_kind (new_of 5 first t.base.image).0.image 5 behind ≡ true) }
         ensures open { (t : Trail) → IsTrue H.tells → IsOpen (H.world host.old) self.old t → IsOpen (H.world host.new) self.new t }
         ensures same { but_pages self.new ≡ but_pages self.old }

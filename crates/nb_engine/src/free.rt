@@ -1,7 +1,7 @@
 // A raw page is given back.
 ghost use Rattle.std.specs.Prelude.{◌≡◌, ◌≢◌, ◌+◌, ◌≤◌, IsTrue, IfErr, Err};
 ghost use Rattle.nb_host.specs.declared.faults.Fault.TheVariants.{Memory};
-ghost use Rattle.nb_change.specs.Counts.{CountsDevice};
+ghost use Rattle.nb_host.specs.Causes.{CountsDevice};
 ghost use Rattle.nb_model.specs.Forms.{inventory_of};
 ghost use Rattle.nb_model.specs.Trail.{Trail};
 ghost use Rattle.nb_model.specs.Outcomes.{Seen};

@@ -2,15 +2,14 @@
 ghost use Rattle.std.specs.Prelude.{◌≡◌, ◌≢◌, ◌<◌, ◌≤◌, ℕ, List, None, IsTrue, IfErr, IfOk, length};
 ghost use Rattle.nb_fields.specs.Places.{is_page_size};
 ghost use Rattle.nb_host.specs.declared.faults.Fault.TheVariants.{Memory};
-ghost use Rattle.nb_change.specs.Counts.{CountsDevice};
+ghost use Rattle.nb_host.specs.Causes.{CountsDevice};
 ghost use Rattle.nb_model.specs.Chains.{Chain, last_of, grown};
-ghost use Rattle.nb_model.specs.Forms.{drafted, lowest_free};
+ghost use Rattle.nb_model.specs.Forms.{drafted};
 ghost use Rattle.nb_model.specs.Trail.{Trail};
 ghost use Rattle.nb_state.specs.Open.{IsOpen};
 ghost use Rattle.nb_state.specs.Does.{Goes};
-ghost use Rattle.nb_alloc.specs.Find.{HoldsMap};
-ghost use Rattle.nb_alloc.specs.Make.{MakesSome, page_strokes};
-ghost use Rattle.nb_engine.specs.Room.{linked_payload, link_cause, IsGrowable, IsGrown};
+ghost use Rattle.nb_alloc.specs.Make.{page_strokes};
+ghost use Rattle.nb_engine.specs.Room.{linked_payload, write_cause, IsGrowable, IsGrown};
 ghost use Rattle.nb_alloc.specs.Tries.{Tries};
 
 use nb_alloc::{InventoryPage, ScnPage, make_new, put_page};
@@ -34,7 +33,7 @@ fn link<H: Host>(
     requires low { 0 < last }
     requires high { last < 1048576 }
     ensures tries { (t : Trail) → IsTrue H.tells → IsOpen (H.world host.old) store.old t
-        → Tries result (H.world host.old) (H.world host.new) store.old store.new t (link_cause t.base.image last) (page_strokes t.base.image last 5 (linked_payload t.base.image last next)) }
+        → Tries result (H.world host.old) (H.world host.new) store.old store.new t (write_cause t.base.image last) (page_strokes t.base.image last 5 (linked_payload t.base.image last next)) }
     ensures goes { Goes store.old store.new }
     ensures scn_room { length scn_page.new ≡ length scn_page.old }
     ensures cause { CountsDevice result (H.faults host.old) (H.faults host.new) }
@@ -74,8 +73,6 @@ pub(crate) fn grow_from<H: Host>(
         → Tries result (H.world host.old) (H.world host.new) store.old store.new t None (grown chain pages slots (drafted t.base.image)).0.strokes }
     ensures grown { (t : Trail) (chain : Chain) (pages slots : List ℕ) → IsTrue H.tells → IsOpen (H.world host.old) store.old t → IsGrowable t.base.image chain slots first last map.old payload.now
         → IfOk result (IsGrown t.base.image chain pages slots) }
-    ensures some { (t : Trail) → IsTrue H.tells → IsOpen (H.world host.old) store.old t → first ≡ lowest_free t.base.image → HoldsMap t.base.image first map.old
-        → MakesSome result (H.world host.old) (H.world host.new) store.old store.new t }
     ensures least { IfOk result (λ number. 5 ≤ number) }
     ensures most { IfOk result (λ number. number < 1048576) }
     ensures goes { Goes store.old store.new }

@@ -2,22 +2,19 @@
 ghost use Rattle.std.specs.Prelude.{◌≡◌, ◌≢◌, ◌+◌, ◌<◌, ◌≤◌, IsTrue, IfErr, IfOk, OnOk, length, nat_eq};
 ghost use Rattle.nb_host.specs.Names.{same_name};
 ghost use Rattle.nb_host.specs.declared.faults.Fault.TheVariants.{Memory};
-ghost use Rattle.nb_change.specs.Counts.{CountsDevice};
+ghost use Rattle.nb_host.specs.Causes.{CountsDevice};
 ghost use Rattle.nb_page.specs.Quiet.{Quiet};
 ghost use Rattle.nb_model.specs.Causes.{broken_at};
 ghost use Rattle.nb_model.specs.Backups.{room_in};
 ghost use Rattle.nb_model.specs.Chains.{History, pages_of, found_pages, backup_spot, level_in, guid_in, put_slot, backup_slot};
 ghost use Rattle.nb_model.specs.Forms.{drafted};
-ghost use Rattle.nb_model.specs.Image.{image_size};
-ghost use Rattle.nb_model.specs.Sound.{IsSoundImage, IsOfSize};
+ghost use Rattle.nb_model.specs.Sound.{IsSoundImage};
 ghost use Rattle.nb_model.specs.Trail.{Trail};
 ghost use Rattle.nb_state.specs.Open.{IsOpen, but_pages};
 ghost use Rattle.nb_base.specs.Takes.{IsNoRefusal};
 ghost use Rattle.nb_state.specs.Does.{Tested, Goes};
 ghost use Rattle.nb_engine.specs.History.{row_at, IsPlaced};
-ghost use Rattle.nb_alloc.specs.Make.{MakesSome};
-ghost use Rattle.nb_alloc.specs.Put.{entry_cause};
-ghost use Rattle.nb_engine.specs.Room.{room_cause, IsRoomIn};
+ghost use Rattle.nb_engine.specs.Room.{room_cause, write_cause, IsRoomIn};
 ghost use Rattle.nb_alloc.specs.Tries.{Tries};
 
 use crate::Engine;
@@ -81,13 +78,10 @@ impl Engine {
     /// page itself, where it is free; for a new page those that it needs, the SCN page of the last page, and that page itself, where the search
     /// for the new page makes a system page of it. All is tested before the first write: a refused call changes nothing.
     pub fn history_room<H: Host>(&mut self, host: &mut H) -> Result<Room, Fault>
-        ensures makes { (t : Trail) → IsTrue H.tells → IsOpen (H.world host.old) self.old t → IsOfSize (image_size t.base.image) t.base.image
+        ensures makes { (t : Trail) → IsTrue H.tells → IsOpen (H.world host.old) self.old t
             → Tries result (H.world host.old) (H.world host.new) self.old self.new t (room_cause t.base.image) (room_in t.base.image).draft.strokes }
-        ensures room { (t : Trail) → IsTrue H.tells → IsOpen (H.world host.old) self.old t → IsOfSize (image_size t.base.image) t.base.image → IfOk result (IsRoomIn t.base.image) }
-        ensures below { (t : Trail) → IsTrue H.tells → IsOpen (H.world host.old) self.old t → IsOfSize (image_size t.base.image) t.base.image → IfOk result (λ room. room.page < length (room_in t.base.image).draft.image) }
-
-        // Whatever is in the database: it makes some strokes and is open after them, so only its two files are touched.
-        ensures some { (t : Trail) → IsTrue H.tells → IsOpen (H.world host.old) self.old t → MakesSome result (H.world host.old) (H.world host.new) self.old self.new t }
+        ensures room { (t : Trail) → IsTrue H.tells → IsOpen (H.world host.old) self.old t → IfOk result (IsRoomIn t.base.image) }
+        ensures below { (t : Trail) → IsTrue H.tells → IsOpen (H.world host.old) self.old t → IfOk result (λ room. room.page < length (room_in t.base.image).draft.image) }
         ensures placed { IfOk result (IsPlaced self.old.files.page_size) }
         ensures goes { Goes self.old self.new }
         ensures cause { CountsDevice result (H.faults host.old) (H.faults host.new) }
@@ -136,13 +130,10 @@ impl Engine {
         row: &HistoryRow,
     ) -> Result<(), Fault>
         requires placed { IsPlaced self.old.files.page_size room.now }
-        ensures tries { (t : Trail) → IsTrue H.tells → IsOpen (H.world host.old) self.old t → room.now.page < length t.base.image
-            → Tries result (H.world host.old) (H.world host.new) self.old self.new t (entry_cause t.base.image room.now.page)
+        ensures tries { (t : Trail) → IsTrue H.tells → IsOpen (H.world host.old) self.old t
+            → Tries result (H.world host.old) (H.world host.new) self.old self.new t (write_cause t.base.image room.now.page)
             (put_slot room.now.page room.now.slot (backup_slot row.now.level row.now.scn row.now.time row.now.guid row.now.name) (drafted t.base.image)).strokes }
         ensures sure { (t : Trail) → IsTrue H.tells → IsOpen (H.world host.old) self.old t → room.now.page < length t.base.image → IsSoundImage t.base.image → IfErr result IsNoRefusal }
-
-        // Whatever is in the database: it makes some strokes and is open after them, so only its two files are touched.
-        ensures some { (t : Trail) → IsTrue H.tells → IsOpen (H.world host.old) self.old t → MakesSome result (H.world host.old) (H.world host.new) self.old self.new t }
         ensures goes { Goes self.old self.new }
         ensures cause { CountsDevice result (H.faults host.old) (H.faults host.new) }
         ensures takes_none { self.old.files.state ≢ 1 → IfErr result (λ fault. fault ≢ Memory) }

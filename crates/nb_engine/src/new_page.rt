@@ -1,19 +1,14 @@
 // A new page.
-ghost use Rattle.std.specs.Prelude.{◌≡◌, ◌≢◌, ◌+◌, ◌<◌, ◌≤◌, IsTrue, IfErr, IfOk, Err, true, false};
-ghost use Rattle.nb_host.specs.declared.faults.Fault.TheVariants.{Refused};
-ghost use Rattle.nb_host.specs.declared.refusals.Refusal.TheVariants.{Access, NotDatabase};
+ghost use Rattle.std.specs.Prelude.{◌≡◌, ◌≢◌, ◌+◌, ◌≤◌, IsTrue, IfErr, IfOk};
 ghost use Rattle.nb_host.specs.declared.faults.Fault.TheVariants.{Memory};
-ghost use Rattle.nb_change.specs.Counts.{CountsDevice};
-ghost use Rattle.nb_page.specs.Quiet.{Quiet};
+ghost use Rattle.nb_host.specs.Causes.{CountsDevice};
 ghost use Rattle.nb_model.specs.Trail.{Trail};
 ghost use Rattle.nb_model.specs.Outcomes.{Seen};
 ghost use Rattle.nb_model.specs.Pages.{new_turn};
-ghost use Rattle.nb_model.specs.Image.{image_size};
-ghost use Rattle.nb_model.specs.Sound.{IsOfSize};
 ghost use Rattle.nb_state.specs.Open.{IsOpen};
 ghost use Rattle.nb_state.specs.Does.{Goes, Does};
 ghost use Rattle.nb_engine.specs.Replies.{page_made};
-ghost use Rattle.nb_alloc.specs.Make.{MakesSome, new_reads};
+ghost use Rattle.nb_alloc.specs.Make.{new_reads};
 
 use crate::Engine;
 use nb_alloc::{FIRST_TO_GIVE, check_new, make_new};
@@ -34,15 +29,10 @@ impl Engine {
     /// needs and that isn't of its kind, and `Full`, where no page is left, in this order. All that the new page changes is tested before the
     /// first write: a refused call changes nothing.
     pub fn page_new<H: Host>(&mut self, host: &mut H) -> Result<u32, Fault>
-        ensures turn { (s : Seen) (t : Trail) → IsTrue H.tells → t.base ≡ s.base → IsOpen (H.world host.old) self.old t → IsOfSize (image_size s.base.image) s.base.image
+        ensures turn { (s : Seen) (t : Trail) → IsTrue H.tells → t.base ≡ s.base → IsOpen (H.world host.old) self.old t
             → Does page_made result (H.world host.old) (H.world host.new) self.old self.new t (new_turn s) }
-
-        // Whatever is in the database: it makes some strokes and is open after them, so only its two files are touched.
-        ensures some { (t : Trail) → IsTrue H.tells → IsOpen (H.world host.old) self.old t → MakesSome result (H.world host.old) (H.world host.new) self.old self.new t }
-        ensures closed { self.old.read_only ≡ true → (result ≡ Err (Refused (Access 1))) × Quiet (H.world host.old) (H.world host.new) }
-        ensures short { self.old.read_only ≡ false → self.old.files.count < 5 → (result ≡ Err (Refused (NotDatabase self.old.files.count))) × Quiet (H.world host.old) (H.world host.new) }
         ensures goes { Goes self.old self.new }
-        ensures once { (t : Trail) → IsTrue H.tells → IsOpen (H.world host.old) self.old t → IsOfSize (image_size t.base.image) t.base.image
+        ensures once { (t : Trail) → IsTrue H.tells → IsOpen (H.world host.old) self.old t
             → IfOk result (λ page. (H.world host.new).reads ≤ (H.world host.old).reads + new_reads t.base.image page) }
         ensures cause { CountsDevice result (H.faults host.old) (H.faults host.new) }
         ensures takes_none { self.old.files.state ≢ 1 → IfErr result (λ fault. fault ≢ Memory) }

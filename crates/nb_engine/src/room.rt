@@ -2,7 +2,7 @@
 ghost use Rattle.std.specs.Prelude.{◌≡◌, ◌≢◌, ◌<◌, ◌≤◌, ℕ, List, [], ◌∷◌, true, IsTrue, IfErr, IfOk, length};
 ghost use Rattle.nb_fields.specs.Places.{is_page_size};
 ghost use Rattle.nb_host.specs.declared.faults.Fault.TheVariants.{Memory};
-ghost use Rattle.nb_change.specs.Counts.{CountsDevice};
+ghost use Rattle.nb_host.specs.Causes.{CountsDevice};
 ghost use Rattle.nb_page.specs.Quiet.{Quiet};
 ghost use Rattle.nb_fields.specs.Page.{kind_of};
 ghost use Rattle.nb_model.specs.Image.{Image, image_scn, page_at};
@@ -13,7 +13,6 @@ ghost use Rattle.nb_model.specs.Trail.{Trail};
 ghost use Rattle.nb_state.specs.Open.{IsOpen, but_pages};
 ghost use Rattle.nb_state.specs.Does.{Tested, Goes};
 ghost use Rattle.nb_engine.specs.History.{IsPlaced};
-ghost use Rattle.nb_alloc.specs.Make.{MakesSome};
 ghost use Rattle.nb_alloc.specs.Put.{entry_cause};
 ghost use Rattle.nb_engine.specs.Room.{taken_draft, grow_cause, IsGrown};
 ghost use Rattle.nb_alloc.specs.Search.{IsSearchable};
@@ -153,7 +152,6 @@ pub(crate) fn grow<H: Host>(
     ensures makes { (t : Trail) (pages : List ℕ) → IsTrue H.tells → IsOpen (H.world host.old) store.old t → IsSearchable t.base.image → last ≡ last_of pages → is_kind t.base.image 5 last ≡ true
         → Tries result (H.world host.old) (H.world host.new) store.old store.new t (grow_cause t.base.image pages) (grown History pages [] (drafted t.base.image)).0.strokes }
     ensures grown { (t : Trail) (pages : List ℕ) → IsTrue H.tells → IsOpen (H.world host.old) store.old t → IsSearchable t.base.image → is_kind t.base.image 5 last ≡ true → IfOk result (IsGrown t.base.image History pages []) }
-    ensures some { (t : Trail) → IsTrue H.tells → IsOpen (H.world host.old) store.old t → MakesSome result (H.world host.old) (H.world host.new) store.old store.new t }
     ensures least { IfOk result (λ number. 5 ≤ number) }
     ensures most { IfOk result (λ number. number < 1048576) }
     ensures goes { Goes store.old store.new }

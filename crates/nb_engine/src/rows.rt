@@ -1,5 +1,5 @@
 // The rows of the backup history, as its slots hold them.
-ghost use Rattle.std.specs.Prelude.{◌≡◌, ◌+◌, ◌*◌, ◌≤◌, ◌&&◌, nat_le, slice_index, length, is_some, IfSome};
+ghost use Rattle.std.specs.Prelude.{◌≡◌, ◌+◌, ◌*◌, ◌≤◌, ◌&&◌, nat_le, length, is_some, IfSome};
 ghost use Rattle.nb_fields.specs.Bytes.{with_part};
 ghost use Rattle.nb_host.specs.Names.{is_name};
 ghost use Rattle.nb_model.specs.Chains.{length_in, file_in, backup_slot};
@@ -7,6 +7,7 @@ ghost use Rattle.nb_engine.specs.History.{row_in, meets};
 
 use nb_fields::layouts::{data, history};
 use nb_host::Name;
+use nb_walk::backup_file;
 
 /// A backup that was closed, as the history has it.
 #[derive(Drop)]
@@ -41,26 +42,13 @@ impl Wanted {
     }
 }
 
-/// The name of the file in a slot of the history, and none where that is of no form.
-fn file_in(slot: &[u8]) -> Option<Name>
-    requires { length slot.now ≡ 256 }
-    ensures exact { is_some result ≡ (nat_le (length_in slot.now) 100 && is_name (file_in slot.now)) }
-    ensures same { IfSome result (λ name. name ≡ file_in slot.now) }
-{
-    let length = history::NameLength::get(slot) as usize;
-    if length > history::MOST_NAME {
-        return None;
-    }
-    Name::read_bytes(&slot[history::NAME_AT..history::NAME_AT + length])
-}
-
 /// The row in a used slot of the history, and none where its name is of no form.
 pub(crate) fn read_row(slot: &[u8]) -> Option<HistoryRow>
     requires { length slot.now ≡ 256 }
     ensures exact { is_some result ≡ (nat_le (length_in slot.now) 100 && is_name (file_in slot.now)) }
     ensures row { IfSome result (λ row. row ≡ row_in slot.now) }
 {
-    let name = file_in(slot)?;
+    let name = backup_file(slot)?;
     let level = history::Level::get(slot);
     let scn = history::Scn::get(slot);
     let time = history::Time::get(slot);
@@ -72,14 +60,6 @@ pub(crate) fn read_row(slot: &[u8]) -> Option<HistoryRow>
         scn: scn as u32,
         name,
     })
-}
-
-/// The first byte of a slot: 1 where it is used, 0 where it is free.
-pub(crate) fn use_of(slot: &[u8]) -> u64
-    requires { length slot.now ≡ 256 }
-    ensures { result ≡ slice_index slot.now 0 }
-{
-    history::Used::get(slot)
 }
 
 /// Writes a row into a slot.

@@ -1,27 +1,24 @@
 // A walk over the backup history, page by page along its links. Nothing changes.
-ghost use Rattle.std.specs.Prelude.{◌≡◌, ◌≢◌, ◌+◌, ◌<◌, ◌≤◌, ◌*◌, ℕ, List, [], ◌∷◌, ◌++◌, true, IsTrue, IfErr, IfOk, IfSome, OnOk, length};
+ghost use Rattle.std.specs.Prelude.{◌≡◌, ◌≢◌, ◌+◌, ◌<◌, ◌≤◌, ℕ, List, [], ◌∷◌, ◌++◌, true, IsTrue, IfErr, IfOk, IfSome, OnOk, length};
 ghost use Rattle.std.specs.List.{list_all};
 ghost use Rattle.nb_fields.specs.Places.{is_page_size};
 ghost use Rattle.nb_host.specs.declared.faults.Fault.TheVariants.{Memory};
-ghost use Rattle.nb_change.specs.Counts.{CountsDevice};
+ghost use Rattle.nb_host.specs.Causes.{CountsDevice};
 ghost use Rattle.nb_page.specs.Quiet.{Quiet};
 ghost use Rattle.nb_model.specs.Image.{page_at};
 ghost use Rattle.nb_model.specs.Causes.{broken_at};
-ghost use Rattle.nb_model.specs.Chains.{History, Spot, is_slot, slots_in, spots_on, next_in, pages_of, found_pages, spots, last_of};
+ghost use Rattle.nb_model.specs.Chains.{History, Spot, is_slot, slots_in, spots_on, spots_of, next_in, pages_of, found_pages, spots, last_of};
 ghost use Rattle.nb_model.specs.Trail.{Trail};
 ghost use Rattle.nb_state.specs.Open.{IsOpen, but_pages};
 ghost use Rattle.nb_state.specs.Does.{Tested};
-ghost use Rattle.nb_engine.specs.History.{gathered, not_linked, IsPlaced};
+ghost use Rattle.nb_walk.specs.Walks.{not_linked};
+ghost use Rattle.nb_engine.specs.History.{gathered, IsPlaced};
 
-use crate::rows::{HistoryRow, Wanted, read_row, use_of};
-use nb_alloc::take_system;
-use nb_fields::PageKind;
-use nb_fields::layouts::{data, header};
+use crate::rows::{HistoryRow, Wanted, read_row};
+use nb_fields::layouts::header;
 use nb_host::{Fault, Host, Refusal};
 use nb_state::Store;
-
-/// What stands in the owner field of each page of the history.
-const OWNER: u64 = 1;
+use nb_walk::{Chain, slot_at, slot_count, take_page, use_of};
 
 /// A slot of the history that is kept for a row.
 #[derive(Clone, Copy, Debug, PartialEq, Eq)]
@@ -41,55 +38,45 @@ pub(crate) struct Walked {
     pub(crate) room: Option<Room>,
 }
 
-/// Comes by one slot, and answers whether it is of the form.
-fn add_slot(walked: &mut Walked, wanted: &Wanted, slot: &[u8], place: Room) -> bool
-    requires { length slot.now ≡ 256 }
-    ensures form { result ≡ is_slot History slot.now }
-    ensures walked { (ss : List Spot) → walked.old ≡ gathered wanted.now ss → result ≡ true
+/// Comes by one slot, which is of the form.
+fn add_slot(walked: &mut Walked, wanted: &Wanted, slot: &[u8], place: Room)
+    requires size { length slot.now ≡ 256 }
+    requires form { is_slot History slot.now ≡ true }
+    ensures walked { (ss : List Spot) → walked.old ≡ gathered wanted.now ss
         → walked.new ≡ gathered wanted.now (ss ++ record { page = place.page; slot = place.slot; bytes = slot.now } ∷ []) }
-    ensures placed { (size : ℕ) → IfSome walked.old.room (IsPlaced size) → IsPlaced size place → IfSome walked.new.room (IsPlaced size) }
+    ensures placed { (size : ℕ) → IsPlaced size place → IfSome walked.old.room (IsPlaced size) → IfSome walked.new.room (IsPlaced size) }
 {
-    let used = use_of(slot);
-    if used == 0 {
+    if use_of(slot) == 0 {
         if walked.room.is_none() {
             walked.room = Some(place);
         }
-        return true;
+        return;
     }
-    if used != 1 {
-        return false;
-    }
-    match read_row(slot) {
-        Some(row) => {
-            if wanted.is_met_by(&row) {
-                walked.row = Some(row);
-            }
-            true
-        }
-        None => false,
+    // A used slot of the form holds a row.
+    let Some(row) = read_row(slot) else {
+        return;
+    };
+    if wanted.is_met_by(&row) {
+        walked.row = Some(row);
     }
 }
 
-/// Comes by the slots of page `number` up to the first that is not of the form, and answers whether there is none.
-fn add_slots(walked: &mut Walked, wanted: &Wanted, page: &[u8], number: u32) -> bool
+/// Comes by the slots of page `number`, which are of the form.
+fn add_slots(walked: &mut Walked, wanted: &Wanted, page: &[u8], number: u32)
     requires size { IsTrue (is_page_size (length page.now)) }
+    requires form { list_all (is_slot History) (slots_in page.now) ≡ true }
     requires low { 0 < number }
     requires high { number < 1048576 }
-    ensures form { result ≡ list_all (is_slot History) (slots_in page.now) }
-    ensures walked { (ss : List Spot) → walked.old ≡ gathered wanted.now ss → result ≡ true → walked.new ≡ gathered wanted.now (ss ++ spots_on number 0 (slots_in page.now)) }
+    ensures walked { (ss : List Spot) → walked.old ≡ gathered wanted.now ss → walked.new ≡ gathered wanted.now (ss ++ spots_on number 0 (slots_in page.now)) }
     ensures placed { IfSome walked.old.room (IsPlaced (length page.now)) → IfSome walked.new.room (IsPlaced (length page.now)) }
 {
-    let count = ((page.len() - data::SLOTS_AT) / data::SLOT) as u32;
+    let count = slot_count(page);
     let mut slot = 0;
     while slot < count {
-        let from = data::SLOTS_AT + data::SLOT * slot as usize;
         let place = Room { page: number, slot };
-        if !add_slot(walked, wanted, &page[from..from + data::SLOT], place) {
-            return false;
-        }
+        add_slot(walked, wanted, slot_at(page, slot), place);
         slot += 1;
     }
-    true
 }
 
 /// Comes by page `number`, and answers the page that it is linked to, or 0. The refusal is `NotDatabase` of the page, where it isn't one of
@@ -104,14 +91,14 @@ fn take_link<H: Host>(
 ) -> Result<u32, Fault>
     requires size { IsTrue (is_page_size (length page.old)) }
     requires room { length page.old ≡ store.old.files.page_size }
-    requires low { 0 < number }
-    ensures test { (t : Trail) → IsTrue H.tells → IsOpen (H.world host.old) store.old t → Tested result (not_linked t.base.image number) }
+    ensures test { (t : Trail) → IsTrue H.tells → IsOpen (H.world host.old) store.old t → Tested result (not_linked History t.base.image number) }
     ensures next { (t : Trail) → IsTrue H.tells → IsOpen (H.world host.old) store.old t → IfOk result (λ next. next ≡ next_in (page_at t.base.image number)) }
-    ensures walked { (t : Trail) (ss : List Spot) → IsTrue H.tells → IsOpen (H.world host.old) store.old t → walked.old ≡ gathered wanted.now ss
-        → OnOk result (walked.new ≡ gathered wanted.now (ss ++ spots_on number 0 (slots_in (page_at t.base.image number)))) }
+    ensures walked { (t : Trail) (ps : List ℕ) → IsTrue H.tells → IsOpen (H.world host.old) store.old t → walked.old ≡ gathered wanted.now (spots_of t.base.image ps)
+        → OnOk result (walked.new ≡ gathered wanted.now (spots_of t.base.image (ps ++ number ∷ []))) }
     ensures placed { IfSome walked.old.room (IsPlaced store.old.files.page_size) → OnOk result (IfSome walked.new.room (IsPlaced store.old.files.page_size)) }
-    ensures below { OnOk result (number < 1048576) }
-    ensures inside { OnOk result (number < store.old.files.count) }
+    ensures low { OnOk result (0 < number) }
+    ensures high { OnOk result (number < 1048576) }
+    ensures below { OnOk result (number < store.old.files.count) }
     ensures open { (t : Trail) → IsTrue H.tells → IsOpen (H.world host.old) store.old t → IsOpen (H.world host.new) store.new t }
     ensures same { but_pages store.new ≡ but_pages store.old }
     ensures quiet { Quiet (H.world host.old) (H.world host.new) }
@@ -119,16 +106,9 @@ fn take_link<H: Host>(
     ensures cause { CountsDevice result (H.faults host.old) (H.faults host.new) }
     ensures takes_none { IfErr result (λ fault. fault ≢ Memory) }
 {
-    // A page that is read is below the length, and so below the most pages that there may be.
-    let _count = store.count();
-    take_system(store, host, number, PageKind::Data, page)?;
-    if data::Owner::get(page) != OWNER {
-        return Err(Fault::Refused(Refusal::NotDatabase { page: number }));
-    }
-    if !add_slots(walked, wanted, page, number) {
-        return Err(Fault::Refused(Refusal::NotDatabase { page: number }));
-    }
-    Ok(data::Next::get(page) as u32)
+    let next = take_page(store, host, Chain::Backups, number, page)?;
+    add_slots(walked, wanted, page, number);
+    Ok(next)
 }
 
 /// Comes by all slots of the history, and answers its last page too. The refusal is `NotDatabase` of the first page that breaks the form:

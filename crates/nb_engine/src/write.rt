@@ -1,7 +1,7 @@
 // Raw pages are written and read.
 ghost use Rattle.std.specs.Prelude.{◌≡◌, ◌≢◌, ◌≤◌, [], ◌∷◌, ◌+◌, ℕ, IsTrue, IfErr, Err, OnOk, length};
 ghost use Rattle.nb_host.specs.declared.faults.Fault.TheVariants.{Memory};
-ghost use Rattle.nb_change.specs.Counts.{CountsDevice};
+ghost use Rattle.nb_host.specs.Causes.{CountsDevice};
 ghost use Rattle.nb_page.specs.Quiet.{Quiet};
 ghost use Rattle.nb_model.specs.Causes.{first_cause, read_only, too_long};
 ghost use Rattle.nb_model.specs.Image.{Image, is_read_only};
@@ -68,7 +68,8 @@ impl Engine {
         }
         check_write(self.store.is_read_only(), text)?;
         raise_entry(&mut self.store, host, number, &mut self.scn_page)?;
-        write_raw(&mut self.store, host, number, text, &mut self.page)
+        write_raw(&mut self.store, host, number, text, &mut self.page)?;
+        Ok(())
     }
 
     /// The text of page `number`, a taken raw page. It takes three reads at most, and no memory.

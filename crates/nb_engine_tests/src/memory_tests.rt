@@ -47,7 +47,8 @@ fn put_byte(host: &mut MemHost, pair: &mut Pair, number: u32, byte: u8) -> Resul
     if are_zeros(&page) {
         return Err(Fault::Device);
     }
-    pair.write(host, number, &page)
+    pair.write(host, number, &page)?;
+    Ok(())
 }
 
 /// How often the host is asked for page `number`, and how many pages are in memory then.

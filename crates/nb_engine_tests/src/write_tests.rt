@@ -27,7 +27,8 @@ fn write_page(
     if files.drafted() != 0 || number > files.count() {
         return Err(Fault::Device);
     }
-    files.write(host, number, page)
+    files.write(host, number, page)?;
+    Ok(())
 }
 
 /// Says in page 0 that writes aren't forced.

@@ -11,6 +11,9 @@ ghost use Rattle.nb_fields.specs.Layouts.{head_layout, header_layout, numbered_l
 pub mod head {
     use crate::Field;
 
+    /// How many bytes it has: the payload of a page begins after it.
+    pub const LENGTH: usize = 16;
+
     /// What the page holds: the number of a `PageKind`.
     pub type Kind = Field<0, 1>;
 
@@ -24,10 +27,11 @@ pub mod head {
 
     pub type Number = Field<12, 4>;
 
-    /// The fields, of which no two share a byte.
+    /// The fields, of which no two share a byte. They fill the head.
     pub fn layout() -> [(usize, usize); 6]
         ensures places { result ≡ head_layout }
         ensures apart { ShareNoByte head_layout }
+        ensures length { LENGTH ≡ end_of 0 head_layout }
     {
         [
             Kind::place(),

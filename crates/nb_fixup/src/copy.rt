@@ -1,6 +1,6 @@
 // A copy that is to be fixed is tested, and its page 0 is read.
 ghost use Rattle.std.specs.Prelude.{◌≡◌, ◌≢◌, ◌≤◌, ◌+◌, ℕ, List, true, None, Some, IfErr, IfOk, IsTrue, MatchOption, length, take};
-ghost use Rattle.nb_change.specs.Counts.{CountsDevice};
+ghost use Rattle.nb_host.specs.Causes.{CountsDevice};
 ghost use Rattle.nb_fields.specs.Header.{is_header, size_of};
 ghost use Rattle.nb_fields.specs.Places.{is_page_size};
 ghost use Rattle.nb_host.specs.declared.faults.Fault.TheVariants.{Memory as MemoryFault};

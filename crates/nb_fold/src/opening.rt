@@ -1,5 +1,5 @@
 ghost use Rattle.std.specs.Prelude.{◌≡◌, ◌+◌, ◌<◌, ◌≤◌, ℕ, length, IsTrue, IfOk, OnOk, Option, Err};
-ghost use Rattle.nb_change.specs.Counts.{CountsDevice};
+ghost use Rattle.nb_host.specs.Causes.{CountsDevice};
 ghost use Rattle.nb_model.specs.Levels.{Contents};
 ghost use Rattle.nb_level.specs.Heads.{head_of};
 ghost use Rattle.nb_page.specs.Quiet.{Quiet};

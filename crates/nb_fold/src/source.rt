@@ -1,5 +1,5 @@
 ghost use Rattle.std.specs.Prelude.{◌≡◌, ◌+◌, ◌<◌, ◌≤◌, length, IfSome, ℕ, List, Some, Ok, IsTrue, OnOk, ◌-◌};
-ghost use Rattle.nb_change.specs.Counts.{CountsDevice};
+ghost use Rattle.nb_host.specs.Causes.{CountsDevice};
 ghost use Rattle.nb_host.specs.Files.{bytes_of};
 ghost use Rattle.nb_level.specs.Reading.{still_to_come};
 ghost use Rattle.nb_fields.specs.Places.{is_page_size};

@@ -1,7 +1,6 @@
 ghost use Rattle.std.specs.Prelude.{◌≡◌, ◌<◌, ◌≤◌, ℕ, List, [], IsTrue, OnOk, length};
-ghost use Rattle.nb_change.specs.Counts.{CountsDevice};
+ghost use Rattle.nb_host.specs.Causes.{CountsDevice, CountsFault};
 ghost use Rattle.nb_change.specs.Gave.{GaveNothing};
-ghost use Rattle.nb_host.specs.Causes.{CountsFault};
 ghost use Rattle.nb_level.specs.Heads.{head_of};
 ghost use Rattle.nb_model.specs.Image.{Numbered};
 ghost use Rattle.nb_model.specs.Levels.{level_bytes};

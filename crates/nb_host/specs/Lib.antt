@@ -5,3 +5,4 @@ pub mod Crash
 pub mod Calls
 pub mod Moments
 pub mod Causes
+pub mod Faults

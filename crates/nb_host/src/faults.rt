@@ -1,5 +1,7 @@
 ghost use Rattle.std.specs.Prelude.{◌≡◌};
+ghost use Rattle.nb_host.specs.Faults.{as_fault};
 ghost use Rattle.nb_host.specs.declared.faults.Fault.TheVariants.{Device, Memory};
+ghost use Rattle.nb_host.specs.declared.faults.RunError.TheVariants.{Device as DeviceError, Memory as MemoryError};
 
 use crate::Refusal;
 use std::alloc::{AllocError, AllocFailed};
@@ -9,6 +11,16 @@ use thiserror::Error;
 #[derive(Clone, Copy, Debug, PartialEq, Eq, Error)]
 #[error("the device failed")]
 pub struct HostFault;
+
+/// Why a call that can't be refused ended early.
+#[derive(Clone, Copy, Debug, PartialEq, Eq, Error)]
+pub enum RunError {
+    /// A call of the host failed.
+    #[error("the device failed")]
+    Device,
+    #[error("out of memory")]
+    Memory,
+}
 
 /// Why a call answered nothing else.
 #[derive(Debug, Drop, Error)]
@@ -21,6 +33,41 @@ pub enum Fault {
     Device,
     #[error("out of memory")]
     Memory,
+}
+
+impl From<HostFault> for RunError {
+    ghost from_gives = { λ _ error. error ≡ DeviceError };
+
+    fn from(_: HostFault) -> Self {
+        RunError::Device
+    }
+}
+
+impl From<AllocError> for RunError {
+    ghost from_gives = { λ _ error. error ≡ MemoryError };
+
+    fn from(_: AllocError) -> Self {
+        RunError::Memory
+    }
+}
+
+impl<T: Drop> From<AllocFailed<T>> for RunError {
+    ghost from_gives = { λ _ error. error ≡ MemoryError };
+
+    fn from(_: AllocFailed<T>) -> Self {
+        RunError::Memory
+    }
+}
+
+impl From<RunError> for Fault {
+    ghost from_gives = { λ error fault. fault ≡ as_fault error };
+
+    fn from(error: RunError) -> Self {
+        match error {
+            RunError::Device => Fault::Device,
+            RunError::Memory => Fault::Memory,
+        }
+    }
 }
 
 impl From<HostFault> for Fault {

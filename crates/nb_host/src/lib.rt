@@ -12,7 +12,7 @@ mod name;
 mod refusals;
 mod text;
 
-pub use faults::{Fault, HostFault};
+pub use faults::{Fault, HostFault, RunError};
 pub use host::Host;
 pub use name::{DELTA_SUFFIX, MOST_BASE_NAME, MOST_NAME, Name};
 pub use refusals::Refusal;

@@ -1,6 +1,6 @@
 // Whether a level file is the one to merge into a standby.
 ghost use Rattle.std.specs.Prelude.{◌≡◌, ℕ, IfOk, IsTrue, OnOk};
-ghost use Rattle.nb_change.specs.Counts.{CountsDevice};
+ghost use Rattle.nb_host.specs.Causes.{CountsDevice};
 ghost use Rattle.nb_host.specs.declared.refusals.Refusal.TheVariants.{ChainSize};
 ghost use Rattle.nb_model.specs.Levels.{Contents};
 ghost use Rattle.nb_page.specs.Header.{HasForm};

@@ -1,9 +1,8 @@
 ghost use Rattle.std.specs.Prelude.{◌≡◌, ◌*◌, IsTrue, List, OnOk, length, ℕ};
 ghost use Rattle.nb_change.specs.Changes.{Changes, Only, Remade};
-ghost use Rattle.nb_change.specs.Counts.{CountsDevice};
+ghost use Rattle.nb_host.specs.Causes.{CountsDevice, CountsFault};
 ghost use Rattle.nb_change.specs.Gave.{GaveNothing};
 ghost use Rattle.nb_fields.specs.Places.{is_page_size};
-ghost use Rattle.nb_host.specs.Causes.{CountsFault};
 ghost use Rattle.nb_host.specs.Crash.{IsDurable, PageLeft};
 ghost use Rattle.nb_model.specs.Image.{Page, Numbered};
 ghost use Rattle.nb_restore.specs.Target.{IsKept};

@@ -1,10 +1,9 @@
 // The pages of a level file are written over those of a standby.
 ghost use Rattle.std.specs.Prelude.{◌≡◌, ◌≢◌, ◌<◌, ◌≤◌, [], ◌∷◌, IfOk, IsTrue, List, Ok, OnOk, Contains, length};
 ghost use Rattle.nb_change.specs.Changes.{Changes, Only, Moved};
-ghost use Rattle.nb_change.specs.Counts.{CountsDevice};
+ghost use Rattle.nb_host.specs.Causes.{CountsDevice, CountsFault};
 ghost use Rattle.nb_change.specs.Gave.{GaveNothing};
 ghost use Rattle.nb_fields.specs.Places.{is_page_size};
-ghost use Rattle.nb_host.specs.Causes.{CountsFault};
 ghost use Rattle.nb_host.specs.Files.{bytes_of};
 ghost use Rattle.nb_model.specs.Image.{Numbered};
 ghost use Rattle.nb_level.specs.Reading.{still_to_come};

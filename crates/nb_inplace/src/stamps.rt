@@ -1,6 +1,6 @@
 // Whether a page of a standby was written since it was restored, by the stamps.
 ghost use Rattle.std.specs.Prelude.{◌≡◌, ◌+◌, ◌*◌, ◌<◌, ◌≤◌, ℕ, List, Some, IsTrue, length, take, drop, option_map};
-ghost use Rattle.nb_change.specs.Counts.{CountsDevice};
+ghost use Rattle.nb_host.specs.Causes.{CountsDevice};
 ghost use Rattle.nb_fields.specs.Places.{is_page_size};
 ghost use Rattle.nb_host.specs.declared.refusals.Refusal.TheVariants.{ChainScn};
 ghost use Rattle.nb_model.specs.Image.{Page};

@@ -17,7 +17,7 @@ fn add(host: &mut MemHost, delta: &mut Delta, page: u32, byte: u8) -> Result<u32
 {
     match delta.slot_of(host, page)? {
         Some(_) => Err(Fault::Device),
-        None => delta.add(host, page, &[byte; 1024], true),
+        None => Ok(delta.add(host, page, &[byte; 1024], true)?),
     }
 }
 
@@ -50,7 +50,7 @@ fn draft(host: &mut MemHost, delta: &mut Delta, page: u32) -> Result<u32, Fault>
 {
     match delta.slot_of(host, page)? {
         Some(_) => Err(Fault::Device),
-        None => delta.draft(page),
+        None => Ok(delta.draft(page)?),
     }
 }
 

@@ -4,7 +4,7 @@ ghost use Rattle.nb_model.specs.Run.{rounds};
 ghost use Rattle.nb_sched.specs.Turns.{agent_of};
 ghost use Rattle.nb_sched.specs.Within.{IsWithin};
 
-use nb_host::Fault;
+use nb_host::RunError;
 use nb_sched::{Agent, take_turns};
 use std::alloc::Global;
 use std::test::Fail;
@@ -37,9 +37,9 @@ impl Agent<Voice, Vec<u32>> for Speaker {
 
     ghost keeps_others = { λ mover other voice said moved voice' said' apart fits also made. made.2.1 };
 
-    fn turn(&mut self, host: &mut Voice, shared: &mut Vec<u32>) -> Result<(), Fault> {
+    fn turn(&mut self, host: &mut Voice, shared: &mut Vec<u32>) -> Result<(), RunError> {
         if shared.len() >= host.most {
-            return Err(Fault::Device);
+            return Err(RunError::Device);
         }
         shared.push(self.session)?;
         self.turns -= 1;
@@ -65,7 +65,7 @@ fn speak(
     voice: &mut Voice,
     said: &mut Vec<u32>,
     schedule: &[u32],
-) -> Result<(), Fault>
+) -> Result<(), RunError>
     requires few { length speakers.old ≤ 16 }
     requires placed { (session : ℕ) (speaker : _) → agent_of speakers.old session ≡ Some speaker → speaker.session ≡ session }
     requires silent { said.old.items ≡ [] }
@@ -85,7 +85,7 @@ fn three_speak(
     alloc: Global,
     most: usize,
     schedule: &[u32],
-) -> (Result<(), Fault>, Vec<u32>, [(u64, u64); 3]) {
+) -> (Result<(), RunError>, Vec<u32>, [(u64, u64); 3]) {
     let mut speakers = [with_turns(1, 3), with_turns(2, 2), with_turns(3, 3)];
     let mut said = Vec::new(alloc);
     let answer = speak(&mut speakers, &mut Voice { most }, &mut said, schedule);
@@ -107,7 +107,11 @@ fn turns_by_schedule_and_then_round_robin(rt: HostRuntime) -> Result<(), Fail> {
 fn an_error_ends_all(rt: HostRuntime) -> Result<(), Fail> {
     let (answer, said, left) = three_speak(rt.alloc(), 3, &[3, 3]);
     assert_eq!(rt;
-        (matches!(answer, Err(Fault::Device)), said.as_slice(), left),
+        (
+            matches!(answer, Err(RunError::Device)),
+            said.as_slice(),
+            left
+        ),
         (true, [3, 3, 1].as_slice(), [(0, 2), (0, 2), (0, 1)])
     );
     Ok(())

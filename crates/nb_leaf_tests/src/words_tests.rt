@@ -1,6 +1,6 @@
 // Words that no run tells apart: a job that isn't done today from none, and an empty word from no word.
 use nb_host::{Fault, Refusal};
-use nb_model::Job;
+use nb_model::{Deed, Job};
 use nb_words::read_job;
 use std::alloc::{AllocError, Global};
 use std::test::Fail;
@@ -23,8 +23,16 @@ const LINES: [&str; 12] = [
 
 fn named(answer: &Result<Job, Fault>) -> &'static str {
     match answer {
-        Ok(Job::Apply { .. }) => "apply",
-        Ok(Job::Fold { .. }) => "fold",
+        Ok(
+            Job::Turn {
+                deed: Deed::Apply { .. },
+            },
+        ) => "apply",
+        Ok(
+            Job::Turn {
+                deed: Deed::Fold { .. },
+            },
+        ) => "fold",
         Ok(Job::Plan { .. }) => "plan",
         Ok(Job::Gen { .. }) => "gen",
         Err(Fault::Refused(Refusal::Usage)) => "usage",

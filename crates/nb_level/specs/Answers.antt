@@ -3,7 +3,6 @@ use Rattle.std.specs.Prelude.{◌≡◌, ℕ, ◌+◌, ◌<◌, ◌≤◌, Bool,
 use Rattle.nb_fields.specs.Bytes.{number_in, part}
 use Rattle.nb_host.specs.Files.{File, bytes_of}
 use Rattle.nb_host.specs.World.{World}
-use Rattle.nb_host.specs.Causes.{Rose}
 use Rattle.nb_host.specs.declared.faults.Fault.{Fault}
 use Rattle.nb_host.specs.declared.faults.Fault.TheVariants.{Refused, Device, Memory}
 use Rattle.nb_host.specs.declared.refusals.Refusal.TheVariants.{BadLevel, NoFile}
@@ -63,13 +62,6 @@ OpenSays tells file name (Err (Refused (BadLevel broken at))) = (broken ≡ name
 OpenSays tells file name (Err (Refused refusal)) = ⊥
 OpenSays tells file name (Err Device) = Unit {0}
 OpenSays tells file name (Err Memory) = Unit {0}
-
--- Device comes only where the count of faults rose, and with every other answer it stays
-abbrev pub CountsDevice : {T : Type 0} → Result T Fault → ℕ → ℕ → Type 0
-CountsDevice (Ok value) before after = after ≡ before
-CountsDevice (Err (Refused refusal)) before after = after ≡ before
-CountsDevice (Err Device) before after = Rose before after
-CountsDevice (Err Memory) before after = after ≡ before
 
 -- at most one read, and nothing said or given
 pub record ReadsOnce (tells : Bool) (old new : World) : Type 0 where

@@ -7,7 +7,8 @@ ghost use Rattle.nb_host.specs.declared.refusals.Refusal.TheVariants.{BadLevel};
 ghost use Rattle.nb_host.specs.Files.{bytes_of};
 ghost use Rattle.nb_host.specs.Calls.{IsStill};
 ghost use Rattle.nb_host.specs.Moments.{Passes};
-ghost use Rattle.nb_level.specs.Answers.{NextSays, GivesAt, Rises, lead_of, number_due, CountsDevice, ReadsOnce};
+ghost use Rattle.nb_host.specs.Causes.{CountsDevice};
+ghost use Rattle.nb_level.specs.Answers.{NextSays, GivesAt, Rises, lead_of, number_due, ReadsOnce};
 ghost use Rattle.nb_level.specs.declared.place.Place.{Place};
 
 use crate::head::head_in;

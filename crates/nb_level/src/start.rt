@@ -5,7 +5,8 @@ ghost use Rattle.nb_host.specs.Calls.{IsStill};
 ghost use Rattle.nb_host.specs.Moments.{Passes};
 ghost use Rattle.nb_model.specs.Levels.{begins_level};
 ghost use Rattle.nb_page.specs.Quiet.{Quiet};
-ghost use Rattle.nb_level.specs.Answers.{StartSays, OpenSays, CountsDevice, ReadsOnce};
+ghost use Rattle.nb_host.specs.Causes.{CountsDevice};
+ghost use Rattle.nb_level.specs.Answers.{StartSays, OpenSays, ReadsOnce};
 ghost use Rattle.nb_level.specs.Reading.{head_fault, IsBegun};
 
 use crate::LevelReader;

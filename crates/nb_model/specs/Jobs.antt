@@ -1,12 +1,14 @@
--- What the jobs of the command line do. A job that attaches a database is the script of one session that opens it. Restore, fixup
--- and merging in place are one turn without an opening.
-use Rattle.std.specs.Prelude.{◌≡◌, ℕ, List, [], ◌∷◌, length, replicate, Option, Some, None, is_some, Ok, Err, true, not, ◌==◌}
+-- What the jobs of the command line do, by their kinds. A job that attaches a database is the script of one session that opens it. Restore,
+-- fixup and merging in place are one turn without an opening.
+use Rattle.std.specs.Prelude.{◌≡◌, ℕ, Bool, List, [], ◌∷◌, length, replicate, Option, Some, None, is_some, Ok, Err, true, false, not, ◌==◌}
 use Rattle.nb_fields.specs.Header.{state_of}
 use Rattle.nb_host.specs.Files.{File, Files}
 use Rattle.nb_host.specs.declared.refusals.Refusal.{Refusal}
 use Rattle.nb_host.specs.declared.refusals.Refusal.TheVariants.{NoFile, WrongState, DeltaPresent}
-use Rattle.nb_model.specs.declared.job.Job.{Job}
-use Rattle.nb_model.specs.declared.job.Job.TheVariants.{Stat, Check, Reclaim, Backup, BackupSince, Restore, Apply, Lock, LockWithSize, Unlock, Fixup}
+use Rattle.nb_model.specs.declared.job.Ask.{Ask}
+use Rattle.nb_model.specs.declared.job.Ask.TheVariants.{Stat, Check, Reclaim, Backup, BackupSince, Lock, LockWithSize, Unlock}
+use Rattle.nb_model.specs.declared.job.Deed.{Deed}
+use Rattle.nb_model.specs.declared.job.Deed.TheVariants.{Restore, Fixup, Apply}
 use Rattle.nb_model.specs.declared.reply.Reply.{Reply}
 use Rattle.nb_model.specs.declared.reply.Reply.TheVariants.{Done, Pages, Scn, ScnPages, Refused}
 use Rattle.nb_model.specs.declared.statement.Statement.{Statement}
@@ -26,21 +28,28 @@ use Rattle.nb_model.specs.Run.{Event, account_after, with_made, IsRun}
 abbrev pub usual_cache : ℕ
 usual_cache = 64
 
--- the database that a job attaches, and what it asks then
-pub record Asks : Type 0 where
-  pub db : List ℕ
-  pub statements : List Statement
+-- what is asked, as the statements of session 1
+abbrev pub asks_of : Ask → List Statement
+asks_of Stat = ShowHeader ∷ ShowPages ∷ []
+asks_of Check = CheckIt ∷ []
+asks_of Reclaim = ReclaimIt ∷ []
+asks_of (Backup level file) = BackupTo level file ∷ []
+asks_of (BackupSince guid file) = BackupOf guid file ∷ []
+asks_of Lock = BeginBackup ∷ []
+asks_of LockWithSize = BeginBackup ∷ []
+asks_of Unlock = EndBackup ∷ []
 
-unfoldable pub asks_of : Job → Option Asks
-asks_of (Stat db) = Some (record { db = db; statements = ShowHeader ∷ ShowPages ∷ [] })
-asks_of (Check db) = Some (record { db = db; statements = CheckIt ∷ [] })
-asks_of (Reclaim db) = Some (record { db = db; statements = ReclaimIt ∷ [] })
-asks_of (Backup level db file) = Some (record { db = db; statements = BackupTo level file ∷ [] })
-asks_of (BackupSince guid db file) = Some (record { db = db; statements = BackupOf guid file ∷ [] })
-asks_of (Lock db) = Some (record { db = db; statements = BeginBackup ∷ [] })
-asks_of (LockWithSize db) = Some (record { db = db; statements = BeginBackup ∷ [] })
-asks_of (Unlock db) = Some (record { db = db; statements = EndBackup ∷ [] })
-asks_of other = None
+-- it may write to the database
+abbrev pub writes : Ask → Bool
+writes Stat = false
+writes Check = false
+writes other = true
+
+-- the file that it makes, if it makes one
+abbrev pub file_made : Ask → Option (List ℕ)
+file_made (Backup level file) = Some file
+file_made (BackupSince guid file) = Some file
+file_made other = None
 
 -- of the first statement only a refusal is said
 abbrev pub refusal_in : Option Reply → Option Reply
@@ -60,17 +69,21 @@ unfoldable pub all_sized : (pages : ℕ) → List Event → List Event
 all_sized pages [] = []
 all_sized pages (e ∷ es) = record e { reply = sized pages e.reply } ∷ all_sized pages es
 
+-- the number of pages is asked for too
+abbrev pub asks_size : Ask → Bool
+asks_size LockWithSize = true
+asks_size other = false
+
 -- what such a job says
-abbrev pub said_by : Job → Account → List Event → List Event
-said_by (LockWithSize db) before events = all_sized (length (base_in (before.entry db)).image) (quiet events)
-said_by other before events = quiet events
+abbrev pub said_by : (db : List ℕ) → Ask → Account → List Event → List Event
+said_by db ask before events = elim (asks_size ask) [ true ↦ all_sized (length (base_in (before.entry db)).image) (quiet events) | false ↦ quiet events ]
 
 -- a job that attaches: the run of its script, whose opening it doesn't say
-pub record IsAttaching (before : Account) (given : Given) (job : Job) (asks : Asks) (events : List Event) (after : Account) : Type 0 where
+pub record IsAttaching (before : Account) (given : Given) (db : List ℕ) (ask : Ask) (events : List Event) (after : Account) : Type 0 where
   pub whole : List Event
   pub left : Given
-  pub run : IsRun before given 1 (OpenDb asks.db usual_cache) [] (asks.statements ∷ replicate 15 []) whole after left
-  pub said : events ≡ said_by job before whole
+  pub run : IsRun before given 1 (OpenDb db usual_cache) [] (asks_of ask ∷ replicate 15 []) whole after left
+  pub said : events ≡ said_by db ask before whole
 
 -- one turn of session 1
 abbrev pub only_turn : Reply → List Stroke → Event
@@ -109,8 +122,8 @@ apply_turn files db name = elim (in_place files db name) [
   | Ok c ↦ only_turn (Pages (length (merged c.pages (image_in (bytes_in (files db)))))) (merge c.pages ∷ [])
 ]
 
--- the turn of a job that attaches nothing and runs no script
-unfoldable pub turn_of : Files → Account → Job → Option (List ℕ × Event)
+-- the turn of a deed on a database
+unfoldable pub turn_of : Files → Account → Deed → Option (List ℕ × Event)
 turn_of files account (Restore db names) = Some (db, restore_turn files account db names)
 turn_of files account (Apply db file) = Some (db, apply_turn files db file)
 turn_of files account (Fixup db) = Some (db, fixup_turn files db)

@@ -1,11 +1,15 @@
--- Which job the words of the command line name.
+-- Which job the words of the command line name, and on which database.
 use Rattle.std.specs.Prelude.{ℕ, ◌-◌, ◌^◌, Bool, true, false, ◌&&◌, ◌||◌, ◌==◌, not, nat_le, nat_lt, nat_eq, List, [], ◌∷◌, ◌++◌, length, drop, slice_index, Option, None, Some, codes}
 use Rattle.std.specs.List.{list_all, list_any}
 use Rattle.std.specs.Str.Parse.{digits_value}
 use Rattle.uuid.specs.Text.{parsed_hyphenated}
 use Rattle.nb_host.specs.Names.{is_name, is_delta, same_name}
+use Rattle.nb_model.specs.declared.job.Ask.{Ask}
+use Rattle.nb_model.specs.declared.job.Ask.TheVariants.{Stat, Check, Reclaim, Backup, BackupSince, Lock, LockWithSize, Unlock}
+use Rattle.nb_model.specs.declared.job.Deed.{Deed}
+use Rattle.nb_model.specs.declared.job.Deed.TheVariants.{Restore, Fixup, Apply, Fold, Plan as PlanFiles}
 use Rattle.nb_model.specs.declared.job.Job.{Job}
-use Rattle.nb_model.specs.declared.job.Job.TheVariants.{Run, Stat, Check, Reclaim, Gen, Backup, BackupSince, Restore, Apply, Lock, LockWithSize, Unlock, Fixup, Fold, Plan}
+use Rattle.nb_model.specs.declared.job.Job.TheVariants.{Run, Gen, Attach, Turn, Plan}
 
 abbrev pub Word : Type 0
 Word = List ℕ
@@ -75,8 +79,8 @@ job_if false job = None
 -- what the first word asks of one database: its statistics, a check, or its leaked pages back
 abbrev pub asks_one : (verb name : Word) → Option Job
 asks_one verb name = elim (same_name verb (codes "stat")) [
-  | true ↦ Some (Stat name)
-  | false ↦ elim (same_name verb (codes "check")) [ true ↦ Some (Check name) | false ↦ job_if (same_name verb (codes "reclaim")) (Reclaim name) ]
+  | true ↦ Some (Attach name Stat)
+  | false ↦ elim (same_name verb (codes "check")) [ true ↦ Some (Attach name Check) | false ↦ job_if (same_name verb (codes "reclaim")) (Attach name Reclaim) ]
 ]
 
 -- the run of a script, or a job on one database that is named by its first word
@@ -104,7 +108,7 @@ gen_or_plan other = None
 
 -- 2 to 9 files are folded into one
 abbrev pub fold_job : List Word → Option Job
-fold_job (verb ∷ out ∷ files) = job_if (same_name verb (codes "fold") && is_file out && nat_le 2 (length files) && nat_le (length files) 9 && list_all is_file files) (Fold out files)
+fold_job (verb ∷ out ∷ files) = job_if (same_name verb (codes "fold") && is_file out && nat_le 2 (length files) && nat_le (length files) 9 && list_all is_file files) (Turn (Fold out files))
 fold_job other = None
 
 -- what the first word names where no flag is given
@@ -117,23 +121,28 @@ plain_job other = None
 -- a backup of a level, or since a GUID
 abbrev pub backup_job : List Word → Option Job
 backup_job (since ∷ db ∷ file ∷ []) = elim (parsed_hyphenated since) [
-  | Some guid ↦ job_if (is_database db && is_file file) (BackupSince guid db file)
-  | None ↦ job_if (length since == 1 && (nat_le 48 (slice_index since 0) && nat_le (slice_index since 0) 57) && is_database db && is_file file) (Backup (slice_index since 0 - 48) db file)
+  | Some guid ↦ job_if (is_database db && is_file file) (Attach db (BackupSince guid file))
+  | None ↦ job_if (length since == 1 && (nat_le 48 (slice_index since 0) && nat_le (slice_index since 0) 57) && is_database db && is_file file) (Attach db (Backup (slice_index since 0 - 48) file))
 ]
 backup_job other = None
 
 abbrev pub restore_job : List Word → Option Job
-restore_job (db ∷ files) = job_if (is_database db && nat_le 1 (length files) && nat_le (length files) 10 && list_all is_file files) (Restore db files)
+restore_job (db ∷ files) = job_if (is_database db && nat_le 1 (length files) && nat_le (length files) 10 && list_all is_file files) (Turn (Restore db files))
 restore_job other = None
 
 abbrev pub apply_job : List Word → Option Job
-apply_job (db ∷ file ∷ []) = job_if (is_database db && is_file file) (Apply db file)
+apply_job (db ∷ file ∷ []) = job_if (is_database db && is_file file) (Turn (Apply db file))
 apply_job other = None
 
--- a job on one database
-abbrev pub database_job : (Word → Job) → List Word → Option Job
-database_job job (db ∷ []) = job_if (is_database db) (job db)
-database_job job other = None
+-- one database is opened, and asked this
+abbrev pub ask_job : Ask → List Word → Option Job
+ask_job ask (db ∷ []) = job_if (is_database db) (Attach db ask)
+ask_job ask other = None
+
+-- one copy becomes a database
+abbrev pub fixup_job : List Word → Option Job
+fixup_job (db ∷ []) = job_if (is_database db) (Turn (Fixup db))
+fixup_job other = None
 
 -- the first whose flags were given
 unfoldable pub job_of_flags : (given : List ℕ) → List (List ℕ × Option Job) → Option Job
@@ -147,12 +156,28 @@ job_read r = job_of_flags r.flags (
     ∷ (codes "B", backup_job r.plain)
     ∷ (codes "R", restore_job r.plain)
     ∷ (codes "IR", apply_job r.plain)
-    ∷ (codes "L", database_job Lock r.plain)
-    ∷ (codes "LS", database_job LockWithSize r.plain)
-    ∷ (codes "N", database_job Unlock r.plain)
-    ∷ (codes "F", database_job Fixup r.plain)
+    ∷ (codes "L", ask_job Lock r.plain)
+    ∷ (codes "LS", ask_job LockWithSize r.plain)
+    ∷ (codes "N", ask_job Unlock r.plain)
+    ∷ (codes "F", fixup_job r.plain)
     ∷ [])
 
 -- the job that the words name
 unfoldable pub job_of : List Word → Option Job
 job_of words = elim (read_words words) [ None ↦ None | Some read ↦ job_read read ]
+
+-- the file that a deed makes or changes, if it does so to one
+abbrev pub deed_file : Deed → Option Word
+deed_file (Restore db files) = Some db
+deed_file (Fixup db) = Some db
+deed_file (Apply db file) = Some db
+deed_file (Fold out files) = Some out
+deed_file (PlanFiles keep files) = None
+
+-- the same, where that is a database
+abbrev pub deed_database : Deed → Option Word
+deed_database (Restore db files) = Some db
+deed_database (Fixup db) = Some db
+deed_database (Apply db file) = Some db
+deed_database (Fold out files) = None
+deed_database (PlanFiles keep files) = None

@@ -1,5 +1,8 @@
 ghost use Rattle.std.specs.Prelude.{◌≡◌, ◌<◌, [], ◌∷◌, ◌++◌, length, slice_get, Some, OnOk, OnErr, IfErr};
+ghost use Rattle.std.specs.Option.{option_copied};
 ghost use Rattle.nb_host.specs.declared.faults.Fault.TheVariants.{Memory};
+ghost use Rattle.nb_model.specs.Jobs.{file_made, writes};
+ghost use Rattle.nb_model.specs.Words.{deed_database, deed_file};
 
 use nb_host::{Fault, Name};
 use std::alloc::Global;
@@ -52,76 +55,104 @@ impl NameList {
     }
 }
 
-/// What the words of the command line ask for.
+/// What is asked of a database that is opened for it.
+#[derive(Drop)]
+pub enum Ask {
+    /// `stat DB`: header and pages are shown.
+    Stat,
+    /// `check DB`: whether its inventories and chains agree with its pages, and which pages are leaked.
+    Check,
+    /// `reclaim DB`: its leaked pages are given back.
+    Reclaim,
+    /// `-B L DB FILE`
+    Backup { level: u8, file: Name },
+    /// `-B GUID DB FILE`
+    BackupSince { guid: [u8; 16], file: Name },
+    /// `-L DB`: the backup state becomes stalled.
+    Lock,
+    /// `-L -S DB`: likewise, and the number of pages is said.
+    LockWithSize,
+    /// `-N DB`: the difference file is merged back.
+    Unlock,
+}
+
+impl Ask {
+    /// Whether it may write to the database.
+    pub fn writes(&self) -> bool
+        ensures { result ≡ writes self.now }
+    {
+        match self {
+            Ask::Stat | Ask::Check => false,
+            Ask::Reclaim
+            | Ask::Backup { .. }
+            | Ask::BackupSince { .. }
+            | Ask::Lock
+            | Ask::LockWithSize
+            | Ask::Unlock => true,
+        }
+    }
+
+    /// The file that it makes, if it makes one.
+    pub fn file(&self) -> Option<&Name>
+        ensures { option_copied result ≡ file_made self.now }
+    {
+        match self {
+            Ask::Backup { file, .. } | Ask::BackupSince { file, .. } => Some(file),
+            Ask::Stat | Ask::Check | Ask::Reclaim | Ask::Lock | Ask::LockWithSize | Ask::Unlock =>
+                None,
+        }
+    }
+}
+
+/// What is done in one turn, for which no database is opened.
+#[derive(Drop)]
+pub enum Deed {
+    /// `-R DB FILE..`: 1 to 10 files, level 0 first.
+    Restore { db: Name, files: NameList },
+    /// `-F DB`: a copy of a stalled database becomes a database of its own.
+    Fixup { db: Name },
+    /// `-I -R DB FILE`: the file is merged into the standby in place.
+    Apply { db: Name, file: Name },
+    /// `fold OUT FILE..`: 2 to 9 consecutive level files are folded into one.
+    Fold { out: Name, files: NameList },
+    /// Which of these backup files, 1,000 at most, the last restore points need, so many of them.
+    Plan { keep: u32, files: NameList },
+}
+
+impl Deed {
+    /// The file that it makes or changes, none where it only reads.
+    pub fn file(&self) -> Option<&Name>
+        ensures { option_copied result ≡ deed_file self.now }
+    {
+        match self {
+            Deed::Restore { db, .. } | Deed::Fixup { db } | Deed::Apply { db, .. } => Some(db),
+            Deed::Fold { out, .. } => Some(out),
+            Deed::Plan { .. } => None,
+        }
+    }
+
+    /// The same, where that is a database.
+    pub fn database(&self) -> Option<&Name>
+        ensures { option_copied result ≡ deed_database self.now }
+    {
+        match self {
+            Deed::Restore { db, .. } | Deed::Fixup { db } | Deed::Apply { db, .. } => Some(db),
+            Deed::Fold { .. } | Deed::Plan { .. } => None,
+        }
+    }
+}
+
+/// What the words of the command line ask for, by its kind.
 #[derive(Drop)]
 pub enum Job {
     /// `run SCRIPT`
-    Run {
-        script: Name,
-    },
-    /// `stat DB`: header and pages are shown.
-    Stat {
-        db: Name,
-    },
-    /// `check DB`: whether its inventories and chains agree with its pages, and which pages are leaked.
-    Check {
-        db: Name,
-    },
-    /// `reclaim DB`: its leaked pages are given back.
-    Reclaim {
-        db: Name,
-    },
+    Run { script: Name },
     /// `gen N SCRIPT`: the script of that number is written and run.
-    Gen {
-        number: u64,
-        script: Name,
-    },
-    /// `-B L DB FILE`
-    Backup {
-        level: u8,
-        db: Name,
-        file: Name,
-    },
-    /// `-B GUID DB FILE`
-    BackupSince {
-        guid: [u8; 16],
-        db: Name,
-        file: Name,
-    },
-    /// `-R DB FILE..`: 1 to 10 files, level 0 first.
-    Restore {
-        db: Name,
-        files: NameList,
-    },
-    /// `-I -R DB FILE`: the file is merged into the standby in place.
-    Apply {
-        db: Name,
-        file: Name,
-    },
-    /// `-L DB`: the backup state becomes stalled.
-    Lock {
-        db: Name,
-    },
-    /// `-L -S DB`: likewise, and the number of pages is said.
-    LockWithSize {
-        db: Name,
-    },
-    /// `-N DB`: the difference file is merged back.
-    Unlock {
-        db: Name,
-    },
-    /// `-F DB`: a copy of a stalled database becomes a database of its own.
-    Fixup {
-        db: Name,
-    },
-    /// `fold OUT FILE..`: 2 to 9 consecutive level files are folded into one.
-    Fold {
-        out: Name,
-        files: NameList,
-    },
-    /// `plan K LIST`: which of the backup files that a list names the last K restore points need.
-    Plan {
-        keep: u32,
-        list: Name,
-    },
+    Gen { number: u64, script: Name },
+    /// A database is opened, and asked something.
+    Attach { db: Name, ask: Ask },
+    /// Something is done in one turn, of which the words tell all.
+    Turn { deed: Deed },
+    /// `plan K LIST`: the list is read, and its files are planned for, which is one turn.
+    Plan { keep: u32, list: Name },
 }

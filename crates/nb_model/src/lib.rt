@@ -23,7 +23,7 @@ pub mod waiting_laws;
 pub mod worked;
 
 pub use fact::Fact;
-pub use job::{Job, NameList};
+pub use job::{Ask, Deed, Job, NameList};
 pub use page_list::PageList;
 pub use reply::Reply;
 pub use rows::RowList;

@@ -11,7 +11,9 @@ ghost use Rattle.nb_model.specs.Run.{replies_of, rounds, strokes_of};
 ghost use Rattle.nb_model.specs.Seeds.{seeded};
 ghost use Rattle.nb_model.specs.Words.{job_of};
 ghost use Rattle.nb_model.specs.Worked.{g, run_of, says, replies, marks, strokes, base_then, pages_held, refused, chain_files, level_1_file, broken_place, not_open, main_file, stalled_file, delta_file, standby, merged_standby, apply_reply, restore_reply, restored_text, fixup_reply};
-ghost use Rattle.nb_model.specs.declared.job.Job.TheVariants.{Run, Restore, LockWithSize, Backup as JobBackup, BackupSince as JobBackupSince, Fold, Plan, Check as JobCheck, Reclaim as JobReclaim};
+ghost use Rattle.nb_model.specs.declared.job.Ask.TheVariants.{LockWithSize, Backup as AskBackup, BackupSince as AskBackupSince, Check as AskCheck, Reclaim as AskReclaim};
+ghost use Rattle.nb_model.specs.declared.job.Deed.TheVariants.{Restore, Fold};
+ghost use Rattle.nb_model.specs.declared.job.Job.TheVariants.{Run, Attach, Turn, Plan};
 ghost use Rattle.nb_model.specs.declared.reply.Reply.TheVariants.{Done, Opened, Value, Scn, ScnPages, Level, Rows, HeaderShown, PagesShown, PageMade, Leaked, Freed, Planned, ImageShown, CacheShown, Refused, Pages};
 ghost use Rattle.nb_model.specs.declared.statement.Statement.TheVariants.{Write, Read, Free, PageNew, BeginBackup, EndBackup, Backup, BackupSince, CreateTable, DropTable, Insert, Update, Delete, Get, Scan, Access, Check, Reclaim, ShowHeader, ShowPages, ShowCache};
 ghost use Rattle.std.specs.Prelude.{[], ◌++◌, ◌∷◌, ◌≡◌, None, Some, codes, drop, length, replicate, take, true, false};
@@ -207,18 +209,18 @@ pub fn lines_of_replies()
 /// Which job the words name.
 #[tactic(auto, unfolding(crate::specs::Opened::opened))]
 pub fn words_name_jobs()
-    ensures backup { job_of (codes "-B" ∷ codes "0" ∷ codes "a.db" ∷ codes "a.0" ∷ []) ≡ Some (JobBackup 0 (codes "a.db") (codes "a.0")) }
-    ensures behind { job_of (codes "a.db" ∷ codes "-LS" ∷ []) ≡ Some (LockWithSize (codes "a.db")) }
-    ensures apart { job_of (codes "-S" ∷ codes "a.db" ∷ codes "-L" ∷ []) ≡ Some (LockWithSize (codes "a.db")) }
+    ensures backup { job_of (codes "-B" ∷ codes "0" ∷ codes "a.db" ∷ codes "a.0" ∷ []) ≡ Some (Attach (codes "a.db") (AskBackup 0 (codes "a.0"))) }
+    ensures behind { job_of (codes "a.db" ∷ codes "-LS" ∷ []) ≡ Some (Attach (codes "a.db") LockWithSize) }
+    ensures apart { job_of (codes "-S" ∷ codes "a.db" ∷ codes "-L" ∷ []) ≡ Some (Attach (codes "a.db") LockWithSize) }
     ensures twice { job_of (codes "-L" ∷ codes "-L" ∷ codes "a.db" ∷ []) ≡ None }
-    ensures restore { job_of (codes "-R" ∷ codes "b.db" ∷ codes "a.0" ∷ codes "a.1" ∷ []) ≡ Some (Restore (codes "b.db") (codes "a.0" ∷ codes "a.1" ∷ [])) }
-    ensures check { job_of (codes "check" ∷ codes "a.db" ∷ []) ≡ Some (JobCheck (codes "a.db")) }
-    ensures reclaim { job_of (codes "reclaim" ∷ codes "a.db" ∷ []) ≡ Some (JobReclaim (codes "a.db")) }
+    ensures restore { job_of (codes "-R" ∷ codes "b.db" ∷ codes "a.0" ∷ codes "a.1" ∷ []) ≡ Some (Turn (Restore (codes "b.db") (codes "a.0" ∷ codes "a.1" ∷ []))) }
+    ensures check { job_of (codes "check" ∷ codes "a.db" ∷ []) ≡ Some (Attach (codes "a.db") AskCheck) }
+    ensures reclaim { job_of (codes "reclaim" ∷ codes "a.db" ∷ []) ≡ Some (Attach (codes "a.db") AskReclaim) }
     ensures check_two { job_of (codes "check" ∷ codes "a.db" ∷ codes "b.db" ∷ []) ≡ None }
-    ensures since { job_of (codes "-B" ∷ codes "00000000-0000-0000-0000-000000000001" ∷ codes "a.db" ∷ codes "a.y" ∷ []) ≡ Some (JobBackupSince (g 1) (codes "a.db") (codes "a.y")) }
+    ensures since { job_of (codes "-B" ∷ codes "00000000-0000-0000-0000-000000000001" ∷ codes "a.db" ∷ codes "a.y" ∷ []) ≡ Some (Attach (codes "a.db") (AskBackupSince (g 1) (codes "a.y"))) }
     ensures dashes { job_of (codes "--" ∷ codes "run" ∷ codes "-s" ∷ []) ≡ Some (Run (codes "-s")) }
     ensures number { job_of (codes "gen" ∷ codes "07" ∷ codes "g.s" ∷ []) ≡ None }
-    ensures fold { job_of (codes "fold" ∷ codes "f.1" ∷ codes "a.1" ∷ codes "g.2" ∷ []) ≡ Some (Fold (codes "f.1") (codes "a.1" ∷ codes "g.2" ∷ [])) }
+    ensures fold { job_of (codes "fold" ∷ codes "f.1" ∷ codes "a.1" ∷ codes "g.2" ∷ []) ≡ Some (Turn (Fold (codes "f.1") (codes "a.1" ∷ codes "g.2" ∷ []))) }
     ensures one_level { job_of (codes "fold" ∷ codes "f.1" ∷ codes "a.1" ∷ []) ≡ None }
     ensures plan { job_of (codes "plan" ∷ codes "3" ∷ codes "l" ∷ []) ≡ Some (Plan 3 (codes "l")) }
     ensures points { job_of (codes "plan" ∷ codes "4294967296" ∷ codes "l" ∷ []) ≡ None }

@@ -2,15 +2,14 @@
 ghost use Rattle.std.specs.Prelude.{◌≡◌, ◌≢◌, ◌⊎◌, ◌<◌, ◌≤◌, ◌+◌, ℕ, [], ◌∷◌, length, IsTrue, IsSome, IsOk, IfErr, OnOk, OnErr, None, true, false, nat_eq};
 ghost use Rattle.nb_fields.specs.Bytes.{is_zeros};
 ghost use Rattle.nb_fields.specs.Places.{is_page_size};
-ghost use Rattle.nb_host.specs.Causes.{CountsFault};
-ghost use Rattle.nb_change.specs.Counts.{CountsDevice};
+ghost use Rattle.nb_host.specs.Causes.{CountsFault, CountsRun};
 ghost use Rattle.nb_change.specs.Gave.{GaveNothing};
 ghost use Rattle.nb_page.specs.Quiet.{Quiet};
 ghost use Rattle.nb_model.specs.Image.{page_at, is_forced};
 ghost use Rattle.nb_model.specs.Strokes.{page as page_stroke};
 ghost use Rattle.nb_model.specs.Trail.{Trail, settled};
 ghost use Rattle.nb_base.specs.Open.{Fits, AreMerged};
-ghost use Rattle.nb_base.specs.Takes.{Takes, Strikes, IsNoRefusal};
+ghost use Rattle.nb_base.specs.Takes.{Takes, Strikes};
 ghost use Rattle.nb_base.specs.Touches.{WritesIn};
 ghost use Rattle.nb_cache.specs.Held.{slot_of, rank_of, dropped, NoneWaits};
 ghost use Rattle.lru.specs.LruCache.{lru_cache, put_entries};
@@ -18,7 +17,7 @@ ghost use Rattle.nb_owner.specs.Open.{IsOpen, HasBlock, may_wait, waits, cache_o
 
 use nb_base::TwoFiles;
 use nb_cache::Cache;
-use nb_host::{Fault, Host, HostFault};
+use nb_host::{Host, HostFault, RunError};
 use std::marker::Model;
 
 /// The two files of one database, and its pages that were used last.
@@ -192,7 +191,7 @@ impl Pair {
     ///
     /// It wants memory in the stalled state alone, and has changed no page then. It has made no call then but to write out what waited, so none
     /// where writes are forced.
-    pub fn write<H: Host>(&mut self, host: &mut H, number: u32, page: &[u8]) -> Result<(), Fault>
+    pub fn write<H: Host>(&mut self, host: &mut H, number: u32, page: &[u8]) -> Result<(), RunError>
         requires size { length page.now ≡ self.old.files.page_size }
         requires most { number < 1048576 }
         requires some { is_zeros page.now ≡ false }
@@ -203,7 +202,7 @@ impl Pair {
         ensures touches { (t : Trail) → IsTrue H.tells → IsOpen (H.world host.old) self.old t → WritesIn (H.world host.old) (H.world host.new) self.old.files.state self.old.files.name }
         ensures merged { (t : Trail) (k : ℕ) → IsTrue H.tells → IsOpen (H.world host.old) self.old t → self.old.files.state ≡ 2
             → AreMerged (H.world host.old) self.old.files k → OnOk result (AreMerged (H.world host.new) self.new.files k) }
-        ensures waits { may_wait self.old number ≡ true → (self.old.files.state ≡ 0 → IsOk result) × IfErr result (λ fault. fault ≡ Fault.Memory) × (host.new ≡ host.old) × OnOk result (waits self.new.pages number ≡ true) }
+        ensures waits { may_wait self.old number ≡ true → (self.old.files.state ≡ 0 → IsOk result) × IfErr result (λ error. error ≡ RunError.Memory) × (host.new ≡ host.old) × OnOk result (waits self.new.pages number ≡ true) }
         ensures others { may_wait self.old number ≡ true → (p : ℕ) → p ≢ number → rank_of self.new.pages p ≡ rank_of self.old.pages p }
         ensures goes_out { may_wait self.old number ≡ false → OnOk result (NoneWaits self.new.pages) }
         ensures used { OnOk result (bare self.new.pages ≡ used (bare self.old.pages) self.old.cap number page.now) }
@@ -217,13 +216,12 @@ impl Pair {
         ensures entries { self.old.files.state ≡ 2 → self.new.files.entries ≡ self.old.files.entries }
         ensures name { self.new.files.name ≡ self.old.files.name }
         ensures page_size { self.new.files.page_size ≡ self.old.files.page_size }
-        ensures cause { CountsDevice result (H.faults host.old) (H.faults host.new) }
-        ensures not_refused { IfErr result IsNoRefusal }
-        ensures on_memory { (t : Trail) → IsTrue H.tells → IsOpen (H.world host.old) self.old t → result ≡ Err Fault.Memory
+        ensures cause { CountsRun result (H.faults host.old) (H.faults host.new) }
+        ensures on_memory { (t : Trail) → IsTrue H.tells → IsOpen (H.world host.old) self.old t → result ≡ Err RunError.Memory
             → Strikes (H.world host.old) (H.world host.new) self.old.files.name t [] × IsOpen (H.world host.new) self.new t }
-        ensures forced { (t : Trail) → IsTrue H.tells → IsOpen (H.world host.old) self.old t → is_forced t.base.image ≡ true → result ≡ Err Fault.Memory → (self.new ≡ self.old) × (host.new ≡ host.old) }
-        ensures idle { NoneWaits self.old.pages → self.old.files.drafted ≡ 0 → result ≡ Err Fault.Memory → (self.new ≡ self.old) × (host.new ≡ host.old) }
-        ensures takes_none { self.old.files.state ≢ 1 → IfErr result (λ fault. fault ≢ Fault.Memory) }
+        ensures forced { (t : Trail) → IsTrue H.tells → IsOpen (H.world host.old) self.old t → is_forced t.base.image ≡ true → result ≡ Err RunError.Memory → (self.new ≡ self.old) × (host.new ≡ host.old) }
+        ensures idle { NoneWaits self.old.pages → self.old.files.drafted ≡ 0 → result ≡ Err RunError.Memory → (self.new ≡ self.old) × (host.new ≡ host.old) }
+        ensures takes_none { self.old.files.state ≢ 1 → IfErr result (λ error. error ≢ RunError.Memory) }
     {
         if self.may_wait(number) {
             self.hold(host, number, page)?;
@@ -240,7 +238,7 @@ impl Pair {
         host: &mut H,
         number: u32,
         page: &[u8],
-    ) -> Result<(), Fault>
+    ) -> Result<(), RunError>
         requires size { length page.now ≡ self.old.files.page_size }
         requires most { number < 1048576 }
         requires some { is_zeros page.now ≡ false }
@@ -263,10 +261,9 @@ impl Pair {
         ensures entries { self.old.files.state ≡ 2 → self.new.files.entries ≡ self.old.files.entries }
         ensures name { self.new.files.name ≡ self.old.files.name }
         ensures page_size { self.new.files.page_size ≡ self.old.files.page_size }
-        ensures cause { CountsDevice result (H.faults host.old) (H.faults host.new) }
-        ensures not_refused { IfErr result IsNoRefusal }
-        ensures on_memory { result ≡ Err Fault.Memory → (self.new ≡ self.old) × (host.new ≡ host.old) }
-        ensures takes_none { self.old.files.state ≢ 1 → IfErr result (λ fault. fault ≢ Fault.Memory) }
+        ensures cause { CountsRun result (H.faults host.old) (H.faults host.new) }
+        ensures on_memory { result ≡ Err RunError.Memory → (self.new ≡ self.old) × (host.new ≡ host.old) }
+        ensures takes_none { self.old.files.state ≢ 1 → IfErr result (λ error. error ≢ RunError.Memory) }
     {
         self.files.write(host, number, page)?;
         self.cache.keep(number, page);

@@ -4,7 +4,7 @@
 ghost use Rattle.std.specs.Prelude.{◌≡◌, ◌≢◌, ◌<◌, ◌≤◌, ℕ, [], length, IsTrue, IsOk, IfErr, OnOk, OnErr, MatchOption, Some, None, true, false, nat_eq};
 ghost use Rattle.nb_fields.specs.Places.{is_scn_place};
 ghost use Rattle.nb_host.specs.Causes.{CountsFault};
-ghost use Rattle.nb_host.specs.declared.faults.Fault.TheVariants.{Memory};
+ghost use Rattle.nb_host.specs.declared.faults.RunError.TheVariants.{Memory};
 ghost use Rattle.nb_change.specs.Changes.{Only, Changes};
 ghost use Rattle.nb_change.specs.Gave.{GaveNothing};
 ghost use Rattle.nb_model.specs.Account.{Base};
@@ -23,7 +23,7 @@ ghost use Rattle.nb_owner.specs.Open.{IsOpen, AreOf, GoesOut, GoesSlot, IsValid,
 
 use crate::Pair;
 use nb_fields::is_scn_place;
-use nb_host::{Fault, Host, HostFault};
+use nb_host::{Host, HostFault, RunError};
 
 /// The backup state in which pages go into their slots.
 const STALLED: u16 = 1;
@@ -56,7 +56,7 @@ impl Pair {
         host: &mut H,
         number: u32,
         page: &[u8],
-    ) -> Result<(), Fault>
+    ) -> Result<(), RunError>
         requires size { length page.now ≡ self.old.files.page_size }
         requires below { number < 1048576 }
         requires early { self.old.files.state ≤ 1 }
@@ -67,7 +67,7 @@ impl Pair {
         ensures drafts { self.old.files.state ≡ 1 → OnOk result (Drafts number self.old.files self.new.files) }
         ensures cap { self.new.cap ≡ self.old.cap }
         ensures no_call { host.new ≡ host.old }
-        ensures only_memory { IfErr result (λ fault. (fault ≡ Memory) × (self.new ≡ self.old)) }
+        ensures only_memory { IfErr result (λ error. (error ≡ Memory) × (self.new ≡ self.old)) }
     {
         if self.files.state() == STALLED {
             self.files.draft(host, number)?;

@@ -1,5 +1,5 @@
 ghost use Rattle.std.specs.Prelude.{◌≡◌, ◌≤◌, ℕ, IsTrue, IfOk, List, length, drop};
-ghost use Rattle.nb_change.specs.Counts.{CountsDevice};
+ghost use Rattle.nb_host.specs.Causes.{CountsDevice};
 ghost use Rattle.nb_model.specs.Restoring.{Link};
 ghost use Rattle.nb_page.specs.Quiet.{Quiet};
 ghost use Rattle.nb_restore.specs.Sources.{AreOfPages, AreReady, AreSources, IsReady, IsSource, IsTaken};

@@ -1,9 +1,8 @@
 ghost use Rattle.std.specs.Prelude.{◌≡◌, ◌≢◌, ◌+◌, ◌^◌, ◌++◌, ◌≤◌, ◌<◌, ℕ, IsTrue, List, Ok, OnOk, Some, [], ◌∷◌, length, take, drop};
 ghost use Rattle.nb_fields.specs.Places.{is_page_size};
-ghost use Rattle.nb_host.specs.Causes.{CountsFault};
+ghost use Rattle.nb_host.specs.Causes.{CountsDevice, CountsFault};
 ghost use Rattle.nb_host.specs.Files.{bytes_of, with_bytes};
 ghost use Rattle.nb_change.specs.Changes.{Changes, Only, Moved};
-ghost use Rattle.nb_change.specs.Counts.{CountsDevice};
 ghost use Rattle.nb_change.specs.Gave.{GaveNothing};
 ghost use Rattle.nb_model.specs.Image.{Page, Numbered};
 ghost use Rattle.nb_model.specs.Levels.{joined};

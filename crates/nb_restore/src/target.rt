@@ -1,8 +1,7 @@
 ghost use Rattle.std.specs.Prelude.{◌≡◌, ◌*◌, ◌<◌, ◌≤◌, IsTrue, List, OnOk, Some, [], length};
 ghost use Rattle.nb_fields.specs.Places.{is_page_size};
-ghost use Rattle.nb_host.specs.Causes.{CountsFault};
+ghost use Rattle.nb_host.specs.Causes.{CountsDevice, CountsFault};
 ghost use Rattle.nb_change.specs.Changes.{Changes, Only, Remade};
-ghost use Rattle.nb_change.specs.Counts.{CountsDevice};
 ghost use Rattle.nb_change.specs.Gave.{GaveNothing};
 ghost use Rattle.nb_model.specs.Image.{Page};
 ghost use Rattle.nb_model.specs.Restoring.{Link};

@@ -4,7 +4,7 @@ use Rattle.std.specs.List.{AllByRecursion, range_with_len}
 use Rattle.std.proofs.lemmas.Bool.{cases_lt}
 use Rattle.std.proofs.lemmas.List.Sums.{sum_by-set}
 use Rattle.std.proofs.lemmas.Option.{slice_get-get_or, slice_get_within, get_or_from_slice_get}
-use Rattle.nb_host.specs.declared.faults.Fault.{Fault}
+use Rattle.nb_host.specs.declared.faults.RunError.{RunError}
 use Rattle.nb_sched.specs.Turns.{scene, Kind, agent_of, IsLower, Rests, IsReady, total}
 
 -- an agent has the session after its place
@@ -101,9 +101,9 @@ module _ {A H C : Type 0} (of : Kind A H C)
       }
 
   -- the same, whatever it answers
-  pub ready_then : (agents : List A) (session : ℕ) (agent moved : A) (host host' : H) (shared shared' : C) (answer : Result (Unit {0}) Fault)
+  pub ready_then : (agents : List A) (session : ℕ) (agent moved : A) (host host' : H) (shared shared' : C) (answer : Result (Unit {0}) RunError)
       → IsReady of (scene agents host shared) → agent_of agents session ≡ Some agent
       → of.step agent host shared answer moved host' shared' → OnOk answer (of.fits moved host' shared') → of.session moved ≡ of.session agent
       → OnOk answer (IsReady of (scene (slice_set agents (session - 1) moved) host' shared'))
   ready_then agents session agent moved host host' shared shared' (Ok done) ready is made fit same = ready_again agents session agent moved host host' shared shared' ready is made fit same
-  ready_then agents session agent moved host host' shared shared' (Err fault) ready is made fit same = tt
+  ready_then agents session agent moved host host' shared shared' (Err error) ready is made fit same = tt

@@ -2,7 +2,7 @@
 use Rattle.std.proofs.Common.{◌≡◌, ◌<◌, ◌≤◌, ◌+◌, ℕ, zero, suc, List, [], ◌∷◌, ◌++◌, ◌⊎◌, inl, inr, Some, Result, Ok, Err, IsErrAnd, refl, sym, subst, arith, append_assoc, length, take, drop, get_or, take-append-drop}
 use Rattle.std.specs.List.{AllByRecursion}
 use Rattle.std.proofs.lemmas.List.{append-nil, take_more}
-use Rattle.nb_host.specs.declared.faults.Fault.{Fault}
+use Rattle.nb_host.specs.declared.faults.RunError.{RunError}
 use Rattle.nb_model.specs.Run.{rounds, all_sessions}
 use Rattle.nb_model.proofs.TodoLaws.{rounds_more}
 use Rattle.nb_sched.specs.Turns.{Scene, Kind, agent_of, Rests, IsReady, Moves, TakesTurns, EndsWith, total}
@@ -10,30 +10,30 @@ use Rattle.nb_sched.proofs.AgentLaws.{agent_of_set, all_behind, last_of, total_f
 
 module _ {A H C : Type 0} (of : Kind A H C) where
   -- one turn
-  pub turns_one : (session : ℕ) (before after : Scene A H C) (answer : Result (Unit {0}) Fault) → Moves of session before answer after → TakesTurns of (session ∷ []) before answer after
+  pub turns_one : (session : ℕ) (before after : Scene A H C) (answer : Result (Unit {0}) RunError) → Moves of session before answer after → TakesTurns of (session ∷ []) before answer after
   turns_one session before after (Ok done) move = inr (inl (after, move, (refl, refl)))
-  turns_one session before after (Err fault) move = inr (inr (refl, move))
+  turns_one session before after (Err error) move = inr (inr (refl, move))
 
   -- turns go on where others ended
-  pub turns_then : (xs ys : List ℕ) (before mid after : Scene A H C) (answer : Result (Unit {0}) Fault) → TakesTurns of xs before (Ok tt) mid → TakesTurns of ys mid answer after → TakesTurns of (xs ++ ys) before answer after
+  pub turns_then : (xs ys : List ℕ) (before mid after : Scene A H C) (answer : Result (Unit {0}) RunError) → TakesTurns of xs before (Ok tt) mid → TakesTurns of ys mid answer after → TakesTurns of (xs ++ ys) before answer after
   turns_then [] ys before mid after answer first next = subst (λ (s : Scene A H C). TakesTurns of ys s answer after) first.1 next
   turns_then (x ∷ xs) ys before mid after answer (inl rest) next = inl (rest.0, turns_then xs ys before mid after answer rest.1 next)
   turns_then (x ∷ xs) ys before mid after answer (inr (inl go)) next = inr (inl (go.0, go.1, turns_then xs ys go.0 mid after answer go.2 next))
   turns_then (x ∷ xs) ys before mid after answer (inr (inr stop)) next = absurd (cc (stop.0))
 
   -- numbers after an error are not gone through
-  pub turns_stop : (xs ys : List ℕ) (before after : Scene A H C) (fault : Fault) → TakesTurns of xs before (Err fault) after → TakesTurns of (xs ++ ys) before (Err fault) after
-  turns_stop [] ys before after fault turns = absurd (cc (turns.0))
-  turns_stop (x ∷ xs) ys before after fault (inl rest) = inl (rest.0, turns_stop xs ys before after fault rest.1)
-  turns_stop (x ∷ xs) ys before after fault (inr (inl go)) = inr (inl (go.0, go.1, turns_stop xs ys go.0 after fault go.2))
-  turns_stop (x ∷ xs) ys before after fault (inr (inr stop)) = inr (inr stop)
+  pub turns_stop : (xs ys : List ℕ) (before after : Scene A H C) (error : RunError) → TakesTurns of xs before (Err error) after → TakesTurns of (xs ++ ys) before (Err error) after
+  turns_stop [] ys before after error turns = absurd (cc (turns.0))
+  turns_stop (x ∷ xs) ys before after error (inl rest) = inl (rest.0, turns_stop xs ys before after error rest.1)
+  turns_stop (x ∷ xs) ys before after error (inr (inl go)) = inr (inl (go.0, go.1, turns_stop xs ys go.0 after error go.2))
+  turns_stop (x ∷ xs) ys before after error (inr (inr stop)) = inr (inr stop)
 
   hold_behind : (P : List ℕ → Scene A H C → Type 0)
       → ((front : List ℕ) (session : ℕ) (s : Scene A H C) → P front s → Rests of.left s.agents session → P (front ++ session ∷ []) s)
       → ((front : List ℕ) (session : ℕ) (before after : Scene A H C) → P front before → Moves of session before (Ok tt) after → P (front ++ session ∷ []) after)
-      → (front order : List ℕ) (before after : Scene A H C) (answer : Result (Unit {0}) Fault) → P front before → TakesTurns of order before answer after → EndsWith of P (front ++ order) answer after
+      → (front order : List ℕ) (before after : Scene A H C) (answer : Result (Unit {0}) RunError) → P front before → TakesTurns of order before answer after → EndsWith of P (front ++ order) answer after
   hold_behind P rests moves front [] before after answer holds turns =
-      subst (λ (a : Result (Unit {0}) Fault). EndsWith of P (front ++ []) a after) (sym turns.0) (subst (P (front ++ [])) (sym turns.1) (rw (append-nil front) holds))
+      subst (λ (a : Result (Unit {0}) RunError). EndsWith of P (front ++ []) a after) (sym turns.0) (subst (P (front ++ [])) (sym turns.1) (rw (append-nil front) holds))
   hold_behind P rests moves front (x ∷ order) before after answer holds (inl rest) =
       subst (λ (xs : List ℕ). EndsWith of P xs answer after) (append_assoc front (x ∷ []) order)
       (hold_behind P rests moves (front ++ x ∷ []) order before after answer (rests front x before holds rest.0) rest.1)
@@ -41,7 +41,7 @@ module _ {A H C : Type 0} (of : Kind A H C) where
       subst (λ (xs : List ℕ). EndsWith of P xs answer after) (append_assoc front (x ∷ []) order)
       (hold_behind P rests moves (front ++ x ∷ []) order go.0 after answer (moves front x before go.0 holds go.1) go.2)
   hold_behind P rests moves front (x ∷ order) before after (Ok done) holds (inr (inr stop)) = absurd (cc (stop.0))
-  hold_behind P rests moves front (x ∷ order) before after (Err fault) holds (inr (inr stop)) =
+  hold_behind P rests moves front (x ∷ order) before after (Err error) holds (inr (inr stop)) =
       record { front = front; session = x; rest = order; is = refl; last = before; holds = holds; move = stop.1 }
 
   -- P tells what holds once a front of the order was gone through. Where each number that rests and each turn that answers Ok keeps it,
@@ -49,7 +49,7 @@ module _ {A H C : Type 0} (of : Kind A H C) where
   pub turns_hold : (P : List ℕ → Scene A H C → Type 0)
       → ((front : List ℕ) (session : ℕ) (s : Scene A H C) → P front s → Rests of.left s.agents session → P (front ++ session ∷ []) s)
       → ((front : List ℕ) (session : ℕ) (before after : Scene A H C) → P front before → Moves of session before (Ok tt) after → P (front ++ session ∷ []) after)
-      → (order : List ℕ) (before after : Scene A H C) (answer : Result (Unit {0}) Fault) → P [] before → TakesTurns of order before answer after → EndsWith of P order answer after
+      → (order : List ℕ) (before after : Scene A H C) (answer : Result (Unit {0}) RunError) → P [] before → TakesTurns of order before answer after → EndsWith of P order answer after
   turns_hold P rests moves = hold_behind P rests moves []
 
   -- all are ready after turns that answered Ok
@@ -102,10 +102,10 @@ module _ {A H C : Type 0} (of : Kind A H C) where
       (all_behind (Rests of.left after.agents) 1 16 count (λ session from. rests_kept session (take count all_sessions) before after (rest session (omega arith)) turns))))
 
   -- and an error among them ends it
-  pub round_stops : (count : ℕ) (before after : Scene A H C) (fault : Fault) → TakesTurns of (take count all_sessions) before (Err fault) after → TakesTurns of all_sessions before (Err fault) after
-  round_stops count before after fault turns =
+  pub round_stops : (count : ℕ) (before after : Scene A H C) (error : RunError) → TakesTurns of (take count all_sessions) before (Err error) after → TakesTurns of all_sessions before (Err error) after
+  round_stops count before after error turns =
       let cut : take count all_sessions ++ drop count all_sessions ≡ all_sessions = take-append-drop count all_sessions in
-      subst (λ (xs : List ℕ). TakesTurns of xs before (Err fault) after) cut (turns_stop (take count all_sessions) (drop count all_sessions) before after fault turns)
+      subst (λ (xs : List ℕ). TakesTurns of xs before (Err error) after) cut (turns_stop (take count all_sessions) (drop count all_sessions) before after error turns)
 
   -- less is left after it, where the last of them had not finished
   pub round_falls : (count : ℕ) (before after : Scene A H C) → 0 < count → count ≤ 16 → ¬ Rests of.left before.agents count → TakesTurns of (take count all_sessions) before (Ok tt) after
@@ -122,27 +122,27 @@ module _ {A H C : Type 0} (of : Kind A H C) where
   turns_more order i before mid after within first next = rw (take_more order i 0 within) (turns_then (take i order) (get_or order i 0 ∷ []) before mid after (Ok tt) first next)
 
   -- a number of an order at which a turn answers an error
-  pub turns_err : (order : List ℕ) (i : ℕ) (before mid after : Scene A H C) (fault : Fault) → i < length order → TakesTurns of (take i order) before (Ok tt) mid
-      → TakesTurns of (get_or order i 0 ∷ []) mid (Err fault) after → TakesTurns of order before (Err fault) after
-  turns_err order i before mid after fault within first next =
+  pub turns_err : (order : List ℕ) (i : ℕ) (before mid after : Scene A H C) (error : RunError) → i < length order → TakesTurns of (take i order) before (Ok tt) mid
+      → TakesTurns of (get_or order i 0 ∷ []) mid (Err error) after → TakesTurns of order before (Err error) after
+  turns_err order i before mid after error within first next =
       let cut : take (i + 1) order ++ drop (i + 1) order ≡ order = take-append-drop (i + 1) order in
-      subst (λ (xs : List ℕ). TakesTurns of xs before (Err fault) after) cut
-      (turns_stop (take (i + 1) order) (drop (i + 1) order) before after fault
-      (rw (take_more order i 0 within) (turns_then (take i order) (get_or order i 0 ∷ []) before mid after (Err fault) first next)))
+      subst (λ (xs : List ℕ). TakesTurns of xs before (Err error) after) cut
+      (turns_stop (take (i + 1) order) (drop (i + 1) order) before after error
+      (rw (take_more order i 0 within) (turns_then (take i order) (get_or order i 0 ∷ []) before mid after (Err error) first next)))
 
   -- no round yet
-  pub turns_no_round : (schedule : List ℕ) (before after : Scene A H C) (answer : Result (Unit {0}) Fault) → TakesTurns of schedule before answer after → TakesTurns of (schedule ++ rounds 0) before answer after
+  pub turns_no_round : (schedule : List ℕ) (before after : Scene A H C) (answer : Result (Unit {0}) RunError) → TakesTurns of schedule before answer after → TakesTurns of (schedule ++ rounds 0) before answer after
   unfolding rounds
   turns_no_round schedule before after answer turns = rw (append-nil schedule) turns
 
   -- one round more
-  pub turns_round : (schedule : List ℕ) (n : ℕ) (before mid after : Scene A H C) (answer : Result (Unit {0}) Fault) → TakesTurns of (schedule ++ rounds n) before (Ok tt) mid
+  pub turns_round : (schedule : List ℕ) (n : ℕ) (before mid after : Scene A H C) (answer : Result (Unit {0}) RunError) → TakesTurns of (schedule ++ rounds n) before (Ok tt) mid
       → TakesTurns of all_sessions mid answer after → TakesTurns of (schedule ++ rounds (n + 1)) before answer after
   turns_round schedule n before mid after answer first next =
       rw (rounds_more n, ← append_assoc) (turns_then (schedule ++ rounds n) all_sessions before mid after answer first next)
 
   -- an error that `?` hands on
-  pub turns_handed : (order : List ℕ) (before after : Scene A H C) (answer : Result (Unit {0}) Fault) (fault : Fault) → IsErrAnd answer (λ given. given ≡ fault)
-      → TakesTurns of order before (Err fault) after → TakesTurns of order before answer after
-  turns_handed order before after (Ok done) fault handed turns = absurd handed
-  turns_handed order before after (Err given) fault handed turns = subst (λ (f : Fault). TakesTurns of order before (Err f) after) (sym handed) turns
+  pub turns_handed : (order : List ℕ) (before after : Scene A H C) (answer : Result (Unit {0}) RunError) (error : RunError) → IsErrAnd answer (λ given. given ≡ error)
+      → TakesTurns of order before (Err error) after → TakesTurns of order before answer after
+  turns_handed order before after (Ok done) error handed turns = absurd handed
+  turns_handed order before after (Err given) error handed turns = subst (λ (f : RunError). TakesTurns of order before (Err f) after) (sym handed) turns

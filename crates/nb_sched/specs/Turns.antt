@@ -1,7 +1,7 @@
 -- Turns of several agents, one after another.
 use Rattle.std.specs.Prelude.{◌≡◌, ◌<◌, ◌+◌, ◌-◌, ◌*◌, ◌^◌, ℕ, zero, suc, List, [], ◌∷◌, ◌++◌, ◌⊎◌, Option, Some, None, Result, Ok, Err, IsErr, OnOk, slice_get, slice_set}
 use Rattle.std.specs.List.{sum_by}
-use Rattle.nb_host.specs.declared.faults.Fault.{Fault}
+use Rattle.nb_host.specs.declared.faults.RunError.{RunError}
 
 -- no turn is left
 abbrev pub IsDone : ℕ × ℕ → Type 0
@@ -26,9 +26,9 @@ pub record Kind (A H C : Type 0) : Type 1 where
   pub left : A → ℕ × ℕ
   pub session : A → ℕ
   pub fits : A → H → C → Type 0
-  pub step : A → H → C → Result (Unit {0}) Fault → A → H → C → Type 0
+  pub step : A → H → C → Result (Unit {0}) RunError → A → H → C → Type 0
 
-abbrev pub kind : {A H C : Type 0} → (A → ℕ × ℕ) → (A → ℕ) → (A → H → C → Type 0) → (A → H → C → Result (Unit {0}) Fault → A → H → C → Type 0) → Kind A H C
+abbrev pub kind : {A H C : Type 0} → (A → ℕ × ℕ) → (A → ℕ) → (A → H → C → Type 0) → (A → H → C → Result (Unit {0}) RunError → A → H → C → Type 0) → Kind A H C
 kind left session fits step = record { left = left; session = session; fits = fits; step = step }
 
 -- the agent of a session: the first is that of session 1
@@ -51,7 +51,7 @@ pub record IsReady {A H C : Type 0} (of : Kind A H C) (now : Scene A H C) : Type
 
 -- The agent of a session, which has not finished, makes one turn with this answer. The other agents stay as they are. All are ready
 -- before it, and after it where it answers Ok.
-pub record Moves {A H C : Type 0} (of : Kind A H C) (session : ℕ) (before : Scene A H C) (answer : Result (Unit {0}) Fault) (after : Scene A H C) : Type 0 where
+pub record Moves {A H C : Type 0} (of : Kind A H C) (session : ℕ) (before : Scene A H C) (answer : Result (Unit {0}) RunError) (after : Scene A H C) : Type 0 where
   pub agent : A
   pub moved : A
   pub there : agent_of before.agents session ≡ Some agent
@@ -65,7 +65,7 @@ pub record Moves {A H C : Type 0} (of : Kind A H C) (session : ℕ) (before : Sc
 
 -- The numbers of an order are gone through, one after another, each from where the one before it ended. A session that rests does
 -- nothing; any other makes one turn. With Ok all of them are gone through; an error is that of a turn, and is the last thing done.
-abbrev pub TakesTurns : {A H C : Type 0} → Kind A H C → (order : List ℕ) → (before : Scene A H C) → Result (Unit {0}) Fault → (after : Scene A H C) → Type 0
+abbrev pub TakesTurns : {A H C : Type 0} → Kind A H C → (order : List ℕ) → (before : Scene A H C) → Result (Unit {0}) RunError → (after : Scene A H C) → Type 0
 TakesTurns of [] before answer after = (answer ≡ Ok tt) × (after ≡ before)
 TakesTurns {A} {H} {C} of (session ∷ order) before answer after =
     (Rests of.left before.agents session × TakesTurns of order before answer after)
@@ -73,19 +73,19 @@ TakesTurns {A} {H} {C} of (session ∷ order) before answer after =
     ⊎ (IsErr answer × Moves of session before answer after))
 
 -- A turn of an order answers an error. P holds of the numbers before it and of the scene at which it began.
-pub record FailsBehind {A H C : Type 0} (of : Kind A H C) (P : List ℕ → Scene A H C → Type 0) (order : List ℕ) (fault : Fault) (after : Scene A H C) : Type 0 where
+pub record FailsBehind {A H C : Type 0} (of : Kind A H C) (P : List ℕ → Scene A H C → Type 0) (order : List ℕ) (error : RunError) (after : Scene A H C) : Type 0 where
   pub front : List ℕ
   pub session : ℕ
   pub rest : List ℕ
   pub is : order ≡ front ++ (session ∷ rest)
   pub last : Scene A H C
   pub holds : P front last
-  pub move : Moves of session last (Err fault) after
+  pub move : Moves of session last (Err error) after
 
 -- turns end: with Ok where P holds of the whole order and of what stands after it, and with an error as just said
-abbrev pub EndsWith : {A H C : Type 0} → Kind A H C → (List ℕ → Scene A H C → Type 0) → (order : List ℕ) → Result (Unit {0}) Fault → (after : Scene A H C) → Type 0
+abbrev pub EndsWith : {A H C : Type 0} → Kind A H C → (List ℕ → Scene A H C → Type 0) → (order : List ℕ) → Result (Unit {0}) RunError → (after : Scene A H C) → Type 0
 EndsWith of P order (Ok done) after = P order after
-EndsWith of P order (Err fault) after = FailsBehind of P order fault after
+EndsWith of P order (Err error) after = FailsBehind of P order error after
 
 -- what is left of all agents, as one number
 abbrev pub total : {A : Type 0} → (A → ℕ × ℕ) → List A → ℕ

@@ -1,8 +1,8 @@
 ghost use Rattle.std.specs.Prelude.{◌≡◌, ◌≢◌, ◌↔◌, ℕ, Result, Ok, IsTrue, OnOk};
-ghost use Rattle.nb_host.specs.declared.faults.Fault.{Fault};
+ghost use Rattle.nb_host.specs.declared.faults.RunError.{RunError};
 ghost use Rattle.nb_sched.specs.Turns.{IsDone, IsLower};
 
-use nb_host::Fault;
+use nb_host::RunError;
 
 /// One session of several that take turns, on a host and on a value that they share.
 ///
@@ -19,10 +19,10 @@ pub trait Agent<H, C> {
     ghost fits: { Self → H → C → Type 0 };
 
     /// What a turn does: the agent, the host and the shared value before it, its answer, and the three after it.
-    ghost step: { Self → H → C → Result (Unit {0}) Fault → Self → H → C → Type 0 };
+    ghost step: { Self → H → C → Result (Unit {0}) RunError → Self → H → C → Type 0 };
 
     /// Makes one turn. After an error nothing more is asked of any agent.
-    fn turn(&mut self, host: &mut H, shared: &mut C) -> Result<(), Fault>
+    fn turn(&mut self, host: &mut H, shared: &mut C) -> Result<(), RunError>
         requires unfinished { ¬ IsDone (left self.old) }
         requires fits { fits self.old host.old shared.old }
         ensures step { step self.old host.old shared.old result self.new host.new shared.new }

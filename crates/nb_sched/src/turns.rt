@@ -3,7 +3,7 @@ ghost use Rattle.nb_model.specs.Run.{rounds};
 ghost use Rattle.nb_sched.specs.Turns.{kind, scene, IsReady, AllDone, Rests, TakesTurns};
 
 use crate::Agent;
-use nb_host::Fault;
+use nb_host::RunError;
 
 /// The sessions in rising order: one round.
 const ROUND: [u32; 16] = [1, 2, 3, 4, 5, 6, 7, 8, 9, 10, 11, 12, 13, 14, 15, 16];
@@ -14,7 +14,7 @@ fn take_turn<H, C, A: Agent<H, C>>(
     host: &mut H,
     shared: &mut C,
     session: u32,
-) -> Result<(), Fault>
+) -> Result<(), RunError>
     requires { IsReady (kind A.left A.session A.fits A.step) (scene agents.old host.old shared.old) }
     ensures { TakesTurns (kind A.left A.session A.fits A.step) (session ∷ []) (scene agents.old host.old shared.old) result
         (scene agents.new host.new shared.new) }
@@ -34,7 +34,7 @@ fn take_order<H, C, A: Agent<H, C>>(
     host: &mut H,
     shared: &mut C,
     order: &[u32],
-) -> Result<(), Fault>
+) -> Result<(), RunError>
     requires { IsReady (kind A.left A.session A.fits A.step) (scene agents.old host.old shared.old) }
     ensures { TakesTurns (kind A.left A.session A.fits A.step) order.now (scene agents.old host.old shared.old) result
         (scene agents.new host.new shared.new) }
@@ -69,7 +69,7 @@ pub fn take_turns<H, C, A: Agent<H, C>>(
     host: &mut H,
     shared: &mut C,
     schedule: &[u32],
-) -> Result<(), Fault>
+) -> Result<(), RunError>
     requires few { length agents.old ≤ 16 }
     requires ready { IsReady (kind A.left A.session A.fits A.step) (scene agents.old host.old shared.old) }
     ensures turns { (how_often : ℕ) × TakesTurns (kind A.left A.session A.fits A.step) (schedule.now ++ rounds how_often)

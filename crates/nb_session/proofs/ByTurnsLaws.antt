@@ -4,6 +4,7 @@ use Rattle.std.specs.Prelude.{Bool, false, Result, Ok, Err}
 use Rattle.nb_host.specs.World.{World}
 use Rattle.nb_host.specs.Crash.{LeavesAll}
 use Rattle.nb_host.specs.Moments.{IsTimely}
+use Rattle.nb_host.specs.declared.faults.RunError.{RunError}
 use Rattle.nb_change.proofs.MomentLaws.{weaker}
 use Rattle.nb_model.specs.Making.{MadeFile}
 use Rattle.nb_model.specs.Run.{Now, Played, one_turn, play}
@@ -11,7 +12,6 @@ use Rattle.nb_model.specs.Steps.{steps_of, after_steps}
 use Rattle.nb_model.specs.Trail.{Trail}
 use Rattle.nb_base.specs.Open.{OfFiles}
 use Rattle.nb_state.specs.Open.{Held, name_of}
-use Rattle.nb_session.specs.declared.stop.Stop.{Stop}
 use Rattle.nb_session.specs.declared.told.Told.{Told}
 use Rattle.nb_session.specs.Acts.{Touched}
 use Rattle.nb_session.specs.ByTurns.{ByTurns, OfLast, StillInLast, GoesByTurns}
@@ -26,7 +26,7 @@ use Rattle.nb_session.proofs.OthersLaws.{leaves_among}
 use Rattle.nb_session.proofs.PlayLaws.{no_file}
 
 -- Turns leave alone what they may not touch.
-plays_leave : (result : Result Bool Stop) (old new : World) (before after : Held) (t : Trail) (now : Now) (p : Played) (made : List MadeFile) → IsTimely new → LeavesAll new new.files → Plays result old new before after t now p made
+plays_leave : (result : Result Bool RunError) (old new : World) (before after : Held) (t : Trail) (now : Now) (p : Played) (made : List MadeFile) → IsTimely new → LeavesAll new new.files → Plays result old new before after t now p made
     → LeavesOthers old new (Touched (name_of before) made)
 plays_leave result old new before after t now p made timely reads plays =
     let here = plays.stops.each new.files new.said (timely.counts_now old.moment new.files plays.stops.later reads) in
@@ -66,7 +66,7 @@ module _ {H : Type 0} (world : H → World) (timely : (h : H) → IsTimely (worl
   )
 
   -- what waits is written out
-  out_leaves : (result : Result Bool Stop) (old new : H) (before after : Held) (t : Trail) (now : Now) → name_of before ≡ now.name → Plays result (world old) (world new) before after t now ([], now) []
+  out_leaves : (result : Result Bool RunError) (old new : H) (before after : Held) (t : Trail) (now : Now) → name_of before ≡ now.name → Plays result (world old) (world new) before after t now ([], now) []
       → LeavesOthers (world old) (world new) (OfFiles now.name)
   out_leaves result old new before after t now named plays =
       subst (λ (n : List ℕ). LeavesOthers (world old) (world new) (OfFiles n)) named
@@ -74,7 +74,7 @@ module _ {H : Type 0} (world : H → World) (timely : (h : H) → IsTimely (worl
       (plays_leave result (world old) (world new) before after t now ([], now) [] (timely new) (reads new) plays))
 
   -- the last thing that is done
-  last_leaves : (result : Result Bool Stop) (rest : List ℕ) (old new : H) (before after : Held) (t : Trail) (now : Now) → name_of before ≡ now.name → EndsBy result how rest (world old) (world new) before after t now
+  last_leaves : (result : Result Bool RunError) (rest : List ℕ) (old new : H) (before after : Held) (t : Trail) (now : Now) → name_of before ≡ now.name → EndsBy result how rest (world old) (world new) before after t now
       → LeavesOthers (world old) (world new) (OfLast rest now)
   last_leaves (Ok refused) [] old new before after t now named plays = out_leaves (Ok false) old new before after t now named plays
   last_leaves (Ok refused) (x ∷ rest) old new before after t now named plays = absurd plays
@@ -83,14 +83,14 @@ module _ {H : Type 0} (world : H → World) (timely : (h : H) → IsTimely (worl
       subst (λ (n : List ℕ). LeavesOthers (world old) (world new) (Touched n (touching_by x now))) named
       (plays_leave (Err stop) (world old) (world new) before after t now (told_turns how (one_turn x now)) (touching_by x now) (timely new) (reads new) ends.0)
 
-  last_still : (result : Result Bool Stop) (rest : List ℕ) (old new : World) (before after : Held) (t : Trail) (now : Now) → EndsBy result how rest old new before after t now → StillInLast rest now old new
+  last_still : (result : Result Bool RunError) (rest : List ℕ) (old new : World) (before after : Held) (t : Trail) (now : Now) → EndsBy result how rest old new before after t now → StillInLast rest now old new
   last_still (Ok refused) [] old new before after t now plays = tt
   last_still (Ok refused) (x ∷ rest) old new before after t now plays = absurd plays
   last_still (Err stop) [] old new before after t now plays = tt
   last_still (Err stop) (x ∷ rest) old new before after t now ends = ends.1
 
   -- all turns
-  pub goes_by : (result : Result Bool Stop) (old new : H) (before after : Held) (t : Trail) (now : Now) (schedule : List ℕ) → name_of before ≡ now.name → PlaysInTurn world result old new before after t how now schedule
+  pub goes_by : (result : Result Bool RunError) (old new : H) (before after : Held) (t : Trail) (now : Now) (schedule : List ℕ) → name_of before ≡ now.name → PlaysInTurn world result old new before after t how now schedule
       → GoesByTurns world (told_events how) old new now schedule
   goes_by result old new before after t now schedule named plays =
       let runs = plays.in_turn in

@@ -12,6 +12,7 @@ use Rattle.nb_host.specs.Calls.{IsStill}
 use Rattle.nb_host.specs.Moments.{AtEachMoment}
 use Rattle.nb_host.specs.declared.faults.Fault.{Fault}
 use Rattle.nb_host.specs.declared.faults.Fault.TheVariants.{Refused, Device, Memory}
+use Rattle.nb_host.specs.declared.faults.RunError.{RunError}
 use Rattle.nb_change.proofs.ChangesLaws.{left_with}
 use Rattle.nb_change.proofs.MomentLaws.{joined, weaker, left_before, untouched_joined, untouched_fewer}
 use Rattle.nb_change.proofs.NameLaws.{with_file-same}
@@ -33,7 +34,6 @@ use Rattle.nb_gather.specs.Making.{IsKept, IsUnfinishedOr}
 use Rattle.nb_state.specs.Open.{Held, IsOpen, name_of}
 use Rattle.nb_state.specs.Does.{WhereEnded}
 use Rattle.nb_state.proofs.MakesLaws.{still_open}
-use Rattle.nb_session.specs.declared.stop.Stop.{Stop}
 use Rattle.nb_session.specs.declared.told.Told.{Told}
 use Rattle.nb_session.specs.Acts.{AreKept, Acts}
 use Rattle.nb_session.specs.Ready.{IsReady, IsApart}
@@ -168,7 +168,7 @@ module _ (old mid new : World) (e0 e1 : Held) (t : Trail) (now : Now) (session :
         })
 
     -- what is said of the files, and of the name, however it ends
-    plays_with : (ending : Result Bool Stop) (w : World) → AtEachMoment old w Left → IsStill mid w → IfOk ending (λ refused. PlayedOut refused old w e1 t now one) → Plays ending old w e0 e1 t now one files
+    plays_with : (ending : Result Bool RunError) (w : World) → AtEachMoment old w Left → IsStill mid w → IfOk ending (λ refused. PlayedOut refused old w e1 t now one) → Plays ending old w e0 e1 t now one files
     plays_with ending w stops still out = record {
       stops = stops;
       left = λ n bytes file there is. marks.left n bytes file there (left_before mid w _ still.left n file tt is);
@@ -183,7 +183,7 @@ module _ (old mid new : World) (e0 e1 : Held) (t : Trail) (now : Now) (session :
     still_here = record { files = refl; left = record { back = λ m c is b. b; now = λ m c is n. n } }
 
     -- the turn failed
-    pub told_failed : (e : Stop) → Plays (Err e) old mid e0 e1 t now one files
+    pub told_failed : (e : RunError) → Plays (Err e) old mid e0 e1 t now one files
     told_failed e = plays_with (Err e) mid during still_here tt
 
     module _ (has : HasEnded result) (place : slice_index_or now.todo (session - 1) [] ≡ u ∷ (tail ++ more)) (ready : IsReady old e0 t now) (makes : IsMaking now) where
@@ -248,7 +248,7 @@ module _ (old mid new : World) (e0 e1 : Held) (t : Trail) (now : Now) (session :
         whole = joined old mid new _ _ _ during says.moments (λ fs said is. is) saying
 
         -- what is told wasn't said whole
-        pub told_unsaid : (e : Stop) → Plays (Err e) old new e0 e1 t now one files
+        pub told_unsaid : (e : RunError) → Plays (Err e) old new e0 e1 t now one files
         told_unsaid e = plays_with (Err e) new whole says.still tt
 
         -- it was
@@ -277,14 +277,14 @@ module _ (how : Told) (old mid new : World) (e0 e1 : Held) (t : Trail) (now : No
   abbrev pub played : Played
   played = told_turns how (take_turn session (u ∷ (tail ++ more)) now)
 
-  as_played : (result : Result Bool Stop) (w : World) → Plays result old w e0 e1 t now (one old mid new e0 e1 t now session u tail more turn_told) turn_files → Plays result old w e0 e1 t now played turn_files
+  as_played : (result : Result Bool RunError) (w : World) → Plays result old w e0 e1 t now (one old mid new e0 e1 t now session u tail more turn_told) turn_files → Plays result old w e0 e1 t now played turn_files
   unfolding take_turn
   as_played result w plays =
       subst (λ (es : List Event). Plays result old w e0 e1 t now (es, stands_then session (tail ++ more) turn_done now) turn_files) (sym (told_one how (event_of session u turn_done))) plays
 
   module _ {T : Type 0} (result : Result T Fault) (reply : T → Option Reply) (acts : Acts reply result old mid e0 e1 t now session u turn_files) (marks : Marks old mid e0 turn_files) where
     -- the turn failed
-    pub event_failed : (e : Stop) → Plays (Err e) old mid e0 e1 t now played turn_files
+    pub event_failed : (e : RunError) → Plays (Err e) old mid e0 e1 t now played turn_files
     event_failed e = as_played (Err e) mid (told_failed old mid new e0 e1 t now session u tail more turn_told result reply acts marks e)
 
     module _ (has : HasEnded result) (place : slice_index_or now.todo (session - 1) [] ≡ u ∷ (tail ++ more)) (ready : IsReady old e0 t now) (makes : IsMaking now) where
@@ -297,7 +297,7 @@ module _ (how : Told) (old mid new : World) (e0 e1 : Held) (t : Trail) (now : No
         says_it = subst (λ (reply : Option Reply). SaysLine line_said mid new (told_line session (told_as how reply))) (sym is_said) says
 
         -- what is told wasn't said whole
-        pub event_unsaid : (e : Stop) → Plays (Err e) old new e0 e1 t now played turn_files
+        pub event_unsaid : (e : RunError) → Plays (Err e) old new e0 e1 t now played turn_files
         event_unsaid e = as_played (Err e) new (told_unsaid old mid new e0 e1 t now session u tail more turn_told result reply acts marks has place ready makes line_said says_it e)
 
         -- it was

@@ -1,19 +1,14 @@
 -- Turns after turns, one by one.
 use Rattle.std.proofs.Common.{◌≡◌, inl, inr, ℕ, List, [], ◌∷◌, ◌++◌, refl, ap, subst, ◌∙◌}
-use Rattle.std.specs.Prelude.{Err}
 use Rattle.nb_host.specs.World.{World}
-use Rattle.nb_model.specs.Making.{MadeFile}
 use Rattle.nb_model.specs.Run.{Now, Played, one_turn, play}
 use Rattle.nb_model.specs.Steps.{steps_of, after_steps}
 use Rattle.nb_model.specs.Trail.{Trail}
 use Rattle.nb_model.proofs.StepsLaws.{steps_append, after_steps_append}
 use Rattle.nb_model.proofs.TodoLaws.{one_turn_idle}
 use Rattle.nb_state.specs.Open.{Held}
-use Rattle.nb_session.specs.declared.stop.Stop.{Stop}
 use Rattle.nb_session.specs.declared.told.Told.{Told}
-use Rattle.nb_session.specs.InTurn.{HasNone, TakesOne, InTurn, EndsBy}
-use Rattle.nb_session.specs.Steps.{touching_by}
-use Rattle.nb_session.specs.Stops.{Plays}
+use Rattle.nb_session.specs.InTurn.{HasNone, TakesOne, InTurn}
 use Rattle.nb_session.specs.Told.{told_turns}
 use Rattle.nb_session.proofs.PlayLaws.{after_none, trail_after}
 use Rattle.nb_session.proofs.ToldLaws.{told_steps}
@@ -79,12 +74,3 @@ module _ {H : Type 0} (world : H → World) (told : Told) where
     -- or one turn more
     pub in_turn_one : TakesOne (world mid) (world new) between after (after_steps t (steps_of (play front now).0)) told (play front now).1 session → InTurn world told (front ++ session ∷ []) old new before after t now
     in_turn_one takes = in_turn_then front (session ∷ []) old mid new before between after t now taken (inr (new, after, takes, (refl, refl)))
-
--- an early end, whatever its reason is called
-pub plays_other : (old new : World) (before after : Held) (t : Trail) (now : Now) (p : Played) (made : List MadeFile) (e f : Stop) → Plays (Err e) old new before after t now p made → Plays (Err f) old new before after t now p made
-plays_other old new before after t now p made e f plays =
-    record { stops = plays.stops; left = plays.left; apart = plays.apart; others = plays.others; others_read = plays.others_read; name = plays.name; done = tt }
-
-pub ends_other : (told : Told) (rest : List ℕ) (old new : World) (before after : Held) (t : Trail) (now : Now) (e f : Stop) → EndsBy (Err e) told rest old new before after t now → EndsBy (Err f) told rest old new before after t now
-ends_other told [] old new before after t now e f plays = plays_other old new before after t now ([], now) [] e f plays
-ends_other told (session ∷ rest) old new before after t now e f ends = (plays_other old new before after t now (told_turns told (one_turn session now)) (touching_by session now) e f ends.0, ends.1)

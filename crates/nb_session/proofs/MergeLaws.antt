@@ -1,12 +1,13 @@
 -- The turns of the end of a backup.
 use Rattle.std.proofs.Common.{◌≡◌, inl, inr, ℕ, zero, suc, ◌+◌, ◌-◌, ◌<◌, List, [], ◌∷◌, ◌++◌, length, replicate, refl, sym, ap, subst, ◌∙◌, arith, true≢false}
-use Rattle.std.specs.Prelude.{Result, Ok, Err, IfErr, Option, Some, None, Bool, true, false, not, ◌==◌}
+use Rattle.std.specs.Prelude.{Result, Ok, Err, Option, Some, None, Bool, true, false, not, ◌==◌}
 use Rattle.std.specs.List.{slice_index_or}
 use Rattle.std.proofs.lemmas.Bool.Decides.{eqb_tells}
 use Rattle.std.proofs.lemmas.List.{append-nil}
 use Rattle.nb_host.specs.World.{World}
 use Rattle.nb_host.specs.declared.faults.Fault.{Fault}
-use Rattle.nb_host.specs.declared.faults.Fault.TheVariants.{Refused, Device, Memory}
+use Rattle.nb_host.specs.declared.faults.Fault.TheVariants.{Refused, Device}
+use Rattle.nb_host.specs.declared.faults.HostFault.{HostFault}
 use Rattle.nb_host.specs.declared.refusals.Refusal.{Refusal}
 use Rattle.nb_host.specs.declared.refusals.Refusal.TheVariants.{WrongState, BackupRunning}
 use Rattle.nb_model.specs.declared.reply.Reply.{Reply}
@@ -23,7 +24,7 @@ use Rattle.nb_model.specs.Strokes.{Stroke, ends, finish, on_base, base_after}
 use Rattle.nb_model.specs.Trail.{Trail}
 use Rattle.nb_model.specs.Turns.{first_turn, turn}
 use Rattle.nb_model.proofs.TurnCases.{end_either}
-use Rattle.nb_base.specs.Takes.{Strikes, after_strokes, IsNoRefusal}
+use Rattle.nb_base.specs.Takes.{Strikes, after_strokes}
 use Rattle.nb_state.specs.Open.{Held, IsOpen, name_of}
 use Rattle.nb_state.specs.Does.{WhereEnded}
 use Rattle.nb_state.specs.Turns.{Merges, GoesOn}
@@ -261,6 +262,11 @@ abbrev pub merge_said : Reply → Progress → Option Reply
 merge_said reply More = None
 merge_said reply Finished = Some reply
 
+-- what it answers
+abbrev pub merge_answer : Result Progress HostFault → Result Progress Fault
+merge_answer (Ok progress) = Ok progress
+merge_answer (Err fault) = Err Device
+
 -- A further turn of a merge.
 module _ (old new : World) (a b : Held) (t : Trail) (now : Now) (session : ℕ) (reply : Reply) (ready : IsReady old a t now) (cap : b.cap ≡ a.cap) where
   diverted : (left : ℕ) → IsMerging session left a → length t.base.diverted ≡ a.merged + left
@@ -274,14 +280,12 @@ module _ (old new : World) (a b : Held) (t : Trail) (now : Now) (session : ℕ) 
   merge_told told = unsaid (event_of session MergesOne (outcome session MergesOne now)) (ap (λ (x : Outcome). x.reply) (merge_is session now)) told
 
   -- it fails
-  failed : (u : Turn) (ss : List Stroke) (fault : Fault) → IsNoRefusal fault → (only_told (event_of session u (outcome session u now)) ≡ true → ⊥) → (outcome session u now).strokes ≡ ss → Strikes old new (name_of a) t ss → name_of b ≡ name_of a → Acts (merge_said reply) (Err fault) old new a b t now session u []
-  failed u ss (Refused refusal) none never is struck name = absurd none
-  failed u ss Device none never is struck name = record { says = tt; left = strikes_left old new (name_of a) t _ (subst (Strikes old new (name_of a) t) (sym is) struck); opened = tt; running = tt; given = tt; kept = tt; unchanged = λ told. absurd (never told); name = name; cap = cap }
-  failed u ss Memory none never is struck name = record { says = tt; left = strikes_left old new (name_of a) t _ (subst (Strikes old new (name_of a) t) (sym is) struck); opened = tt; running = tt; given = tt; kept = tt; unchanged = λ told. absurd (never told); name = name; cap = cap }
+  failed : (u : Turn) (ss : List Stroke) → (only_told (event_of session u (outcome session u now)) ≡ true → ⊥) → (outcome session u now).strokes ≡ ss → Strikes old new (name_of a) t ss → name_of b ≡ name_of a → Acts (merge_said reply) (Err Device) old new a b t now session u []
+  failed u ss never is struck name = record { says = tt; left = strikes_left old new (name_of a) t _ (subst (Strikes old new (name_of a) t) (sym is) struck); opened = tt; running = tt; given = tt; kept = tt; unchanged = λ told. absurd (never told); name = name; cap = cap }
 
-  finishes : (result : Result Progress Fault) → IfErr result IsNoRefusal → IsMerging session 0 a → Merges result old new a b t → Acts (merge_said reply) result old new a b t now session (Finishes reply) []
-  finishes (Ok More) none merging merges = absurd (omega (arith, diverted 0 merging, merges.on.0))
-  finishes (Ok Finished) none merging merges =
+  finishes : (result : Result Progress HostFault) → IsMerging session 0 a → Merges result old new a b t → Acts (merge_said reply) (merge_answer result) old new a b t now session (Finishes reply) []
+  finishes (Ok More) merging merges = absurd (omega (arith, diverted 0 merging, merges.on.0))
+  finishes (Ok Finished) merging merges =
       let o = finish_is session reply now in
       record {
         says = ap (λ (x : Outcome). x.reply) o;
@@ -294,13 +298,13 @@ module _ (old new : World) (a b : Held) (t : Trail) (now : Now) (session : ℕ) 
         name = merges.name;
         cap = cap;
       }
-  finishes (Err fault) none merging merges = failed (Finishes reply) (finish ∷ []) fault none finish_told (ap (λ (x : Outcome). x.strokes) (finish_is session reply now)) merges.left merges.name
+  finishes (Err fault) merging merges = failed (Finishes reply) (finish ∷ []) finish_told (ap (λ (x : Outcome). x.strokes) (finish_is session reply now)) merges.left merges.name
 
   one_left : (left : ℕ) → IsMerging session (suc left) a → a.merged < length t.base.diverted
   one_left left merging = omega (arith, diverted (suc left) merging)
 
-  merges_one : (result : Result Progress Fault) → IfErr result IsNoRefusal → (left : ℕ) → IsMerging session (suc left) a → Merges result old new a b t → Acts (merge_said reply) result old new a b t now session MergesOne []
-  merges_one (Ok More) none left merging merges =
+  merges_one : (result : Result Progress HostFault) (left : ℕ) → IsMerging session (suc left) a → Merges result old new a b t → Acts (merge_said reply) (merge_answer result) old new a b t now session MergesOne []
+  merges_one (Ok More) left merging merges =
       let o = merge_is session now in
       record {
         says = ap (λ (x : Outcome). x.reply) o;
@@ -313,13 +317,13 @@ module _ (old new : World) (a b : Held) (t : Trail) (now : Now) (session : ℕ) 
         name = merges.name;
         cap = cap;
       }
-  merges_one (Ok Finished) none left merging merges = absurd (omega (arith, diverted (suc left) merging, merges.on.0))
-  merges_one (Err fault) none left merging merges = failed MergesOne [] fault none merge_told (ap (λ (x : Outcome). x.strokes) (merge_is session now)) (merges.more (one_left left merging)) merges.name
+  merges_one (Ok Finished) left merging merges = absurd (omega (arith, diverted (suc left) merging, merges.on.0))
+  merges_one (Err fault) left merging merges = failed MergesOne [] merge_told (ap (λ (x : Outcome). x.strokes) (merge_is session now)) (merges.more (one_left left merging)) merges.name
 
-  pub merge_acts : (result : Result Progress Fault) → IfErr result IsNoRefusal → (left : ℕ) → IsMerging session left a → Merges result old new a b t
-      → MayAct (merge_said reply) result old new a b t now session (merge_first left (Finishes reply)) []
-  merge_acts result none zero merging merges = record { grows = grows_none old new merges.gave; acts = λ told. finishes result none merging merges }
-  merge_acts result none (suc left) merging merges = record { grows = grows_none old new merges.gave; acts = λ told. merges_one result none left merging merges }
+  pub merge_acts : (result : Result Progress HostFault) (left : ℕ) → IsMerging session left a → Merges result old new a b t
+      → MayAct (merge_said reply) (merge_answer result) old new a b t now session (merge_first left (Finishes reply)) []
+  merge_acts result zero merging merges = record { grows = grows_none old new merges.gave; acts = λ told. finishes result merging merges }
+  merge_acts result (suc left) merging merges = record { grows = grows_none old new merges.gave; acts = λ told. merges_one result left merging merges }
 
 -- how far the session is behind one turn
 module _ (session : ℕ) (reply : Reply) (a b : Held) where

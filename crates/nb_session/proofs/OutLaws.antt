@@ -1,14 +1,16 @@
 -- What waits is written out after the turns.
 use Rattle.std.proofs.Common.{◌≡◌, inl, inr, ℕ, List, [], ◌∷◌, ◌++◌, Bool, true, false, refl, sym, ap, subst, ◌∙◌, arith}
 use Rattle.std.proofs.lemmas.Bool.{true≢false}
-use Rattle.std.specs.Prelude.{Contains, Result, Ok, Err, IsErr, ◌||◌}
+use Rattle.std.specs.Prelude.{Contains, Result, Ok, Err, IsErr, IsErrAnd, ◌||◌}
 use Rattle.std.proofs.lemmas.List.{append-nil}
 use Rattle.nb_change.proofs.NameLaws.{decide}
 use Rattle.nb_host.specs.Names.{is_delta}
 use Rattle.nb_host.specs.World.{World}
 use Rattle.nb_host.specs.declared.faults.HostFault.{HostFault}
+use Rattle.nb_host.specs.declared.faults.RunError.{RunError}
 use Rattle.nb_change.specs.Gave.{GaveNothing}
 use Rattle.nb_change.proofs.MomentLaws.{weaker, untouched_fewer}
+use Rattle.nb_change.proofs.ResultLaws.{passed_on}
 use Rattle.nb_page.specs.Free.{is_free_name}
 use Rattle.nb_model.specs.Going.{IsMaking}
 use Rattle.nb_model.specs.Making.{MadeFile, AreAmong, IsNoneOf, NamesOnce}
@@ -22,7 +24,6 @@ use Rattle.nb_model.proofs.StandsLaws.{delta_named, delta_same}
 use Rattle.nb_model.proofs.StepsLaws.{after_no_step, acked_steps_none}
 use Rattle.nb_base.specs.Takes.{Strikes, Takes}
 use Rattle.nb_state.specs.Open.{Held, IsOpen, but_pages, name_of}
-use Rattle.nb_session.specs.declared.stop.Stop.{Stop}
 use Rattle.nb_session.specs.declared.told.Told.{Told}
 use Rattle.nb_session.specs.Ready.{IsReady}
 use Rattle.nb_session.specs.Stops.{Plays}
@@ -30,7 +31,6 @@ use Rattle.nb_session.specs.InTurn.{EndsBy}
 use Rattle.nb_session.specs.Todo.{PlaysInTurn}
 use Rattle.nb_session.specs.Told.{told_turns}
 use Rattle.nb_session.proofs.GiftLaws.{given_nothing}
-use Rattle.nb_session.proofs.InTurnLaws.{plays_other, ends_other}
 use Rattle.nb_session.proofs.PlayLaws.{Leads, behind, trail_after, after_none, no_file, no_made, plays_by, plays_then, plays_failed}
 use Rattle.nb_session.proofs.ToldLaws.{told_among}
 use Rattle.nb_copy.proofs.InUseLaws.{not_free}
@@ -91,7 +91,7 @@ module _ (old new : World) (before after : Held) (t : Trail) (now : Now) (ready 
       unchanged = λ settled all. still settled;
     })
 
-  pub out_failed : (e : Stop) → Plays (Err e) old new before after t now ([], now) []
+  pub out_failed : (e : RunError) → Plays (Err e) old new before after t now ([], now) []
   out_failed e = plays_by (Err e) old new before after t now ([], now) [] out_leads named tt
 
 or_false : (a : Bool) → (a || false) ≡ a
@@ -106,7 +106,7 @@ module _ (old mid new : World) (e0 e1 e2 : Held) (t : Trail) (now : Now) (p : Pl
   no_more : (n bytes : List ℕ) → Contains (files_made p.0) (n, bytes) → IsNoneOf [] n
   no_more n bytes there other none = no_file n other none
 
-  no_turn : (result : Result Bool Stop) → Plays result old new e0 e2 t now (behind p ([], p.1)) (made ++ []) → Plays result old new e0 e2 t now p made
+  no_turn : (result : Result Bool RunError) → Plays result old new e0 e2 t now (behind p ([], p.1)) (made ++ []) → Plays result old new e0 e2 t now p made
   no_turn result plays =
       subst (λ (m : List MadeFile). Plays result old new e0 e2 t now p m) (append-nil made) (subst (λ es. Plays result old new e0 e2 t now (es, p.1) (made ++ [])) (append-nil p.0) plays)
 
@@ -115,7 +115,7 @@ module _ (old mid new : World) (e0 e1 e2 : Held) (t : Trail) (now : Now) (p : Pl
       no_turn (Ok a)
       (subst (λ (b : Bool). Plays (Ok b) old new e0 e2 t now (behind p ([], p.1)) (made ++ [])) (or_false a) (plays_then old mid new e0 e1 e2 t now p ([], p.1) made [] once_more has no_more a false first out))
 
-  pub then_failed : (e : Stop) → Plays (Err e) mid new e1 e2 (trail_after t p) p.1 ([], p.1) [] → Plays (Err e) old new e0 e2 t now p made
+  pub then_failed : (e : RunError) → Plays (Err e) mid new e1 e2 (trail_after t p) p.1 ([], p.1) [] → Plays (Err e) old new e0 e2 t now p made
   then_failed e out = no_turn (Err e) (plays_failed old mid new e0 e1 e2 t now p ([], p.1) made [] once_more has no_more a e first out)
 
 -- what stands at no turn
@@ -138,45 +138,24 @@ module _ (old mid new : World) (a b c : Held) (t : Trail) (now : Now) (plays : P
       then_out old mid new a b c t now nothing [] once_none has_none false plays
       (out_played mid new b c (trail_after t nothing) now ready out.left same gave out.done (still (trail_after t nothing) ready.opened))
 
-  last_failed : (e : Stop) → ((u : Trail) → IsOpen mid b u → Strikes mid new (name_of b) u []) → Plays (Err e) old new a c t now ([], now) []
+  last_failed : (e : RunError) → ((u : Trail) → IsOpen mid b u → Strikes mid new (name_of b) u []) → Plays (Err e) old new a c t now ([], now) []
   last_failed e struck =
       let ready = plays.done.ready in
       then_failed old mid new a b c t now nothing [] once_none has_none false plays e (out_failed mid new b c (trail_after t nothing) now ready (struck (trail_after t nothing) ready.opened) same gave e)
 
 -- so it is behind turns that came to their end, of which none is left
-none_left : (told : Told) (rest : List ℕ) (old mid new : World) (a b c : Held) (t : Trail) (now : Now) (refused : Bool) (result : Result Bool Stop) → EndsBy (Ok refused) told rest old mid a b t now
+none_left : (told : Told) (rest : List ℕ) (old mid new : World) (a b c : Held) (t : Trail) (now : Now) (refused : Bool) (result : Result Bool RunError) → EndsBy (Ok refused) told rest old mid a b t now
     → (Plays (Ok false) old mid a b t now ([], now) [] → EndsBy result told [] old new a c t now) → EndsBy result told rest old new a c t now
 none_left told [] old mid new a b c t now refused result last go = go last
 none_left told (session ∷ rest) old mid new a b c t now refused result last go = absurd last
 
--- and after all turns of a script
 -- what stood at a failure stands where it is passed on
-pub whole_passed : {H : Type 0} (world : H → World) (old new : H) (before after : Held) (t : Trail) (told : Told) (now : Now) (schedule : List ℕ) (e : Stop) (result : Result Bool Stop) → IsErr result
-    → PlaysInTurn world (Err e) old new before after t told now schedule → PlaysInTurn world result old new before after t told now schedule
-whole_passed world old new before after t told now schedule e (Ok refused) is w = absurd (no_err is)
-  where
-    no_err : IsErr {T = Bool} {E = Stop} (Ok refused) → ⊥
-    no_err h = cc
-whole_passed world old new before after t told now schedule e (Err f) is w =
-    let order : List ℕ = schedule ++ rounds w.whole.how_often in
-    record {
-      whole = record {
-        how_often = w.whole.how_often;
-        plays = plays_other (world old) (world new) before after t now (told_turns told (play order now)) (files_made (play order now).0) e f w.whole.plays;
-        finished = w.whole.finished;
-      };
-      in_turn = record {
-        front = w.in_turn.front;
-        rest = w.in_turn.rest;
-        is = w.in_turn.is;
-        mid = w.in_turn.mid;
-        between = w.in_turn.between;
-        taken = w.in_turn.taken;
-        last = ends_other told w.in_turn.rest (world w.in_turn.mid) (world new) w.in_turn.between after (after_steps t (steps_of (play w.in_turn.front now).0)) (play w.in_turn.front now).1 e f w.in_turn.last;
-      };
-      guids = tt;
-    }
+pub whole_passed : {H : Type 0} (world : H → World) (old new : H) (before after : Held) (t : Trail) (told : Told) (now : Now) (schedule : List ℕ) (error : RunError) (result : Result Bool RunError) → IsErr result × IsErrAnd result (λ e. e ≡ error)
+    → PlaysInTurn world (Err error) old new before after t told now schedule → PlaysInTurn world result old new before after t told now schedule
+whole_passed world old new before after t told now schedule error result handed =
+    subst (λ (r : Result Bool RunError). PlaysInTurn world r old new before after t told now schedule) (sym (passed_on result error handed))
 
+-- and after all turns of a script
 module _ {H : Type 0} (world : H → World) (old mid new : H) (e0 e1 e2 : Held) (t : Trail) (told : Told) (now : Now) (schedule : List ℕ) (making : IsMaking now) (a : Bool) (first : PlaysInTurn world (Ok a) old mid e0 e1 t told now schedule)
     (same : but_pages e2 ≡ but_pages e1) (gave : GaveNothing (world mid) (world new)) where
   abbrev order : List ℕ
@@ -223,7 +202,7 @@ module _ {H : Type 0} (world : H → World) (old mid new : H) (e0 e1 e2 : Held) 
         guids = λ some. gave.guids ∙ first.guids some;
       }
 
-  pub whole_stopped : (e : Stop) → ((u : Trail) → IsOpen (world mid) e1 u → Strikes (world mid) (world new) (name_of e1) u []) → PlaysInTurn world (Err e) old new e0 e2 t told now schedule
+  pub whole_stopped : (e : RunError) → ((u : Trail) → IsOpen (world mid) e1 u → Strikes (world mid) (world new) (name_of e1) u []) → PlaysInTurn world (Err e) old new e0 e2 t told now schedule
   whole_stopped e struck =
       let ready = first.whole.plays.done.ready in
       record {

@@ -10,6 +10,7 @@ use Rattle.nb_host.specs.Files.{File}
 use Rattle.nb_host.specs.World.{World}
 use Rattle.nb_host.specs.Crash.{Leaves, Untouched}
 use Rattle.nb_host.specs.Moments.{IsTimely, AtEachMoment}
+use Rattle.nb_host.specs.declared.faults.RunError.{RunError}
 use Rattle.nb_change.specs.Changes.{Other}
 use Rattle.nb_change.proofs.MomentLaws.{started, joined, weaker, untouched_joined, untouched_fewer, untouched_begun}
 use Rattle.nb_model.specs.Making.{MadeFile, AreAmong, IsNoneOf, NamesOnce}
@@ -24,7 +25,6 @@ use Rattle.nb_model.proofs.StepsLaws.{steps_none, steps_append, after_steps_appe
 use Rattle.nb_model.proofs.StatusLaws.{status_or}
 use Rattle.nb_gather.specs.Making.{IsKept}
 use Rattle.nb_state.specs.Open.{Held, name_of}
-use Rattle.nb_session.specs.declared.stop.Stop.{Stop}
 use Rattle.nb_session.specs.Acts.{Touched, AreKept}
 use Rattle.nb_session.specs.Ready.{IsReady}
 use Rattle.nb_state.specs.Does.{has_only_told}
@@ -94,7 +94,7 @@ module _ (old mid new : World) (name : List ℕ) (t : Trail) (es fs : List Event
         others_read = λ m other. rest.others_read m other ∙ front.others_read m other;
       }
 
-module _ (result : Result Bool Stop) (old new : World) (before after : Held) (t : Trail) (now : Now) (p : Played) where
+module _ (result : Result Bool RunError) (old new : World) (before after : Held) (t : Trail) (now : Now) (p : Played) where
   leads_of : (made : List MadeFile) → Plays result old new before after t now p made → Leads old new (name_of before) t p.0 made
   leads_of made plays = record { stops = plays.stops; left = plays.left; apart = plays.apart; others = plays.others; others_read = plays.others_read }
 
@@ -189,7 +189,7 @@ module _ (old mid new : World) (e0 e1 e2 : Held) (t : Trail) (now : Now) (p q : 
   trail_is : after_steps (trail_after t p) (steps_of q.0) ≡ after_steps t (steps_of (p.0 ++ q.0))
   trail_is = sym (after_steps_append t (steps_of p.0) (steps_of q.0)) ∙ ap (after_steps t) (sym (steps_append p.0 q.0))
 
-  module _ (a : Bool) (result : Result Bool Stop) (first : Plays (Ok a) old mid e0 e1 t now p made) (second : Plays result mid new e1 e2 (trail_after t p) p.1 q more) where
+  module _ (a : Bool) (result : Result Bool RunError) (first : Plays (Ok a) old mid e0 e1 t now p made) (second : Plays result mid new e1 e2 (trail_after t p) p.1 q more) where
     rest : Leads mid new (name_of e0) (trail_after t p) q.0 more
     rest = subst (λ (n : List ℕ). Leads mid new n (trail_after t p) q.0 more) first.name (leads_of result mid new e1 e2 (trail_after t p) p.1 q more second)
 
@@ -222,11 +222,11 @@ module _ (old mid new : World) (e0 e1 e2 : Held) (t : Trail) (now : Now) (p q : 
   })
 
   -- the second ends early
-  pub plays_failed : (a : Bool) (e : Stop) → Plays (Ok a) old mid e0 e1 t now p made → Plays (Err e) mid new e1 e2 (trail_after t p) p.1 q more → Plays (Err e) old new e0 e2 t now (behind p q) (made ++ more)
+  pub plays_failed : (a : Bool) (e : RunError) → Plays (Ok a) old mid e0 e1 t now p made → Plays (Err e) mid new e1 e2 (trail_after t p) p.1 q more → Plays (Err e) old new e0 e2 t now (behind p q) (made ++ more)
   plays_failed a e first second = plays_by (Err e) old new e0 e2 t now (behind p q) (made ++ more) (both a (Err e) first second) (second.name ∙ first.name) tt
 
 -- what turns would have come after those that ended early
-pub plays_cut : (old new : World) (before after : Held) (t : Trail) (now : Now) (p : Played) (more : List Event) (last : Now) (made : List MadeFile) (e : Stop) → Plays (Err e) old new before after t now p made
+pub plays_cut : (old new : World) (before after : Held) (t : Trail) (now : Now) (p : Played) (more : List Event) (last : Now) (made : List MadeFile) (e : RunError) → Plays (Err e) old new before after t now p made
     → Plays (Err e) old new before after t now (p.0 ++ more, last) made
 plays_cut old new before after t now p more last made e plays =
     plays_by (Err e) old new before after t now (p.0 ++ more, last) made (leads_more old new (name_of before) t p.0 more made (leads_of (Err e) old new before after t now p made plays)) plays.name tt

@@ -15,12 +15,10 @@ use Rattle.nb_change.proofs.NameLaws.{decide}
 use Rattle.nb_model.specs.Account.{Base, Plain, IsBase}
 use Rattle.nb_model.specs.Causes.{is_free_entry}
 use Rattle.nb_model.specs.Going.{IsMaking}
-use Rattle.nb_model.specs.Image.{image_size}
 use Rattle.nb_model.specs.Making.{MadeFile, IsNoneOf, making, under_way}
 use Rattle.nb_model.specs.Outcomes.{Turn, Outcome}
 use Rattle.nb_model.specs.Owner.{delta_name}
 use Rattle.nb_model.specs.Run.{Now, Event, Played, base_now, with_made, account_after, outcome, event_of, stands_then, take_turn, one_turn, files_made}
-use Rattle.nb_model.specs.Sound.{IsOfSize}
 use Rattle.nb_model.specs.Steps.{steps_in, after_steps}
 use Rattle.nb_model.specs.Strokes.{base_in, base_after}
 use Rattle.nb_model.specs.Trail.{Trail}
@@ -32,7 +30,6 @@ use Rattle.nb_model.proofs.StandsLaws.{delta_named, delta_same, entry_other}
 use Rattle.nb_model.proofs.StepsLaws.{steps_one, steps_seen}
 use Rattle.nb_base.specs.Open.{OfFiles}
 use Rattle.nb_state.specs.Open.{Held, IsOpen, name_of}
-use Rattle.nb_state.proofs.SizeLaws.{open_sized}
 use Rattle.nb_copy.proofs.InUseLaws.{not_free}
 use Rattle.nb_session.specs.Acts.{Touched, AreKept}
 use Rattle.nb_session.specs.Ready.{IsReady, IsApart}
@@ -232,7 +229,3 @@ module _ (old w : World) (e0 e1 : Held) (t : Trail) (now : Now) (session : ℕ) 
       cache = cap ∙ ready.cache ∙ sym (cache_then session (tail ++ more) o now);
       known = known_then;
     }
-
--- each page has the size of a page
-pub ready_sized : (w : World) (held : Held) (t : Trail) (now : Now) → IsReady w held t now → IsOfSize (image_size (base_now now).image) (base_now now).image
-ready_sized w held t now ready = subst (λ (b : Base). IsOfSize (image_size b.image) b.image) ready.base (open_sized w held t ready.opened)

@@ -5,7 +5,7 @@ use Rattle.std.specs.List.{AllByRecursion, list_all, slice_index_or}
 use Rattle.std.proofs.lemmas.List.{append-nil}
 use Rattle.nb_host.specs.World.{World}
 use Rattle.nb_host.specs.Moments.{IsTimely}
-use Rattle.nb_host.specs.declared.faults.Fault.{Fault}
+use Rattle.nb_host.specs.declared.faults.RunError.{RunError}
 use Rattle.nb_model.specs.declared.statement.Statement.{Statement}
 use Rattle.nb_model.specs.Account.{Base}
 use Rattle.nb_model.specs.Gifts.{Foretells}
@@ -172,7 +172,7 @@ module _ {H : Type 0} (tells : Bool) (told : IsTrue tells) (world : H → World)
     abbrev next : List ℕ
     next = shown_next asker s.shared
 
-    module _ (answer : Result (Unit {0}) Fault) (made : Steps tells answer (world s.host) (world s'.host) (faults s.host) (faults s'.host) s.shared s'.shared asker moved) where
+    module _ (answer : Result (Unit {0}) RunError) (made : Steps tells answer (world s.host) (world s'.host) (faults s.host) (faults s'.host) s.shared s'.shared asker moved) where
       -- what it did, where this was given so far
       pub took : (given : Given) → AreSixteen given.guids → Foretells given shown (world old) (world s.host)
           → TakesNext made.refused answer (world s.host) (world s'.host) s.shared s'.shared (trail_after t (told_turns how (play front (from given)))) (play front (from given)).1 asker moved

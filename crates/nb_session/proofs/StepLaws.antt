@@ -1,15 +1,14 @@
 -- A turn of a session is the next that it has to do.
 use Rattle.std.proofs.Common.{◌≡◌, inl, inr, ℕ, ◌-◌, ◌<◌, List, [], ◌∷◌, ◌++◌, length, map, drop, refl, sym, ap, subst, ◌∙◌, append_assoc, get_or-set_same, drop_of_length-le}
-use Rattle.std.specs.Prelude.{Bool, true, false, ◌||◌, IsTrue, Result, Ok, Err, IsErr, IsErrAnd, IfErr, OnOk, Option, Some, None}
+use Rattle.std.specs.Prelude.{Bool, true, false, ◌||◌, IsTrue, Result, Ok, Err, IsErr, IsErrAnd, OnOk, Option, Some, None}
 use Rattle.std.specs.List.{list_all, slice_index_or}
 use Rattle.std.proofs.lemmas.Bool.{cases_lt}
 use Rattle.std.proofs.lemmas.List.{append-nil}
 use Rattle.nb_sched.specs.Turns.{IsDone}
 use Rattle.nb_host.specs.World.{World}
-use Rattle.nb_host.specs.declared.faults.Fault.{Fault}
-use Rattle.nb_host.specs.declared.faults.Fault.TheVariants.{Refused, Device, Memory}
-use Rattle.nb_change.specs.Counts.{CountsDevice}
-use Rattle.nb_base.specs.Takes.{IsNoRefusal}
+use Rattle.nb_host.specs.Causes.{CountsRun}
+use Rattle.nb_host.specs.declared.faults.RunError.{RunError}
+use Rattle.nb_host.specs.declared.faults.RunError.TheVariants.{Device as DeviceError, Memory as MemoryError}
 use Rattle.nb_model.specs.declared.statement.Statement.{Statement}
 use Rattle.nb_model.specs.Account.{Base}
 use Rattle.nb_model.specs.Gifts.{Foretells}
@@ -21,7 +20,6 @@ use Rattle.nb_model.specs.Strokes.{base_after}
 use Rattle.nb_model.specs.Trail.{Trail}
 use Rattle.nb_model.proofs.RunLaws.{turn_stands}
 use Rattle.nb_state.specs.Open.{Held}
-use Rattle.nb_session.specs.declared.stop.Stop.{Stop}
 use Rattle.nb_session.specs.declared.task.Task.{Task}
 use Rattle.nb_session.specs.declared.task.Left.{Left}
 use Rattle.nb_session.specs.declared.task.Left.TheVariants.{Same, Other}
@@ -30,7 +28,7 @@ use Rattle.nb_session.specs.Askers.{Asker, task_first, task_rest, task_todo, tas
 use Rattle.nb_session.specs.Ready.{IsReady, TaskGoes}
 use Rattle.nb_session.specs.Replies.{only_told}
 use Rattle.nb_session.specs.Acts.{shown_by}
-use Rattle.nb_session.specs.Steps.{as_played, shown_first, shown_next, begun_in, begun_first, touching, touching_by, GoesFurther, Turns, TakesNext, Steps}
+use Rattle.nb_session.specs.Steps.{shown_first, shown_next, begun_in, begun_first, touching, touching_by, GoesFurther, Turns, TakesNext, Steps}
 use Rattle.nb_session.specs.Stops.{Plays}
 use Rattle.nb_session.specs.Told.{told_turns}
 use Rattle.nb_session.proofs.EventLaws.{one_told}
@@ -49,13 +47,6 @@ taken_base : (session : ℕ) (now : Now) (t : Turn) (rest : List Turn) → base_
 unfolding take_turn
 taken_base session now t rest = turn_stands session rest (outcome session t now) now
 
--- which value would have come says nothing of a failure
-plays_err : {T S : Type 0} (f : T → Bool) (g : S → Bool) (fault : Fault) (old new : World) (before after : Held) (t : Trail) (now : Now) (p : Played) (made : List MadeFile)
-    → Plays (as_played f (Err fault)) old new before after t now p made → Plays (as_played g (Err fault)) old new before after t now p made
-plays_err f g (Refused refusal) old new before after t now p made plays = plays
-plays_err f g Device old new before after t now p made plays = plays
-plays_err f g Memory old new before after t now p made plays = plays
-
 -- The next turn of a session, whose value tells whether its statement was refused and what is under way then: `tail` is what its statement has to do after it, and these statements it has not begun then.
 module _ {T : Type 0} (refused : T → Bool) (task : T → Option Task) (old new : World) (a b : Held) (t : Trail) (now : Now) (asker moved : Asker) (turn : Turn) (tail : List Turn) (rest : List Statement) (here : todo_of asker ≡ turn ∷ (tail ++ map Begins rest)) (has : HasTodo asker now) where
   abbrev more : List Turn
@@ -72,7 +63,7 @@ module _ {T : Type 0} (refused : T → Bool) (task : T → Option Task) (old new
   touching_is : touching_by asker.number now ≡ touching asker.number turn tail now
   touching_is = ap (λ (ts : List Turn). begun_first asker.number ts now ++ making_by asker.number now) (has ∙ here) ∙ ap (λ (files : List MadeFile). begun_in asker.number turn now ++ files) making_is
 
-  plays_one : (result : Result Bool Stop) → Plays result old new a b t now (told_turns asker.told (take_turn asker.number (turn ∷ (tail ++ more)) now)) (touching asker.number turn tail now)
+  plays_one : (result : Result Bool RunError) → Plays result old new a b t now (told_turns asker.told (take_turn asker.number (turn ∷ (tail ++ more)) now)) (touching asker.number turn tail now)
       → Plays result old new a b t now (told_turns asker.told (one_turn asker.number now)) (touching_by asker.number now)
   plays_one result plays =
       subst (λ (p : Played). Plays result old new a b t now (told_turns asker.told p) (touching_by asker.number now)) (sym one_is)
@@ -104,33 +95,27 @@ module _ {T : Type 0} (refused : T → Bool) (task : T → Option Task) (old new
   }
 
   -- it ended early
-  takes_none : (fault : Fault) (answer : Result (Unit {0}) Fault) (which : Bool) → IsErr answer × IsErrAnd answer (λ e. e ≡ fault)
-      → Turns asker.told refused task (Err fault) old new a b t now asker.number turn tail more → TakesNext which answer old new a b t now asker moved
-  takes_none fault (Ok done) which is turns = absurd is.1
-  takes_none fault (Err e) which is turns = record {
+  takes_none : (error : RunError) (answer : Result (Unit {0}) RunError) (which : Bool) → IsErr answer × IsErrAnd answer (λ e. e ≡ error)
+      → Turns asker.told refused task (Err error) old new a b t now asker.number turn tail more → TakesNext which answer old new a b t now asker moved
+  takes_none error (Ok done) which is turns = absurd is.1
+  takes_none error (Err e) which is turns = record {
     grows = turns.grows;
-    plays = λ told. subst (λ (f : Fault). Plays (as_played {T = Unit {0}} (λ done. which) (Err f)) old new a b t now (told_turns asker.told (one_turn asker.number now)) (touching_by asker.number now)) (sym is.1)
-        (plays_err {S = Unit {0}} refused (λ done. which) fault old new a b t now (told_turns asker.told (one_turn asker.number now)) (touching_by asker.number now)
-        (plays_one (as_played refused (Err fault)) (turns.plays (told_turn told))));
+    plays = λ told. subst (λ (f : RunError). Plays (Err f) old new a b t now (told_turns asker.told (one_turn asker.number now)) (touching_by asker.number now)) (sym is.1)
+        (plays_one (Err error) (turns.plays (told_turn told)));
     unchanged = λ told all. turns.unchanged (told_turn told) (told_only all);
     todo = λ told. tt;
     goes = λ told. tt;
   }
 
 -- What is said of a failure is said of the answer that hands it on.
-module _ {S : Type 0} (fault : Fault) where
-  pub none_handed : (answer : Result S Fault) → IsErr answer × IsErrAnd answer (λ e. e ≡ fault) → IsNoRefusal fault → IfErr answer IsNoRefusal
-  none_handed (Ok value) is none = tt
-  none_handed (Err e) is none = subst IsNoRefusal (sym is.1) none
-
-  pub counts_handed : (T : Type 0) (answer : Result S Fault) (before after : ℕ) → IsErr answer × IsErrAnd answer (λ e. e ≡ fault) → CountsDevice {T = T} (Err fault) before after → CountsDevice answer before after
+module _ {S : Type 0} (error : RunError) where
+  pub counts_handed : (T : Type 0) (answer : Result S RunError) (before after : ℕ) → IsErr answer × IsErrAnd answer (λ e. e ≡ error) → CountsRun {T = T} (Err error) before after → CountsRun answer before after
   counts_handed T (Ok value) before after is counts = absurd is.1
-  counts_handed T (Err e) before after is counts = subst (λ (f : Fault). CountsDevice {T = S} (Err f) before after) (sym is.1) (by fault counts)
+  counts_handed T (Err e) before after is counts = subst (λ (f : RunError). CountsRun {T = S} (Err f) before after) (sym is.1) (by error counts)
     where
-      by : (f : Fault) → CountsDevice {T = T} (Err f) before after → CountsDevice {T = S} (Err f) before after
-      by (Refused refusal) is = is
-      by Device is = is
-      by Memory is = is
+      by : (f : RunError) → CountsRun {T = T} (Err f) before after → CountsRun {T = S} (Err f) before after
+      by DeviceError is = is
+      by MemoryError is = is
 
 -- what is under way comes first
 going_on : (asker : Asker) (task : Task) → asker.task ≡ Some task → todo_of asker ≡ task_first task ∷ (task_rest task ++ map Begins asker.statements)
@@ -143,23 +128,22 @@ beginning asker statement rest is first = ap (λ (x : Option Task). task_todo x 
 module _ (tells : Bool) (old new : World) (faults faults' : ℕ) (a b : Held) (asker moved : Asker) (others : KeepsOthers asker.number a b) (kept : moved.told ≡ asker.told) where
   module _ {T : Type 0} (refused : T → Bool) (task : T → Option Task) (turn : Turn) (tail : List Turn) (rest : List Statement) (here : todo_of asker ≡ turn ∷ (tail ++ map Begins rest)) where
     -- what the turn did, where the session comes to it
-    abbrev Turned : Result T Fault → Type 0
+    abbrev Turned : Result T RunError → Type 0
     Turned result = (now : Now) (t : Trail) → IsTrue tells → IsReady old a t now → IsMaking now → slice_index_or now.todo (asker.number - 1) [] ≡ turn ∷ (tail ++ map Begins rest) → TaskGoes asker.number old a t.base.frozen asker.task
         → Turns asker.told refused task result old new a b t now asker.number turn tail (map Begins rest)
 
-    step_failed : (fault : Fault) (answer : Result (Unit {0}) Fault) → IsErr answer × IsErrAnd answer (λ e. e ≡ fault) → Turned (Err fault) → CountsDevice {T = T} (Err fault) faults faults' → IsNoRefusal fault
+    step_failed : (error : RunError) (answer : Result (Unit {0}) RunError) → IsErr answer × IsErrAnd answer (λ e. e ≡ error) → Turned (Err error) → CountsRun {T = T} (Err error) faults faults'
         → Steps tells answer old new faults faults' a b asker moved
-    step_failed fault answer handed turned counts none = record {
+    step_failed error answer handed turned counts = record {
       refused = false;
       noted = on_handed answer handed;
       told = kept;
-      takes = λ now t told ready going has goes. takes_none refused task old new a b t now asker moved turn tail rest here has fault answer false handed (turned now t told ready going (has ∙ here) goes);
+      takes = λ now t told ready going has goes. takes_none refused task old new a b t now asker moved turn tail rest here has error answer false handed (turned now t told ready going (has ∙ here) goes);
       others = others;
-      cause = counts_handed fault T answer faults faults' handed counts;
-      not_refused = none_handed fault answer handed none;
+      cause = counts_handed error T answer faults faults' handed counts;
     }
       where
-        on_handed : (answer : Result (Unit {0}) Fault) → IsErr answer × IsErrAnd answer (λ e. e ≡ fault) → OnOk answer (moved.refused ≡ (asker.refused || false))
+        on_handed : (answer : Result (Unit {0}) RunError) → IsErr answer × IsErrAnd answer (λ e. e ≡ error) → OnOk answer (moved.refused ≡ (asker.refused || false))
         on_handed (Ok done) is = absurd is.1
         on_handed (Err e) is = tt
 
@@ -173,23 +157,22 @@ module _ (tells : Bool) (old new : World) (faults faults' : ℕ) (a b : Held) (a
           takes_turn refused task old new a b t now asker moved turn tail rest here has value (asker.refused || refused value) same (turned now t told ready going (has ∙ here) goes);
       others = others;
       cause = counts;
-      not_refused = tt;
     }
 
   -- a further turn of what is under way, which is `now_task` then where it goes on
   module _ (task : Task) (is : asker.task ≡ Some task) (now_task : Option Task) where
-    abbrev Went : Result Left Fault → Type 0
+    abbrev Went : Result Left RunError → Type 0
     Went result = (now : Now) (t : Trail) (more : List Turn) → IsTrue tells → IsReady old a t now → IsMaking now → GoesFurther asker.told asker.task now_task result old new a b t now asker.number more
 
-    came : (result : Result Left Fault) → Went result → Turned left_refused (left_task now_task) (task_first task) (task_rest task) asker.statements (going_on asker task is) result
+    came : (result : Result Left RunError) → Went result → Turned left_refused (left_task now_task) (task_first task) (task_rest task) asker.statements (going_on asker task is) result
     came result went now t told ready going at goes =
         subst (λ (x : Option Task). GoesFurther asker.told x now_task result old new a b t now asker.number (map Begins asker.statements)) is (went now t (map Begins asker.statements) told ready going) at
         (subst (TaskGoes asker.number old a t.base.frozen) is goes)
 
-    pub went_failed : (fault : Fault) (answer : Result (Unit {0}) Fault) → IsErr answer × IsErrAnd answer (λ e. e ≡ fault) → Went (Err fault) → CountsDevice {T = Left} (Err fault) faults faults' → IsNoRefusal fault
+    pub went_failed : (error : RunError) (answer : Result (Unit {0}) RunError) → IsErr answer × IsErrAnd answer (λ e. e ≡ error) → Went (Err error) → CountsRun {T = Left} (Err error) faults faults'
         → Steps tells answer old new faults faults' a b asker moved
-    went_failed fault answer handed went counts none =
-        step_failed left_refused (left_task now_task) (task_first task) (task_rest task) asker.statements (going_on asker task is) fault answer handed (came (Err fault) went) counts none
+    went_failed error answer handed went counts =
+        step_failed left_refused (left_task now_task) (task_first task) (task_rest task) asker.statements (going_on asker task is) error answer handed (came (Err error) went) counts
 
     went_taken : (left : Left) → moved ≡ record { number = asker.number; told = asker.told; statements = asker.statements; task = left_task now_task left; refused = asker.refused || left_refused left } → Went (Ok left) → faults' ≡ faults
         → Steps tells (Ok tt) old new faults faults' a b asker moved
@@ -220,14 +203,14 @@ module _ (tells : Bool) (old new : World) (faults faults' : ℕ) (a b : Held) (a
 
   -- the first turn of a statement
   module _ (statement : Statement) (rest : List Statement) (is : asker.task ≡ None) (first : asker.statements ≡ statement ∷ rest) where
-    abbrev Began : Result Taken Fault → Type 0
+    abbrev Began : Result Taken RunError → Type 0
     Began result = (now : Now) (t : Trail) (more : List Turn) → IsTrue tells → IsReady old a t now → IsMaking now → slice_index_or now.todo (asker.number - 1) [] ≡ Begins statement ∷ more
         → Turns asker.told (λ (x : Taken). x.refused) (λ (x : Taken). x.task) result old new a b t now asker.number (Begins statement) [] more
 
-    pub began_failed : (fault : Fault) (answer : Result (Unit {0}) Fault) → IsErr answer × IsErrAnd answer (λ e. e ≡ fault) → Began (Err fault) → CountsDevice {T = Taken} (Err fault) faults faults' → IsNoRefusal fault
+    pub began_failed : (error : RunError) (answer : Result (Unit {0}) RunError) → IsErr answer × IsErrAnd answer (λ e. e ≡ error) → Began (Err error) → CountsRun {T = Taken} (Err error) faults faults'
         → Steps tells answer old new faults faults' a b asker moved
-    began_failed fault answer handed began counts none =
-        step_failed (λ (x : Taken). x.refused) (λ (x : Taken). x.task) (Begins statement) [] rest (beginning asker statement rest is first) fault answer handed (λ now t told ready going at goes. began now t (map Begins rest) told ready going at) counts none
+    began_failed error answer handed began counts =
+        step_failed (λ (x : Taken). x.refused) (λ (x : Taken). x.task) (Begins statement) [] rest (beginning asker statement rest is first) error answer handed (λ now t told ready going at goes. began now t (map Begins rest) told ready going at) counts
 
     pub began_taken : (taken : Taken) → moved ≡ record { number = asker.number; told = asker.told; statements = rest; task = taken.task; refused = asker.refused || taken.refused } → Began (Ok taken) → faults' ≡ faults
         → Steps tells (Ok tt) old new faults faults' a b asker moved

@@ -1,16 +1,16 @@
 -- One turn, by what it made of the database and by its line.
 use Rattle.std.proofs.Common.{◌≡◌, ℕ, ◌-◌, List, [], ◌∷◌, ◌++◌, Bool, false, refl, sym, ap, subst, ◌∙◌}
-use Rattle.std.specs.Prelude.{true, Result, Ok, Err, IsErr, IsErrAnd, IfOk, IfErr, Option, Some, None, if◌then◌else◌}
+use Rattle.std.specs.Prelude.{true, Result, Ok, Err, IsErr, IsErrAnd, IfOk, Option, Some, None, if◌then◌else◌}
 use Rattle.std.specs.List.{slice_index_or}
 use Rattle.std.proofs.lemmas.List.{append-nil}
 use Rattle.nb_host.specs.World.{World}
 use Rattle.nb_host.specs.declared.faults.Fault.{Fault}
-use Rattle.nb_host.specs.declared.faults.Fault.TheVariants.{Refused, Device, Memory}
+use Rattle.nb_host.specs.declared.faults.Fault.TheVariants.{Refused}
 use Rattle.nb_host.specs.declared.refusals.Refusal.{Refusal}
+use Rattle.nb_host.specs.declared.faults.RunError.{RunError}
 use Rattle.nb_model.specs.declared.reply.Reply.{Reply}
 use Rattle.nb_model.specs.declared.reply.Reply.TheVariants.{Refused as RefusedBy}
 use Rattle.nb_model.specs.declared.statement.Statement.{Statement}
-use Rattle.nb_change.specs.Counts.{CountsDevice}
 use Rattle.nb_model.specs.Gifts.{Foretells}
 use Rattle.nb_model.specs.Going.{IsMaking}
 use Rattle.nb_model.specs.Lines.{line_text}
@@ -23,11 +23,8 @@ use Rattle.nb_model.specs.Turns.{first_turn, turn}
 use Rattle.nb_model.proofs.StatusLaws.{status_plain}
 use Rattle.nb_model.proofs.TodoLaws.{IsSingle}
 use Rattle.nb_model.proofs.UsageLaws.{never_usage}
-use Rattle.nb_base.specs.Takes.{IsNoRefusal}
 use Rattle.nb_state.specs.Open.{Held}
 use Rattle.nb_change.proofs.ResultLaws.{passed_on}
-use Rattle.nb_session.specs.declared.stop.Stop.{Stop}
-use Rattle.nb_session.specs.declared.stop.Stop.TheVariants.{Device as DeviceStop, Memory as MemoryStop}
 use Rattle.nb_session.specs.declared.task.Left.{Left}
 use Rattle.nb_session.specs.declared.task.Task.{Task}
 use Rattle.nb_session.specs.declared.task.Taken.{Taken}
@@ -45,14 +42,12 @@ use Rattle.nb_session.proofs.SaysLaws.{says_other}
 use Rattle.nb_session.proofs.ToldLaws.{refusal_line}
 
 -- a result that is a failure
-pub plays_err : {T : Type 0} (refused : T → Bool) (result : Result T Fault) (old new : World) (before after : Held) (t : Trail) (now : Now) (p : Played) (files : List MadeFile) → IsErr result
-    → ((e : Stop) → Plays (Err e) old new before after t now p files) → Plays (as_played refused result) old new before after t now p files
+pub plays_err : {T : Type 0} (refused : T → Bool) (result : Result T RunError) (old new : World) (before after : Held) (t : Trail) (now : Now) (p : Played) (files : List MadeFile) → IsErr result
+    → ((e : RunError) → Plays (Err e) old new before after t now p files) → Plays (as_played refused result) old new before after t now p files
 plays_err refused (Ok value) old new before after t now p files is plays = absurd (cc (is))
-plays_err refused (Err (Refused refusal)) old new before after t now p files is plays = plays MemoryStop
-plays_err refused (Err Device) old new before after t now p files is plays = plays DeviceStop
-plays_err refused (Err Memory) old new before after t now p files is plays = plays MemoryStop
+plays_err refused (Err e) old new before after t now p files is plays = plays e
 
-err_none : {S : Type 0} (result : Result S Fault) (P : S → Type 0) → IsErr result → IfOk result P
+err_none : {S : Type 0} (result : Result S RunError) (P : S → Type 0) → IsErr result → IfOk result P
 err_none (Ok value) P is = absurd (cc (is))
 err_none (Err e) P is = tt
 
@@ -70,7 +65,7 @@ module _ {T S : Type 0} (how : Told) (reply : T → Option Reply) (result : Resu
   marks told = subst (Marks old mid e0) files_are (mark (may.acts told))
 
   -- it failed before it was to say anything
-  pub turns_failed : (answer : Result S Fault) → IsErr answer → Turns how refused task answer old mid e0 e1 t now session u tail more
+  pub turns_failed : (answer : Result S RunError) → IsErr answer → Turns how refused task answer old mid e0 e1 t now session u tail more
   turns_failed answer failed = record {
     grows = may.grows;
     plays = λ told. plays_err refused answer old mid e0 e1 t now played (touching session u tail now) failed (event_failed how old mid mid e0 e1 t now session u tail more result reply (acting told) (marks told));
@@ -99,7 +94,7 @@ module _ {T S : Type 0} (how : Told) (reply : T → Option Reply) (result : Resu
     grown = grows_joined old mid new may.grows (grows_none mid new says.gave)
 
     -- its line wasn't said whole
-    pub turns_unsaid : (answer : Result S Fault) → IsErr answer → Turns how refused task answer old new e0 e1 t now session u tail more
+    pub turns_unsaid : (answer : Result S RunError) → IsErr answer → Turns how refused task answer old new e0 e1 t now session u tail more
     turns_unsaid answer failed = record {
       grows = grown;
       plays = λ told.
@@ -124,7 +119,7 @@ module _ {T S : Type 0} (how : Told) (reply : T → Option Reply) (result : Resu
     }
 
 -- what doesn't come
-pub turns_never : {S : Type 0} (how : Told) (refused : S → Bool) (task : S → Option Task) (answer : Result S Fault) (old new : World) (a b : Held) (t : Trail) (now : Now) (session : ℕ) (u : Turn) (tail more : List Turn) → ⊥
+pub turns_never : {S : Type 0} (how : Told) (refused : S → Bool) (task : S → Option Task) (answer : Result S RunError) (old new : World) (a b : Held) (t : Trail) (now : Now) (session : ℕ) (u : Turn) (tail more : List Turn) → ⊥
     → Turns how refused task answer old new a b t now session u tail more
 turns_never how refused task answer old new a b t now session u tail more never = absurd never
 
@@ -132,7 +127,7 @@ turns_never how refused task answer old new a b t now session u tail more never 
 pub under_is : {under : Option Task} {field task : Task} → under ≡ Some field → field ≡ task → under ≡ Some task
 under_is is same = is ∙ ap Some same
 
-pub further : {how : Told} {under now_task : Option Task} {task : Task} {result : Result Left Fault} {old new : World} {a b : Held} {t : Trail} {now : Now} {session : ℕ} {more : List Turn} → under ≡ Some task
+pub further : {how : Told} {under now_task : Option Task} {task : Task} {result : Result Left RunError} {old new : World} {a b : Held} {t : Trail} {now : Now} {session : ℕ} {more : List Turn} → under ≡ Some task
     → GoesFurther how (Some task) now_task result old new a b t now session more → GoesFurther how under now_task result old new a b t now session more
 further {how} {under} {now_task} {task} {result} {old} {new} {a} {b} {t} {now} {session} {more} is goes = subst (λ (x : Option Task). GoesFurther how x now_task result old new a b t now session more) (sym is) goes
 
@@ -165,7 +160,7 @@ single_behind w held session statement now single =
 module _ {T : Type 0} (how : Told) (reply : T → Option Reply) (refusal : Refusal) (old mid new : World) (e0 e1 : Held) (t : Trail) (now : Now) (session : ℕ) (u : Turn) (tail more : List Turn)
     (files : List MadeFile) (files_are : files ≡ touching session u tail now) (makes : IsMaking now) (place : slice_index_or now.todo (session - 1) [] ≡ u ∷ (tail ++ more))
     (may : MayAct reply (Err (Refused refusal)) old mid e0 e1 t now session u files) (mark : Acts reply (Err (Refused refusal)) old mid e0 e1 t now session u files → Marks old mid e0 files) (ready : IsReady old e0 t now) where
-  pub turns_refused : (answer : Result Taken Fault) → SaysLine answer mid new (line_text session (RefusedBy refusal)) → IfOk answer (λ taken. taken ≡ record { task = None; refused = true })
+  pub turns_refused : (answer : Result Taken RunError) → SaysLine answer mid new (line_text session (RefusedBy refusal)) → IfOk answer (λ taken. taken ≡ record { task = None; refused = true })
       → ((outcome session u now).reply ≡ Some (RefusedBy refusal) → status_after (RefusedBy refusal) ≡ 1) → (Foretells now.given (shown_by u e0) old mid → IsBehind new e1 session u tail now None)
       → Turns how (λ taken. taken.refused) (λ taken. taken.task) answer old new e0 e1 t now session u tail more
   turns_refused (Ok taken) says is status behind =
@@ -173,39 +168,22 @@ module _ {T : Type 0} (how : Told) (reply : T → Option Reply) (refusal : Refus
       (says_other (Ok taken) mid new _ _ (refusal_line how session refusal) says) ready taken (says.said ∙ ap (λ (l : List ℕ). mid.said ++ l) (refusal_line how session refusal))
       (λ replied. status replied ∙ ap (λ (x : Taken). if x.refused then 1 else 0) (sym is))
       (λ told. subst (λ (x : Taken). IsBehind new e1 session u tail now x.task) (sym is) (behind told))
-  turns_refused (Err fault) says is status behind =
-      turns_unsaid how reply (Err (Refused refusal)) (λ (x : Taken). x.refused) (λ (x : Taken). x.task) old mid new e0 e1 t now session u tail more files files_are makes place may mark tt (RefusedBy refusal) (λ said s. s) (Err fault)
-      (says_other (Err fault) mid new _ _ (refusal_line how session refusal) says) ready
-      (Err fault) refl
-
--- which value would have come says nothing of a failure
-played_err : {S T : Type 0} (f : S → Bool) (g : T → Bool) (fault : Fault) → as_played f (Err fault) ≡ as_played g (Err fault)
-played_err f g (Refused refusal) = refl
-played_err f g Device = refl
-played_err f g Memory = refl
-
-counts_err : (S T : Type 0) (fault : Fault) (m n : ℕ) → CountsDevice {T = S} (Err fault) m n → CountsDevice {T = T} (Err fault) m n
-counts_err S T (Refused refusal) m n is = is
-counts_err S T Device m n is = is
-counts_err S T Memory m n is = is
+  turns_refused (Err e) says is status behind =
+      turns_unsaid how reply (Err (Refused refusal)) (λ (x : Taken). x.refused) (λ (x : Taken). x.task) old mid new e0 e1 t now session u tail more files files_are makes place may mark tt (RefusedBy refusal) (λ said s. s) (Err e)
+      (says_other (Err e) mid new _ _ (refusal_line how session refusal) says) ready
+      (Err e) refl
 
 -- A failure is handed on.
-module _ (fault : Fault) (answer : Result Taken Fault) (handed : IsErr answer × IsErrAnd answer (λ e. e ≡ fault)) where
+module _ (error : RunError) (answer : Result Taken RunError) (handed : IsErr answer × IsErrAnd answer (λ e. e ≡ error)) where
   pub handed_turns : {T : Type 0} (how : Told) (refused : T → Bool) (task : T → Option Task) (old new : World) (a b : Held) (t : Trail) (now : Now) (session : ℕ) (u : Turn) (tail more : List Turn)
-      → Turns how refused task (Err fault) old new a b t now session u tail more → Turns how (λ taken. taken.refused) (λ taken. taken.task) answer old new a b t now session u tail more
+      → Turns how refused task (Err error) old new a b t now session u tail more → Turns how (λ taken. taken.refused) (λ taken. taken.task) answer old new a b t now session u tail more
   handed_turns how refused task old new a b t now session u tail more turns =
-      subst (λ (r : Result Taken Fault). Turns how (λ taken. taken.refused) (λ taken. taken.task) r old new a b t now session u tail more) (sym (passed_on answer fault handed)) (record {
+      subst (λ (r : Result Taken RunError). Turns how (λ taken. taken.refused) (λ taken. taken.task) r old new a b t now session u tail more) (sym (passed_on answer error handed)) (record {
         grows = turns.grows;
-        plays = λ told. subst (λ (r : Result Bool Stop). Plays r old new a b t now (told_turns how (take_turn session (u ∷ (tail ++ more)) now)) (touching session u tail now)) (played_err refused (λ (x : Taken). x.refused) fault) (turns.plays told);
+        plays = turns.plays;
         unchanged = turns.unchanged;
         behind = λ told. tt;
       })
 
   pub handed_none : (P : Taken → Type 0) → IfOk answer P
   handed_none P = err_none answer P handed.0
-
-  pub handed_counts : (T : Type 0) (m n : ℕ) → CountsDevice {T = T} (Err fault) m n → CountsDevice answer m n
-  handed_counts T m n counts = subst (λ (r : Result Taken Fault). CountsDevice r m n) (sym (passed_on answer fault handed)) (counts_err T Taken fault m n counts)
-
-  pub handed_failure : IsNoRefusal fault → IfErr answer IsNoRefusal
-  handed_failure none = subst (λ (r : Result Taken Fault). IfErr r IsNoRefusal) (sym (passed_on answer fault handed)) none

@@ -8,10 +8,8 @@ use Rattle.std.proofs.Math.ListN.{get_or-map}
 use Rattle.nb_host.specs.Names.{is_delta}
 use Rattle.nb_host.specs.World.{World}
 use Rattle.nb_host.specs.Moments.{IsTimely}
-use Rattle.nb_host.specs.declared.faults.Fault.{Fault}
-use Rattle.nb_host.specs.declared.faults.Fault.TheVariants.{Refused}
-use Rattle.nb_host.specs.declared.refusals.Refusal.{Refusal}
-use Rattle.nb_change.specs.Counts.{CountsDevice}
+use Rattle.nb_host.specs.Causes.{CountsRun}
+use Rattle.nb_host.specs.declared.faults.RunError.{RunError}
 use Rattle.nb_model.specs.Causes.{is_free_entry}
 use Rattle.nb_model.specs.Gifts.{Foretells}
 use Rattle.nb_model.specs.Going.{IsMaking}
@@ -30,13 +28,12 @@ use Rattle.nb_script.specs.Asked.{IsAskable}
 use Rattle.nb_script.specs.Fits.{IsSession}
 use Rattle.nb_script.specs.Scripts.{Plan}
 use Rattle.nb_state.specs.Open.{Held, name_of}
-use Rattle.nb_session.specs.declared.stop.Stop.{Stop}
 use Rattle.nb_session.specs.declared.told.Told.{Told}
 use Rattle.nb_session.specs.Acts.{Grows}
 use Rattle.nb_session.specs.Askers.{Asker, HasTodo, left_of, IsFit, any_refused, fresh_asker, first_askers}
 use Rattle.nb_session.specs.Ready.{IsReady}
 use Rattle.nb_session.specs.Stops.{Plays}
-use Rattle.nb_session.specs.Steps.{as_played, shown_next, touching_by}
+use Rattle.nb_session.specs.Steps.{shown_next, touching_by}
 use Rattle.nb_session.specs.Todo.{PlaysInTurn}
 use Rattle.nb_session.specs.Told.{told_events, told_turns}
 use Rattle.nb_session.proofs.AllLaws.{all_append}
@@ -124,7 +121,7 @@ module _ {H : Type 0} (tells : Bool) (told : IsTrue tells) (world : H → World)
         (λ session asker there. (first_todo how plan now session asker begins there, first_task how plan session asker there));
   }
 
-  pub ends : (after : Scene Asker H Held) (answer : Result (Unit {0}) Fault) → TakesTurns (sessions_kind tells world faults) order start answer after → EndsWith (sessions_kind tells world faults) HaveShown order answer after
+  pub ends : (after : Scene Asker H Held) (answer : Result (Unit {0}) RunError) → TakesTurns (sessions_kind tells world faults) order start answer after → EndsWith (sessions_kind tells world faults) HaveShown order answer after
   ends after answer turns =
       turns_hold (sessions_kind tells world faults) HaveShown
       (λ front session s far rests. record {
@@ -138,16 +135,16 @@ module _ {H : Type 0} (tells : Bool) (told : IsTrue tells) (world : H → World)
       order start after answer begun_shown turns
 
   -- the numbers that all turns showed
-  abbrev pub whole_shown : (answer : Result (Unit {0}) Fault) (after : Scene Asker H Held) → TakesTurns (sessions_kind tells world faults) order start answer after → List ℕ
+  abbrev pub whole_shown : (answer : Result (Unit {0}) RunError) (after : Scene Asker H Held) → TakesTurns (sessions_kind tells world faults) order start answer after → List ℕ
   whole_shown (Ok done) after turns = (ends after (Ok tt) turns).shown
-  whole_shown (Err fault) after turns = (ends after (Err fault) turns).holds.shown ++ shown_next (ends after (Err fault) turns).move.agent (ends after (Err fault) turns).last.shared
+  whole_shown (Err error) after turns = (ends after (Err error) turns).holds.shown ++ shown_next (ends after (Err error) turns).move.agent (ends after (Err error) turns).last.shared
 
   module _ (t : Trail) (now : Now) (making : IsMaking now) (ready : IsReady (world old) before t now) (begins : now.todo ≡ begun plan.sessions) where
     todo_length : length (play order now).1.todo ≡ 16
     todo_length = play_length order now ∙ ap length begins ∙ length-map plan.sessions (map Begins) ∙ askable.sixteen
 
     -- once all have finished what was made is whole
-    made_whole : (result : Result Bool Stop) (new : World) (held : Held) (xs : List ℕ) (made : List MadeFile) → AreFinished (play xs now).1.todo → AreAmong made (files_made (play xs now).0 ++ under_way (play xs now).1)
+    made_whole : (result : Result Bool RunError) (new : World) (held : Held) (xs : List ℕ) (made : List MadeFile) → AreFinished (play xs now).1.todo → AreAmong made (files_made (play xs now).0 ++ under_way (play xs now).1)
         → Plays result (world old) new before held t now (told_turns how (play xs now)) made → Plays result (world old) new before held t now (told_turns how (play xs now)) (files_made (play xs now).0)
     made_whole result new held xs made finished among =
         plays_wider result (world old) new before held t now (told_turns how (play xs now)) made (files_made (play xs now).0) (λ file there. finished_among (play xs now).0 (play xs now).1 finished file (among file there))
@@ -189,7 +186,7 @@ module _ {H : Type 0} (tells : Bool) (told : IsTrue tells) (world : H → World)
         }
 
     -- A turn ended early, and these would have come after it.
-    failed : (front rest whole : List ℕ) (session : ℕ) (mid new : World) (e1 e2 : Held) (r : Bool) (e : Stop) (made : List MadeFile) → whole ≡ front ++ (session ∷ rest)
+    failed : (front rest whole : List ℕ) (session : ℕ) (mid new : World) (e1 e2 : Held) (r : Bool) (e : RunError) (made : List MadeFile) → whole ≡ front ++ (session ∷ rest)
         → AreAmong made (files_made (play front now).0 ++ under_way (play front now).1) → AreAmong (files_made (play front now).0) made → Plays (Ok r) (world old) mid before e1 t now (told_turns how (play front now)) made
         → Plays (Err e) mid new e1 e2 (trail_after t (told_turns how (play front now))) (play front now).1 (told_turns how (one_turn session (play front now).1)) (touching_by session (play front now).1)
         → Plays (Err e) (world old) new before e2 t now (told_turns how (play whole now)) (made ++ touching_by session (play front now).1)
@@ -208,9 +205,9 @@ module _ {H : Type 0} (tells : Bool) (told : IsTrue tells) (world : H → World)
         (subst (λ (es : List Event). Plays (Err e) (world old) new before e2 t now (es, (play rest two.1).1) files) (sym (told_append how two.0 (play rest two.1).0)) cut)
 
     -- where one turn ended early
-    module _ (after : Scene Asker H Held) (fault : Fault) (turns : TakesTurns (sessions_kind tells world faults) order start (Err fault) after) where
-      abbrev e : FailsBehind (sessions_kind tells world faults) HaveShown order fault after
-      e = ends after (Err fault) turns
+    module _ (after : Scene Asker H Held) (error : RunError) (turns : TakesTurns (sessions_kind tells world faults) order start (Err error) after) where
+      abbrev e : FailsBehind (sessions_kind tells world faults) HaveShown order error after
+      e = ends after (Err error) turns
 
       before_it : HoldsAt tells told world faults old before t how now order numbers making e.holds.shown e.front e.last
       before_it = e.holds.holds t now making ready begins (e.session ∷ e.rest) (sym e.is)
@@ -220,22 +217,23 @@ module _ {H : Type 0} (tells : Bool) (told : IsTrue tells) (world : H → World)
 
       last_grows : Grows (world e.last.host) (world after.host)
       last_grows =
-          turn_grows tells told world faults old before t how now order numbers making e.holds.shown e.front e.rest e.session e.last after (sym e.is) before_it number e.move.agent e.move.moved e.move.there e.move.agents e.move.same_session (Err fault) e.move.made
+          turn_grows tells told world faults old before t how now order numbers making e.holds.shown e.front e.rest e.session e.last after (sym e.is) before_it number e.move.agent e.move.moved e.move.there e.move.agents e.move.same_session (Err error) e.move.made
 
       all_grow : Grows (world old) (world after.host)
       all_grow = grows_joined (world old) (world e.last.host) (world after.host) before_it.grown last_grows
 
       -- or until one ended early
-      pub whole_failed : (stop : Stop) → ((refused : Unit {0} → Bool) → as_played refused (Err fault) ≡ Err stop) → Foretells now.given (whole_shown (Err fault) after turns) (world old) (world after.host)
-          → PlaysInTurn world (Err stop) old after.host before after.shared t how now plan.schedule
-      whole_failed stop same foretold =
+      pub whole_failed : Foretells now.given (whole_shown (Err error) after turns) (world old) (world after.host)
+          → PlaysInTurn world (Err error) old after.host before after.shared t how now plan.schedule
+      whole_failed foretold =
           let end = turns_end plan askable now making.going begins how_often in
           let full : List ℕ = plan.schedule ++ rounds end.how_often in
           let is : full ≡ e.front ++ (e.session ∷ (e.rest ++ end.more)) = end.is ∙ ap (λ (xs : List ℕ). xs ++ end.more) e.is ∙ append_assoc e.front (e.session ∷ e.rest) end.more in
-          let plays = turn_plays tells told world faults old before t how now order numbers making e.holds.shown e.front e.rest e.session e.last after (sym e.is) before_it number e.move.agent e.move.moved e.move.there e.move.agents e.move.same_session
-          (Err fault) e.move.made now.given making.going.sixteen foretold in
+          let last : Plays (Err error) (world e.last.host) (world after.host) e.last.shared after.shared (trail_after t (told_turns how (play e.front now))) (play e.front now).1 (told_turns how (one_turn e.session (play e.front now).1)) (touching_by e.session (play e.front now).1) =
+          turn_plays tells told world faults old before t how now order numbers making e.holds.shown e.front e.rest e.session e.last after (sym e.is) before_it number e.move.agent e.move.moved e.move.there e.move.agents e.move.same_session
+          (Err error) e.move.made now.given making.going.sixteen foretold in
           let still = turn_still tells told world faults old before t how now order numbers making e.holds.shown e.front e.rest e.session e.last after (sym e.is) before_it number e.move.agent e.move.moved e.move.there e.move.agents e.move.same_session
-          (Err fault) e.move.made now.given making.going.sixteen foretold in
+          (Err error) e.move.made now.given making.going.sixteen foretold in
           let far = before_it.so_far now.given making.going.sixteen (foretold_first (world old) (world e.last.host) (world after.host) now.given e.holds.shown (shown_next e.move.agent e.last.shared) before_it.grown last_grows foretold) in
           let p : Played = play e.front now in
           let files : List MadeFile = far.made ++ touching_by e.session p.1 in
@@ -244,14 +242,11 @@ module _ {H : Type 0} (tells : Bool) (told : IsTrue tells) (world : H → World)
           subst (λ (xs : List ℕ). Contains (files_made (play xs now).0 ++ under_way (play xs now).1) file) (append_assoc e.front (e.session ∷ []) (e.rest ++ end.more) ∙ sym is)
           (play_ahead (e.front ++ e.session ∷ []) (e.rest ++ end.more) now making file
           (subst (λ (q : Played). Contains (files_made q.0 ++ under_way q.1) file) (sym (play_more e.front e.session now)) (next_among now making e.front e.session far.made far.among file there))) in
-          let last : Plays (Err stop) (world e.last.host) (world after.host) e.last.shared after.shared (trail_after t (told_turns how p)) p.1 (told_turns how (one_turn e.session p.1)) (touching_by e.session p.1) =
-          subst (λ (r : Result Bool Stop). Plays r (world e.last.host) (world after.host) e.last.shared after.shared (trail_after t (told_turns how p)) p.1 (told_turns how (one_turn e.session p.1)) (touching_by e.session p.1))
-          (same (λ done. e.move.made.refused)) plays in
           record {
             whole = record {
               how_often = end.how_often;
-              plays = made_whole (Err stop) (world after.host) after.shared full files end.finished among
-                  (failed e.front (e.rest ++ end.more) full e.session (world e.last.host) (world after.host) e.last.shared after.shared _ stop far.made is far.among far.has far.plays last);
+              plays = made_whole (Err error) (world after.host) after.shared full files end.finished among
+                  (failed e.front (e.rest ++ end.more) full e.session (world e.last.host) (world after.host) e.last.shared after.shared _ error far.made is far.among far.has far.plays last);
               finished = end.finished;
             };
             in_turn = record {
@@ -261,22 +256,22 @@ module _ {H : Type 0} (tells : Bool) (told : IsTrue tells) (world : H → World)
               mid = e.last.host;
               between = e.last.shared;
               taken = far.in_turn;
-              last = (subst (λ (u : Trail). Plays (Err stop) (world e.last.host) (world after.host) e.last.shared after.shared u p.1 (told_turns how (one_turn e.session p.1)) (touching_by e.session p.1)) (told_trail how t p) last, still);
+              last = (subst (λ (u : Trail). Plays (Err error) (world e.last.host) (world after.host) e.last.shared after.shared u p.1 (told_turns how (one_turn e.session p.1)) (touching_by e.session p.1)) (told_trail how t p) last, still);
             };
             guids = tt;
           }
 
     -- what was given meanwhile
-    pub whole_grows : (answer : Result (Unit {0}) Fault) (after : Scene Asker H Held) → TakesTurns (sessions_kind tells world faults) order start answer after → Grows (world old) (world after.host)
+    pub whole_grows : (answer : Result (Unit {0}) RunError) (after : Scene Asker H Held) → TakesTurns (sessions_kind tells world faults) order start answer after → Grows (world old) (world after.host)
     whole_grows (Ok done) after turns = ((ends after (Ok tt) turns).holds t now making ready begins [] (append-nil order)).grown
-    whole_grows (Err fault) after turns = all_grow after fault turns
+    whole_grows (Err error) after turns = all_grow after error turns
 
 -- the same turns, of the sessions as they stand there
-pub turns_as : {H : Type 0} (tells : Bool) (world : H → World) (faults : H → ℕ) (schedule other : List ℕ) (agents others : List Asker) (n : ℕ) (host : H) (held : Held) (answer said : Result (Unit {0}) Fault) (after : Scene Asker H Held)
+pub turns_as : {H : Type 0} (tells : Bool) (world : H → World) (faults : H → ℕ) (schedule other : List ℕ) (agents others : List Asker) (n : ℕ) (host : H) (held : Held) (answer said : Result (Unit {0}) RunError) (after : Scene Asker H Held)
     → other ≡ schedule → others ≡ agents → said ≡ answer → TakesTurns (sessions_kind tells world faults) (other ++ rounds n) (scene others host held) said after
     → TakesTurns (sessions_kind tells world faults) (schedule ++ rounds n) (scene agents host held) answer after
 turns_as tells world faults schedule other agents others n host held answer said after same these is turns =
-    subst (λ (r : Result (Unit {0}) Fault). TakesTurns (sessions_kind tells world faults) (schedule ++ rounds n) (scene agents host held) r after) is
+    subst (λ (r : Result (Unit {0}) RunError). TakesTurns (sessions_kind tells world faults) (schedule ++ rounds n) (scene agents host held) r after) is
     (subst (λ (xs : List ℕ). TakesTurns (sessions_kind tells world faults) (xs ++ rounds n) (scene agents host held) said after) same
     (subst (λ (list : List Asker). TakesTurns (sessions_kind tells world faults) (other ++ rounds n) (scene list host held) said after) these turns))
 
@@ -290,20 +285,17 @@ first_ready tells world faults how plan askable agents host held first = record 
       (record { asks = askable.further session; task = tt; in_range = omega arith });
 }
 
--- The count of faults, and refusals.
+-- The count of faults.
 module _ {H : Type 0} (tells : Bool) (world : H → World) (faults : H → ℕ) (order : List ℕ) (start after : Scene Asker H Held) where
   abbrev Stays : List ℕ → Scene Asker H Held → Type 0
   Stays front s = faults s.host ≡ faults start.host
 
-  stays : (answer : Result (Unit {0}) Fault) → TakesTurns (sessions_kind tells world faults) order start answer after → EndsWith (sessions_kind tells world faults) Stays order answer after
+  stays : (answer : Result (Unit {0}) RunError) → TakesTurns (sessions_kind tells world faults) order start answer after → EndsWith (sessions_kind tells world faults) Stays order answer after
   stays answer turns =
       turns_hold (sessions_kind tells world faults) Stays (λ front session s is rests. is) (λ front session s s' is move. move.made.cause ∙ is) order start after answer refl turns
 
-  pub whole_counts : (answer : Result (Unit {0}) Fault) → TakesTurns (sessions_kind tells world faults) order start answer after → CountsDevice answer (faults start.host) (faults after.host)
+  pub whole_counts : (answer : Result (Unit {0}) RunError) → TakesTurns (sessions_kind tells world faults) order start answer after → CountsRun answer (faults start.host) (faults after.host)
   whole_counts (Ok done) turns = stays (Ok done) turns
-  whole_counts (Err fault) turns =
-      let e = stays (Err fault) turns in
-      subst (λ (n : ℕ). CountsDevice {T = Unit {0}} (Err fault) n (faults after.host)) e.holds e.move.made.cause
-
-  pub never_refused : (refusal : Refusal) → TakesTurns (sessions_kind tells world faults) order start (Err (Refused refusal)) after → ⊥
-  never_refused refusal turns = (stays (Err (Refused refusal)) turns).move.made.not_refused
+  whole_counts (Err error) turns =
+      let e = stays (Err error) turns in
+      subst (λ (n : ℕ). CountsRun {T = Unit {0}} (Err error) n (faults after.host)) e.holds e.move.made.cause

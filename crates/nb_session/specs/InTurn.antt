@@ -5,11 +5,11 @@
 use Rattle.std.specs.Prelude.{◌≡◌, ◌⊎◌, ℕ, ◌-◌, List, [], ◌∷◌, ◌++◌, Bool, true, false, Result, Ok, Err}
 use Rattle.std.specs.List.{list_all, slice_index_or}
 use Rattle.nb_host.specs.World.{World}
+use Rattle.nb_host.specs.declared.faults.RunError.{RunError}
 use Rattle.nb_model.specs.Run.{Now, one_turn, play}
 use Rattle.nb_model.specs.Steps.{steps_of, after_steps}
 use Rattle.nb_model.specs.Trail.{Trail}
 use Rattle.nb_state.specs.Open.{Held}
-use Rattle.nb_session.specs.declared.stop.Stop.{Stop}
 use Rattle.nb_session.specs.declared.told.Told.{Told}
 use Rattle.nb_session.specs.Replies.{only_told}
 use Rattle.nb_session.specs.Steps.{touching_by}
@@ -37,7 +37,7 @@ InTurn {H} world told (session ∷ order) old new before after t now =
 
 -- The last thing done of a run, of which these numbers are left: what waits is written out after all turns, or a turn ended early, or that. Where
 -- that turn was only to tell something, the files read as before it.
-abbrev pub EndsBy : Result Bool Stop → Told → (rest : List ℕ) → (old new : World) → (before after : Held) → Trail → Now → Type 0
+abbrev pub EndsBy : Result Bool RunError → Told → (rest : List ℕ) → (old new : World) → (before after : Held) → Trail → Now → Type 0
 EndsBy (Ok refused) told [] old new before after t now = Plays (Ok false) old new before after t now ([], now) []
 EndsBy (Ok refused) told (session ∷ rest) old new before after t now = ⊥
 EndsBy (Err stop) told [] old new before after t now = Plays (Err stop) old new before after t now ([], now) []
@@ -46,7 +46,7 @@ EndsBy (Err stop) told (session ∷ rest) old new before after t now =
     × (list_all only_told (one_turn session now).0 ≡ true → new.files ≡ old.files)
 
 -- The turns of an order were taken one by one, to the end of all or up to one that ended early, which was the last thing done then.
-pub record RunsInTurn {H : Type 0} (world : H → World) (result : Result Bool Stop) (old new : H) (before after : Held) (t : Trail) (told : Told) (now : Now) (order : List ℕ) : Type 0 where
+pub record RunsInTurn {H : Type 0} (world : H → World) (result : Result Bool RunError) (old new : H) (before after : Held) (t : Trail) (told : Told) (now : Now) (order : List ℕ) : Type 0 where
   pub front : List ℕ
   pub rest : List ℕ
   pub is : order ≡ front ++ rest

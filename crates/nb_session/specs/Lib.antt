@@ -1,4 +1,3 @@
-pub mod Causes
 pub mod Ready
 pub mod Stops
 pub mod InTurn

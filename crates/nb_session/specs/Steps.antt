@@ -1,10 +1,9 @@
 -- What one turn of a session does.
-use Rattle.std.specs.Prelude.{◌≡◌, ℕ, ◌-◌, List, [], ◌∷◌, ◌++◌, ◌||◌, Bool, true, IsTrue, Option, Some, None, Result, Ok, Err, OnOk, IfOk, IfErr}
+use Rattle.std.specs.Prelude.{◌≡◌, ℕ, ◌-◌, List, [], ◌∷◌, ◌++◌, ◌||◌, Bool, true, IsTrue, Option, Some, None, Result, Ok, Err, OnOk, IfOk}
 use Rattle.std.specs.List.{list_all, slice_index_or}
 use Rattle.nb_host.specs.World.{World}
-use Rattle.nb_host.specs.declared.faults.Fault.{Fault}
-use Rattle.nb_host.specs.declared.faults.Fault.TheVariants.{Refused, Device, Memory}
-use Rattle.nb_change.specs.Counts.{CountsDevice}
+use Rattle.nb_host.specs.declared.faults.RunError.{RunError}
+use Rattle.nb_host.specs.Causes.{CountsRun}
 use Rattle.nb_model.specs.declared.statement.Statement.TheVariants.{Backup as BackupTo, BackupSince}
 use Rattle.nb_model.specs.Gifts.{Foretells}
 use Rattle.nb_model.specs.Going.{IsMaking}
@@ -13,10 +12,7 @@ use Rattle.nb_model.specs.Outcomes.{Turn, Begins}
 use Rattle.nb_model.specs.Run.{Now, base_now, event_of, outcome, take_turn, one_turn}
 use Rattle.nb_model.specs.Strokes.{base_after}
 use Rattle.nb_model.specs.Trail.{Trail}
-use Rattle.nb_base.specs.Takes.{IsNoRefusal}
 use Rattle.nb_state.specs.Open.{Held}
-use Rattle.nb_session.specs.declared.stop.Stop.{Stop}
-use Rattle.nb_session.specs.declared.stop.Stop.TheVariants.{Device as DeviceStop, Memory as MemoryStop}
 use Rattle.nb_session.specs.Acts.{Grows, shown_by}
 use Rattle.nb_session.specs.declared.task.Left.{Left}
 use Rattle.nb_session.specs.declared.task.Task.{Task}
@@ -28,11 +24,9 @@ use Rattle.nb_session.specs.Stops.{Plays}
 use Rattle.nb_session.specs.Told.{told_turns}
 
 -- an answer as that of turns: whether a statement was refused, or why they ended early
-abbrev pub as_played : {T : Type 0} → (T → Bool) → Result T Fault → Result Bool Stop
+abbrev pub as_played : {T : Type 0} → (T → Bool) → Result T RunError → Result Bool RunError
 as_played refused (Ok value) = Ok (refused value)
-as_played refused (Err (Refused refusal)) = Err MemoryStop
-as_played refused (Err Device) = Err DeviceStop
-as_played refused (Err Memory) = Err MemoryStop
+as_played refused (Err error) = Err error
 
 -- the files that are still to be made after that turn
 abbrev pub left_making : (session : ℕ) → Turn → Now → List MadeFile
@@ -71,7 +65,7 @@ pub record IsBehind (w : World) (held : Held) (session : ℕ) (turn : Turn) (tai
 
 -- A turn was taken, and what is told of it said, where the outside gave what it may give. Where it only tells something, no file has changed,
 -- however it ended. `tail` is what its statement has to do after it, and `more` what its session has after that.
-pub record Turns {T : Type 0} (told : Told) (refused : T → Bool) (task : T → Option Task) (result : Result T Fault) (old new : World) (before after : Held) (t : Trail) (now : Now) (session : ℕ) (turn : Turn) (tail more : List Turn) : Type 0 where
+pub record Turns {T : Type 0} (told : Told) (refused : T → Bool) (task : T → Option Task) (result : Result T RunError) (old new : World) (before after : Held) (t : Trail) (now : Now) (session : ℕ) (turn : Turn) (tail more : List Turn) : Type 0 where
   pub grows : Grows old new
   pub plays : Foretells now.given (shown_by turn before) old new
       → Plays (as_played refused result) old new before after t now (told_turns told (take_turn session (turn ∷ (tail ++ more)) now)) (touching session turn tail now)
@@ -79,7 +73,7 @@ pub record Turns {T : Type 0} (told : Told) (refused : T → Bool) (task : T →
   pub behind : Foretells now.given (shown_by turn before) old new → IfOk result (λ value. IsBehind new after session turn tail now (task value))
 
 -- What is under way took its next turn, where the session has that to do and it goes on from where it is. It is `now_task` then, where it goes on.
-abbrev pub GoesFurther : (told : Told) (task now_task : Option Task) (result : Result Left Fault) (old new : World) (before after : Held) (t : Trail) (now : Now) (session : ℕ) (more : List Turn) → Type 0
+abbrev pub GoesFurther : (told : Told) (task now_task : Option Task) (result : Result Left RunError) (old new : World) (before after : Held) (t : Trail) (now : Now) (session : ℕ) (more : List Turn) → Type 0
 GoesFurther told None now_task result old new before after t now session more = Unit {0}
 GoesFurther told (Some task) now_task result old new before after t now session more =
     slice_index_or now.todo (session - 1) [] ≡ task_first task ∷ (task_rest task ++ more) → TaskGoes session old before t.base.frozen (Some task)
@@ -87,7 +81,7 @@ GoesFurther told (Some task) now_task result old new before after t now session 
 
 -- The next turn of a session was taken, what it has to do then is left, and what is under way of it goes on. Where it only tells something, no file has
 -- changed, however it ended.
-pub record TakesNext (refused : Bool) (result : Result (Unit {0}) Fault) (old new : World) (before after : Held) (t : Trail) (now : Now) (asker moved : Asker) : Type 0 where
+pub record TakesNext (refused : Bool) (result : Result (Unit {0}) RunError) (old new : World) (before after : Held) (t : Trail) (now : Now) (asker moved : Asker) : Type 0 where
   pub grows : Grows old new
   pub plays : Foretells now.given (shown_next asker before) old new → Plays (as_played (λ done. refused) result) old new before after t now (told_turns asker.told (one_turn asker.number now)) (touching_by asker.number now)
   pub unchanged : Foretells now.given (shown_next asker before) old new → list_all only_told (one_turn asker.number now).0 ≡ true → new.files ≡ old.files
@@ -96,12 +90,11 @@ pub record TakesNext (refused : Bool) (result : Result (Unit {0}) Fault) (old ne
 
 -- One turn of a session on a database that is open. Whatever the host tells, other sessions have what they need, and the count of faults
 -- is as the answer says.
-pub record Steps (tells : Bool) (result : Result (Unit {0}) Fault) (old new : World) (faults faults' : ℕ) (before after : Held) (asker moved : Asker) : Type 0 where
+pub record Steps (tells : Bool) (result : Result (Unit {0}) RunError) (old new : World) (faults faults' : ℕ) (before after : Held) (asker moved : Asker) : Type 0 where
   pub refused : Bool
   pub noted : OnOk result (moved.refused ≡ (asker.refused || refused))
   pub told : moved.told ≡ asker.told
   pub takes : (now : Now) (t : Trail) → IsTrue tells → IsReady old before t now → IsMaking now → HasTodo asker now → TaskGoes asker.number old before t.base.frozen asker.task
       → TakesNext refused result old new before after t now asker moved
   pub others : KeepsOthers asker.number before after
-  pub cause : CountsDevice result faults faults'
-  pub not_refused : IfErr result IsNoRefusal
+  pub cause : CountsRun result faults faults'

@@ -5,6 +5,7 @@ use Rattle.nb_host.specs.Files.{File, Files}
 use Rattle.nb_host.specs.World.{World}
 use Rattle.nb_host.specs.Crash.{Leaves, Untouched}
 use Rattle.nb_host.specs.Moments.{AtEachMoment}
+use Rattle.nb_host.specs.declared.faults.RunError.{RunError}
 use Rattle.nb_change.specs.Changes.{Other}
 use Rattle.nb_model.specs.Gifts.{WasGiven}
 use Rattle.nb_model.specs.Making.{MadeFile}
@@ -15,7 +16,6 @@ use Rattle.nb_model.specs.Trail.{Trail, StandsIn}
 use Rattle.nb_base.specs.Open.{OfFiles}
 use Rattle.nb_state.specs.Open.{Held, name_of}
 use Rattle.nb_gather.specs.Making.{IsUnfinishedOr}
-use Rattle.nb_session.specs.declared.stop.Stop.{Stop}
 use Rattle.nb_session.specs.Acts.{Touched, MadeLeft, AreKept}
 use Rattle.nb_session.specs.Replies.{only_told}
 use Rattle.nb_session.specs.Ready.{IsReady}
@@ -60,7 +60,7 @@ pub record PlayedOut (refused : Bool) (old new : World) (held : Held) (t : Trail
 
 -- Turns were taken, or some of them until a call of the host failed or memory ran out, and these files were made. None of them is one of the
 -- database's two.
-pub record Plays (result : Result Bool Stop) (old new : World) (before after : Held) (t : Trail) (now : Now) (played : Played) (made : List MadeFile) : Type 0 where
+pub record Plays (result : Result Bool RunError) (old new : World) (before after : Held) (t : Trail) (now : Now) (played : Played) (made : List MadeFile) : Type 0 where
   pub stops : AtEachMoment old new (StopLeft old (name_of before) t played.0 made)
   pub left : (name bytes : List ℕ) (file : File) → Contains made (name, bytes) → Leaves new name file → Leaves old name file ⊎ IsUnfinishedOr bytes file
   pub apart : (name bytes : List ℕ) → Contains made (name, bytes) → OfFiles (name_of before) name → ⊥

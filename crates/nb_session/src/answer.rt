@@ -1,14 +1,13 @@
 // A statement and the line of its reply.
-ghost use Rattle.std.specs.Prelude.{◌≡◌, ℕ, ◌-◌, List, [], ◌∷◌, None, Some, IsTrue, IfErr};
+ghost use Rattle.std.specs.Prelude.{◌≡◌, ℕ, ◌-◌, List, [], ◌∷◌, None, Some, IsTrue};
 ghost use Rattle.std.specs.List.{slice_index_or};
-ghost use Rattle.nb_change.specs.Counts.{CountsDevice};
+ghost use Rattle.nb_host.specs.Causes.{CountsRun};
 ghost use Rattle.nb_change.specs.Gave.{GaveNothing};
 ghost use Rattle.nb_model.specs.Going.{IsMaking};
 ghost use Rattle.nb_model.specs.Lines.{line_text};
 ghost use Rattle.nb_model.specs.Outcomes.{Begins, Turn};
 ghost use Rattle.nb_model.specs.Run.{Now};
 ghost use Rattle.nb_model.specs.Trail.{Trail};
-ghost use Rattle.nb_base.specs.Takes.{IsNoRefusal};
 ghost use Rattle.nb_script.specs.Asked.{IsFurther};
 ghost use Rattle.nb_session.specs.Askers.{IsOneTurn, KeepsOthers};
 ghost use Rattle.nb_session.specs.Ready.{IsReady};
@@ -20,21 +19,25 @@ ghost use Rattle.nb_session.specs.Told.{told_line, told_reply};
 use crate::statement::{do_statement, reply_to};
 use crate::told::Told;
 use nb_engine::Engine;
-use nb_host::{Fault, Host};
+use nb_host::{Host, RunError};
 use nb_lines::render;
 use nb_model::{Reply, Statement};
 use std::alloc::Global;
 
 /// Says the line of a reply.
-pub fn say<H: Host>(alloc: Global, host: &mut H, session: u32, reply: &Reply) -> Result<(), Fault>
+pub fn say<H: Host>(
+    alloc: Global,
+    host: &mut H,
+    session: u32,
+    reply: &Reply,
+) -> Result<(), RunError>
     ensures line { IsTrue H.tells → SaysLine result (H.world host.old) (H.world host.new) (line_text session reply.now) }
     ensures gave { GaveNothing (H.world host.old) (H.world host.new) }
-    ensures cause { CountsDevice result (H.faults host.old) (H.faults host.new) }
-    ensures not_refused { IfErr result IsNoRefusal }
+    ensures cause { CountsRun result (H.faults host.old) (H.faults host.new) }
 {
     let line = match render(alloc, session, reply) {
         Ok(line) => line,
-        Err(_) => return Err(Fault::Memory),
+        Err(_) => return Err(RunError::Memory),
     };
     host.say(&line)?;
     Ok(())
@@ -47,11 +50,10 @@ pub(crate) fn tell<H: Host>(
     session: u32,
     told: Told,
     reply: Reply,
-) -> Result<(), Fault>
+) -> Result<(), RunError>
     ensures line { IsTrue H.tells → SaysLine result (H.world host.old) (H.world host.new) (told_line session (told_reply told (Some reply))) }
     ensures gave { GaveNothing (H.world host.old) (H.world host.new) }
-    ensures cause { CountsDevice result (H.faults host.old) (H.faults host.new) }
-    ensures not_refused { IfErr result IsNoRefusal }
+    ensures cause { CountsRun result (H.faults host.old) (H.faults host.new) }
 {
     match told.of(reply) {
         Some(reply) => say(alloc, host, session, &reply),
@@ -77,15 +79,14 @@ pub fn answer<H: Host>(
     session: u32,
     told: Told,
     statement: &Statement,
-) -> Result<bool, Fault>
+) -> Result<bool, RunError>
     requires asked { IsFurther statement.now }
     requires single { IsOneTurn statement.now }
     ensures turn { (now : Now) (t : Trail) (more : List Turn) → IsTrue H.tells → IsReady (H.world host.old) engine.old t now → IsMaking now
         → slice_index_or now.todo (session - 1) [] ≡ Begins statement.now ∷ more
         → Turns told (λ refused. refused) (λ refused. None) result (H.world host.old) (H.world host.new) engine.old engine.new t now session (Begins statement.now) [] more }
     ensures others { (number : ℕ) → KeepsOthers number engine.old engine.new }
-    ensures cause { CountsDevice result (H.faults host.old) (H.faults host.new) }
-    ensures not_refused { IfErr result IsNoRefusal }
+    ensures cause { CountsRun result (H.faults host.old) (H.faults host.new) }
 {
     let reply = reply_to(do_statement(alloc, host, engine, statement))?;
     let refused = is_refusal(&reply);

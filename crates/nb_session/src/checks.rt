@@ -1,6 +1,6 @@
 // A statement that checks the database, or that gives its leaked pages back, which is done in one turn.
 ghost use Rattle.std.specs.Prelude.{ℕ, [], IsTrue};
-ghost use Rattle.nb_change.specs.Counts.{CountsDevice};
+ghost use Rattle.nb_host.specs.Causes.{CountsDevice};
 ghost use Rattle.nb_model.specs.Outcomes.{Begins};
 ghost use Rattle.nb_model.specs.Run.{Now};
 ghost use Rattle.nb_model.specs.Trail.{Trail};

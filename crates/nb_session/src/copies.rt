@@ -1,8 +1,8 @@
 // Backups and copies of the frozen file, which take a turn for each page.
-ghost use Rattle.std.specs.Prelude.{◌≡◌, ◌≢◌, ◌<◌, length, ℕ, ◌-◌, List, [], ◌∷◌, ◌++◌, None, Some, false, IsTrue, IfOk, IfErr};
+ghost use Rattle.std.specs.Prelude.{◌≡◌, ◌≢◌, ◌<◌, length, ℕ, ◌-◌, List, [], ◌∷◌, ◌++◌, None, Some, false, IsTrue, IfOk};
 ghost use Rattle.std.specs.List.{slice_index_or};
 ghost use Rattle.nb_host.specs.Names.{is_delta};
-ghost use Rattle.nb_change.specs.Counts.{CountsDevice};
+ghost use Rattle.nb_host.specs.Causes.{CountsDevice, CountsRun};
 ghost use Rattle.nb_model.specs.declared.statement.Statement.TheVariants.{CopyTo};
 ghost use Rattle.nb_model.specs.Going.{IsMaking};
 ghost use Rattle.nb_model.specs.Outcomes.{Begins, Seen, Turn, next_guid};
@@ -10,7 +10,6 @@ ghost use Rattle.nb_model.specs.Owner.{delta_name};
 ghost use Rattle.nb_model.specs.Run.{Now};
 ghost use Rattle.nb_model.specs.Trail.{Trail};
 ghost use Rattle.nb_model.specs.Turns.{first_turn};
-ghost use Rattle.nb_base.specs.Takes.{IsNoRefusal};
 ghost use Rattle.nb_script.specs.Asked.{IsFurther};
 ghost use Rattle.nb_state.specs.Open.{IsOpen};
 ghost use Rattle.nb_state.specs.Turns.{GaveAtMost};
@@ -27,7 +26,7 @@ use crate::task::{Left, Taken, Task};
 use crate::told::Told;
 use nb_copy::{Copier, FileCopier};
 use nb_engine::Engine;
-use nb_host::{Fault, Host, Name};
+use nb_host::{Fault, Host, Name, RunError};
 use nb_model::{Reply, Statement};
 use nb_state::Progress;
 use std::alloc::Global;
@@ -93,7 +92,7 @@ pub fn begin_backup<H: Host>(
     engine: &mut Engine,
     session: u32,
     statement: &Statement,
-) -> Result<Taken, Fault>
+) -> Result<Taken, RunError>
     requires asked { IsFurther statement.now }
     requires backup { IsBackup statement.now }
     ensures turn { (told : Told) (now : Now) (t : Trail) (more : List Turn) → IsTrue H.tells → IsReady (H.world host.old) engine.old t now → IsMaking now
@@ -101,14 +100,13 @@ pub fn begin_backup<H: Host>(
         → Turns told (λ taken. taken.refused) (λ taken. taken.task) result (H.world host.old) (H.world host.new) engine.old engine.new t now session (Begins statement.now) [] more }
     ensures fits { IfOk result (λ taken. TaskFits session taken.task engine.new) }
     ensures others { KeepsOthers session engine.old engine.new }
-    ensures cause { CountsDevice result (H.faults host.old) (H.faults host.new) }
-    ensures not_refused { IfErr result IsNoRefusal }
+    ensures cause { CountsRun result (H.faults host.old) (H.faults host.new) }
 {
     match start(alloc, host, engine, session, statement) {
         Ok(copier) => Ok(under_way(Task::Backup(copier))),
         Err(Fault::Refused(refusal)) => say_refused(alloc, host, session, refusal),
-        Err(Fault::Device) => Err(Fault::Device),
-        Err(Fault::Memory) => Err(Fault::Memory),
+        Err(Fault::Device) => Err(RunError::Device),
+        Err(Fault::Memory) => Err(RunError::Memory),
     }
 }
 
@@ -119,21 +117,20 @@ pub fn begin_copy<H: Host>(
     engine: &mut Engine,
     session: u32,
     name: &Name,
-) -> Result<Taken, Fault>
+) -> Result<Taken, RunError>
     requires plain { is_delta name.now ≡ false }
     ensures turn { (told : Told) (now : Now) (t : Trail) (more : List Turn) → IsTrue H.tells → IsReady (H.world host.old) engine.old t now → IsMaking now
         → slice_index_or now.todo (session - 1) [] ≡ Begins (CopyTo name.now) ∷ more
         → Turns told (λ taken. taken.refused) (λ taken. taken.task) result (H.world host.old) (H.world host.new) engine.old engine.new t now session (Begins (CopyTo name.now)) [] more }
     ensures fits { IfOk result (λ taken. TaskFits session taken.task engine.new) }
     ensures others { KeepsOthers session engine.old engine.new }
-    ensures cause { CountsDevice result (H.faults host.old) (H.faults host.new) }
-    ensures not_refused { IfErr result IsNoRefusal }
+    ensures cause { CountsRun result (H.faults host.old) (H.faults host.new) }
 {
     match FileCopier::start(alloc, host, engine, session, name) {
         Ok(copier) => Ok(under_way(Task::Copy(copier))),
         Err(Fault::Refused(refusal)) => say_refused(alloc, host, session, refusal),
-        Err(Fault::Device) => Err(Fault::Device),
-        Err(Fault::Memory) => Err(Fault::Memory),
+        Err(Fault::Device) => Err(RunError::Device),
+        Err(Fault::Memory) => Err(RunError::Memory),
     }
 }
 
@@ -144,7 +141,7 @@ pub fn back_up_on<H: Host>(
     engine: &mut Engine,
     session: u32,
     copier: &mut Copier,
-) -> Result<Left, Fault>
+) -> Result<Left, RunError>
     requires fits { TaskFits session (Some (Backup copier.old)) engine.old }
     ensures turn { (told : Told) (now : Now) (t : Trail) (more : List Turn) → IsTrue H.tells → IsReady (H.world host.old) engine.old t now → IsMaking now
         → slice_index_or now.todo (session - 1) [] ≡ task_first (Backup copier.old) ∷ (task_rest (Backup copier.old) ++ more) → TaskGoes session (H.world host.old) engine.old t.base.frozen (Some (Backup copier.old))
@@ -152,8 +149,7 @@ pub fn back_up_on<H: Host>(
     ensures falls { IfOk result (λ left. task_left (left_task (Some (Backup copier.new)) left) < task_left (Some (Backup copier.old))) }
     ensures fits { IfOk result (λ left. TaskFits session (left_task (Some (Backup copier.new)) left) engine.new) }
     ensures others { KeepsOthers session engine.old engine.new }
-    ensures cause { CountsDevice result (H.faults host.old) (H.faults host.new) }
-    ensures not_refused { IfErr result IsNoRefusal }
+    ensures cause { CountsRun result (H.faults host.old) (H.faults host.new) }
 {
     match copier.turn(host, engine) {
         Ok(Progress::More) => Ok(Left::Same),
@@ -167,8 +163,8 @@ pub fn back_up_on<H: Host>(
             stop_running(engine, session);
             Ok(Left::Other(say_refused(alloc, host, session, refusal)?))
         }
-        Err(Fault::Device) => Err(Fault::Device),
-        Err(Fault::Memory) => Err(Fault::Memory),
+        Err(Fault::Device) => Err(RunError::Device),
+        Err(Fault::Memory) => Err(RunError::Memory),
     }
 }
 
@@ -180,7 +176,7 @@ pub fn copy_on<H: Host>(
     session: u32,
     told: Told,
     copier: &mut FileCopier,
-) -> Result<Left, Fault>
+) -> Result<Left, RunError>
     requires fits { TaskFits session (Some (Copy copier.old)) engine.old }
     ensures turn { (now : Now) (t : Trail) (more : List Turn) → IsTrue H.tells → IsReady (H.world host.old) engine.old t now → IsMaking now
         → slice_index_or now.todo (session - 1) [] ≡ task_first (Copy copier.old) ∷ (task_rest (Copy copier.old) ++ more) → TaskGoes session (H.world host.old) engine.old t.base.frozen (Some (Copy copier.old))
@@ -188,8 +184,7 @@ pub fn copy_on<H: Host>(
     ensures falls { IfOk result (λ left. task_left (left_task (Some (Copy copier.new)) left) < task_left (Some (Copy copier.old))) }
     ensures fits { IfOk result (λ left. TaskFits session (left_task (Some (Copy copier.new)) left) engine.new) }
     ensures others { KeepsOthers session engine.old engine.new }
-    ensures cause { CountsDevice result (H.faults host.old) (H.faults host.new) }
-    ensures not_refused { IfErr result IsNoRefusal }
+    ensures cause { CountsRun result (H.faults host.old) (H.faults host.new) }
 {
     match copier.turn(host, engine)? {
         Progress::More => Ok(Left::Same),

@@ -13,12 +13,10 @@ mod merges;
 mod session;
 mod sessions;
 mod statement;
-mod stop;
 mod tables;
 mod task;
 mod told;
 
 pub use answer::say;
 pub use sessions::take_turns;
-pub use stop::Stop;
 pub use told::Told;

@@ -1,7 +1,7 @@
 // The end of a backup, which takes many turns: one that ends the stalled state, one for each page that is merged, and a last one.
-ghost use Rattle.std.specs.Prelude.{◌≡◌, ◌<◌, ◌-◌, List, [], ◌∷◌, ◌++◌, length, None, Some, true, false, IsTrue, IfOk, IfErr};
+ghost use Rattle.std.specs.Prelude.{◌≡◌, ◌<◌, ◌-◌, List, [], ◌∷◌, ◌++◌, length, None, Some, true, false, IsTrue, IfOk};
 ghost use Rattle.std.specs.List.{slice_index_or};
-ghost use Rattle.nb_change.specs.Counts.{CountsDevice};
+ghost use Rattle.nb_host.specs.Causes.{CountsRun};
 ghost use Rattle.nb_change.specs.Gave.{GaveNothing};
 ghost use Rattle.nb_model.specs.declared.reply.Reply.TheVariants.{Refused as RefusedReply};
 ghost use Rattle.nb_model.specs.declared.statement.Statement.TheVariants.{EndBackup};
@@ -10,7 +10,6 @@ ghost use Rattle.nb_model.specs.Lines.{line_text};
 ghost use Rattle.nb_model.specs.Outcomes.{Begins, Turn};
 ghost use Rattle.nb_model.specs.Run.{Now};
 ghost use Rattle.nb_model.specs.Trail.{Trail};
-ghost use Rattle.nb_base.specs.Takes.{IsNoRefusal};
 ghost use Rattle.nb_session.specs.Askers.{KeepsOthers, TaskFits, left_refused, left_task, task_first, task_rest, task_left};
 ghost use Rattle.nb_session.specs.declared.task.Task.TheVariants.{End, Merge};
 ghost use Rattle.nb_session.specs.declared.told.Told.{Told};
@@ -22,7 +21,7 @@ use crate::answer::{say, tell};
 use crate::task::{Left, Merging, Taken, Task};
 use crate::told::Told;
 use nb_engine::Engine;
-use nb_host::{Fault, Host, Refusal};
+use nb_host::{Fault, Host, Refusal, RunError};
 use nb_model::Reply;
 use nb_state::Progress;
 use std::alloc::Global;
@@ -47,12 +46,11 @@ pub fn say_refused<H: Host>(
     host: &mut H,
     session: u32,
     refusal: Refusal,
-) -> Result<Taken, Fault>
+) -> Result<Taken, RunError>
     ensures line { IsTrue H.tells → SaysLine result (H.world host.old) (H.world host.new) (line_text session (RefusedReply refusal)) }
     ensures taken { IfOk result (λ taken. taken ≡ record { task = None; refused = true }) }
     ensures gave { GaveNothing (H.world host.old) (H.world host.new) }
-    ensures cause { CountsDevice result (H.faults host.old) (H.faults host.new) }
-    ensures not_refused { IfErr result IsNoRefusal }
+    ensures cause { CountsRun result (H.faults host.old) (H.faults host.new) }
 {
     say(alloc, host, session, &Reply::Refused { refusal })?;
     Ok(Taken {
@@ -67,20 +65,19 @@ pub fn begin_merge<H: Host>(
     host: &mut H,
     engine: &mut Engine,
     session: u32,
-) -> Result<Taken, Fault>
+) -> Result<Taken, RunError>
     ensures turn { (told : Told) (now : Now) (t : Trail) (more : List Turn) → IsTrue H.tells → IsReady (H.world host.old) engine.old t now → IsMaking now
         → slice_index_or now.todo (session - 1) [] ≡ Begins EndBackup ∷ more
         → Turns told (λ taken. taken.refused) (λ taken. taken.task) result (H.world host.old) (H.world host.new) engine.old engine.new t now session (Begins EndBackup) [] more }
     ensures fits { IfOk result (λ taken. TaskFits session taken.task engine.new) }
     ensures others { KeepsOthers session engine.old engine.new }
-    ensures cause { CountsDevice result (H.faults host.old) (H.faults host.new) }
-    ensures not_refused { IfErr result IsNoRefusal }
+    ensures cause { CountsRun result (H.faults host.old) (H.faults host.new) }
 {
     match engine.end(host, session) {
         Ok(scn) => Ok(merge_of(engine, Reply::Scn { scn })),
         Err(Fault::Refused(refusal)) => say_refused(alloc, host, session, refusal),
-        Err(Fault::Device) => Err(Fault::Device),
-        Err(Fault::Memory) => Err(Fault::Memory),
+        Err(Fault::Device) => Err(RunError::Device),
+        Err(Fault::Memory) => Err(RunError::Memory),
     }
 }
 
@@ -91,7 +88,7 @@ pub fn end_backup<H: Host>(
     engine: &mut Engine,
     session: u32,
     reply: &mut Reply,
-) -> Result<Left, Fault>
+) -> Result<Left, RunError>
     requires fits { TaskFits session (Some (End reply.old)) engine.old }
     ensures turn { (told : Told) (now : Now) (t : Trail) (more : List Turn) → IsTrue H.tells → IsReady (H.world host.old) engine.old t now → IsMaking now
         → slice_index_or now.todo (session - 1) [] ≡ task_first (End reply.old) ∷ (task_rest (End reply.old) ++ more) → TaskGoes session (H.world host.old) engine.old t.base.frozen (Some (End reply.old))
@@ -99,8 +96,7 @@ pub fn end_backup<H: Host>(
     ensures falls { IfOk result (λ left. task_left (left_task (Some (End reply.new)) left) < task_left (Some (End reply.old))) }
     ensures fits { IfOk result (λ left. TaskFits session (left_task (Some (End reply.new)) left) engine.new) }
     ensures others { KeepsOthers session engine.old engine.new }
-    ensures cause { CountsDevice result (H.faults host.old) (H.faults host.new) }
-    ensures not_refused { IfErr result IsNoRefusal }
+    ensures cause { CountsRun result (H.faults host.old) (H.faults host.new) }
 {
     match engine.end(host, session) {
         Ok(_) => {
@@ -110,8 +106,8 @@ pub fn end_backup<H: Host>(
         Err(Fault::Refused(refusal)) => {
             Ok(Left::Other(say_refused(alloc, host, session, refusal)?))
         }
-        Err(Fault::Device) => Err(Fault::Device),
-        Err(Fault::Memory) => Err(Fault::Memory),
+        Err(Fault::Device) => Err(RunError::Device),
+        Err(Fault::Memory) => Err(RunError::Memory),
     }
 }
 
@@ -123,7 +119,7 @@ pub fn merge_on<H: Host>(
     session: u32,
     told: Told,
     merging: &mut Merging,
-) -> Result<Left, Fault>
+) -> Result<Left, RunError>
     requires fits { TaskFits session (Some (Merge merging.old)) engine.old }
     ensures turn { (now : Now) (t : Trail) (more : List Turn) → IsTrue H.tells → IsReady (H.world host.old) engine.old t now → IsMaking now
         → slice_index_or now.todo (session - 1) [] ≡ task_first (Merge merging.old) ∷ (task_rest (Merge merging.old) ++ more)
@@ -131,8 +127,7 @@ pub fn merge_on<H: Host>(
     ensures falls { IfOk result (λ left. task_left (left_task (Some (Merge merging.new)) left) < task_left (Some (Merge merging.old))) }
     ensures fits { IfOk result (λ left. TaskFits session (left_task (Some (Merge merging.new)) left) engine.new) }
     ensures others { KeepsOthers session engine.old engine.new }
-    ensures cause { CountsDevice result (H.faults host.old) (H.faults host.new) }
-    ensures not_refused { IfErr result IsNoRefusal }
+    ensures cause { CountsRun result (H.faults host.old) (H.faults host.new) }
 {
     match engine.merge_turn(host)? {
         Progress::More => {

@@ -1,12 +1,11 @@
 // One session of a script.
-ghost use Rattle.std.specs.Prelude.{◌≡◌, ◌≢◌, ◌<◌, ◌-◌, List, [], ◌∷◌, IsTrue, IfOk, IfErr, None, false};
+ghost use Rattle.std.specs.Prelude.{◌≡◌, ◌≢◌, ◌<◌, ◌-◌, List, [], ◌∷◌, IsTrue, IfOk, None, false};
 ghost use Rattle.std.specs.List.{slice_index_or};
-ghost use Rattle.nb_change.specs.Counts.{CountsDevice};
+ghost use Rattle.nb_host.specs.Causes.{CountsRun};
 ghost use Rattle.nb_model.specs.Going.{IsMaking};
 ghost use Rattle.nb_model.specs.Outcomes.{Begins, Turn};
 ghost use Rattle.nb_model.specs.Run.{Now};
 ghost use Rattle.nb_model.specs.Trail.{Trail};
-ghost use Rattle.nb_base.specs.Takes.{IsNoRefusal};
 ghost use Rattle.nb_script.specs.Asked.{IsFurther};
 ghost use Rattle.nb_session.specs.Askers.{TaskFits, KeepsOthers, left_task, task_left};
 ghost use Rattle.nb_session.specs.Ready.{IsReady};
@@ -18,7 +17,7 @@ use crate::merges::{begin_merge, end_backup, merge_on};
 use crate::task::{Left, Taken, Task};
 use crate::told::Told;
 use nb_engine::Engine;
-use nb_host::{Fault, Host};
+use nb_host::{Host, RunError};
 use nb_model::Statement;
 use nb_sched::Agent;
 use std::alloc::Global;
@@ -56,15 +55,14 @@ fn begin_statement<H: Host>(
     session: u32,
     told: Told,
     statement: &Statement,
-) -> Result<Taken, Fault>
+) -> Result<Taken, RunError>
     requires asked { IsFurther statement.now }
     ensures turn { (now : Now) (t : Trail) (more : List Turn) → IsTrue H.tells → IsReady (H.world host.old) engine.old t now → IsMaking now
         → slice_index_or now.todo (session - 1) [] ≡ Begins statement.now ∷ more
         → Turns told (λ taken. taken.refused) (λ taken. taken.task) result (H.world host.old) (H.world host.new) engine.old engine.new t now session (Begins statement.now) [] more }
     ensures fits { IfOk result (λ taken. TaskFits session taken.task engine.new) }
     ensures others { KeepsOthers session engine.old engine.new }
-    ensures cause { CountsDevice result (H.faults host.old) (H.faults host.new) }
-    ensures not_refused { IfErr result IsNoRefusal }
+    ensures cause { CountsRun result (H.faults host.old) (H.faults host.new) }
 {
     match statement {
         Statement::EndBackup => begin_merge(alloc, host, engine, session),
@@ -90,7 +88,7 @@ fn go_on<H: Host>(
     session: u32,
     told: Told,
     task: &mut Option<Task>,
-) -> Result<Left, Fault>
+) -> Result<Left, RunError>
     requires under_way { task.old ≢ None }
     requires fits { TaskFits session task.old engine.old }
     ensures turn { (now : Now) (t : Trail) (more : List Turn) → IsTrue H.tells → IsReady (H.world host.old) engine.old t now → IsMaking now
@@ -98,8 +96,7 @@ fn go_on<H: Host>(
     ensures falls { IfOk result (λ left. task_left (left_task task.new left) < task_left task.old) }
     ensures fits { IfOk result (λ left. TaskFits session (left_task task.new left) engine.new) }
     ensures others { KeepsOthers session engine.old engine.new }
-    ensures cause { CountsDevice result (H.faults host.old) (H.faults host.new) }
-    ensures not_refused { IfErr result IsNoRefusal }
+    ensures cause { CountsRun result (H.faults host.old) (H.faults host.new) }
 {
     match task {
         Some(Task::Backup(copier)) => back_up_on(alloc, host, engine, session, copier),
@@ -148,7 +145,7 @@ impl<'a, H: Host> Agent<H, Engine> for Session<'a> {
 
     ghost keeps_others = { λ mover other host engine moved host' engine' apart fits also made. keeps_fit mover.number other engine engine' apart made.others also };
 
-    fn turn(&mut self, host: &mut H, engine: &mut Engine) -> Result<(), Fault> {
+    fn turn(&mut self, host: &mut H, engine: &mut Engine) -> Result<(), RunError> {
         let (alloc, session, told) = (self.alloc, self.number, self.told);
         match self.task {
             Some(_) => match go_on(alloc, host, engine, session, told, &mut self.task)? {

@@ -8,15 +8,14 @@ ghost use Rattle.nb_state.specs.Open.{NoPageWaits};
 ghost use Rattle.nb_script.specs.Asked.{IsAskable};
 ghost use Rattle.nb_session.specs.Acts.{Grows};
 ghost use Rattle.nb_session.specs.Askers.{first_askers, any_refused as some_refused};
-ghost use Rattle.nb_session.specs.Causes.{CountsStop};
+ghost use Rattle.nb_host.specs.Causes.{CountsRun};
 ghost use Rattle.nb_session.specs.Ready.{IsReady};
 ghost use Rattle.nb_session.specs.Todo.{PlaysInTurn};
 
-use crate::Stop;
 use crate::session::Session;
 use crate::told::Told;
 use nb_engine::Engine;
-use nb_host::{Fault, Host};
+use nb_host::{Host, RunError};
 use nb_script::Script;
 use std::alloc::Global;
 
@@ -62,23 +61,19 @@ fn play<H: Host>(
     engine: &mut Engine,
     script: &Script,
     told: Told,
-) -> Result<bool, Stop>
+) -> Result<bool, RunError>
     requires askable { IsAskable script.now }
     ensures plays { IsTrue H.tells → (shown : List ℕ) × ((now : Now) (t : Trail) → IsReady (H.world host.old) engine.old t now → now.todo ≡ begun script.now.sessions → IsMaking now
         → Foretells now.given shown (H.world host.old) (H.world host.new)
         → PlaysInTurn H.world result host.old host.new engine.old engine.new t told now script.now.schedule) }
     ensures grows { (now : Now) (t : Trail) → IsTrue H.tells → IsReady (H.world host.old) engine.old t now → now.todo ≡ begun script.now.sessions → IsMaking now
         → Grows (H.world host.old) (H.world host.new) }
-    ensures cause { CountsStop result (H.faults host.old) (H.faults host.new) }
+    ensures cause { CountsRun result (H.faults host.old) (H.faults host.new) }
 {
     let mut all = sessions_of(alloc, script, told);
     let sessions: &mut [Session<'_>] = &mut all;
-    match nb_sched::take_turns(sessions, host, engine, script.schedule()) {
-        Ok(()) => Ok(any_refused(sessions)),
-        Err(Fault::Device) => Err(Stop::Device),
-        Err(Fault::Memory) => Err(Stop::Memory),
-        Err(Fault::Refused(_)) => unreachable!(),
-    }
+    nb_sched::take_turns(sessions, host, engine, script.schedule())?;
+    Ok(any_refused(sessions))
 }
 
 /// Plays a script on the open database, all but its first statement, to the end of every session, and says so much of it; then it writes
@@ -92,7 +87,7 @@ pub fn take_turns<H: Host>(
     engine: &mut Engine,
     script: &Script,
     told: Told,
-) -> Result<bool, Stop>
+) -> Result<bool, RunError>
     requires askable { IsAskable script.now }
     ensures plays { IsTrue H.tells → (shown : List ℕ) × ((now : Now) (t : Trail) → IsReady (H.world host.old) engine.old t now → now.todo ≡ begun script.now.sessions → IsMaking now
         → Foretells now.given shown (H.world host.old) (H.world host.new)
@@ -100,11 +95,9 @@ pub fn take_turns<H: Host>(
     ensures none_waits { IfOk result (λ refused. NoPageWaits engine.new) }
     ensures grows { (now : Now) (t : Trail) → IsTrue H.tells → IsReady (H.world host.old) engine.old t now → now.todo ≡ begun script.now.sessions → IsMaking now
         → Grows (H.world host.old) (H.world host.new) }
-    ensures cause { CountsStop result (H.faults host.old) (H.faults host.new) }
+    ensures cause { CountsRun result (H.faults host.old) (H.faults host.new) }
 {
     let refused = play(alloc, host, engine, script, told)?;
-    match engine.write_out(host) {
-        Ok(()) => Ok(refused),
-        Err(_) => Err(Stop::Device),
-    }
+    engine.write_out(host)?;
+    Ok(refused)
 }

@@ -1,6 +1,7 @@
 // A statement that is done in one turn.
 ghost use Rattle.std.specs.Prelude.{◌≡◌, ℕ, [], IsTrue, IfErr, OnOk, IfOk, Option, Some};
-ghost use Rattle.nb_change.specs.Counts.{CountsDevice};
+ghost use Rattle.nb_host.specs.Causes.{CountsDevice, CountsRun};
+ghost use Rattle.nb_host.specs.Faults.{as_fault};
 ghost use Rattle.nb_base.specs.Open.{Agrees};
 ghost use Rattle.nb_model.specs.Account.{Base};
 ghost use Rattle.nb_state.specs.Open.{AgreesWith};
@@ -8,7 +9,6 @@ ghost use Rattle.nb_model.specs.declared.reply.Reply.{Reply};
 ghost use Rattle.nb_model.specs.Outcomes.{Begins};
 ghost use Rattle.nb_model.specs.Run.{Now};
 ghost use Rattle.nb_model.specs.Trail.{Trail};
-ghost use Rattle.nb_base.specs.Takes.{IsNoRefusal};
 ghost use Rattle.nb_shown.specs.Replies.{pages_shown};
 ghost use Rattle.nb_script.specs.Asked.{IsFurther};
 ghost use Rattle.nb_session.specs.Acts.{Says, MayAct};
@@ -19,7 +19,7 @@ ghost use Rattle.nb_session.specs.Replies.{some_said, HasEnded, header_of};
 use crate::checks::do_checks;
 use crate::tables::do_on_tables;
 use nb_engine::Engine;
-use nb_host::{Fault, Host};
+use nb_host::{Fault, Host, RunError};
 use nb_model::{Reply, Statement, Text};
 use nb_shown::{PageCounts, count_pages, image_digest};
 use std::alloc::Global;
@@ -136,17 +136,16 @@ pub fn do_statement<H: Host>(
 }
 
 /// The reply to a statement: what it answered, or its refusal. A failure is passed on.
-pub fn reply_to(answer: Result<Reply, Fault>) -> Result<Reply, Fault>
+pub fn reply_to(answer: Result<Reply, Fault>) -> Result<Reply, RunError>
     ensures said { (said : Option Reply) → Says some_said answer said → IfOk result (λ reply. said ≡ Some reply) }
     ensures ended { OnOk result (HasEnded answer) }
-    ensures failed { IfErr result (λ fault. answer ≡ Err fault) }
-    ensures not_refused { IfErr result IsNoRefusal }
-    ensures cause { (before after : ℕ) → CountsDevice answer before after → CountsDevice result before after }
+    ensures failed { IfErr result (λ error. answer ≡ Err (as_fault error)) }
+    ensures cause { (before after : ℕ) → CountsDevice answer before after → CountsRun result before after }
 {
     match answer {
         Ok(reply) => Ok(reply),
         Err(Fault::Refused(refusal)) => Ok(Reply::Refused { refusal }),
-        Err(Fault::Device) => Err(Fault::Device),
-        Err(Fault::Memory) => Err(Fault::Memory),
+        Err(Fault::Device) => Err(RunError::Device),
+        Err(Fault::Memory) => Err(RunError::Memory),
     }
 }

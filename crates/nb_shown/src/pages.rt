@@ -1,9 +1,8 @@
 // The pages of a database are counted, by their bits and their kinds.
 ghost use Rattle.std.specs.Prelude.{◌≡◌, ◌≢◌, ◌+◌, ◌-◌, ◌*◌, ◌<◌, ◌≤◌, ℕ, IsTrue, IfErr, IfOk, OnOk, length, min, not};
 ghost use Rattle.nb_fields.specs.Places.{is_page_size, bits_in, inventory_place};
-ghost use Rattle.nb_host.specs.Causes.{CountsFault};
+ghost use Rattle.nb_host.specs.Causes.{CountsDevice, CountsFault};
 ghost use Rattle.nb_host.specs.declared.faults.Fault.TheVariants.{Memory};
-ghost use Rattle.nb_change.specs.Counts.{CountsDevice};
 ghost use Rattle.nb_page.specs.Quiet.{Quiet};
 ghost use Rattle.nb_model.specs.Backups.{all_needed, pages_turn};
 ghost use Rattle.nb_model.specs.Causes.{not_kind, not_of_form};

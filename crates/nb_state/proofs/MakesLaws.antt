@@ -1,12 +1,15 @@
 -- How runs of calls that make strokes go on.
 use Rattle.std.proofs.Common.{◌≡◌, ℕ, List, [], ◌∷◌, ◌++◌, refl, sym, ◌∙◌, subst, ap, arith}
 use Rattle.std.proofs.lemmas.List.{append-nil}
-use Rattle.std.specs.Prelude.{Bool, true, false, Option, Result, Ok, Err, IfErr}
+use Rattle.std.specs.Prelude.{Bool, true, false, Option, Result, Ok, Err}
 use Rattle.nb_host.specs.Files.{Files}
 use Rattle.nb_host.specs.Calls.{IsStill}
 use Rattle.nb_host.specs.World.{World}
 use Rattle.nb_host.specs.declared.faults.Fault.{Fault}
 use Rattle.nb_host.specs.declared.faults.Fault.TheVariants.{Refused, Device, Memory}
+use Rattle.nb_host.specs.declared.faults.RunError.{RunError}
+use Rattle.nb_host.specs.declared.faults.RunError.TheVariants.{Device as DeviceError, Memory as MemoryError}
+use Rattle.nb_host.specs.Faults.{as_fault}
 use Rattle.nb_page.specs.Quiet.{Quiet}
 use Rattle.nb_change.specs.Gave.{GaveNothing}
 use Rattle.nb_change.proofs.ChangesLaws.{rested}
@@ -20,7 +23,7 @@ use Rattle.nb_base.specs.Open.{OfFiles, IsMerged}
 use Rattle.nb_base.specs.Takes.{Strikes, after_strokes, IsNoRefusal}
 use Rattle.nb_owner.proofs.WaitLaws.{still_open as pair_still}
 use Rattle.nb_state.specs.Open.{Held, IsOpen, but_pages, name_of, pair_of}
-use Rattle.nb_state.specs.Does.{WhereEnded, WhereRefused, Goes, Makes}
+use Rattle.nb_state.specs.Does.{WhereEnded, Goes, Makes}
 
 -- a database stays open
 pub still_open : (old new : World) (held : Held) (t : Trail) → IsStill old new → IsOpen old held t → IsOpen new held t
@@ -60,24 +63,16 @@ where_ended (Err (Refused refusal)) P is = is
 where_ended (Err Device) P is = tt
 where_ended (Err Memory) P is = tt
 
--- and so does what follows from what holds there
-pub ended_more : {T : Type 0} (result : Result T Fault) (P Q : Type 0) → (P → Q) → WhereEnded result P → WhereEnded result Q
-ended_more (Ok value) P Q more is = more is
-ended_more (Err (Refused refusal)) P Q more is = more is
-ended_more (Err Device) P Q more is = tt
-ended_more (Err Memory) P Q more is = tt
-
 -- where it failed, nothing is promised of its end, and it was not refused
 pub never_ended : (T : Type 0) (fault : Fault) (P : Type 0) → IsNoRefusal fault → WhereEnded {T = T} (Err fault) P
 never_ended T (Refused refusal) P is = absurd is
 never_ended T Device P is = tt
 never_ended T Memory P is = tt
 
-pub never_refused : {T : Type 0} (result : Result T Fault) (P : Type 0) → IfErr result IsNoRefusal → WhereRefused result P
-never_refused (Ok value) P is = tt
-never_refused (Err (Refused refusal)) P is = absurd is
-never_refused (Err Device) P is = tt
-never_refused (Err Memory) P is = tt
+-- what can't be refused was not
+pub none_refused : (error : RunError) → IsNoRefusal (as_fault error)
+none_refused DeviceError = tt
+none_refused MemoryError = tt
 
 pub goes_on : (a b c : Held) → Goes a b → Goes b c → Goes a c
 goes_on a b c first second = record {

@@ -7,6 +7,7 @@ use Rattle.nb_host.specs.World.{World}
 use Rattle.nb_host.specs.Calls.{IsStill}
 use Rattle.nb_host.specs.Moments.{IsNow, IsTimely, Passes}
 use Rattle.nb_host.specs.declared.faults.Fault.{Fault}
+use Rattle.nb_host.specs.declared.faults.HostFault.{HostFault}
 use Rattle.nb_host.specs.declared.faults.Fault.TheVariants.{Refused, Device, Memory}
 use Rattle.nb_host.specs.declared.refusals.Refusal.{Refusal}
 use Rattle.nb_change.proofs.MomentLaws.{started, untouched_begun}
@@ -282,7 +283,7 @@ module _ (old new : World) (before after : Held) (t : Trail) (session : ℕ) (al
   end_done scn is opened running merged = record { test = allowed; left = end_left; opened = opened; answer = is; begins = (running, merged); gave = gave; refused = tt; idle = end_allows; name = name }
 
 -- A turn of a merge that failed.
-pub merge_failed : (old new : World) (before after : Held) (t : Trail) (result : Result Progress Fault) → result ≡ Err Device → Strikes old new (name_of before) t (finish ∷ []) → (before.merged < length t.base.diverted → Strikes old new (name_of before) t [])
+pub merge_failed : (old new : World) (before after : Held) (t : Trail) (result : Result Progress HostFault) (fault : HostFault) → result ≡ Err fault → Strikes old new (name_of before) t (finish ∷ []) → (before.merged < length t.base.diverted → Strikes old new (name_of before) t [])
     → GaveNothing old new → name_of after ≡ name_of before → Merges result old new before after t
-merge_failed old new before after t result failed left more gave name =
-    subst (λ (r : Result Progress Fault). Merges r old new before after t) (sym failed) (record { left = left; more = more; on = tt; gave = gave; name = name })
+merge_failed old new before after t result fault failed left more gave name =
+    subst (λ (r : Result Progress HostFault). Merges r old new before after t) (sym failed) (record { left = left; more = more; on = tt; gave = gave; name = name })

@@ -3,6 +3,7 @@ use Rattle.std.specs.Prelude.{◌≡◌, ◌⊎◌, ℕ, ◌+◌, ◌<◌, ◌�
 use Rattle.nb_host.specs.Files.{Files}
 use Rattle.nb_host.specs.World.{World}
 use Rattle.nb_host.specs.declared.faults.Fault.{Fault}
+use Rattle.nb_host.specs.declared.faults.HostFault.{HostFault}
 use Rattle.nb_host.specs.declared.refusals.Refusal.{Refusal}
 use Rattle.nb_host.specs.declared.refusals.Refusal.TheVariants.{WrongState}
 use Rattle.nb_page.specs.Quiet.{Quiet}
@@ -71,12 +72,12 @@ PutsOn More old new before = PutsPage old new (name_of before) before.files.page
 PutsOn Finished old new before = new (delta_name (name_of before)) ≡ None
 
 -- One entry more is merged, or all are and the merge is over.
-abbrev pub MergesOn : Result Progress Fault → (new : World) (before after : Held) → Trail → Type 0
+abbrev pub MergesOn : Result Progress HostFault → (new : World) (before after : Held) → Trail → Type 0
 MergesOn (Ok More) new before after t = (before.merged < length t.base.diverted) × (after.merged ≡ before.merged + 1) × (after.running ≡ before.running) × IsOpen new after t
 MergesOn (Ok Finished) new before after t = (length t.base.diverted ≡ before.merged) × (after.running ≡ None) × IsOpen new after (after_strokes t (finish ∷ []))
 MergesOn (Err fault) new before after t = Unit {0}
 
-pub record Merges (result : Result Progress Fault) (old new : World) (before after : Held) (t : Trail) : Type 0 where
+pub record Merges (result : Result Progress HostFault) (old new : World) (before after : Held) (t : Trail) : Type 0 where
   pub left : Strikes old new (name_of before) t (finish ∷ [])
   -- but in its last turn it changes no page
   pub more : before.merged < length t.base.diverted → Strikes old new (name_of before) t []

@@ -1,14 +1,14 @@
 ghost use Rattle.std.specs.Prelude.{◌≡◌, ◌≢◌, ◌≤◌, ◌<◌, ◌+◌, ◌∷◌, [], length, IsTrue, IsSome, IsOk, IfErr, OnOk, true, false, not, ◌==◌};
 ghost use Rattle.nb_fields.specs.Bytes.{is_zeros, number_in};
 ghost use Rattle.nb_fields.specs.Places.{is_page_size};
-ghost use Rattle.nb_host.specs.Causes.{CountsFault};
-ghost use Rattle.nb_change.specs.Counts.{CountsDevice};
+ghost use Rattle.nb_host.specs.Causes.{CountsFault, CountsRun};
+ghost use Rattle.nb_host.specs.Faults.{as_answer};
 ghost use Rattle.nb_change.specs.Gave.{GaveNothing};
 ghost use Rattle.nb_page.specs.Quiet.{Quiet};
 ghost use Rattle.nb_model.specs.Image.{page_at};
 ghost use Rattle.nb_model.specs.Strokes.{page as page_stroke};
 ghost use Rattle.nb_model.specs.Trail.{Trail, settled};
-ghost use Rattle.nb_base.specs.Takes.{Takes, Strikes, IsNoRefusal};
+ghost use Rattle.nb_base.specs.Takes.{Takes, Strikes};
 ghost use Rattle.nb_base.specs.Touches.{WritesIn};
 ghost use Rattle.nb_cache.specs.Held.{slot_of};
 ghost use Rattle.nb_owner.specs.Open.{may_wait};
@@ -16,7 +16,7 @@ ghost use Rattle.nb_state.specs.Open.{IsOpen, HasBlock, NoPageWaits, but_pages, 
 ghost use Rattle.nb_state.specs.Does.{Makes, Goes};
 
 use crate::front::front_of;
-use nb_host::{Fault, Host, HostFault};
+use nb_host::{Host, HostFault, RunError};
 use nb_owner::Pair;
 use std::marker::Model;
 
@@ -186,26 +186,25 @@ impl Store {
     ///
     /// It wants memory in the stalled state alone, and has changed no page then. It has made no call then but to write out what waited, so none
     /// where writes are forced.
-    pub fn write<H: Host>(&mut self, host: &mut H, number: u32, page: &[u8]) -> Result<(), Fault>
+    pub fn write<H: Host>(&mut self, host: &mut H, number: u32, page: &[u8]) -> Result<(), RunError>
         requires size { length page.now ≡ self.old.files.page_size }
         requires most { number < 1048576 }
         requires some { is_zeros page.now ≡ false }
         requires low { number ≤ self.old.files.count }
         requires control_block { number ≡ 0 → IsTrue H.tells → HasBlock (H.world host.old) self.old page.now }
         ensures makes { (t : Trail) → IsTrue H.tells → IsOpen (H.world host.old) self.old t
-            → Makes result (H.world host.old) (H.world host.new) self.old self.new t (page_stroke number page.now ∷ []) }
+            → Makes (as_answer result) (H.world host.old) (H.world host.new) self.old self.new t (page_stroke number page.now ∷ []) }
         ensures touches { (t : Trail) → IsTrue H.tells → IsOpen (H.world host.old) self.old t → WritesIn (H.world host.old) (H.world host.new) self.old.files.state (name_of self.old) }
         ensures added { OnOk result (number < self.new.files.count) }
         ensures goes { Goes self.old self.new }
         ensures reads { (H.world host.new).reads ≡ (H.world host.old).reads }
-        ensures cause { CountsDevice result (H.faults host.old) (H.faults host.new) }
-        ensures not_refused { IfErr result IsNoRefusal }
-        ensures waits { may_wait (pair_of self.old) number ≡ true → (self.old.files.state ≡ 0 → IsOk result) × IfErr result (λ fault. fault ≡ Fault.Memory) × (host.new ≡ host.old) }
-        ensures on_memory { (t : Trail) → IsTrue H.tells → IsOpen (H.world host.old) self.old t → result ≡ Err Fault.Memory
+        ensures cause { CountsRun result (H.faults host.old) (H.faults host.new) }
+        ensures waits { may_wait (pair_of self.old) number ≡ true → (self.old.files.state ≡ 0 → IsOk result) × IfErr result (λ error. error ≡ RunError.Memory) × (host.new ≡ host.old) }
+        ensures on_memory { (t : Trail) → IsTrue H.tells → IsOpen (H.world host.old) self.old t → result ≡ Err RunError.Memory
             → Strikes (H.world host.old) (H.world host.new) (name_of self.old) t [] × IsOpen (H.world host.new) self.new t }
-        ensures idle { NoPageWaits self.old → result ≡ Err Fault.Memory → (self.new ≡ self.old) × (host.new ≡ host.old) }
-        ensures forced { (t : Trail) → IsTrue H.tells → IsOpen (H.world host.old) self.old t → self.old.files.forced ≡ true → result ≡ Err Fault.Memory → (self.new ≡ self.old) × (host.new ≡ host.old) }
-        ensures takes_none { self.old.files.state ≢ 1 → IfErr result (λ fault. fault ≢ Fault.Memory) }
+        ensures idle { NoPageWaits self.old → result ≡ Err RunError.Memory → (self.new ≡ self.old) × (host.new ≡ host.old) }
+        ensures forced { (t : Trail) → IsTrue H.tells → IsOpen (H.world host.old) self.old t → self.old.files.forced ≡ true → result ≡ Err RunError.Memory → (self.new ≡ self.old) × (host.new ≡ host.old) }
+        ensures takes_none { self.old.files.state ≢ 1 → IfErr result (λ error. error ≢ RunError.Memory) }
     {
         self.pair.write(host, number, page)?;
         self.take_access(number, page);

@@ -1,14 +1,13 @@
 // The turns of a backup: begin, end, and the merge.
 ghost use Rattle.std.specs.Prelude.{◌≡◌, ◌≢◌, ◌<◌, ◌≤◌, ◌+◌, ℕ, List, [], ◌∷◌, length, IsTrue, IfErr, IfOk, OnOk, Option, Some};
-ghost use Rattle.nb_host.specs.Causes.{CountsFault};
+ghost use Rattle.nb_host.specs.Causes.{CountsDevice, CountsFault};
 ghost use Rattle.nb_host.specs.declared.faults.Fault.TheVariants.{Memory};
-ghost use Rattle.nb_change.specs.Counts.{CountsDevice};
 ghost use Rattle.nb_change.specs.Gave.{GaveNothing};
 ghost use Rattle.nb_model.specs.Account.{Ask};
 ghost use Rattle.nb_model.specs.Image.{Image, image_state, image_scn};
 ghost use Rattle.nb_model.specs.Strokes.{begin as begin_stroke, ends as ends_stroke};
 ghost use Rattle.nb_model.specs.Trail.{Trail};
-ghost use Rattle.nb_base.specs.Takes.{Takes, IsNoRefusal};
+ghost use Rattle.nb_base.specs.Takes.{Takes};
 ghost use Rattle.nb_state.specs.Open.{IsOpen, name_of};
 ghost use Rattle.nb_state.specs.Does.{Tested};
 ghost use Rattle.nb_state.specs.Turns.{Begins, Ends, Merges, GaveAtMost, GoesOn, PutsOn, begin_cause, end_cause};
@@ -165,16 +164,14 @@ impl Store {
 
     /// Merges the next entry, which changes one page of the main file and nothing else, or finishes the merge, which removes the difference
     /// file. Whatever the files hold.
-    pub fn merge_turn<H: Host>(&mut self, host: &mut H) -> Result<Progress, Fault>
+    pub fn merge_turn<H: Host>(&mut self, host: &mut H) -> Result<Progress, HostFault>
         requires merge { self.old.files.state ≡ 2 }
         ensures merges { (t : Trail) → IsTrue H.tells → IsOpen (H.world host.old) self.old t → Merges result (H.world host.old) (H.world host.new) self.old self.new t }
         ensures goes { IfOk result (λ progress. GoesOn progress self.old self.new) }
         ensures puts { IsTrue H.tells → IfOk result (λ progress. PutsOn progress (H.world host.old).files (H.world host.new).files self.old) }
         ensures page_size { self.new.files.page_size ≡ self.old.files.page_size }
         ensures cap { self.new.cap ≡ self.old.cap }
-        ensures cause { CountsDevice result (H.faults host.old) (H.faults host.new) }
-        ensures not_refused { IfErr result IsNoRefusal }
-        ensures takes_none { IfErr result (λ fault. fault ≢ Memory) }
+        ensures cause { CountsFault result (H.faults host.old) (H.faults host.new) }
     {
         if self.merged < self.pair.delta_count() {
             self.pair.merge_entry(host, self.merged)?;

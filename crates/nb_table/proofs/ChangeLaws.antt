@@ -29,7 +29,7 @@ use Rattle.nb_table.specs.Rows.{rows_cause, place_cause}
 use Rattle.nb_table.specs.Walks.{gathered, found_at, place_at}
 use Rattle.nb_table.proofs.InTableLaws.{table_refused, table_goes_from}
 use Rattle.nb_table.proofs.PlaceLaws.{IsPlaceOf, found_some, found_there}
-use Rattle.nb_table.proofs.SpotPages.{row_kind}
+use Rattle.nb_walk.proofs.SpotPages.{row_kind}
 
 -- what is said is `ok`
 pub said : (result : Result (Unit {0}) Fault) → IfOk result (λ value. done value ≡ Done)

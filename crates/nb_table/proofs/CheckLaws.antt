@@ -12,7 +12,7 @@ use Rattle.nb_model.proofs.RoomLaws.{in_chain, chain_owner}
 use Rattle.nb_engine.specs.Behind.{give_broken}
 use Rattle.nb_engine.specs.Data.{not_data}
 use Rattle.nb_engine.specs.Find.{need_cause}
-use Rattle.nb_engine.proofs.DataLaws.{owner_is}
+use Rattle.nb_alloc.proofs.DataLaws.{owner_is}
 use Rattle.nb_alloc.proofs.RoomsLaws.{lowest_append}
 use Rattle.nb_alloc.proofs.TestLaws.{kind_is}
 use Rattle.nb_table.specs.Drops.{drop_broken}

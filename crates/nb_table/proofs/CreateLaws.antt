@@ -10,8 +10,7 @@ use Rattle.nb_host.specs.declared.refusals.Refusal.TheVariants.{NotDatabase}
 use Rattle.nb_model.specs.Causes.{not_kind, not_of_form, no_room, too_short, when}
 use Rattle.nb_model.specs.Chains.{Catalogue, Slot, found_pages, last_of, put_slot, grown, table_slot}
 use Rattle.nb_model.specs.Forms.{Draft, drafted, is_kind}
-use Rattle.nb_model.specs.Image.{Image, image_size, page_at}
-use Rattle.nb_model.specs.Sound.{IsOfSize}
+use Rattle.nb_model.specs.Image.{Image, page_at}
 use Rattle.nb_model.specs.Strokes.{Stroke}
 use Rattle.nb_model.specs.Trail.{Trail}
 use Rattle.nb_model.proofs.DraftJoin.{joined, join_put}
@@ -29,13 +28,12 @@ use Rattle.nb_engine.specs.Search.{IsShort}
 use Rattle.nb_engine.specs.Tries.{Tries}
 use Rattle.nb_alloc.proofs.CauseLaws.{first_next, one_cause}
 use Rattle.nb_alloc.proofs.ContentLaws.{data_short}
-use Rattle.nb_alloc.proofs.DoesLaws.{unless_none, tries_front, tries_then}
+use Rattle.nb_alloc.proofs.DoesLaws.{unless_none, tries_front, tries_then, sure_of, makes_as, makes_valued}
 use Rattle.nb_engine.proofs.GrowLaws.{new_longer}
 use Rattle.nb_alloc.proofs.MakeLaws.{tries_named}
 use Rattle.nb_alloc.proofs.NewLaws.{image_is}
 use Rattle.nb_alloc.proofs.RoomsLaws.{IsFreeBehind, free_behind, grown_named, slot_named, unmade_is, joined_clear}
 use Rattle.nb_alloc.proofs.TestLaws.{rests}
-use Rattle.nb_alloc.proofs.WhereLaws.{sure_of, makes_as, makes_valued}
 use Rattle.nb_model.proofs.ReadLaws.{lt_no}
 use Rattle.nb_table.specs.declared.look.Place.{Place}
 use Rattle.nb_table.specs.Creates.{first_made, created_in, created_behind}
@@ -128,9 +126,6 @@ module _ (t : Trail) (table : List ℕ) where
 
   pub image_then : u.base.image ≡ new_first.0.image
   image_then = image_is t 0 new_first.0 (new_keeps (IsOf t.base) (drafts_are t.base) (length x + 4) 5 first (drafted x) (drafted_is t.base)) xs refl
-
-  pub sizes_then : IsOfSize (image_size new_first.0.image) new_first.0.image → IsOfSize (image_size u.base.image) u.base.image
-  sizes_then sizes = subst (λ (z : Image). IsOfSize (image_size z) z) (sym image_then) sizes
 
   -- the last page is a data page still
   pub data_then : (last : ℕ) → is_kind new_first.0.image 5 last ≡ true → is_kind u.base.image 5 last ≡ true

@@ -23,7 +23,7 @@ use Rattle.nb_table.specs.declared.look.Sought.TheVariants.{Table}
 use Rattle.nb_table.specs.declared.look.Walked.{Walked}
 use Rattle.nb_table.specs.Walks.{gathered, place_of, place_at as places}
 use Rattle.nb_table.proofs.PlaceLaws.{IsPlaceOf, place_some, found_there}
-use Rattle.nb_table.proofs.SpotPages.{free_kind}
+use Rattle.nb_walk.proofs.SpotPages.{free_kind}
 
 module _ (image : Image) (table : List ℕ) where
   abbrev broken : Cause

@@ -29,17 +29,16 @@ use Rattle.nb_state.specs.Open.{Held, IsOpen}
 use Rattle.nb_engine.specs.Behind.{entry_broken, give_broken}
 use Rattle.nb_engine.specs.Put.{entry_cause}
 use Rattle.nb_engine.specs.Tries.{Tries}
-use Rattle.nb_alloc.proofs.DoesLaws.{tries_opened, tries_front, tries_then}
+use Rattle.nb_alloc.proofs.DoesLaws.{tries_opened, tries_front, tries_then, sure_of}
 use Rattle.nb_alloc.proofs.MakeLaws.{tries_named}
 use Rattle.nb_alloc.proofs.NewLaws.{image_is}
 use Rattle.nb_engine.proofs.NotedLaws.{In, Notes, give_by}
 use Rattle.nb_alloc.proofs.PutLaws.{other-with}
 use Rattle.nb_alloc.proofs.RoomsLaws.{both_empty, none_broken, no_entry_broken}
 use Rattle.nb_alloc.proofs.TestLaws.{kind_is}
-use Rattle.nb_alloc.proofs.WhereLaws.{sure_of}
 use Rattle.nb_table.specs.Drops.{IsWholeTable, IsGivable, dropped, drop_broken}
 use Rattle.nb_table.proofs.DropCauseLaws.{AreBelow, slot_noted, slot_room, given_noted, noted_lowest}
-use Rattle.nb_table.proofs.SpotPages.{spot_on}
+use Rattle.nb_walk.proofs.SpotPages.{spot_on}
 
 unbroken : (ps : List ℕ) → lowest_broken ps ≡ None → ps ≡ []
 unfolding lowest_broken

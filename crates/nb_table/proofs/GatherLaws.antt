@@ -1,12 +1,12 @@
 -- What a walk has come by, and one slot more.
-use Rattle.std.proofs.Common.{◌≡◌, ◌≢◌, ℕ, ◌+◌, List, [], ◌∷◌, ◌++◌, length, refl, sym, ap, ◌∙◌, arith}
+use Rattle.std.proofs.Common.{◌≡◌, ◌≢◌, ℕ, ◌+◌, List, [], ◌∷◌, ◌++◌, length, refl, ap, ◌∙◌, arith}
 use Rattle.std.specs.Prelude.{Bool, true, false, ◌&&◌, nat_eq, min, Option, Some, None, slice_index, is_some}
 use Rattle.std.proofs.lemmas.Bool.{eqb-true}
 use Rattle.nb_model.specs.Chains.{Slot, Spot, is_used, first_such, free_spot, spots_of}
 use Rattle.nb_model.specs.Image.{Image}
 use Rattle.nb_model.specs.Rows.{used}
 use Rattle.nb_model.proofs.ReadLaws.{eq_no, eq_yes}
-use Rattle.nb_engine.proofs.SlotLaws.{first_held, first_hit, first_miss}
+use Rattle.nb_walk.proofs.FirstLaws.{stays, misses, hits}
 use Rattle.nb_table.specs.declared.look.Sought.{Sought}
 use Rattle.nb_table.specs.declared.look.Sought.TheVariants.{Table, Row}
 use Rattle.nb_table.specs.declared.look.Place.{Place}
@@ -35,31 +35,6 @@ used_one s e = ap (λ (t : Bool). length (elim t as (λ z. List Spot) [ true ↦
 used_not : (s : Spot) → is_used s.bytes ≡ false → length (used (s ∷ [])) ≡ 0
 unfolding used
 used_not s e = ap (λ (t : Bool). length (elim t as (λ z. List Spot) [ true ↦ s ∷ [] | false ↦ [] ])) e
-
--- The first that passes a test, as a walk holds it, and one slot more.
-module _ {A : Type 0} (at : Option Spot → Option A) (test : Spot → Bool) (ss : List Spot) (s : Spot) (held : Option A) (is : held ≡ at (first_such test ss)) (none : is_some (at None) ≡ false) (some : (x : Spot) → is_some (at (Some x)) ≡ true) where
-  true_false : true ≡ false → ⊥
-  true_false d = cc
-
-  none_yet : is_some held ≡ false → first_such test ss ≡ None
-  none_yet e = by (first_such test ss) refl
-    where
-      by : (o : Option Spot) → first_such test ss ≡ o → first_such test ss ≡ None
-      by None d = d
-      by (Some y) d = absurd (true_false (sym (ap is_some is ∙ ap (λ (x : Option Spot). is_some (at x)) d ∙ some y) ∙ e))
-
-  pub stays : is_some held ≡ true → held ≡ at (first_such test (ss ++ s ∷ []))
-  stays e = by (first_such test ss) refl
-    where
-      by : (o : Option Spot) → first_such test ss ≡ o → held ≡ at (first_such test (ss ++ s ∷ []))
-      by (Some y) d = is ∙ ap at (d ∙ sym (first_held test s ss y d))
-      by None d = absurd (true_false (sym e ∙ ap is_some is ∙ ap (λ (x : Option Spot). is_some (at x)) d ∙ none))
-
-  pub misses : test s ≡ false → held ≡ at (first_such test (ss ++ s ∷ []))
-  misses e = is ∙ ap at (sym (first_miss test s ss e))
-
-  pub hits : is_some held ≡ false → test s ≡ true → at (Some s) ≡ at (first_such test (ss ++ s ∷ []))
-  hits first e = sym (ap at (first_hit test s ss (none_yet first) e))
 
 abbrev found_with : Place → Slot → Found
 found_with place bytes = record { place = place; bytes = bytes }

@@ -28,12 +28,11 @@ use Rattle.nb_state.proofs.MakesLaws.{makes_none, makes_then, makes_front}
 use Rattle.nb_engine.specs.Data.{not_data}
 use Rattle.nb_engine.specs.Mark.{mark_cause}
 use Rattle.nb_engine.specs.Tries.{Tries}
-use Rattle.nb_engine.proofs.DataLaws.{owner_is}
-use Rattle.nb_alloc.proofs.DoesLaws.{unless_none, tries_made}
+use Rattle.nb_alloc.proofs.DataLaws.{owner_is}
+use Rattle.nb_alloc.proofs.DoesLaws.{unless_none, tries_made, sure_of, makes_valued}
 use Rattle.nb_alloc.proofs.NewLaws.{image_is}
 use Rattle.nb_engine.proofs.NotedLaws.{IsGivenOn, given_cause, given_on, give_same}
 use Rattle.nb_alloc.proofs.TestLaws.{kind_is}
-use Rattle.nb_alloc.proofs.WhereLaws.{sure_of, makes_valued}
 use Rattle.nb_table.specs.Drops.{IsGivable}
 
 given_first : (p : ℕ) (ps : List ℕ) (z : Image) → (all_given (p ∷ ps) (drafted z)).strokes ≡ (give_page p (drafted z)).strokes ++ (all_given ps (drafted (give_page p (drafted z)).image)).strokes

@@ -1,5 +1,4 @@
 pub mod InTableLaws
-pub mod SpotPages
 pub mod PlaceLaws
 pub mod ChangeLaws
 pub mod DropLaws
@@ -11,7 +10,6 @@ pub mod CreateLaws
 pub mod CreateTurnLaws
 pub mod SlotLaws
 pub mod GatherLaws
-pub mod SpotLaws
 pub mod FindLaws
 pub mod SortedLaws
 pub mod ReadTurns

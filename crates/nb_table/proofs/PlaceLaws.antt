@@ -1,13 +1,13 @@
 -- A slot of a chain is written, or its chain grows: what that does of a turn.
-use Rattle.std.proofs.Common.{◌≡◌, ℕ, ◌+◌, ◌*◌, List, [], ◌∷◌, ◌++◌, drop, refl, sym, ap, ◌∙◌}
+use Rattle.std.proofs.Common.{◌≡◌, ℕ, ◌+◌, ◌*◌, List, [], ◌∷◌, ◌++◌, refl, sym, ap, ◌∙◌}
 use Rattle.std.specs.Prelude.{Bool, true, false, Option, Some, None, Result, is_some}
 use Rattle.nb_fields.specs.Bytes.{with_part}
 use Rattle.nb_host.specs.World.{World}
 use Rattle.nb_host.specs.declared.faults.Fault.{Fault}
 use Rattle.nb_host.specs.declared.refusals.Refusal.TheVariants.{NotDatabase}
-use Rattle.nb_model.specs.Image.{Page, Image, page_at}
+use Rattle.nb_model.specs.Image.{Image, page_at}
 use Rattle.nb_model.specs.Trail.{Trail}
-use Rattle.nb_model.specs.Forms.{Draft, drafted, put, is_kind, other_kind, wants}
+use Rattle.nb_model.specs.Forms.{Draft, drafted, is_kind, other_kind, wants}
 use Rattle.nb_model.specs.Causes.{first_cause, not_kind, not_of_form, no_room, broken_at, too_short, short_for}
 use Rattle.nb_model.specs.Chains.{Chain, Slot, Spot, pages_of, found_pages, spots, free_spot, put_slot, grown, place_slot}
 use Rattle.nb_model.proofs.SearchLaws.{draft_cause}
@@ -24,7 +24,7 @@ use Rattle.nb_table.specs.declared.look.Place.{Place}
 use Rattle.nb_table.specs.declared.look.Found.{Found}
 use Rattle.nb_table.specs.Rows.{place_cause}
 use Rattle.nb_table.specs.Walks.{place_of, found_of, place_at, found_at}
-use Rattle.nb_table.proofs.SpotPages.{free_kind}
+use Rattle.nb_walk.proofs.SpotPages.{free_kind}
 
 -- nothing is noted of it
 pub wants_met : (image : Image) (kind p : ℕ) (d : Draft) → not_kind image kind p ≡ None → wants image kind p d ≡ d
@@ -32,12 +32,12 @@ unfolding other_kind
 wants_met image kind p d none = ap (λ (t : Bool). record d { broken = (elim t as (λ z. List ℕ) [ true ↦ [] | false ↦ p ∷ [] ]) ++ d.broken }) (none_of (is_kind image kind p) (NotDatabase p) none)
 
 -- A slot of a data page is written as its page is, with these bytes there.
-pub slot_tries : {T : Type 0} (result : Result T Fault) (old new : World) (a b : Held) (t : Trail) (p slot : ℕ) (bytes : Slot) (page : Page) → not_kind t.base.image 5 p ≡ None
-    → page ≡ with_part (32 + 256 * slot) bytes (page_at t.base.image p) → Tries result old new a b t (data_cause t.base.image p) (put_data p page t.base.image).strokes
+pub slot_tries : {T : Type 0} (result : Result T Fault) (old new : World) (a b : Held) (t : Trail) (p slot : ℕ) (bytes : Slot) → not_kind t.base.image 5 p ≡ None
+    → Tries result old new a b t (data_cause t.base.image p) (put_data p (with_part (32 + 256 * slot) bytes (page_at t.base.image p)) t.base.image).strokes
     → Tries result old new a b t (entry_cause t.base.image p) (put_slot p slot bytes (drafted t.base.image)).strokes
 unfolding put_slot
-slot_tries result old new a b t p slot bytes page kind now tries =
-    tries_named result old new a b t (data_cause t.base.image p) (entry_cause t.base.image p) _ _ (sym (by_entry t.base.image p kind)) (ap (λ (x : Page). (put p 5 (drop 16 x) (drafted t.base.image)).strokes) now) tries
+slot_tries result old new a b t p slot bytes kind tries =
+    tries_named result old new a b t (data_cause t.base.image p) (entry_cause t.base.image p) _ _ (sym (by_entry t.base.image p kind)) refl tries
 
 -- A slot is written at its place in a chain.
 module _ (chain : Chain) (image : Image) (bytes : Slot) where

@@ -14,8 +14,8 @@ use Rattle.nb_model.proofs.ReadLaws.{eq_yes, eq_no, lt_yes, lt_no}
 use Rattle.nb_model.proofs.RowMaps.{rows_rise, same_maps, rows_at}
 use Rattle.nb_model.proofs.SpotMaps.{has_key, unused_key, other_key}
 use Rattle.nb_model.proofs.SpotMore.{more_rows}
-use Rattle.nb_engine.proofs.SlotLaws.{first_held, first_miss}
-use Rattle.nb_table.proofs.SpotLaws.{spots_more}
+use Rattle.nb_walk.proofs.FirstLaws.{first_held, first_miss}
+use Rattle.nb_walk.proofs.SpotLaws.{spots_more}
 
 -- How two numbers compare.
 cmp_less : (a b : ℕ) → a < b → nat_cmp a b ≡ Less

@@ -1,11 +1,9 @@
 // Rows are inserted, updated and deleted.
-ghost use Rattle.std.specs.Prelude.{◌≡◌, None, IsTrue, IfSome, length};
-ghost use Rattle.nb_change.specs.Counts.{CountsDevice};
+ghost use Rattle.std.specs.Prelude.{◌≡◌, None, IsTrue, IfSome};
+ghost use Rattle.nb_host.specs.Causes.{CountsDevice};
 ghost use Rattle.nb_model.specs.Causes.{broken_at};
 ghost use Rattle.nb_model.specs.Chains.{Chain, pages_of, spots, row_spot};
 ghost use Rattle.nb_model.specs.Outcomes.{Seen};
-ghost use Rattle.nb_model.specs.Image.{image_size};
-ghost use Rattle.nb_model.specs.Sound.{IsOfSize};
 ghost use Rattle.nb_model.specs.Tables.{in_row, insert_turn, update_turn, delete_turn};
 ghost use Rattle.nb_model.specs.Trail.{Trail};
 ghost use Rattle.nb_engine.specs.Replies.{done};
@@ -32,9 +30,7 @@ fn put_found<H: Host>(
     found: &Option<Found>,
     key: u64,
     bytes: &[u8; SLOT],
-    page: &mut [u8],
 ) -> Result<(), Fault>
-    requires size { length page.old ≡ engine.old.files.page_size }
     requires placed { IfSome found.now (λ f. IsPlaced engine.old.files.page_size f.place) }
     ensures turn { (s : Seen) (t : Trail) (chain : Chain) → IsTrue H.tells → t.base ≡ s.base → IsOpen (H.world host.old) engine.old t → broken_at (pages_of chain t.base.image) ≡ None
         → found.now ≡ found_at (row_spot key (spots chain t.base.image))
@@ -45,7 +41,7 @@ fn put_found<H: Host>(
     let Some(row) = found else {
         return Err(Fault::Refused(Refusal::NoKey { key }));
     };
-    put_slot(host, engine, row.place, bytes, page)?;
+    put_slot(host, engine, row.place, bytes)?;
     Ok(())
 }
 
@@ -62,7 +58,7 @@ pub fn insert<H: Host>(
     key: u64,
     text: &[u8],
 ) -> Result<(), Fault>
-    ensures turn { (s : Seen) (t : Trail) → IsTrue H.tells → t.base ≡ s.base → IsOpen (H.world host.old) engine.old t → IsOfSize (image_size s.base.image) s.base.image
+    ensures turn { (s : Seen) (t : Trail) → IsTrue H.tells → t.base ≡ s.base → IsOpen (H.world host.old) engine.old t
         → Does done result (H.world host.old) (H.world host.new) engine.old engine.new t (insert_turn s table.now key text.now) }
     ensures goes { Goes engine.old engine.new }
     ensures cause { CountsDevice result (H.faults host.old) (H.faults host.new) }
@@ -81,7 +77,6 @@ pub fn insert<H: Host>(
         rows.walked.room,
         rows.last,
         &bytes,
-        page,
     )?;
     Ok(())
 }
@@ -106,7 +101,7 @@ pub fn update<H: Host>(
     let page = &mut buffer[..engine.page_size() as usize];
     let rows = find_rows(host, engine, table, key, text, page)?;
     let bytes = row_bytes(key, text);
-    put_found(host, engine, &rows.walked.found, key, &bytes, page)?;
+    put_found(host, engine, &rows.walked.found, key, &bytes)?;
     Ok(())
 }
 
@@ -128,6 +123,6 @@ pub fn delete<H: Host>(
     let mut buffer = [0; LARGEST_PAGE];
     let page = &mut buffer[..engine.page_size() as usize];
     let rows = find_rows(host, engine, table, key, &[], page)?;
-    put_found(host, engine, &rows.walked.found, key, &FREE, page)?;
+    put_found(host, engine, &rows.walked.found, key, &FREE)?;
     Ok(())
 }

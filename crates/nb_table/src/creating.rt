@@ -1,12 +1,10 @@
 // A table is made.
 ghost use Rattle.std.specs.Prelude.{◌≡◌, ◌<◌, ◌≤◌, true, IsTrue, IfOk, IfSome, length};
-ghost use Rattle.nb_change.specs.Counts.{CountsDevice};
+ghost use Rattle.nb_host.specs.Causes.{CountsDevice};
 ghost use Rattle.nb_page.specs.Quiet.{Quiet};
 ghost use Rattle.nb_model.specs.Chains.{Catalogue, found_pages, free_spot, last_of, spots};
 ghost use Rattle.nb_model.specs.Outcomes.{Seen};
 ghost use Rattle.nb_model.specs.Forms.{is_kind};
-ghost use Rattle.nb_model.specs.Image.{image_size};
-ghost use Rattle.nb_model.specs.Sound.{IsOfSize};
 ghost use Rattle.nb_model.specs.Tables.{create_turn};
 ghost use Rattle.nb_model.specs.Trail.{Trail};
 ghost use Rattle.nb_engine.specs.Data.{unmade};
@@ -69,11 +67,9 @@ fn create_in<H: Host>(
     engine: &mut Engine,
     table: &TableName,
     place: Place,
-    page: &mut [u8],
 ) -> Result<(), Fault>
-    requires size { length page.old ≡ engine.old.files.page_size }
     requires placed { IsPlaced engine.old.files.page_size place }
-    ensures tries { (t : Trail) → IsTrue H.tells → IsOpen (H.world host.old) engine.old t → IsOfSize (image_size t.base.image) t.base.image → is_kind t.base.image 5 place.page ≡ true
+    ensures tries { (t : Trail) → IsTrue H.tells → IsOpen (H.world host.old) engine.old t → is_kind t.base.image 5 place.page ≡ true
         → Tries result (H.world host.old) (H.world host.new) engine.old engine.new t (unmade t.base.image (created_in t.base.image table.now place)) (created_in t.base.image table.now place).strokes }
     ensures goes { Goes engine.old engine.new }
     ensures cause { CountsDevice result (H.faults host.old) (H.faults host.new) }
@@ -81,7 +77,7 @@ fn create_in<H: Host>(
     // Nothing is made where the slot isn't to be written after it.
     engine.room_for(host, 1, place.page)?;
     let first = engine.data_new(host, None, &[])?;
-    put_slot(host, engine, place, &table_bytes(table, first), page)?;
+    put_slot(host, engine, place, &table_bytes(table, first))?;
     Ok(())
 }
 
@@ -99,7 +95,7 @@ fn create_behind<H: Host>(
     requires name { length table.now ≤ 240 }
     requires low { 0 < last }
     requires high { last < 1048576 }
-    ensures tries { (t : Trail) → IsTrue H.tells → IsOpen (H.world host.old) engine.old t → IsOfSize (image_size t.base.image) t.base.image → IsLastOf t.base.image last
+    ensures tries { (t : Trail) → IsTrue H.tells → IsOpen (H.world host.old) engine.old t → IsLastOf t.base.image last
         → Tries result (H.world host.old) (H.world host.new) engine.old engine.new t (unmade t.base.image (created_behind t.base.image table.now)) (created_behind t.base.image table.now).strokes }
     ensures goes { Goes engine.old engine.new }
     ensures cause { CountsDevice result (H.faults host.old) (H.faults host.new) }
@@ -117,7 +113,7 @@ fn create_behind<H: Host>(
 /// of fewer than five pages, by its length, or of the lowest page that is written and isn't of its kind, and `Full`, in this order. A refused
 /// call changes nothing.
 pub fn create<H: Host>(host: &mut H, engine: &mut Engine, table: &TableName) -> Result<(), Fault>
-    ensures turn { (s : Seen) (t : Trail) → IsTrue H.tells → t.base ≡ s.base → IsOpen (H.world host.old) engine.old t → IsOfSize (image_size s.base.image) s.base.image
+    ensures turn { (s : Seen) (t : Trail) → IsTrue H.tells → t.base ≡ s.base → IsOpen (H.world host.old) engine.old t
         → Does done result (H.world host.old) (H.world host.new) engine.old engine.new t (create_turn s table.now) }
     ensures goes { Goes engine.old engine.new }
     ensures cause { CountsDevice result (H.faults host.old) (H.faults host.new) }
@@ -130,7 +126,7 @@ pub fn create<H: Host>(host: &mut H, engine: &mut Engine, table: &TableName) -> 
     let (free, last) = check_table(host, engine, table, page)?;
     match free {
         Some(place) => {
-            create_in(host, engine, table, place, page)?;
+            create_in(host, engine, table, place)?;
             Ok(())
         }
         None => {

@@ -2,14 +2,13 @@
 ghost use Rattle.std.specs.Prelude.{◌≡◌, ◌++◌, ℕ, List, IsTrue, IfOk, Ok, Some, None, length};
 ghost use Rattle.std.specs.List.{AllByRecursion};
 ghost use Rattle.nb_fields.specs.Places.{is_page_size};
-ghost use Rattle.nb_change.specs.Counts.{CountsDevice};
+ghost use Rattle.nb_host.specs.Causes.{CountsDevice};
 ghost use Rattle.nb_host.specs.declared.refusals.Refusal.TheVariants.{NotDatabase};
 ghost use Rattle.nb_model.specs.Chains.{RowsFrom, first_in, next_in, pages_of};
 ghost use Rattle.nb_model.specs.Forms.{drafted, give_page};
-ghost use Rattle.nb_model.specs.Image.{image_size, page_at};
+ghost use Rattle.nb_model.specs.Image.{page_at};
 ghost use Rattle.nb_model.specs.Causes.{lowest_broken, not_of_form};
 ghost use Rattle.nb_model.specs.Outcomes.{Seen};
-ghost use Rattle.nb_model.specs.Sound.{IsOfSize};
 ghost use Rattle.nb_model.specs.Tables.{all_given, drop_turn};
 ghost use Rattle.nb_model.specs.Trail.{Trail};
 ghost use Rattle.nb_model.proofs.StepLaws.{IsShaped};
@@ -208,13 +207,13 @@ fn drop_rows<H: Host>(
     requires room { length page.old ≡ engine.old.files.page_size }
     requires placed { IsPlaced engine.old.files.page_size rows.now.table.place }
     requires first { rows.now.first ≡ first_in rows.now.table.bytes }
-    ensures tries { (t : Trail) (table : List ℕ) → IsTrue H.tells → IsOpen (H.world host.old) engine.old t → IsOfSize (image_size t.base.image) t.base.image → IsWholeTable t.base.image table (spot_of rows.now.table)
+    ensures tries { (t : Trail) (table : List ℕ) → IsTrue H.tells → IsOpen (H.world host.old) engine.old t → IsWholeTable t.base.image table (spot_of rows.now.table)
         → Tries result (H.world host.old) (H.world host.new) engine.old engine.new t (not_of_form (dropped t.base.image (spot_of rows.now.table))) (dropped t.base.image (spot_of rows.now.table)).strokes }
     ensures goes { Goes engine.old engine.new }
     ensures cause { CountsDevice result (H.faults host.old) (H.faults host.new) }
 {
     check_drop(host, engine, rows, page)?;
-    put_slot(host, engine, rows.table.place, &FREE, page)?;
+    put_slot(host, engine, rows.table.place, &FREE)?;
     give_all_back(host, engine, rows.first, page)?;
     Ok(())
 }
@@ -228,7 +227,7 @@ pub fn drop_table<H: Host>(
     engine: &mut Engine,
     table: &TableName,
 ) -> Result<(), Fault>
-    ensures turn { (s : Seen) (t : Trail) → IsTrue H.tells → t.base ≡ s.base → IsOpen (H.world host.old) engine.old t → IsOfSize (image_size s.base.image) s.base.image
+    ensures turn { (s : Seen) (t : Trail) → IsTrue H.tells → t.base ≡ s.base → IsOpen (H.world host.old) engine.old t
         → Does done result (H.world host.old) (H.world host.new) engine.old engine.new t (drop_turn s table.now) }
     ensures goes { Goes engine.old engine.new }
     ensures cause { CountsDevice result (H.faults host.old) (H.faults host.new) }

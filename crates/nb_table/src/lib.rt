@@ -1,7 +1,7 @@
 //! Tables: rows under keys, in chains of data pages, and the catalogue that names the tables.
 //!
-//! It rests on `nb_walk`, which takes the pages of chains; on the engine, of which it knows that a data page is read as it stands, and that a
-//! page is made, written and given back by the short form of that name; and on the table of turns of `nb_model`. A layer above may rely on
+//! It rests on the engine, of which it knows that a page of a chain is taken as `nb_walk` says, that a data page is read as it stands, and that
+//! a page is made, changed and given back by the short form of that name; and on the table of turns of `nb_model`. A layer above may rely on
 //! this: each call answers what its turn says and makes the turn's strokes in order, in every backup state and whatever stands in the database;
 //! at each moment a crash leaves what may be left of what was seen after a front of them; and a refused call changes nothing. That the turns
 //! are those of finite maps is a law of `nb_model`.

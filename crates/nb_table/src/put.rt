@@ -1,12 +1,9 @@
 // Slots are written: one that is there, or one more of a chain.
-ghost use Rattle.std.specs.Prelude.{◌≡◌, ◌+◌, ◌*◌, ◌<◌, ◌≤◌, None, IsTrue, IfSome, length};
-ghost use Rattle.nb_fields.specs.Bytes.{with_part};
-ghost use Rattle.nb_change.specs.Counts.{CountsDevice};
+ghost use Rattle.std.specs.Prelude.{◌≡◌, ◌<◌, None, IsTrue, IfSome};
+ghost use Rattle.nb_host.specs.Causes.{CountsDevice};
 ghost use Rattle.nb_model.specs.Causes.{not_kind, broken_at};
 ghost use Rattle.nb_model.specs.Chains.{Chain, owner_of, pages_of, found_pages, spots, free_spot, last_of, put_slot, place_slot};
 ghost use Rattle.nb_model.specs.Forms.{drafted};
-ghost use Rattle.nb_model.specs.Image.{image_size};
-ghost use Rattle.nb_model.specs.Sound.{IsOfSize};
 ghost use Rattle.nb_model.specs.Trail.{Trail};
 ghost use Rattle.nb_engine.specs.Put.{entry_cause};
 ghost use Rattle.nb_engine.specs.Tries.{Tries};
@@ -20,34 +17,21 @@ use nb_engine::Engine;
 use nb_fields::layouts::data;
 use nb_host::{Fault, Host};
 
-/// Writes these bytes into slot `number` of a page.
-fn put_bytes(page: &mut [u8], number: u32, bytes: &[u8; SLOT])
-    requires { 288 + 256 * number ≤ length page.old }
-    ensures { page.new ≡ with_part (32 + 256 * number) bytes.now page.old }
-{
-    let from = data::SLOTS_AT + data::SLOT * number as usize;
-    page[from..from + data::SLOT].copy_from_slice(bytes);
-}
-
 /// Writes a slot of a data page. The refusal is `NotDatabase` of the SCN page with its entry.
 pub(crate) fn put_slot<H: Host>(
     host: &mut H,
     engine: &mut Engine,
     place: Place,
     bytes: &[u8; SLOT],
-    page: &mut [u8],
 ) -> Result<(), Fault>
-    requires size { length page.old ≡ engine.old.files.page_size }
     requires placed { IsPlaced engine.old.files.page_size place }
     ensures tries { (t : Trail) → IsTrue H.tells → IsOpen (H.world host.old) engine.old t → not_kind t.base.image 5 place.page ≡ None
         → Tries result (H.world host.old) (H.world host.new) engine.old engine.new t (entry_cause t.base.image place.page) (put_slot place.page place.slot bytes.now (drafted t.base.image)).strokes }
     ensures goes { Goes engine.old engine.new }
     ensures cause { CountsDevice result (H.faults host.old) (H.faults host.new) }
 {
-    engine.read(host, place.page, page)?;
-    put_bytes(page, place.slot, bytes);
-    engine.data_write(host, place.page, page)?;
-    Ok(())
+    let at = data::SLOTS_AT + data::SLOT * place.slot as usize;
+    engine.data_put(host, place.page, at, bytes)
 }
 
 /// Puts these bytes into a chain whose pages have that owner: into `room`, its first free slot, or, where it has none, into the first slot
@@ -62,13 +46,11 @@ pub(crate) fn add_slot<H: Host>(
     room: Option<Place>,
     last: u32,
     bytes: &[u8; SLOT],
-    page: &mut [u8],
 ) -> Result<(), Fault>
-    requires size { length page.old ≡ engine.old.files.page_size }
     requires placed { IfSome room (IsPlaced engine.old.files.page_size) }
     requires low { 0 < last }
     requires high { last < 1048576 }
-    ensures tries { (t : Trail) (chain : Chain) → IsTrue H.tells → IsOpen (H.world host.old) engine.old t → IsOfSize (image_size t.base.image) t.base.image → owner ≡ owner_of chain → broken_at (pages_of chain t.base.image) ≡ None
+    ensures tries { (t : Trail) (chain : Chain) → IsTrue H.tells → IsOpen (H.world host.old) engine.old t → owner ≡ owner_of chain → broken_at (pages_of chain t.base.image) ≡ None
         → room ≡ place_at (free_spot (spots chain t.base.image)) → last ≡ last_of (found_pages chain t.base.image)
         → Tries result (H.world host.old) (H.world host.new) engine.old engine.new t (place_cause chain t.base.image bytes.now)
         (place_slot chain (found_pages chain t.base.image) bytes.now (drafted t.base.image)).strokes }
@@ -77,7 +59,7 @@ pub(crate) fn add_slot<H: Host>(
 {
     match room {
         Some(place) => {
-            put_slot(host, engine, place, bytes, page)?;
+            put_slot(host, engine, place, bytes)?;
             Ok(())
         }
         None => {

@@ -5,7 +5,7 @@ ghost use Rattle.std.specs.Ordering.{nat_cmp};
 ghost use Rattle.std.specs.BTreeMap.{get, insert_entry};
 ghost use Rattle.nb_fields.specs.Places.{is_page_size};
 ghost use Rattle.nb_host.specs.declared.faults.Fault.TheVariants.{Memory};
-ghost use Rattle.nb_change.specs.Counts.{CountsDevice};
+ghost use Rattle.nb_host.specs.Causes.{CountsDevice};
 ghost use Rattle.nb_page.specs.Quiet.{Quiet};
 ghost use Rattle.nb_model.specs.Causes.{broken_at};
 ghost use Rattle.nb_model.specs.Chains.{RowsFrom, Spot, is_slot, slots_in, spots_on, pages_of, spots};
@@ -25,7 +25,7 @@ use arrayvec::ArrayVec;
 use nb_engine::Engine;
 use nb_host::{Fault, Host, Refusal};
 use nb_model::{RowList, TableName, Text};
-use nb_walk::{Chain, first_page, slot_at, slot_count, take_page, use_of};
+use nb_walk::{Chain, first_page, slot_at, slot_count, use_of};
 use std::alloc::Global;
 use std::collections::BTreeMap;
 use std::collections::btree_map::Entry;
@@ -140,7 +140,7 @@ fn take_rows<H: Host>(
     let mut number = first;
     let mut left = engine.count();
     while left > 0 {
-        let next = take_page(host, engine, chain, number, page)?;
+        let next = engine.take_page(host, chain, number, page)?;
         add_rows(alloc, &mut rows, page)?;
         if next == 0 {
             return Ok(rows);

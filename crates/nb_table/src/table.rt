@@ -2,7 +2,7 @@
 ghost use Rattle.std.specs.Prelude.{◌≡◌, ◌≢◌, ◌≤◌, IsTrue, IfErr, IfOk, Some, [], ◌∷◌, is_none, length};
 ghost use Rattle.nb_host.specs.declared.faults.Fault.TheVariants.{Memory};
 ghost use Rattle.nb_host.specs.declared.refusals.Refusal.TheVariants.{NoTable, NoKey};
-ghost use Rattle.nb_change.specs.Counts.{CountsDevice};
+ghost use Rattle.nb_host.specs.Causes.{CountsDevice};
 ghost use Rattle.nb_page.specs.Quiet.{Quiet};
 ghost use Rattle.nb_model.specs.Causes.{first_cause, broken_at, when};
 ghost use Rattle.nb_model.specs.Chains.{Catalogue, RowsFrom, pages_of, spots, table_spot, row_spot, length_in};

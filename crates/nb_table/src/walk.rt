@@ -3,7 +3,7 @@ ghost use Rattle.std.specs.Prelude.{◌≡◌, ◌≢◌, ◌+◌, ◌<◌, ◌�
 ghost use Rattle.std.specs.List.{list_all};
 ghost use Rattle.nb_fields.specs.Places.{is_page_size};
 ghost use Rattle.nb_host.specs.declared.faults.Fault.TheVariants.{Memory};
-ghost use Rattle.nb_change.specs.Counts.{CountsDevice};
+ghost use Rattle.nb_host.specs.Causes.{CountsDevice};
 ghost use Rattle.nb_page.specs.Quiet.{Quiet};
 ghost use Rattle.nb_model.specs.Image.{page_at};
 ghost use Rattle.nb_model.specs.Causes.{broken_at};
@@ -17,7 +17,7 @@ ghost use Rattle.nb_walk.specs.Walks.{not_linked};
 use crate::look::{Found, MOST_TABLES, Place, SLOT, Sought, Walked};
 use nb_engine::Engine;
 use nb_host::{Fault, Host, Refusal};
-use nb_walk::{slot_at, slot_count, take_page, use_of};
+use nb_walk::{slot_at, slot_count, use_of};
 
 /// What a slot holds, and where it stands.
 fn found(slot: &[u8], place: Place) -> Found
@@ -102,7 +102,7 @@ fn take_link<H: Host>(
 {
     // Slots are counted by the size of a page, which is one of six.
     let _size = engine.page_size();
-    let next = take_page(host, engine, sought.chain(), number, page)?;
+    let next = engine.take_page(host, sought.chain(), number, page)?;
     add_slots(walked, sought, page, number);
     Ok(next)
 }

@@ -8,6 +8,7 @@ use Rattle.nb_host.specs.declared.faults.Fault.{Fault}
 use Rattle.nb_host.specs.declared.faults.Fault.TheVariants.{Refused}
 use Rattle.nb_host.specs.declared.refusals.Refusal.{Refusal}
 use Rattle.nb_host.specs.declared.refusals.Refusal.TheVariants.{Usage}
+use Rattle.nb_host.specs.declared.faults.RunError.{RunError}
 use Rattle.nb_change.specs.Changes.{Other}
 use Rattle.nb_change.specs.Gave.{GaveNothing}
 use Rattle.nb_page.specs.Quiet.{Quiet}
@@ -26,7 +27,6 @@ use Rattle.nb_base.specs.Open.{OfFiles}
 use Rattle.nb_state.specs.Open.{Held, NoPageWaits, name_of}
 use Rattle.nb_script.specs.Asked.{IsAskable}
 use Rattle.nb_script.specs.Scripts.{Plan}
-use Rattle.nb_session.specs.declared.stop.Stop.{Stop}
 use Rattle.nb_session.specs.Ready.{IsReady}
 use Rattle.nb_session.specs.Says.{SaysLine}
 use Rattle.nb_top.specs.declared.status.Status.{Status}
@@ -67,7 +67,7 @@ pub record FirstRefused (old mid : World) (account : Account) (given : Given) (p
   pub not_usage : refusal ≢ Usage
 
 pub record Beginning (old : World) (account : Account) (given : Given) (plan : Plan) (telling : Telling) (askable : IsAskable plan) (mid : World) (result : Result Held Fault) : Type 0 where
-  pub fails : (e : Stop) → RunsTo (Err e) old mid (Ok (ToRun plan telling)) account given
+  pub fails : (e : RunError) → RunsTo (Err e) old mid (Ok (ToRun plan telling)) account given
   pub refused : (refusal : Refusal) → result ≡ Err (Refused refusal) → FirstRefused old mid account given plan refusal
   pub done : (held : Held) → result ≡ Ok held → FirstDone old mid account given plan telling askable held
   -- whatever it ended as
@@ -75,14 +75,14 @@ pub record Beginning (old : World) (account : Account) (given : Given) (plan : P
 
 module _ (old : World) (account : Account) (given : Given) (plan : Plan) (telling : Telling) (askable : IsAskable plan) (mid : World) where
   -- a refusal is said
-  pub script_refused : (refusal : Refusal) → FirstRefused old mid account given plan refusal → (new : World) {S E : Type 0} (told : Result S E) (status : Result Status Stop) → SaysLine told mid new (line_text plan.first_session (RefusedReply refusal))
+  pub script_refused : (refusal : Refusal) → FirstRefused old mid account given plan refusal → (new : World) {S E : Type 0} (told : Result S E) (status : Result Status RunError) → SaysLine told mid new (line_text plan.first_session (RefusedReply refusal))
       → IfOk status (λ s. s ≡ RefusedStatus) → OnOk status (new.said ≡ mid.said ++ line_text plan.first_session (RefusedReply refusal)) → RunsTo status old new (Ok (ToRun plan telling)) account given
   script_refused refusal is new told status says ended said =
       runs_quietly status old mid new (Ok (ToRun plan telling)) account given is.quiet
       (refused_runs mid new plan.first_session refusal account given (Ok (ToRun plan telling)) told status (performed_refused telling plan account given plan.first_session refusal account given is.ran) says (numbered status ended)
       said)
     where
-      numbered : (s : Result Status Stop) → IfOk s (λ x. x ≡ RefusedStatus) → IfOk s (λ x. number_of x ≡ status_after (RefusedReply refusal))
+      numbered : (s : Result Status RunError) → IfOk s (λ x. x ≡ RefusedStatus) → IfOk s (λ x. number_of x ≡ status_after (RefusedReply refusal))
       numbered (Ok x) e = ap number_of e ∙ sym (status_refused refusal is.not_usage)
       numbered (Err x) e = tt
 
@@ -121,14 +121,14 @@ module _ (old : World) (account : Account) (given : Given) (plan : Plan) (tellin
     abbrev its_start : Base
     its_start = start old account given plan telling askable is.first
 
-    says_it : {r : Result Bool Stop} (new : World) (after : Held) → PlaysOpened r mid new held after its_start said_first telling held.files.count is.first.now plan
+    says_it : {r : Result Bool RunError} (new : World) (after : Held) → PlaysOpened r mid new held after its_start said_first telling held.files.count is.first.now plan
         → PlaysOpened r mid new held after its_start (first_one old account given plan telling askable is.first) telling (pages_first account plan.first) is.first.now plan
     says_it {r} new after plays =
         subst (λ (n : ℕ). PlaysOpened r mid new held after its_start (first_one old account given plan telling askable is.first) telling n is.first.now plan) is.counted
         (subst (λ (x : Reply). PlaysOpened r mid new held after its_start (told_first telling (first_event plan.first_session is.first.strokes x)) telling held.files.count is.first.now plan) (sym is.says) plays)
 
     -- the turns ended early
-    pub script_ends_early : (new : World) → IsTimely new → ((m : List ℕ) → Leaves new m (new.files m)) → (after : Held) (e : Stop) {f : Stop} → PlaysOpened (Err f) mid new held after (start old account given plan telling askable is.first) said_first telling held.files.count script_now plan → RunsTo (Err e) old new (Ok (ToRun plan telling)) account given
+    pub script_ends_early : (new : World) → IsTimely new → ((m : List ℕ) → Leaves new m (new.files m)) → (after : Held) (e : RunError) {f : RunError} → PlaysOpened (Err f) mid new held after (start old account given plan telling askable is.first) said_first telling held.files.count script_now plan → RunsTo (Err e) old new (Ok (ToRun plan telling)) account given
     unfolding script_now
     script_ends_early new timely reads after e plays =
         begun_fails old account given plan telling askable is.first mid new is.alone is.read is.silent is.gave is.opens is.stops held after is.named is.small timely reads e (says_it new after plays)

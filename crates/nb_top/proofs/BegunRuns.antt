@@ -6,6 +6,7 @@ use Rattle.nb_host.specs.Files.{Files}
 use Rattle.nb_host.specs.World.{World}
 use Rattle.nb_host.specs.Crash.{Leaves, Untouched}
 use Rattle.nb_host.specs.Moments.{AtEachMoment, IsTimely}
+use Rattle.nb_host.specs.declared.faults.RunError.{RunError}
 use Rattle.nb_change.specs.Changes.{Other}
 use Rattle.nb_change.specs.Gave.{GaveNothing}
 use Rattle.nb_change.proofs.MomentLaws.{joined, left_before}
@@ -26,7 +27,6 @@ use Rattle.nb_state.specs.Open.{Held, NoPageWaits, IsOpen, name_of}
 use Rattle.nb_state.proofs.ShownLaws.{shown}
 use Rattle.nb_script.specs.Asked.{IsAskable}
 use Rattle.nb_script.specs.Scripts.{Plan}
-use Rattle.nb_session.specs.declared.stop.Stop.{Stop}
 use Rattle.nb_session.specs.Acts.{Touched}
 use Rattle.nb_state.specs.Does.{only_tells}
 use Rattle.nb_session.specs.Replies.{only_told}
@@ -129,7 +129,7 @@ module _ (old : World) (account : Account) (given : Given) (plan : Plan) (tellin
       sym (ap guids_in (strokes_are n) ∙ guids_append first.strokes more ∙ ap (λ (l : List (List ℕ)). l ++ guids_in more) first.none)
 
   -- it ended early, in the first statement
-  pub first_fails : (new : World) (e : Stop) → HasSmallScn account (Some first.target) ⊎ Quiet old new → ((n : ℕ) → AtEachMoment old new (Left n)) → ((n : ℕ) → RunReads old new account (Some first.target) (events n))
+  pub first_fails : (new : World) (e : RunError) → HasSmallScn account (Some first.target) ⊎ Quiet old new → ((n : ℕ) → AtEachMoment old new (Left n)) → ((n : ℕ) → RunReads old new account (Some first.target) (events n))
       → RunsTo (Err e) old new (Ok (ToRun plan telling)) account given
   first_fails new e opened stops reads =
       let end = first_ends plan askable first.now first.todo in
@@ -192,7 +192,7 @@ module _ (old : World) (account : Account) (given : Given) (plan : Plan) (tellin
           }
 
     -- the turns ended early
-    pub begun_fails : IsTimely new → ((m : List ℕ) → Leaves new m (new.files m)) → (e : Stop) {f : Stop} → PlaysOpened (Err f) mid new held after start first_one telling pages first.now plan → RunsTo (Err e) old new (Ok (ToRun plan telling)) account given
+    pub begun_fails : IsTimely new → ((m : List ℕ) → Leaves new m (new.files m)) → (e : RunError) {f : RunError} → PlaysOpened (Err f) mid new held after start first_one telling pages first.now plan → RunsTo (Err e) old new (Ok (ToRun plan telling)) account given
     begun_fails timely reads e plays = record {
       events = events plays.how_often;
       last = (turns plan first.now plays.how_often).1.account;

@@ -6,6 +6,7 @@ use Rattle.nb_host.specs.Crash.{LeavesAll}
 use Rattle.nb_host.specs.Moments.{IsTimely}
 use Rattle.nb_host.specs.declared.refusals.Refusal.{Refusal}
 use Rattle.nb_host.specs.declared.refusals.Refusal.TheVariants.{FileExists}
+use Rattle.nb_host.specs.declared.faults.RunError.{RunError}
 use Rattle.nb_change.specs.Changes.{Only}
 use Rattle.nb_page.specs.Quiet.{Quiet}
 use Rattle.nb_model.specs.Account.{Plain, Account, with_entry}
@@ -24,7 +25,6 @@ use Rattle.nb_session.specs.Says.{SaysLine}
 use Rattle.nb_session.specs.Stops.{Plays}
 use Rattle.nb_session.specs.Todo.{PlaysInTurn}
 use Rattle.nb_session.specs.Told.{told_events}
-use Rattle.nb_session.specs.declared.stop.Stop.{Stop}
 use Rattle.nb_session.specs.declared.told.Told.{Told}
 use Rattle.nb_session.proofs.ByTurnsLaws.{goes_by}
 use Rattle.nb_session.proofs.OthersLaws.{leaves_line, leaves_quiet, leaves_then}
@@ -36,15 +36,15 @@ use Rattle.nb_top.specs.Performed.{pages_first, told_later}
 use Rattle.nb_top.specs.Requests.{Request, ToRun, ToGenerate}
 
 -- an error is an early end
-pub early_err : (result : Result Status Stop) → IsErr result → EndsEarly result
+pub early_err : (result : Result Status RunError) → IsErr result → EndsEarly result
 early_err (Ok status) is = absurd (no_err is)
   where
-    no_err : IsErr {T = Status} {E = Stop} (Ok status) → ⊥
+    no_err : IsErr {T = Status} {E = RunError} (Ok status) → ⊥
     no_err h = cc
 early_err (Err e) is = tt
 
 -- a value is no early end
-pub never_err : {T : Type 0} (value : T) (P : Type 0) → IsErr {T = T} {E = Stop} (Ok value) → P
+pub never_err : {T : Type 0} (value : T) (P : Type 0) → IsErr {T = T} {E = RunError} (Ok value) → P
 never_err value P is = absurd (cc is)
 
 -- Turns that are told as others, event by event, are told so.
@@ -75,7 +75,7 @@ module _ {H : Type 0} (world : H → World) (f g : List Event → List Event) (s
   }
 
 -- Turns that sessions told are told so.
-pub told_as : {H : Type 0} (world : H → World) → ((h : H) → IsTimely (world h)) → ((h : H) → LeavesAll (world h) (world h).files) → (result : Result Bool Stop) (old new : H) (before after : Held) (t : Trail) (how : Told) (telling : Telling) (pages : ℕ)
+pub told_as : {H : Type 0} (world : H → World) → ((h : H) → IsTimely (world h)) → ((h : H) → LeavesAll (world h) (world h).files) → (result : Result Bool RunError) (old new : H) (before after : Held) (t : Trail) (how : Told) (telling : Telling) (pages : ℕ)
     (now : Now) (schedule : List ℕ) → ((events : List Event) → told_events how events ≡ told_later telling pages events) → name_of before ≡ now.name → PlaysInTurn world result old new before after t how now schedule
     → TakesTold world result old new before after t telling pages now schedule
 told_as world timely reads result old new before after t how telling pages now schedule same named plays =

@@ -14,6 +14,7 @@ use Rattle.nb_host.specs.declared.faults.Fault.{Fault}
 use Rattle.nb_host.specs.declared.faults.Fault.TheVariants.{Refused}
 use Rattle.nb_host.specs.declared.refusals.Refusal.{Refusal}
 use Rattle.nb_host.specs.declared.refusals.Refusal.TheVariants.{FileExists, Usage}
+use Rattle.nb_host.specs.declared.faults.RunError.{RunError}
 use Rattle.nb_change.specs.Changes.{ChangedLeft, Only}
 use Rattle.nb_change.proofs.MomentLaws.{weaker, untouched_fewer}
 use Rattle.nb_page.specs.Free.{is_free_name}
@@ -45,7 +46,6 @@ use Rattle.nb_state.specs.Open.{Held, IsOpen}
 use Rattle.nb_script.specs.Asked.{IsAskable}
 use Rattle.nb_script.specs.Fits.{FitsFirst}
 use Rattle.nb_script.specs.Scripts.{Plan}
-use Rattle.nb_session.specs.declared.stop.Stop.{Stop}
 use Rattle.nb_session.specs.Acts.{MadeLeft}
 use Rattle.nb_session.specs.Stops.{IsSaid}
 use Rattle.nb_session.proofs.OthersLaws.{leaves_among, leaves_changes}
@@ -88,7 +88,7 @@ module _ (old : World) (account : Account) (given : Given) (plan : Plan) (tellin
       ap (λ (s : Statement). (opening account given plan.sessions plan.first_session s).now) first_is
       ∙ ap (λ (o : Opening). o.now) (not_created account given plan.sessions plan.first_session name size raw cache taken)
 
-  taken_fails : (new : World) (e : Stop) → is_free_entry (account.entry name) ≡ false → Quiet old new → RunsTo (Err e) old new (Ok (ToRun plan telling)) account given
+  taken_fails : (new : World) (e : RunError) → is_free_entry (account.entry name) ≡ false → Quiet old new → RunsTo (Err e) old new (Ok (ToRun plan telling)) account given
   taken_fails new e taken quiet = record {
     events = refused_at plan.first_session (FileExists name);
     last = account;
@@ -227,7 +227,7 @@ module _ (old : World) (account : Account) (given : Given) (plan : Plan) (tellin
         )
 
   -- nothing happened, whatever the run must have been
-  pub creating_unbegun : (new : World) (e : Stop) → Quiet old new → RunsTo (Err e) old new (Ok (ToRun plan telling)) account given
+  pub creating_unbegun : (new : World) (e : RunError) → Quiet old new → RunsTo (Err e) old new (Ok (ToRun plan telling)) account given
   unfolding first_created
   creating_unbegun new e quiet = by (is_free_entry (account.entry name)) refl
     where
@@ -254,7 +254,7 @@ module _ (old : World) (account : Account) (given : Given) (plan : Plan) (tellin
             (leaves_among old mid (Only name) (OfFiles one.now.name) (λ m same. inl (same ∙ own)) (leaves_changes old mid (Only name) _ creates.left))
         by_free false is = beside_none old mid account given plan (taken_ends is) (creates.taken (knows ∙ is)).still.files
 
-        fails : (e : Stop) → RunsTo (Err e) old mid (Ok (ToRun plan telling)) account given
+        fails : (e : RunError) → RunsTo (Err e) old mid (Ok (ToRun plan telling)) account given
         fails e = by (is_free_entry (account.entry name)) refl
           where
             by : (free : Bool) → is_free_entry (account.entry name) ≡ free → RunsTo (Err e) old mid (Ok (ToRun plan telling)) account given

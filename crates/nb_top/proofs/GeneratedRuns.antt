@@ -10,6 +10,7 @@ use Rattle.nb_host.specs.Crash.{Leaves, LeavesAll}
 use Rattle.nb_host.specs.Moments.{IsTimely, AtEachMoment}
 use Rattle.nb_host.specs.declared.refusals.Refusal.{Refusal}
 use Rattle.nb_host.specs.declared.refusals.Refusal.TheVariants.{FileExists, Usage}
+use Rattle.nb_host.specs.declared.faults.RunError.{RunError}
 use Rattle.nb_change.specs.Changes.{Changes, ChangedLeft, Only, Remade}
 use Rattle.nb_change.specs.Gave.{GaveNothing}
 use Rattle.nb_change.proofs.ChangesLaws.{left_with}
@@ -40,7 +41,6 @@ use Rattle.nb_model.proofs.StepsLaws.{acked_steps_none}
 use Rattle.nb_model.proofs.StatusLaws.{status_refused}
 use Rattle.nb_gather.specs.Making.{IsKept, IsUnfinishedOr}
 use Rattle.nb_script.specs.Scripts.{Plan, script_of}
-use Rattle.nb_session.specs.declared.stop.Stop.{Stop}
 use Rattle.nb_session.specs.Says.{SaysLine}
 use Rattle.nb_gen.proofs.GeneratedScript.{creates_its_own, generated_text}
 use Rattle.nb_gen.proofs.WrittenLaws.{text_in_use}
@@ -301,7 +301,7 @@ module _ (old : World) (number : ℕ) (name : List ℕ) (account : Account) (giv
     refused_performed : IsPerformed old.files asked account given (refused_at 1 (FileExists name)) account given
     refused_performed = rw (cause, IsPerformed) (refl, refl, refl)
 
-    pub taken_fails : (new : World) (e : Stop) → Quiet old new → RunsTo (Err e) old new asked account given
+    pub taken_fails : (new : World) (e : RunError) → Quiet old new → RunsTo (Err e) old new asked account given
     taken_fails new e quiet = record {
       events = refused_at 1 (FileExists name);
       last = account;
@@ -316,11 +316,11 @@ module _ (old : World) (number : ℕ) (name : List ℕ) (account : Account) (giv
     exists_usage : FileExists name ≡ Usage → ⊥
     exists_usage e = cc
 
-    taken_number : (result : Result Status Stop) → IfOk result (λ status. status ≡ RefusedStatus) → IfOk result (λ status. number_of status ≡ status_after (Refused (FileExists name)))
+    taken_number : (result : Result Status RunError) → IfOk result (λ status. status ≡ RefusedStatus) → IfOk result (λ status. number_of status ≡ status_after (Refused (FileExists name)))
     taken_number (Ok status) ended = ap number_of ended ∙ sym (status_refused (FileExists name) exists_usage)
     taken_number (Err e) ended = tt
 
-    pub taken_refused : {S E : Type 0} (told : Result S E) (result : Result Status Stop) (mid new : World) → Quiet old mid → SaysLine told mid new (line_text 1 (Refused (FileExists name))) → IfOk result (λ status. status ≡ RefusedStatus)
+    pub taken_refused : {S E : Type 0} (told : Result S E) (result : Result Status RunError) (mid new : World) → Quiet old mid → SaysLine told mid new (line_text 1 (Refused (FileExists name))) → IfOk result (λ status. status ≡ RefusedStatus)
         → OnOk result (new.said ≡ mid.said ++ line_text 1 (Refused (FileExists name))) → RunsTo result old new asked account given
     taken_refused told result mid new quiet says ended said =
         runs_quietly result old mid new asked account given quiet
@@ -336,7 +336,7 @@ module _ (old : World) (number : ℕ) (name : List ℕ) (account : Account) (giv
     written_performed rest last left run = rw (none, IsPerformed) (record { rest = rest; is = refl; run = run })
 
     -- nothing happened
-    free_fails : (new : World) (e : Stop) → Quiet old new → RunsTo (Err e) old new asked account given
+    free_fails : (new : World) (e : RunError) → Quiet old new → RunsTo (Err e) old new asked account given
     free_fails new e quiet =
         let some : SomeRun number behind given = some_run number behind given in
         record {
@@ -369,7 +369,7 @@ module _ (old : World) (number : ℕ) (name : List ℕ) (account : Account) (giv
 
     module _ (sixteen : MayBeGiven given) (mid : World) (written : Changes old mid (Only name) (Remade old name (IsUnfinishedOr bytes))) where
       -- the file was made, or some of it
-      pub writing_fails : (e : Stop) → RunsTo (Err e) old mid asked account given
+      pub writing_fails : (e : RunError) → RunsTo (Err e) old mid asked account given
       writing_fails e =
           let some : SomeRun number behind given = some_run number behind given in
           let apart = apart_of sixteen some.rest some.last some.left some.run in
@@ -387,7 +387,7 @@ module _ (old : World) (number : ℕ) (name : List ℕ) (account : Account) (giv
       module _ (kept : IsKept mid name bytes) where
         module _ (gave : GaveNothing old mid) (new : World) (timely : IsTimely new) (reads : (m : List ℕ) → Leaves new m (new.files m)) where
           -- the run after it is that of the whole
-          whole_runs : (result : Result Status Stop) (rest : List Event) (last : Account) (left : Given) → IsReadRun (script_of bytes) Sparingly behind given rest last left → AtEachMoment mid new (RunLeft mid behind (its_target rest) rest)
+          whole_runs : (result : Result Status RunError) (rest : List Event) (last : Account) (left : Given) → IsReadRun (script_of bytes) Sparingly behind given rest last left → AtEachMoment mid new (RunLeft mid behind (its_target rest) rest)
               → RunReads mid new behind (its_target rest) rest → IfOk result (λ status. Finished status mid new behind (its_target rest) rest given left) → RunsTo result old new asked account given
           whole_runs result rest last left run stops beside finished =
               let apart = apart_of sixteen rest last left run in
@@ -402,13 +402,13 @@ module _ (old : World) (number : ℕ) (name : List ℕ) (account : Account) (giv
                 finished = by result finished;
               }
             where
-              by : (r : Result Status Stop) → IfOk r (λ status. Finished status mid new behind (its_target rest) rest given left) → IfOk r (λ status. Finished status old new account (its_target rest) (script_made name bytes ∷ rest) given left)
+              by : (r : Result Status RunError) → IfOk r (λ status. Finished status mid new behind (its_target rest) rest given left) → IfOk r (λ status. Finished status old new account (its_target rest) (script_made name bytes ∷ rest) given left)
               by (Ok status) done =
                   let apart = apart_of sixteen rest last left run in
                   script_finished old mid account name bytes plain written (its_target rest) apart.0 rest apart.1 kept new timely reads stops status given left gave done
               by (Err e) done = tt
 
-          pub written_runs : (read : Result Plan Refusal) → script_of bytes ≡ read → (result : Result Status Stop) → RunsTo result mid new (read_request read) behind given → RunsTo result old new asked account given
+          pub written_runs : (read : Result Plan Refusal) → script_of bytes ≡ read → (result : Result Status RunError) → RunsTo result mid new (read_request read) behind given → RunsTo result old new asked account given
           written_runs (Ok plan) is result runs = whole_runs result runs.events runs.last runs.left (subst (λ (r : Result Plan Refusal). IsReadRun r Sparingly behind given runs.events runs.last runs.left) (sym is) runs.performed)
               (subst (λ (t : Option Target). AtEachMoment mid new (RunLeft mid behind t runs.events)) target runs.stops)
               (subst (λ (t : Option Target). RunReads mid new behind t runs.events) target runs.reads)
@@ -425,7 +425,7 @@ module _ (old : World) (number : ℕ) (name : List ℕ) (account : Account) (giv
               target = sym (ap its_target runs.performed.0)
 
   -- nothing happened, whatever the name is
-  pub generated_unbegun : (new : World) (e : Stop) → Quiet old new → RunsTo (Err e) old new asked account given
+  pub generated_unbegun : (new : World) (e : RunError) → Quiet old new → RunsTo (Err e) old new asked account given
   generated_unbegun new e quiet = by (is_free_entry (account.entry name)) refl
     where
       by : (free : Bool) → is_free_entry (account.entry name) ≡ free → RunsTo (Err e) old new asked account given

@@ -8,15 +8,16 @@ use Rattle.nb_host.specs.Moments.{IsTimely}
 use Rattle.nb_host.specs.declared.faults.Fault.{Fault}
 use Rattle.nb_host.specs.declared.faults.Fault.TheVariants.{Refused as RefusedFault}
 use Rattle.nb_host.specs.declared.refusals.Refusal.{Refusal}
+use Rattle.nb_host.specs.declared.faults.RunError.{RunError}
 use Rattle.nb_change.specs.Gave.{GaveNothing}
 use Rattle.nb_page.specs.Quiet.{Quiet}
+use Rattle.nb_model.specs.declared.job.Deed.{Deed}
 use Rattle.nb_model.specs.declared.reply.Reply.{Reply}
 use Rattle.nb_model.specs.declared.reply.Reply.TheVariants.{Refused as RefusedReply}
 use Rattle.nb_model.specs.Account.{Account}
 use Rattle.nb_model.specs.Lines.{line_text}
 use Rattle.nb_model.specs.Outcomes.{Given}
 use Rattle.nb_model.specs.Output.{status_after}
-use Rattle.nb_session.specs.declared.stop.Stop.{Stop}
 use Rattle.nb_session.specs.Says.{SaysLine}
 use Rattle.nb_session.proofs.GiftLaws.{grows_none, grows_joined}
 use Rattle.nb_top.specs.declared.status.Status.{Status}
@@ -26,7 +27,7 @@ use Rattle.nb_top.specs.Goes.{Goes, IsDone, IsRun}
 use Rattle.nb_top.specs.Numbers.{number_of}
 use Rattle.nb_top.specs.OneTurn.{OneTurn, one_turn}
 use Rattle.nb_top.specs.Performed.{GoesTo, KnowsAsked}
-use Rattle.nb_top.specs.Requests.{Request, Deed, Asked, Runs, Does}
+use Rattle.nb_top.specs.Requests.{Request, Asked, Runs, Does}
 use Rattle.nb_top.specs.Served.{Serves, TurnsTo, reply_told, status_told}
 use Rattle.nb_top.proofs.ByTurnsLaws.{early_err, run_quietly, run_undone}
 use Rattle.nb_top.proofs.JobRuns.{job_refused, performs_device, performs_ended, performs_memory, undone_goes}
@@ -36,7 +37,7 @@ use Rattle.nb_top.proofs.ScriptRuns.{runs_err}
 use Rattle.nb_top.proofs.Turns.{turn_done, turn_fails, turn_quietly, turn_refused, turn_unsaid}
 
 -- a run that begins with calls that change nothing
-pub goes_quietly : {H : Type 0} (world : H → World) (tells : Bool) (old mid new : H) (asked : Result Request Refusal) (result : Result Status Stop) → Quiet (world old) (world mid) → Goes world tells result mid new (Runs asked)
+pub goes_quietly : {H : Type 0} (world : H → World) (tells : Bool) (old mid new : H) (asked : Result Request Refusal) (result : Result Status RunError) → Quiet (world old) (world mid) → Goes world tells result mid new (Runs asked)
     → Goes world tells result old new (Runs asked)
 goes_quietly world tells old mid new asked result quiet goes = record {
   does = λ told. (
@@ -54,7 +55,7 @@ goes_quietly world tells old mid new asked result quiet goes = record {
 }
 
 -- What is asked for is another thing, where the host tells, of which all of this is known.
-pub goes_same : {H : Type 0} (world : H → World) (tells : Bool) (old new : H) (asked known : Asked) (result : Result Status Stop) → (IsTrue tells → asked ≡ known) → Goes world tells result old new known → Goes world tells result old new asked
+pub goes_same : {H : Type 0} (world : H → World) (tells : Bool) (old new : H) (asked known : Asked) (result : Result Status RunError) → (IsTrue tells → asked ≡ known) → Goes world tells result old new known → Goes world tells result old new asked
 goes_same world tells old new asked known result same goes = record {
   does = λ told. (
     (goes.does told).0,
@@ -65,7 +66,7 @@ goes_same world tells old new asked known result same goes = record {
 }
 
 -- nothing was done
-pub goes_undone : {H : Type 0} (world : H → World) (tells : Bool) (old new : H) (asked : Asked) (result : Result Status Stop) → CanBeMet asked → IsErr result → Quiet (world old) (world new) → Goes world tells result old new asked
+pub goes_undone : {H : Type 0} (world : H → World) (tells : Bool) (old new : H) (asked : Asked) (result : Result Status RunError) → CanBeMet asked → IsErr result → Quiet (world old) (world new) → Goes world tells result old new asked
 goes_undone world tells old new asked result can failed quiet = record {
   does = λ told. (
     [],
@@ -82,7 +83,7 @@ goes_undone world tells old new asked result can failed quiet = record {
     turns_undone account given (Does deed) = tt
 
 -- a refusal is said to session 0, and that is all
-pub goes_refused : {H : Type 0} (world : H → World) (tells : Bool) (old new : H) (asked : Result Request Refusal) (refusal : Refusal) (result : Result Status Stop) → asked ≡ Err refusal → GaveNothing (world old) (world new) → (IsTrue tells → SaysLine result (world old) (world new) (line_text 0 (RefusedReply refusal)))
+pub goes_refused : {H : Type 0} (world : H → World) (tells : Bool) (old new : H) (asked : Result Request Refusal) (refusal : Refusal) (result : Result Status RunError) → asked ≡ Err refusal → GaveNothing (world old) (world new) → (IsTrue tells → SaysLine result (world old) (world new) (line_text 0 (RefusedReply refusal)))
     → (IsTrue tells → IfOk result (λ status. number_of status ≡ status_after (RefusedReply refusal))) → Goes world tells result old new (Runs asked)
 goes_refused world tells old new asked refusal result is gave says number = record {
   does = λ tell. (
@@ -96,7 +97,7 @@ goes_refused world tells old new asked refusal result is gave says number = reco
 }
 
 -- a job of one turn
-pub turn_goes : {H : Type 0} (world : H → World) (tells : Bool) (old new : H) (deed : Deed) (result : Result Status Stop)
+pub turn_goes : {H : Type 0} (world : H → World) (tells : Bool) (old new : H) (deed : Deed) (result : Result Status RunError)
     → ((account : Account) → IsTrue tells → (one_turn (world old).files deed).knows account → TurnsTo result (world old) (world new) (one_turn (world old).files deed) account) → Goes world tells result old new (Does deed)
 turn_goes world tells old new deed result turns = record {
   does = λ told. ([], λ account given knows may foretold. record { whole = turns account told knows; turns = tt });
@@ -110,14 +111,14 @@ module _ {H : Type 0} (world : H → World) (tells : Bool) (old mid : H) (deed :
   its_job = one_turn (world old).files deed
 
   -- it ended early
-  pub taken_fails : (result : Result Status Stop) → IsErr result → Goes world tells result old mid (Does deed)
+  pub taken_fails : (result : Result Status RunError) → IsErr result → Goes world tells result old mid (Does deed)
   taken_fails result failed =
       turn_goes world tells old mid deed result
       (λ account told knows. runs_err result failed (λ r. TurnsTo r (world old) (world mid) its_job account) (turn_fails (world old) (world mid) its_job account taken (serves account told knows)))
 
   -- its reply is said, or its refusal
   pub taken_said : (new : H) → IsTimely (world new) → (IsTrue tells → LeavesAll (world new) (world new).files) → (answer : Result Reply Refusal) → IfOk answer (λ reply. taken ≡ Ok reply) → IfErr answer (λ refusal. taken ≡ Err (RefusedFault refusal))
-      → (result : Result Status Stop) → (IsTrue tells → SaysLine result (world mid) (world new) (line_text 1 (reply_told answer))) → IfOk result (λ status. status ≡ status_told answer) → Goes world tells result old new (Does deed)
+      → (result : Result Status RunError) → (IsTrue tells → SaysLine result (world mid) (world new) (line_text 1 (reply_told answer))) → IfOk result (λ status. status ≡ status_told answer) → Goes world tells result old new (Does deed)
   taken_said new timely reads (Ok reply) same none (Ok status) says ended =
       subst (λ (s : Status). Goes world tells (Ok s) old new (Does deed)) (sym ended)
       (turn_goes world tells old new deed (Ok Done)
@@ -130,7 +131,7 @@ module _ {H : Type 0} (world : H → World) (tells : Bool) (old mid : H) (deed :
       (λ account told knows. turn_refused (world old) (world mid) its_job account taken (serves account told knows) refusal same (world new) timely (reads told) result (says told) result ended (says told).said)
 
 -- The files that a job of one turn reads are those that stood before calls that change nothing.
-pub goes_turn_quietly : {H : Type 0} (world : H → World) (tells : Bool) (old mid new : H) (deed : Deed) (result : Result Status Stop) → Quiet (world old) (world mid) → Goes world tells result mid new (Does deed) → Goes world tells result old new (Does deed)
+pub goes_turn_quietly : {H : Type 0} (world : H → World) (tells : Bool) (old mid new : H) (deed : Deed) (result : Result Status RunError) → Quiet (world old) (world mid) → Goes world tells result mid new (Does deed) → Goes world tells result old new (Does deed)
 goes_turn_quietly world tells old mid new deed result quiet goes = record {
   does = λ told. (
     (goes.does told).0,
@@ -166,7 +167,7 @@ module _ {H : Type 0} (world : H → World) (tells : Bool) (old new : H) (asked 
     grows = goes.grows;
   }
 
-  pub run_device : (stop : Stop) → Goes world tells (Err stop) old new asked → IsRun world tells Device old new asked
+  pub run_device : (stop : RunError) → Goes world tells (Err stop) old new asked → IsRun world tells Device old new asked
   run_device stop goes = record {
     does = λ told. (
       (goes.does told).0,
@@ -177,7 +178,7 @@ module _ {H : Type 0} (world : H → World) (tells : Bool) (old new : H) (asked 
     grows = goes.grows;
   }
 
-  pub run_memory : (stop : Stop) → Goes world tells (Err stop) old new asked → IsRun world tells Memory old new asked
+  pub run_memory : (stop : RunError) → Goes world tells (Err stop) old new asked → IsRun world tells Memory old new asked
   run_memory stop goes = record {
     does = λ told. (
       (goes.does told).0,

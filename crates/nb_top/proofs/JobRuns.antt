@@ -1,14 +1,16 @@
 -- A job is done, from the words to its end.
 use Rattle.std.proofs.Common.{◌≡◌, ◌≢◌, inl, ⊎_elim, ℕ, List, [], ◌++◌, length, take, refl, sym, ap, subst, ◌∙◌, arith}
-use Rattle.std.specs.Prelude.{Result, Ok, Err, IfOk, IfErr, OnOk, false}
+use Rattle.std.specs.Prelude.{Result, Ok, Err, IfOk, IfErr, OnOk}
 use Rattle.nb_host.specs.Files.{File, Files}
 use Rattle.nb_host.specs.World.{World}
 use Rattle.nb_host.specs.Crash.{Leaves}
 use Rattle.nb_host.specs.Moments.{IsNow, IsTimely, AtEachMoment}
 use Rattle.nb_host.specs.declared.refusals.Refusal.{Refusal}
 use Rattle.nb_host.specs.declared.refusals.Refusal.TheVariants.{Usage}
+use Rattle.nb_host.specs.declared.faults.RunError.{RunError}
 use Rattle.nb_change.proofs.MomentLaws.{left_before, weaker}
 use Rattle.nb_page.specs.Quiet.{Quiet}
+use Rattle.nb_model.specs.declared.job.Deed.{Deed}
 use Rattle.nb_model.specs.declared.reply.Reply.TheVariants.{Refused as RefusedReply}
 use Rattle.nb_model.specs.Account.{Account}
 use Rattle.nb_model.specs.Lines.{line_text}
@@ -18,20 +20,16 @@ use Rattle.nb_model.specs.Making.{IsNoneOf}
 use Rattle.nb_model.specs.Run.{Event, files_made}
 use Rattle.nb_model.specs.Steps.{steps_of}
 use Rattle.nb_model.proofs.StatusLaws.{status_refused}
-use Rattle.nb_session.specs.declared.stop.Stop.{Stop}
 use Rattle.nb_session.specs.Says.{SaysLine}
 use Rattle.nb_top.specs.declared.status.Status.{Status}
 use Rattle.nb_top.specs.declared.status.Status.TheVariants.{Refused as RefusedStatus, Usage as UsageStatus, Device, Memory}
 use Rattle.nb_top.specs.Numbers.{number_of}
 use Rattle.nb_top.specs.Performed.{HasSmallScn, RunLeft, RunReads, RunStands, RunsTo, GoesTo, KnowsAsked, Performs, PerformsRun, StandsAfter, Finished, IsPerformed, IsSure, IsUndone, Knows, MayBeGiven, kept_after, target_of, first_event, refused_job}
 use Rattle.nb_top.specs.Standing.{HoldsKept, StandsFor}
-use Rattle.nb_top.specs.Requests.{Request, ToRun, ToGenerate, Deed, ToRestore, ToFix, ToMerge, ToFold, ToPlan, Asked, Runs, Does, script_in}
-use Rattle.nb_top.specs.OneTurn.{DoesTurn, TurnEnded, leaves_all, one_turn}
+use Rattle.nb_top.specs.Requests.{Request, ToRun, ToGenerate, Asked, Runs, Does, script_in}
+use Rattle.nb_top.specs.OneTurn.{DoesTurn, FitsDeed, TurnEnded, one_turn}
 use Rattle.nb_top.specs.Served.{TurnsTo}
-use Rattle.nb_top.proofs.Fixed.{fix_sound}
-use Rattle.nb_top.proofs.FoldStands.{fold_sound}
-use Rattle.nb_top.proofs.Planned.{plan_sound}
-use Rattle.nb_top.proofs.Merged.{merge_sound}
+use Rattle.nb_top.proofs.Deeds.{sound_deed}
 use Rattle.nb_top.proofs.GeneratedRuns.{generated_unbegun}
 use Rattle.nb_top.proofs.GeneratedSure.{generated_after, generated_left, generated_end}
 use Rattle.nb_top.proofs.LeftLaws.{left_first, first_count}
@@ -39,17 +37,16 @@ use Rattle.nb_top.proofs.MadeRuns.{none_alone}
 use Rattle.nb_top.proofs.QuietRuns.{left_quietly}
 use Rattle.nb_top.proofs.ReadsLaws.{reads_quiet}
 use Rattle.nb_top.proofs.RefusedRuns.{refused_runs}
-use Rattle.nb_top.proofs.RequestLaws.{CanBeAsked, CanBeDone, CanBeMet}
-use Rattle.nb_top.proofs.Restored.{restore_sound}
+use Rattle.nb_top.proofs.RequestLaws.{CanBeAsked, CanBeMet}
 use Rattle.nb_top.proofs.ScriptRead.{refused_script}
 use Rattle.nb_top.proofs.ScriptRuns.{script_unbegun}
 use Rattle.nb_top.proofs.SureFiles.{kept_none, still_stands}
 use Rattle.nb_top.proofs.SureRuns.{script_after, script_left, script_end}
 use Rattle.nb_top.proofs.Turns.{quiet_turn}
-use Rattle.nb_top.proofs.TurnsStand.{IsSoundJob, turn_stands}
+use Rattle.nb_top.proofs.TurnsStand.{turn_stands}
 
 -- Nothing was done.
-module _ (old new : World) (account : Account) (given : Given) (e : Stop) (quiet : Quiet old new) where
+module _ (old new : World) (account : Account) (given : Given) (e : RunError) (quiet : Quiet old new) where
   refused_undone : (refusal : Refusal) → RunsTo (Err e) old new (Err refusal) account given
   refused_undone refusal = record {
     events = refused_job refusal;
@@ -72,18 +69,18 @@ module _ (old new : World) (account : Account) (given : Given) (e : Stop) (quiet
   undone_goes (Does deed) can knows = quiet_turn old new (one_turn old.files deed) ((one_turn old.files deed).turn account) quiet account refl e
 
 -- a refusal to session 0
-pub job_refused : {S E : Type 0} (told : Result S E) (result : Result Status Stop) (old new : World) (asked : Result Request Refusal) (refusal : Refusal) (account : Account) (given : Given) → asked ≡ Err refusal
+pub job_refused : {S E : Type 0} (told : Result S E) (result : Result Status RunError) (old new : World) (asked : Result Request Refusal) (refusal : Refusal) (account : Account) (given : Given) → asked ≡ Err refusal
     → SaysLine told old new (line_text 0 (RefusedReply refusal)) → IfOk result (λ status. number_of status ≡ status_after (RefusedReply refusal)) → OnOk result (new.said ≡ old.said ++ line_text 0 (RefusedReply refusal)) → RunsTo result old new asked account given
 job_refused told result old new asked refusal account given is says number said =
     subst (λ (a : Result Request Refusal). RunsTo result old new a account given) (sym is) (refused_runs old new 0 refusal account given (Err refusal) told result (refl, refl, refl) says number said)
 
 -- of a script
-pub script_number : (name : List ℕ) (file : File) (refusal : Refusal) → script_in name file ≡ Err refusal → (result : Result Status Stop) → IfOk result (λ status. status ≡ RefusedStatus) → IfOk result (λ status. number_of status ≡ status_after (RefusedReply refusal))
+pub script_number : (name : List ℕ) (file : File) (refusal : Refusal) → script_in name file ≡ Err refusal → (result : Result Status RunError) → IfOk result (λ status. status ≡ RefusedStatus) → IfOk result (λ status. number_of status ≡ status_after (RefusedReply refusal))
 script_number name file refusal is (Ok status) ended = ap number_of ended ∙ sym (status_refused refusal (refused_script name file refusal is))
 script_number name file refusal is (Err e) ended = tt
 
 -- of words that name no job
-pub usage_number : (result : Result Status Stop) → IfOk result (λ status. status ≡ UsageStatus) → IfOk result (λ status. number_of status ≡ status_after (RefusedReply Usage))
+pub usage_number : (result : Result Status RunError) → IfOk result (λ status. status ≡ UsageStatus) → IfOk result (λ status. number_of status ≡ status_after (RefusedReply Usage))
 usage_number (Ok status) ended = ap number_of ended
 usage_number (Err e) ended = tt
 
@@ -129,19 +126,19 @@ module _ (old : World) (account : Account) (given : Given) (sixteen : MayBeGiven
 
 module _ (old new : World) (asked : Result Request Refusal) (can : CanBeMet (Runs asked)) (account : Account) (given : Given) (sixteen : MayBeGiven given)
     (before : (name : List ℕ) → Leaves old name (old.files name)) (timely : IsTimely new) (reads : (name : List ℕ) → Leaves new name (new.files name)) where
-  abbrev Goes : Result Status Stop → Type 0
+  abbrev Goes : Result Status RunError → Type 0
   Goes result = RunsTo result old new asked account given
 
-  undone_quiet : (result : Result Status Stop) → IsUndone result old new → Quiet old new
+  undone_quiet : (result : Result Status RunError) → IsUndone result old new → Quiet old new
   undone_quiet (Ok status) undone = absurd undone
   undone_quiet (Err e) undone = undone
 
-  never_ended : {P : Type 0} (result : Result Status Stop) → IsUndone result old new → IfErr result (λ e. ⊥) → P
+  never_ended : {P : Type 0} (result : Result Status RunError) → IsUndone result old new → IfErr result (λ e. ⊥) → P
   never_ended (Ok status) undone ended = absurd undone
   never_ended (Err e) undone ended = absurd ended
 
   -- what is left now is what reads now
-  performs : (status : Status) (result : Result Status Stop) (runs : Goes result)
+  performs : (status : Status) (result : Result Status RunError) (runs : Goes result)
       → (status ≢ Device → status ≢ Memory → IfErr result (λ e. ⊥) × Finished status old new account (target_of asked runs.events) runs.events given runs.left) → PerformsRun status old new asked account given
   performs status result runs ends = ⊎_elim
       (λ small.
@@ -201,41 +198,32 @@ module _ (old new : World) (asked : Result Request Refusal) (can : CanBeMet (Run
   run_ended : (status : Status) → Goes (Ok status) → PerformsRun status old new asked account given
   run_ended status runs = performs status (Ok status) runs (λ d m. (tt, runs.finished))
 
-  run_device : (e : Stop) → Goes (Err e) → PerformsRun Device old new asked account given
+  run_device : (e : RunError) → Goes (Err e) → PerformsRun Device old new asked account given
   run_device e runs = performs Device (Err e) runs (λ d m. absurd (d refl))
 
-  run_memory : (e : Stop) → Goes (Err e) → PerformsRun Memory old new asked account given
+  run_memory : (e : RunError) → Goes (Err e) → PerformsRun Memory old new asked account given
   run_memory e runs = performs Memory (Err e) runs (λ d m. absurd (m refl))
-
--- a job of one turn keeps what stands
-sound_deed : (old : World) (account : Account) (deed : Deed) → CanBeDone deed → StandsFor old account → (leaves_all ((one_turn old.files deed).turn account) ≡ false → (one_turn old.files deed).takes account.kept)
-    → IsSoundJob old account (one_turn old.files deed)
-sound_deed old account (ToRestore db names) can stands takes = restore_sound old account db names stands can.0 can.1 can.2 takes
-sound_deed old account (ToFix db) can stands takes = fix_sound old account db stands can takes
-sound_deed old account (ToMerge db name) can stands takes = merge_sound old account db name stands can.0 can.1 takes
-sound_deed old account (ToFold out names) can stands takes = fold_sound old account out names stands can.0 can.1 can.2 takes
-sound_deed old account (ToPlan keep names) can stands takes = plan_sound old account keep names
 
 -- What is done of what is asked for, by the status that ends it.
 module _ (old new : World) (account : Account) (given : Given) (sixteen : MayBeGiven given) (before : (name : List ℕ) → Leaves old name (old.files name)) (timely : IsTimely new) (reads : (name : List ℕ) → Leaves new name (new.files name)) where
-  does_turn : (deed : Deed) → CanBeDone deed → (status : Status) (result : Result Status Stop) → TurnsTo result old new (one_turn old.files deed) account
+  does_turn : (deed : Deed) → FitsDeed deed → (status : Status) (result : Result Status RunError) → TurnsTo result old new (one_turn old.files deed) account
       → (status ≢ Device → status ≢ Memory → TurnEnded status old new (one_turn old.files deed) ((one_turn old.files deed).turn account)) → DoesTurn status old new (one_turn old.files deed) account
-  does_turn deed can status result turns ends = record {
+  does_turn deed fits status result turns ends = record {
     stops = turns.stops;
     reads = turns.reads;
     gave = turns.gave;
     ended = ends;
-    stands = λ stands takes. turn_stands old account (one_turn old.files deed) stands before (sound_deed old account deed can stands takes) new timely reads turns.stops turns.reads status ends;
+    stands = λ stands takes. turn_stands old account (one_turn old.files deed) stands before ((sound_deed deed fits).stands old account stands takes) new timely reads turns.stops turns.reads status ends;
   }
 
   pub performs_ended : (asked : Asked) → CanBeMet asked → (status : Status) → GoesTo (Ok status) old new asked account given → Performs status old new asked account given
   performs_ended (Runs asked) can status runs = run_ended old new asked can account given sixteen before timely reads status runs
   performs_ended (Does deed) can status turns = does_turn deed can status (Ok status) turns (λ d m. turns.ended)
 
-  pub performs_device : (asked : Asked) → CanBeMet asked → (e : Stop) → GoesTo (Err e) old new asked account given → Performs Device old new asked account given
+  pub performs_device : (asked : Asked) → CanBeMet asked → (e : RunError) → GoesTo (Err e) old new asked account given → Performs Device old new asked account given
   performs_device (Runs asked) can e runs = run_device old new asked can account given sixteen before timely reads e runs
   performs_device (Does deed) can e turns = does_turn deed can Device (Err e) turns (λ d m. absurd (d refl))
 
-  pub performs_memory : (asked : Asked) → CanBeMet asked → (e : Stop) → GoesTo (Err e) old new asked account given → Performs Memory old new asked account given
+  pub performs_memory : (asked : Asked) → CanBeMet asked → (e : RunError) → GoesTo (Err e) old new asked account given → Performs Memory old new asked account given
   performs_memory (Runs asked) can e runs = run_memory old new asked can account given sixteen before timely reads e runs
   performs_memory (Does deed) can e turns = does_turn deed can Memory (Err e) turns (λ d m. absurd (m refl))

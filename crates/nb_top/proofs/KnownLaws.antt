@@ -10,7 +10,7 @@ use Rattle.nb_host.specs.declared.refusals.Refusal.{Refusal}
 use Rattle.nb_host.specs.declared.refusals.Refusal.TheVariants.{Usage}
 use Rattle.nb_page.specs.Free.{has_delta, is_free_name}
 use Rattle.nb_model.specs.declared.job.Job.{Job}
-use Rattle.nb_model.specs.declared.job.Job.TheVariants.{Run, Stat, Check, Reclaim, Gen, Backup, BackupSince, Restore, Apply, Lock, LockWithSize, Unlock, Fixup, Fold, Plan as PlanOf}
+use Rattle.nb_model.specs.declared.job.Job.TheVariants.{Run, Gen, Attach, Turn, Plan as PlanOf}
 use Rattle.nb_model.specs.declared.statement.Statement.{Statement}
 use Rattle.nb_model.specs.declared.statement.Statement.TheVariants.{OpenDb}
 use Rattle.nb_model.specs.Account.{Account}
@@ -28,8 +28,11 @@ use Rattle.nb_top.specs.declared.telling.Telling.TheVariants.{All}
 use Rattle.nb_top.specs.Performed.{HoldsUnder, Knows, KnowsAsked, KnowsNames, KnowsOpened}
 use Rattle.nb_top.specs.Requests.{Asked, Runs, ToRun, FitsJob, request_asked, request_of, script_in, to_plan, to_run}
 use Rattle.nb_top.specs.Worlds.{HaveNames, account_of}
+use Rattle.nb_top.proofs.Deeds.{sound_deed}
 use Rattle.nb_top.proofs.FirstReady.{base_name}
-use Rattle.nb_top.proofs.RequestLaws.{askable_in, backup_askable, since_askable, begin_askable, end_askable, stat_askable, check_askable, reclaim_askable, fits_words, plain_file}
+use Rattle.nb_top.proofs.RequestLaws.{askable_in, attach_askable}
+use Rattle.nb_top.proofs.WordNames.{plain_database}
+use Rattle.nb_top.proofs.WordsFit.{fits_words}
 
 module _ (files : Files) (names : HaveNames files) where
   -- no difference file stands beside a long name
@@ -69,24 +72,14 @@ module _ (files : Files) (account : Account) (names : KnowsNames files account) 
   known_list keep (Err refusal) = tt
 
   known_base : (db : List ℕ) → is_database db ≡ true → HoldsUnder files account db
-  known_base db fits = let parts = and_parts (is_file db) (nat_le (length db) 94) fits in holds db (plain_file db parts.0) parts.1
+  known_base db fits = holds db (plain_database db fits) (and_parts (is_file db) (nat_le (length db) 94) fits).1
 
   known_job : (job : Job) → FitsJob job → KnowsAsked files account (request_of files job)
   known_job (Run name) fits = known_script name (script_in name (files name)) refl
-  known_job (Backup level db file) fits = known_plan _ (backup_askable level db file fits)
-  known_job (BackupSince guid db file) fits = known_plan _ (since_askable guid db file fits)
-  known_job (Stat db) fits = known_plan _ (stat_askable db fits)
-  known_job (Check db) fits = known_plan _ (check_askable db fits)
-  known_job (Reclaim db) fits = known_plan _ (reclaim_askable db fits)
-  known_job (Lock db) fits = known_plan _ (begin_askable db fits)
-  known_job (LockWithSize db) fits = known_plan _ (begin_askable db fits)
-  known_job (Unlock db) fits = known_plan _ (end_askable db fits)
   known_job (Gen number name) fits = names
-  known_job (Fixup db) fits = known_base db fits
-  known_job (Restore db chain) fits = names db (plain_file db (and_parts (is_file db) (nat_le (length db) 94) fits.0).0)
-  known_job (Fold out levels) fits = names out (plain_file out fits.0)
+  known_job (Attach db ask) fits = known_plan _ (attach_askable db ask fits.0 fits.1)
+  known_job (Turn deed) fits = (sound_deed deed fits).known files account names known_base
   known_job (PlanOf keep list) fits = known_list keep (names_in list (files list))
-  known_job (Apply db file) fits = known_base db fits.0
 
   knows_asked : (words : List (List ℕ)) → KnowsAsked files account (request_asked files words)
   knows_asked words = by (job_of words) refl

@@ -27,6 +27,9 @@ pub mod SureLaws
 pub mod WellRuns
 pub mod SureFiles
 pub mod SureRuns
+pub mod WordNames
+pub mod WordsFit
+pub mod Deeds
 pub mod JobRuns
 pub mod RequestLaws
 pub mod KnownLaws

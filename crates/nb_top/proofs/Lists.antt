@@ -5,6 +5,7 @@ use Rattle.nb_host.specs.Files.{File}
 use Rattle.nb_host.specs.World.{World}
 use Rattle.nb_host.specs.declared.refusals.Refusal.{Refusal}
 use Rattle.nb_host.specs.declared.refusals.Refusal.TheVariants.{BadScript, NoFile, ScriptLong, Usage}
+use Rattle.nb_host.specs.declared.faults.RunError.{RunError}
 use Rattle.nb_page.specs.Quiet.{Quiet}
 use Rattle.nb_model.specs.declared.reply.Reply.TheVariants.{Refused as RefusedReply}
 use Rattle.nb_model.specs.Output.{status_after}
@@ -16,7 +17,6 @@ use Rattle.nb_script.specs.Lines.{left, lines_of}
 use Rattle.nb_catalog.specs.Answers.{with_first}
 use Rattle.nb_catalog.specs.NameLists.{is_next, list_of, names_on, some_names_on}
 use Rattle.nb_catalog.specs.Turns.{names_in}
-use Rattle.nb_session.specs.declared.stop.Stop.{Stop}
 use Rattle.nb_top.specs.declared.status.Status.{Status}
 use Rattle.nb_top.specs.declared.status.Status.TheVariants.{Refused}
 use Rattle.nb_top.specs.Goes.{Goes}
@@ -26,7 +26,7 @@ use Rattle.nb_top.proofs.GoesLaws.{goes_quietly, goes_turn_quietly}
 use Rattle.nb_model.proofs.StatusLaws.{status_refused}
 
 -- a plan that begins with calls that change nothing
-pub plan_quietly : {H : Type 0} (world : H → World) (tells : Bool) (old mid new : H) (keep : ℕ) (names : Result (List (List ℕ)) Refusal) (result : Result Status Stop) → Quiet (world old) (world mid) → Goes world tells result mid new (to_plan keep names)
+pub plan_quietly : {H : Type 0} (world : H → World) (tells : Bool) (old mid new : H) (keep : ℕ) (names : Result (List (List ℕ)) Refusal) (result : Result Status RunError) → Quiet (world old) (world mid) → Goes world tells result mid new (to_plan keep names)
     → Goes world tells result old new (to_plan keep names)
 plan_quietly world tells old mid new keep (Ok names) result quiet goes = goes_turn_quietly world tells old mid new _ result quiet goes
 plan_quietly world tells old mid new keep (Err refusal) result quiet goes = goes_quietly world tells old mid new (Err refusal) result quiet goes
@@ -79,7 +79,7 @@ in_fine list None = no_list list
 in_fine list (Some bytes) = list_fine bytes
 
 -- so its status is that of a refusal
-pub list_number : (list : List ℕ) (file : File) (refusal : Refusal) → names_in list file ≡ Err refusal → (result : Result Status Stop) → IfOk result (λ status. status ≡ Refused) → IfOk result (λ status. number_of status ≡ status_after (RefusedReply refusal))
+pub list_number : (list : List ℕ) (file : File) (refusal : Refusal) → names_in list file ≡ Err refusal → (result : Result Status RunError) → IfOk result (λ status. status ≡ Refused) → IfOk result (λ status. number_of status ≡ status_after (RefusedReply refusal))
 list_number list file refusal is (Ok status) ended = ap number_of ended ∙ sym (status_refused refusal (subst IsFine is (in_fine list file)))
 list_number list file refusal is (Err e) ended = tt
 

@@ -1,10 +1,10 @@
 -- Files keep names that a host may give them.
 use Rattle.std.proofs.Common.{◌≡◌, ◌⊎◌, inl, inr, ℕ, ◌+◌, ◌-◌, suc, List, [], ◌∷◌, ◌++◌, length, get_or, refl, sym, ap, subst, ◌∙◌, arith, length-append, true, false}
-use Rattle.std.specs.Prelude.{Bool, ◌&&◌, Option, None, Some, Result, Ok, Err, not, nat_le, nat_lt}
+use Rattle.std.specs.Prelude.{Bool, ◌&&◌, Option, None, Some, Result, Ok, Err, nat_le, nat_lt}
 use Rattle.std.specs.List.{AllByRecursion, list_all}
 use Rattle.std.proofs.lemmas.Bool.{and_from, and_parts, le-leb, leb-true, lt-ltb, true≢false}
 use Rattle.nb_host.specs.Files.{Files}
-use Rattle.nb_host.specs.Names.{delta_suffix, is_delta, is_name, is_name_byte}
+use Rattle.nb_host.specs.Names.{delta_suffix, is_name, is_name_byte}
 use Rattle.nb_host.specs.World.{World}
 use Rattle.nb_host.specs.Crash.{Leaves}
 use Rattle.nb_host.specs.Moments.{AtEachMoment}
@@ -13,12 +13,12 @@ use Rattle.nb_host.specs.declared.refusals.Refusal.TheVariants.{Usage}
 use Rattle.nb_change.specs.Changes.{Names, Other}
 use Rattle.nb_change.proofs.MomentLaws.{weaker}
 use Rattle.nb_model.specs.declared.job.Job.{Job}
-use Rattle.nb_model.specs.declared.job.Job.TheVariants.{Run, Stat, Check, Reclaim, Gen, Backup, BackupSince, Restore, Apply, Lock, LockWithSize, Unlock, Fixup, Fold, Plan as PlanOf}
+use Rattle.nb_model.specs.declared.job.Job.TheVariants.{Run, Gen, Attach, Turn, Plan as PlanOf}
 use Rattle.nb_model.specs.declared.statement.Statement.{Statement}
 use Rattle.nb_model.specs.declared.statement.Statement.TheVariants.{Backup as BackupTo, BackupSince as BackupOf, CopyTo}
 use Rattle.nb_model.specs.Generated.{generated}
 use Rattle.nb_model.specs.Owner.{delta_name}
-use Rattle.nb_model.specs.Words.{is_database, is_file, job_of}
+use Rattle.nb_model.specs.Words.{is_file, job_of}
 use Rattle.nb_base.specs.Open.{OfFiles}
 use Rattle.nb_catalog.specs.Turns.{names_in}
 use Rattle.nb_gen.specs.Texts.{generated_first}
@@ -32,9 +32,12 @@ use Rattle.nb_top.specs.Performed.{target_named}
 use Rattle.nb_top.specs.Requests.{Asked, FitsJob, Runs, request_asked, request_of, script_in, to_plan, to_run}
 use Rattle.nb_top.specs.Touched.{OfAsked, OfTarget, ReadMakes, TouchesOnly}
 use Rattle.nb_top.specs.Worlds.{HaveNames, LeaveNames, StartsFrom}
+use Rattle.nb_top.proofs.Deeds.{sound_deed}
 use Rattle.nb_top.proofs.FirstReady.{base_name, named_further}
-use Rattle.nb_top.proofs.RequestLaws.{askable_in, backup_askable, begin_askable, check_askable, end_askable, fits_words, reclaim_askable, since_askable, stat_askable}
+use Rattle.nb_top.proofs.RequestLaws.{askable_in, attach_askable}
 use Rattle.nb_top.proofs.ScriptRuns.{creates, first_opens, opens}
+use Rattle.nb_top.proofs.WordNames.{file_named}
+use Rattle.nb_top.proofs.WordsFit.{fits_words}
 
 -- ---- the name of a database's difference file
 
@@ -95,12 +98,6 @@ module _ (plan : Plan) (askable : IsAskable plan) where
 
 -- ---- the names of a job
 
-file_named : (name : List ℕ) → is_file name ≡ true → is_name name ≡ true
-file_named name is = (and_parts (is_name name) (not (is_delta name)) is).0
-
-database_named : (name : List ℕ) → is_database name ≡ true → is_name name ≡ true
-database_named name is = file_named name (and_parts (is_file name) (nat_le (length name) 94) is).0
-
 read_named : (read : Result Plan Refusal) (bytes : List ℕ) → script_of bytes ≡ read → (m : List ℕ) → ReadMakes read m → is_name m ≡ true
 read_named (Ok plan) bytes is m makes = makes_named plan (answer_is_askable bytes (Ok plan) is) m makes
 read_named (Err refusal) bytes is m makes = absurd makes
@@ -122,19 +119,9 @@ module _ (files : Files) where
 
   job_named : (job : Job) → FitsJob job → (m : List ℕ) → OfAsked files (request_of files job) m → is_name m ≡ true
   job_named (Run name) fits m own = script_named name (script_in name (files name)) refl m own
-  job_named (Backup level db file) fits m own = plan_named _ (backup_askable level db file fits) m own
-  job_named (BackupSince guid db file) fits m own = plan_named _ (since_askable guid db file fits) m own
-  job_named (Stat db) fits m own = plan_named _ (stat_askable db fits) m own
-  job_named (Check db) fits m own = plan_named _ (check_askable db fits) m own
-  job_named (Reclaim db) fits m own = plan_named _ (reclaim_askable db fits) m own
-  job_named (Lock db) fits m own = plan_named _ (begin_askable db fits) m own
-  job_named (LockWithSize db) fits m own = plan_named _ (begin_askable db fits) m own
-  job_named (Unlock db) fits m own = plan_named _ (end_askable db fits) m own
   job_named (Gen number name) fits m own = number_named number name m fits own
-  job_named (Restore db names) fits m own = ap is_name own ∙ database_named db fits.0
-  job_named (Fixup db) fits m own = ap is_name own ∙ database_named db fits
-  job_named (Apply db file) fits m own = ap is_name own ∙ database_named db fits.0
-  job_named (Fold out names) fits m own = ap is_name own ∙ file_named out fits.0
+  job_named (Attach db ask) fits m own = plan_named _ (attach_askable db ask fits.0 fits.1) m own
+  job_named (Turn deed) fits m own = (sound_deed deed fits).named files m own
   job_named (PlanOf keep list) fits m own = listed_named keep (names_in list (files list)) m own
 
   pub asked_named : (words : List (List ℕ)) (m : List ℕ) → OfAsked files (request_asked files words) m → is_name m ≡ true

@@ -6,6 +6,7 @@ use Rattle.std.proofs.lemmas.List.{take_all}
 use Rattle.nb_host.specs.Files.{Files}
 use Rattle.nb_host.specs.World.{World}
 use Rattle.nb_host.specs.Calls.{IsStill}
+use Rattle.nb_host.specs.declared.faults.RunError.{RunError}
 use Rattle.nb_change.proofs.MomentLaws.{weaker, untouched_fewer}
 use Rattle.nb_page.specs.Free.{is_free_name}
 use Rattle.nb_model.specs.Account.{Base}
@@ -22,7 +23,6 @@ use Rattle.nb_state.specs.Open.{Held, name_of}
 use Rattle.nb_state.proofs.MakesLaws.{still_open}
 use Rattle.nb_script.specs.Asked.{IsAskable}
 use Rattle.nb_script.specs.Scripts.{Plan}
-use Rattle.nb_session.specs.declared.stop.Stop.{Stop}
 use Rattle.nb_session.specs.Ready.{IsReady}
 use Rattle.nb_session.specs.Says.{FrontSaid, SaysLine}
 use Rattle.nb_session.specs.Stops.{StopLeft, PlayedOut, Plays}
@@ -38,10 +38,10 @@ use Rattle.nb_top.proofs.MadeRuns.{no_file, none_front, none_made}
 use Rattle.nb_top.proofs.RefusedRuns.{take_self}
 
 -- a result that is a failure
-pub opened_err : (result : Result Bool Stop) (P : Result Bool Stop → Type 0) → IsErr result → ((e : Stop) → P (Err e)) → P result
+pub opened_err : (result : Result Bool RunError) (P : Result Bool RunError → Type 0) → IsErr result → ((e : RunError) → P (Err e)) → P result
 opened_err (Ok x) P is plays = absurd (no_err is)
   where
-    no_err : IsErr {T = Bool} {E = Stop} (Ok x) → ⊥
+    no_err : IsErr {T = Bool} {E = RunError} (Ok x) → ⊥
     no_err h = cc
 opened_err (Err e) P is plays = plays e
 
@@ -83,7 +83,7 @@ module _ (old mid new : World) (held after : Held) (start : Base) (now : Now) (p
         others = λ m other. front.left m;
       }
 
-  plays_one : (result : Result Bool Stop) → IfOk result (λ refused. PlayedOut refused old mid held (settled start) now one) → Plays result old mid held held (settled start) now one []
+  plays_one : (result : Result Bool RunError) → IfOk result (λ refused. PlayedOut refused old mid held (settled start) now one) → Plays result old mid held held (settled start) now one []
   plays_one result out = record {
     stops = weaker old mid _ _ says.moments saying;
     left = λ n bytes file there is. absurd (no_file (n, bytes) there);
@@ -105,7 +105,7 @@ module _ (old mid new : World) (held after : Held) (start : Base) (now : Now) (p
   once n = made_once (plan.schedule ++ rounds n) now making
 
   -- the line wasn't said whole
-  pub reply_unsaid : (e : Stop) → PlaysOpened (Err e) old mid held held start event telling pages now plan
+  pub reply_unsaid : (e : RunError) → PlaysOpened (Err e) old mid held held start event telling pages now plan
   reply_unsaid e =
       let end : HasEnd plan.schedule now 0 = turns_end plan askable now making.going todo 0 in
       let more : Played = told_behind end.how_often in
@@ -135,7 +135,7 @@ module _ (old mid new : World) (held after : Held) (start : Base) (now : Now) (p
   })
 
   -- turns after it
-  pub reply_said_then : status_of (replies_of (event ∷ [])) ≡ 0 → mid.said ≡ old.said ++ line → (result : Result Bool Stop) → PlaysTold result mid new held after (settled (base_now now)) telling pages now plan.schedule
+  pub reply_said_then : status_of (replies_of (event ∷ [])) ≡ 0 → mid.said ≡ old.said ++ line → (result : Result Bool RunError) → PlaysTold result mid new held after (settled (base_now now)) telling pages now plan.schedule
       → PlaysOpened result old new held after start event telling pages now plan
   reply_said_then fine said (Ok refused) whole =
       let more : Played = told_behind whole.how_often in

@@ -11,6 +11,7 @@ use Rattle.nb_host.specs.declared.refusals.Refusal.{Refusal}
 use Rattle.nb_change.specs.Changes.{Names, Other}
 use Rattle.nb_change.proofs.MomentLaws.{weaker}
 use Rattle.nb_change.proofs.NameLaws.{decide, with_file-other, with_file-same}
+use Rattle.nb_model.specs.declared.job.Deed.{Deed}
 use Rattle.nb_model.specs.declared.reply.Reply.{Reply}
 use Rattle.nb_model.specs.declared.reply.Reply.TheVariants.{Refused as RefusedReply}
 use Rattle.nb_model.specs.declared.statement.Statement.{Statement}
@@ -38,7 +39,7 @@ use Rattle.nb_top.specs.Goes.{IsRun}
 use Rattle.nb_top.specs.Numbers.{number_of}
 use Rattle.nb_top.specs.OneTurn.{DoesTurn, OfName, one_turn}
 use Rattle.nb_top.specs.Performed.{IsPerformed, IsReadRun, IsScriptRun, IsUnasked, IsWrittenRun, Performs, PerformsRun, Target, begins_refused, first_event, refused_at, run_in, script_made, target_asked, target_of}
-use Rattle.nb_top.specs.Requests.{Asked, Deed, Does, Request, Runs, ToGenerate, ToRun, request_asked}
+use Rattle.nb_top.specs.Requests.{Asked, Does, Request, Runs, ToGenerate, ToRun, request_asked}
 use Rattle.nb_top.specs.Touched.{AsksToMake, MayTouch, OfAsked, OfTarget, ReadMakes, SaysRefusal, TouchesOnly, ends_refused}
 use Rattle.nb_top.proofs.KnownLaws.{account_told, told_known}
 use Rattle.nb_top.proofs.MadeRuns.{first_or, made_behind, no_file, none_made}

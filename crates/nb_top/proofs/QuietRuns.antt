@@ -5,6 +5,7 @@ use Rattle.nb_host.specs.Files.{Files}
 use Rattle.nb_host.specs.World.{World}
 use Rattle.nb_host.specs.Moments.{AtEachMoment}
 use Rattle.nb_host.specs.declared.refusals.Refusal.{Refusal}
+use Rattle.nb_host.specs.declared.faults.RunError.{RunError}
 use Rattle.nb_change.specs.Gave.{GaveNothing}
 use Rattle.nb_change.proofs.MomentLaws.{joined, weaker}
 use Rattle.nb_page.specs.Quiet.{Quiet}
@@ -15,7 +16,6 @@ use Rattle.nb_model.specs.NewGuids.{guids_in}
 use Rattle.nb_model.specs.Outcomes.{Given}
 use Rattle.nb_model.specs.Output.{output}
 use Rattle.nb_model.specs.Run.{Event, strokes_of}
-use Rattle.nb_session.specs.declared.stop.Stop.{Stop}
 use Rattle.nb_session.proofs.GiftLaws.{given_nothing, given_joined}
 use Rattle.nb_top.specs.declared.status.Status.{Status}
 use Rattle.nb_top.specs.Performed.{RunLeft, RunsTo, Finished, IsPerformed, IsUndone, Knows, Target, target_of}
@@ -55,7 +55,7 @@ pub knows_quietly : (old mid : World) (account : Account) (asked : Result Reques
 knows_quietly old mid account asked quiet knows = subst (λ (f : Files). Knows f account asked) (sym quiet.still.files) knows
 
 module _ (old mid new : World) (account : Account) (target : Option Target) (events : List Event) (quiet : Quiet old mid) where
-  finished_quietly : (result : Result Status Stop) (given left : Given) → IfOk result (λ status. Finished status mid new account target events given left) → IfOk result (λ status. Finished status old new account target events given left)
+  finished_quietly : (result : Result Status RunError) (given left : Given) → IfOk result (λ status. Finished status mid new account target events given left) → IfOk result (λ status. Finished status old new account target events given left)
   finished_quietly (Ok status) given left done = record {
     said = done.said ∙ ap (λ (l : List ℕ). l ++ output events) quiet.said;
     ended = done.ended;
@@ -74,11 +74,11 @@ module _ (old mid new : World) (account : Account) (target : Option Target) (eve
       (λ files said left. left_before_all old mid quiet.still.left quiet.said account target events files said left)
 
 -- nothing was done before or after them
-undone_quietly : (old mid new : World) (result : Result Status Stop) → Quiet old mid → IsUndone result mid new → IsUndone result old new
+undone_quietly : (old mid new : World) (result : Result Status RunError) → Quiet old mid → IsUndone result mid new → IsUndone result old new
 undone_quietly old mid new (Ok status) quiet undone = undone
 undone_quietly old mid new (Err e) quiet undone = quiet_joined old mid new quiet undone
 
-pub runs_quietly : (result : Result Status Stop) (old mid new : World) (asked : Result Request Refusal) (account : Account) (given : Given) → Quiet old mid → RunsTo result mid new asked account given → RunsTo result old new asked account given
+pub runs_quietly : (result : Result Status RunError) (old mid new : World) (asked : Result Request Refusal) (account : Account) (given : Given) → Quiet old mid → RunsTo result mid new asked account given → RunsTo result old new asked account given
 runs_quietly result old mid new asked account given quiet runs = record {
   events = runs.events;
   last = runs.last;

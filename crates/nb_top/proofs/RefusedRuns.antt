@@ -6,6 +6,7 @@ use Rattle.nb_host.specs.Files.{Files}
 use Rattle.nb_host.specs.World.{World}
 use Rattle.nb_host.specs.Moments.{AtEachMoment}
 use Rattle.nb_host.specs.declared.refusals.Refusal.{Refusal}
+use Rattle.nb_host.specs.declared.faults.RunError.{RunError}
 use Rattle.nb_change.proofs.MomentLaws.{weaker}
 use Rattle.nb_model.specs.declared.reply.Reply.TheVariants.{Refused}
 use Rattle.nb_model.specs.Account.{Account}
@@ -17,7 +18,6 @@ use Rattle.nb_model.specs.Steps.{steps_of, acked_turns}
 use Rattle.nb_model.specs.Output.{status_after}
 use Rattle.nb_model.proofs.OutputLaws.{output_one, status_one}
 use Rattle.nb_model.proofs.StepsLaws.{acked_steps_most}
-use Rattle.nb_session.specs.declared.stop.Stop.{Stop}
 use Rattle.nb_session.specs.Says.{FrontSaid, SaysLine}
 use Rattle.nb_session.proofs.GiftLaws.{given_nothing}
 use Rattle.nb_top.specs.declared.status.Status.{Status}
@@ -68,7 +68,7 @@ module _ (old new : World) (session : ℕ) (refusal : Refusal) (account : Accoun
   refused_reads : {S E : Type 0} (told : Result S E) → SaysLine told old new (line_text session (Refused refusal)) → RunReads old new account None (event ∷ [])
   refused_reads told says = record { others = λ m unasked none. ap (λ (f : Files). f m) says.still.files; database = tt }
 
-  refused_finished : {S E : Type 0} (told : Result S E) (result : Result Status Stop) → SaysLine told old new (line_text session (Refused refusal)) → IfOk result (λ status. number_of status ≡ status_after (Refused refusal))
+  refused_finished : {S E : Type 0} (told : Result S E) (result : Result Status RunError) → SaysLine told old new (line_text session (Refused refusal)) → IfOk result (λ status. number_of status ≡ status_after (Refused refusal))
       → OnOk result (new.said ≡ old.said ++ line_text session (Refused refusal)) → IfOk result (λ status. Finished status old new account None (event ∷ []) given given)
   refused_finished told (Ok status) says number said = record {
     said = said ∙ ap (λ (l : List ℕ). old.said ++ l) (sym (output_one event (Refused refusal) refl));
@@ -81,7 +81,7 @@ module _ (old new : World) (session : ℕ) (refusal : Refusal) (account : Accoun
   }
   refused_finished told (Err e) says number said = tt
 
-  pub refused_runs : {S E : Type 0} (told : Result S E) (result : Result Status Stop) → IsPerformed old.files asked account given (event ∷ []) account given → SaysLine told old new (line_text session (Refused refusal))
+  pub refused_runs : {S E : Type 0} (told : Result S E) (result : Result Status RunError) → IsPerformed old.files asked account given (event ∷ []) account given → SaysLine told old new (line_text session (Refused refusal))
       → IfOk result (λ status. number_of status ≡ status_after (Refused refusal)) → OnOk result (new.said ≡ old.said ++ line_text session (Refused refusal)) → RunsTo result old new asked account given
   refused_runs told result performed says number said = record {
     events = event ∷ [];

@@ -7,6 +7,7 @@ use Rattle.nb_host.specs.World.{World}
 use Rattle.nb_host.specs.declared.faults.Fault.{Fault}
 use Rattle.nb_host.specs.declared.faults.Fault.TheVariants.{Refused}
 use Rattle.nb_host.specs.declared.refusals.Refusal.{Refusal}
+use Rattle.nb_host.specs.declared.faults.RunError.{RunError}
 use Rattle.nb_change.specs.Changes.{Other}
 use Rattle.nb_change.proofs.MomentLaws.{untouched_fewer}
 use Rattle.nb_page.specs.Quiet.{Quiet}
@@ -29,7 +30,6 @@ use Rattle.nb_state.specs.Open.{Held, IsOpen}
 use Rattle.nb_script.specs.Asked.{IsAskable}
 use Rattle.nb_script.specs.Fits.{FitsFirst}
 use Rattle.nb_script.specs.Scripts.{Plan}
-use Rattle.nb_session.specs.declared.stop.Stop.{Stop}
 use Rattle.nb_top.specs.Performed.{cache_asked, KnowsNames, MayBeGiven, RunsTo, HoldsUnder, opened_reply, pages_first, refused_at}
 use Rattle.nb_top.specs.declared.telling.Telling.{Telling}
 use Rattle.nb_top.specs.Requests.{ToRun}
@@ -76,7 +76,7 @@ module _ (old : World) (account : Account) (given : Given) (plan : Plan) (tellin
   plain = (base_name name (subst FitsFirst first_is askable.first.fits).0).plain
 
   -- nothing happened, whatever the run must have been
-  pub open_fails : (new : World) (e : Stop) → Quiet old new → RunsTo (Err e) old new (Ok (ToRun plan telling)) account given
+  pub open_fails : (new : World) (e : RunError) → Quiet old new → RunsTo (Err e) old new (Ok (ToRun plan telling)) account given
   open_fails new e quiet = by (owner name (old.files name) (old.files (delta_name name))) refl
     where
       by : (answer : Result Base Refusal) → owner name (old.files name) (old.files (delta_name name)) ≡ answer → RunsTo (Err e) old new (Ok (ToRun plan telling)) account given

@@ -1,202 +1,45 @@
 -- What the words ask for can be asked.
-use Rattle.std.proofs.Common.{◌≡◌, ◌⊎◌, ⊎_elim, ℕ, zero, suc, ◌-◌, ◌≤◌, List, [], ◌∷◌, length, get_or, true, false, refl, sym, ap, subst, arith}
-use Rattle.std.specs.Prelude.{Bool, ◌&&◌, ◌==◌, not, nat_le, slice_index, codes, Option, Some, None, Result, Ok, Err, IfOk, IfErr, replicate}
-use Rattle.std.specs.List.{AllByRecursion, list_all}
-use Rattle.std.proofs.lemmas.Bool.{and_parts, leb-true, le-leb}
+use Rattle.std.proofs.Common.{◌≡◌, ◌⊎◌, ⊎_elim, ℕ, zero, suc, ◌-◌, ◌≤◌, List, [], ◌∷◌, ◌++◌, length, get_or, true, false, refl, sym, ap, subst, arith}
+use Rattle.std.specs.Prelude.{Bool, ◌&&◌, not, nat_le, nat_lt, Option, Some, None, Result, Ok, Err, IfOk, IfErr, replicate, if◌then◌else◌}
+use Rattle.std.specs.List.{AllByRecursion}
+use Rattle.std.proofs.lemmas.Bool.{and_parts, le-leb}
 use Rattle.nb_host.specs.Files.{File, Files}
-use Rattle.nb_host.specs.Names.{is_name, is_delta, same_name}
+use Rattle.nb_host.specs.Names.{is_name, is_delta}
 use Rattle.nb_host.specs.declared.faults.Fault.{Fault}
 use Rattle.nb_host.specs.declared.faults.Fault.TheVariants.{Refused, Device, Memory}
 use Rattle.nb_host.specs.declared.refusals.Refusal.{Refusal}
-use Rattle.nb_host.specs.declared.refusals.Refusal.TheVariants.{Usage}
+use Rattle.nb_host.specs.declared.refusals.Refusal.TheVariants.{BadScript, ScriptLong, Usage}
+use Rattle.nb_model.specs.declared.job.Ask.{Ask}
+use Rattle.nb_model.specs.declared.job.Ask.TheVariants.{Stat, Backup, BackupSince}
 use Rattle.nb_model.specs.declared.job.Job.{Job}
-use Rattle.nb_model.specs.declared.job.Job.TheVariants.{Run, Stat, Check, Reclaim, Gen, Backup, BackupSince, Restore, Apply, Lock, LockWithSize, Unlock, Fixup, Fold, Plan as PlanOf}
+use Rattle.nb_model.specs.declared.job.Job.TheVariants.{Run, Gen, Attach, Turn, Plan as PlanOf}
 use Rattle.nb_model.specs.declared.statement.Statement.{Statement}
-use Rattle.nb_model.specs.declared.statement.Statement.TheVariants.{BeginBackup, EndBackup, ShowHeader, ShowPages, Check as CheckIt, Reclaim as ReclaimIt, Backup as BackupTo, BackupSince as BackupOf}
+use Rattle.nb_model.specs.Jobs.{asks_of}
 use Rattle.nb_model.proofs.GoingLaws.{name_short}
-use Rattle.nb_model.specs.Words.{Word, Read, are_flags, is_database, is_file, job_if, number_in_word, count_in_word, asks_one, named_job, gen_job, plan_job, gen_or_plan, fold_job, plain_job, backup_job, restore_job, apply_job, database_job, read_words, job_of_flags, job_read, job_of}
+use Rattle.nb_model.specs.Words.{Word, is_database, is_file, job_of}
+use Rattle.nb_catalog.specs.Answers.{with_first}
+use Rattle.nb_catalog.specs.NameLists.{is_next, list_of, names_on, some_names_on}
 use Rattle.nb_catalog.specs.Turns.{names_in}
 use Rattle.nb_script.specs.Asked.{IsFurther, IsAskable}
 use Rattle.nb_script.specs.Fits.{IsBase, IsFile}
-use Rattle.nb_script.specs.Scripts.{Plan, script_of}
+use Rattle.nb_script.specs.Lines.{left, lines_of}
+use Rattle.nb_script.specs.Scripts.{Plan, Numbered, script_of}
 use Rattle.nb_script.proofs.AskedLemmas.{answer_is_askable}
-use Rattle.nb_top.specs.Requests.{IsAskedBy, IsReadJob, Request, ToRun, ToGenerate, Deed, ToRestore, ToFix, ToMerge, ToFold, ToPlan, Asked, Runs, Does, FitsJob, script_in, to_plan, to_run, plan_of, request_of, request_asked}
+use Rattle.nb_top.specs.OneTurn.{FitsDeed}
+use Rattle.nb_top.specs.Requests.{IsAskedBy, IsReadJob, Request, ToRun, ToGenerate, Asked, Runs, Does, FitsAsk, FitsJob, script_in, to_plan, to_run, plan_of, request_of, request_asked}
+use Rattle.nb_top.proofs.WordNames.{plain_file}
+use Rattle.nb_top.proofs.WordsFit.{fits_words}
 
 -- The statements of a script can be asked today. The name of a script that is written is none that a difference file may have.
 abbrev pub CanBeAsked : Request → Type 0
 CanBeAsked (ToRun plan telling) = IsAskable plan
 CanBeAsked (ToGenerate number name) = is_delta name ≡ false
 
--- Nor are the names of a restore, of a fixup, of a merge and of a fold, and a restore has a first file.
-abbrev pub CanBeDone : Deed → Type 0
-CanBeDone (ToFix db) = is_delta db ≡ false
-CanBeDone (ToMerge db name) = (is_delta db ≡ false) × (is_delta name ≡ false)
-CanBeDone (ToRestore db names) = (is_delta db ≡ false) × AllByRecursion (λ (name : List ℕ). is_delta name ≡ false) names × (1 ≤ length names)
-CanBeDone (ToFold out names) = (is_delta out ≡ false) × AllByRecursion (λ (name : List ℕ). is_delta name ≡ false) names × (2 ≤ length names)
-CanBeDone (ToPlan keep names) = Unit {0}
-
--- so it is of what is asked for
+-- so it is of what is asked for; a deed fits
 abbrev pub CanBeMet : Asked → Type 0
 CanBeMet (Runs (Err refusal)) = Unit {0}
 CanBeMet (Runs (Ok r)) = CanBeAsked r
-CanBeMet (Does deed) = CanBeDone deed
-
--- The names of a job that words give.
-abbrev IfJob : Option Job → Type 0
-IfJob None = Unit {0}
-IfJob (Some job) = FitsJob job
-
-if_fits : (b : Bool) (job : Job) → (b ≡ true → FitsJob job) → IfJob (job_if b job)
-if_fits true job fits = fits refl
-if_fits false job fits = tt
-
-lock_fits : (plain : List Word) → IfJob (database_job Lock plain)
-lock_fits [] = tt
-lock_fits (db ∷ []) = if_fits (is_database db) (Lock db) (λ is. is)
-lock_fits (db ∷ w ∷ ws) = tt
-
-unlock_fits : (plain : List Word) → IfJob (database_job Unlock plain)
-unlock_fits [] = tt
-unlock_fits (db ∷ []) = if_fits (is_database db) (Unlock db) (λ is. is)
-unlock_fits (db ∷ w ∷ ws) = tt
-
-sized_fits : (plain : List Word) → IfJob (database_job LockWithSize plain)
-sized_fits [] = tt
-sized_fits (db ∷ []) = if_fits (is_database db) (LockWithSize db) (λ is. is)
-sized_fits (db ∷ w ∷ ws) = tt
-
-fixup_fits : (plain : List Word) → IfJob (database_job Fixup plain)
-fixup_fits [] = tt
-fixup_fits (db ∷ []) = if_fits (is_database db) (Fixup db) (λ is. is)
-fixup_fits (db ∷ w ∷ ws) = tt
-
-apply_fits : (plain : List Word) → IfJob (apply_job plain)
-apply_fits [] = tt
-apply_fits (db ∷ []) = tt
-apply_fits (db ∷ file ∷ []) = if_fits (is_database db && is_file file) (Apply db file) (λ is. and_parts (is_database db) (is_file file) is)
-apply_fits (db ∷ file ∷ w ∷ ws) = tt
-
-restore_fits : (plain : List Word) → IfJob (restore_job plain)
-restore_fits [] = tt
-restore_fits (db ∷ files) = if_fits (is_database db && nat_le 1 (length files) && nat_le (length files) 10 && list_all is_file files) (Restore db files) fits
-  where
-    fits : (is_database db && nat_le 1 (length files) && nat_le (length files) 10 && list_all is_file files) ≡ true → FitsJob (Restore db files)
-    fits is =
-        let all = and_parts (is_database db && nat_le 1 (length files) && nat_le (length files) 10) (list_all is_file files) is in
-        let few = and_parts (is_database db && nat_le 1 (length files)) (nat_le (length files) 10) all.0 in
-        let some = and_parts (is_database db) (nat_le 1 (length files)) few.0 in
-        (some.0, leb-true 1 (length files) some.1, leb-true (length files) 10 few.1, all.1)
-
-backup_fits : (plain : List Word) → IfJob (backup_job plain)
-backup_fits [] = tt
-backup_fits (since ∷ []) = tt
-backup_fits (since ∷ db ∷ []) = tt
-backup_fits (since ∷ db ∷ file ∷ []) = by _
-  where
-    is_level : Bool
-    is_level = length since == 1 && (nat_le 48 (slice_index since 0) && nat_le (slice_index since 0) 57) && is_database db && is_file file
-
-    fits : is_level ≡ true → FitsJob (Backup (slice_index since 0 - 48) db file)
-    fits is =
-        let all = and_parts (length since == 1 && (nat_le 48 (slice_index since 0) && nat_le (slice_index since 0) 57) && is_database db) (is_file file) is in
-        let names = and_parts (length since == 1 && (nat_le 48 (slice_index since 0) && nat_le (slice_index since 0) 57)) (is_database db) all.0 in
-        let digit = and_parts (length since == 1) (nat_le 48 (slice_index since 0) && nat_le (slice_index since 0) 57) names.0 in
-        let most = leb-true (slice_index since 0) 57 (and_parts (nat_le 48 (slice_index since 0)) (nat_le (slice_index since 0) 57) digit.1).1 in
-        (omega (arith, most), names.1, all.1)
-
-    by : (guid : Option (List ℕ)) → IfJob (elim guid as (λ z. Option Job) [ Some g ↦ job_if (is_database db && is_file file) (BackupSince g db file) | None ↦ job_if is_level (Backup (slice_index since 0 - 48) db file) ])
-    by (Some g) = if_fits (is_database db && is_file file) (BackupSince g db file) (λ is. and_parts (is_database db) (is_file file) is)
-    by None = if_fits is_level (Backup (slice_index since 0 - 48) db file) fits
-backup_fits (since ∷ db ∷ file ∷ w ∷ ws) = tt
-
-one_fits : (verb name : Word) → is_database name ≡ true → IfJob (asks_one verb name)
-one_fits verb name is = by (same_name verb (codes "stat")) (same_name verb (codes "check"))
-  where
-    by : (s c : Bool) → IfJob (elim s as (λ z. Option Job) [ true ↦ Some (Stat name) | false ↦ elim c as (λ z. Option Job) [ true ↦ Some (Check name) | false ↦ job_if (same_name verb (codes "reclaim")) (Reclaim name) ] ])
-    by true c = is
-    by false true = is
-    by false false = if_fits (same_name verb (codes "reclaim")) (Reclaim name) (λ yes. is)
-
-named_fits : (plain : List Word) → IfJob (named_job plain)
-named_fits [] = tt
-named_fits (verb ∷ []) = tt
-named_fits (verb ∷ name ∷ []) = by (same_name verb (codes "run")) (is_database name) refl
-  where
-    by : (b d : Bool) → is_database name ≡ d → IfJob (elim b as (λ z. Option Job) [ true ↦ job_if (is_file name) (Run name) | false ↦ elim d as (λ z. Option Job) [ true ↦ asks_one verb name | false ↦ None ] ])
-    by true d is = if_fits (is_file name) (Run name) (λ yes. tt)
-    by false true is = one_fits verb name is
-    by false false is = tt
-named_fits (verb ∷ name ∷ w ∷ ws) = tt
-
-gen_fits : (number name : Word) → IfJob (gen_job number name)
-gen_fits number name = by (number_in_word number)
-  where
-    by : (n : Option ℕ) → IfJob (elim n as (λ z. Option Job) [ None ↦ None | Some k ↦ job_if (is_file name) (Gen k name) ])
-    by None = tt
-    by (Some k) = if_fits (is_file name) (Gen k name) (λ is. is)
-
-plan_fits : (keep list : Word) → IfJob (plan_job keep list)
-plan_fits keep list = by (count_in_word keep)
-  where
-    by : (n : Option ℕ) → IfJob (elim n as (λ z. Option Job) [ None ↦ None | Some k ↦ job_if (is_file list) (PlanOf k list) ])
-    by None = tt
-    by (Some k) = if_fits (is_file list) (PlanOf k list) (λ is. tt)
-
-three_fits : (plain : List Word) → IfJob (gen_or_plan plain)
-three_fits [] = tt
-three_fits (verb ∷ []) = tt
-three_fits (verb ∷ name ∷ []) = tt
-three_fits (verb ∷ number ∷ name ∷ []) = by (same_name verb (codes "gen")) (same_name verb (codes "plan"))
-  where
-    by : (a b : Bool) → IfJob (elim a as (λ z. Option Job) [ true ↦ gen_job number name | false ↦ elim b as (λ z. Option Job) [ true ↦ plan_job number name | false ↦ None ] ])
-    by true b = gen_fits number name
-    by false true = plan_fits number name
-    by false false = tt
-three_fits (verb ∷ number ∷ name ∷ w ∷ ws) = tt
-
-fold_fits : (plain : List Word) → IfJob (fold_job plain)
-fold_fits [] = tt
-fold_fits (verb ∷ []) = tt
-fold_fits (verb ∷ out ∷ files) = if_fits (same_name verb (codes "fold") && is_file out && nat_le 2 (length files) && nat_le (length files) 9 && list_all is_file files) (Fold out files) fits
-  where
-    fits : (same_name verb (codes "fold") && is_file out && nat_le 2 (length files) && nat_le (length files) 9 && list_all is_file files) ≡ true → FitsJob (Fold out files)
-    fits is =
-        let all = and_parts (same_name verb (codes "fold") && is_file out && nat_le 2 (length files) && nat_le (length files) 9) (list_all is_file files) is in
-        let few = and_parts (same_name verb (codes "fold") && is_file out && nat_le 2 (length files)) (nat_le (length files) 9) all.0 in
-        let some = and_parts (same_name verb (codes "fold") && is_file out) (nat_le 2 (length files)) few.0 in
-        ((and_parts (same_name verb (codes "fold")) (is_file out) some.0).1, leb-true 2 (length files) some.1, leb-true (length files) 9 few.1, all.1)
-
-plain_fits : (plain : List Word) → IfJob (plain_job plain)
-plain_fits [] = tt
-plain_fits (verb ∷ []) = tt
-plain_fits (verb ∷ name ∷ []) = named_fits (verb ∷ name ∷ [])
-plain_fits (verb ∷ number ∷ name ∷ []) = three_fits (verb ∷ number ∷ name ∷ [])
-plain_fits (verb ∷ out ∷ file ∷ other ∷ files) = fold_fits (verb ∷ out ∷ file ∷ other ∷ files)
-
-flags_fit : (flags : List ℕ) (rows : List (List ℕ × Option Job)) → AllByRecursion (λ (row : List ℕ × Option Job). IfJob row.1) rows → IfJob (job_of_flags flags rows)
-unfolding job_of_flags
-flags_fit flags [] all = tt
-flags_fit flags (row ∷ rows) all = by (are_flags flags row.0) (flags_fit flags rows all.1)
-  where
-    by : (b : Bool) → IfJob (job_of_flags flags rows) → IfJob (elim b as (λ z. Option Job) [ true ↦ row.1 | false ↦ job_of_flags flags rows ])
-    by true later = all.0
-    by false later = later
-
-flags_fits : (read : Read) → IfJob (job_read read)
-unfolding job_read
-flags_fits read = flags_fit read.flags _
-    (plain_fits read.plain, (backup_fits read.plain, (restore_fits read.plain, (apply_fits read.plain, (lock_fits read.plain, (sized_fits read.plain, (unlock_fits read.plain, (fixup_fits read.plain, tt))))))))
-
-words_fit : (words : List Word) → IfJob (job_of words)
-unfolding job_of
-words_fit words = by (read_words words)
-  where
-    by : (read : Option Read) → IfJob (elim read as (λ z. Option Job) [ None ↦ None | Some r ↦ job_read r ])
-    by None = tt
-    by (Some r) = flags_fits r
-
-pub fits_words : (words : List Word) (job : Job) → job_of words ≡ Some job → FitsJob job
-fits_words words job is = subst IfJob is (words_fit words)
+CanBeMet (Does deed) = FitsDeed deed
 
 -- what the words ask for
 pub asked_usage : (files : Files) (words : List Word) → job_of words ≡ None → request_asked files words ≡ Runs (Err Usage)
@@ -235,22 +78,6 @@ plan_askable db statements is further short = record {
   further = λ session. these_further statements further (session - 1);
 }
 
-pub begin_askable : (db : List ℕ) → is_database db ≡ true → IsAskable (plan_of db (BeginBackup ∷ []))
-begin_askable db is = plan_askable db (BeginBackup ∷ []) is (record { opens_none = refl; fits = tt }, tt) (omega arith)
-
-pub end_askable : (db : List ℕ) → is_database db ≡ true → IsAskable (plan_of db (EndBackup ∷ []))
-end_askable db is = plan_askable db (EndBackup ∷ []) is (record { opens_none = refl; fits = tt }, tt) (omega arith)
-
-pub stat_askable : (db : List ℕ) → is_database db ≡ true → IsAskable (plan_of db (ShowHeader ∷ ShowPages ∷ []))
-stat_askable db is =
-    plan_askable db (ShowHeader ∷ ShowPages ∷ []) is (record { opens_none = refl; fits = tt }, (record { opens_none = refl; fits = tt }, tt)) (omega arith)
-
-pub check_askable : (db : List ℕ) → is_database db ≡ true → IsAskable (plan_of db (CheckIt ∷ []))
-check_askable db is = plan_askable db (CheckIt ∷ []) is (record { opens_none = refl; fits = tt }, tt) (omega arith)
-
-pub reclaim_askable : (db : List ℕ) → is_database db ≡ true → IsAskable (plan_of db (ReclaimIt ∷ []))
-reclaim_askable db is = plan_askable db (ReclaimIt ∷ []) is (record { opens_none = refl; fits = tt }, tt) (omega arith)
-
 -- a name of a file has 100 bytes at most
 file_given : (name : List ℕ) → is_file name ≡ true → IsFile name
 file_given name is =
@@ -263,11 +90,19 @@ file_given name is =
     three true false d h k l = k
     three false b d h k l = h
 
-pub backup_askable : (level : ℕ) (db file : List ℕ) → FitsJob (Backup level db file) → IsAskable (plan_of db (BackupTo level file ∷ []))
-backup_askable level db file fits = plan_askable db (BackupTo level file ∷ []) fits.1 (record { opens_none = refl; fits = (fits.0, file_given file fits.2) }, tt) (omega arith)
+-- what is asked of a database
+further_asked : (ask : Ask) → FitsAsk ask → AllByRecursion IsFurther (asks_of ask)
+further_asked (Backup level file) fits = (record { opens_none = refl; fits = (fits.0, file_given file fits.1) }, tt)
+further_asked (BackupSince guid file) fits = (record { opens_none = refl; fits = file_given file fits }, tt)
+further_asked Stat fits = (record { opens_none = refl; fits = tt }, (record { opens_none = refl; fits = tt }, tt))
+further_asked other fits = (record { opens_none = refl; fits = tt }, tt)
 
-pub since_askable : (guid db file : List ℕ) → FitsJob (BackupSince guid db file) → IsAskable (plan_of db (BackupOf guid file ∷ []))
-since_askable guid db file fits = plan_askable db (BackupOf guid file ∷ []) fits.0 (record { opens_none = refl; fits = file_given file fits.1 }, tt) (omega arith)
+few_asked : (ask : Ask) → length (asks_of ask) ≤ 2
+few_asked Stat = omega arith
+few_asked other = omega arith
+
+pub attach_askable : (db : List ℕ) (ask : Ask) → is_database db ≡ true → FitsAsk ask → IsAskable (plan_of db (asks_of ask))
+attach_askable db ask is fits = plan_askable db (asks_of ask) is (further_asked ask fits) (few_asked ask)
 
 -- A script that a file spells can be asked.
 err_ok : (refusal : Refusal) (plan : Plan) → Err refusal ≡ Ok plan → ⊥
@@ -282,28 +117,50 @@ pub spelled_can : (bytes : List ℕ) (s : Result Plan Refusal) → script_of byt
 spelled_can bytes (Ok plan) is = answer_is_askable bytes (Ok plan) is
 spelled_can bytes (Err refusal) is = tt
 
-not_true : (b : Bool) → not b ≡ true → b ≡ false
-not_true true h = cc
-not_true false h = refl
+-- a list that some bytes spell has 1,000 names at most
+abbrev HasFew : (most : ℕ) → Result (List (List ℕ)) Refusal → Type 0
+HasFew most (Ok names) = length names ≤ most
+HasFew most (Err refusal) = Unit {0}
 
--- no file that words name is a difference file
-pub plain_file : (name : List ℕ) → is_file name ≡ true → is_delta name ≡ false
-plain_file name is = not_true (is_delta name) (and_parts (is_name name) (not (is_delta name)) is).1
+first_few : (most : ℕ) (name : List ℕ) (rest : Result (List (List ℕ)) Refusal) → HasFew most rest → HasFew (suc most) (with_first name rest)
+first_few most name (Ok names) few = omega (arith, few)
+first_few most name (Err refusal) few = tt
 
-plain_files : (names : List (List ℕ)) → list_all is_file names ≡ true → AllByRecursion (λ (name : List ℕ). is_delta name ≡ false) names
-plain_files [] all = tt
-plain_files (name ∷ names) all = let parts = and_parts (is_file name) (list_all is_file names) all in (plain_file name parts.0, plain_files names parts.1)
+names_few : (most : ℕ) (before : List (List ℕ)) (lines : List Numbered) → HasFew most (names_on most before lines)
+unfolding names_on
+names_few zero before [] = omega arith
+names_few (suc most) before [] = omega arith
+names_few zero before (line ∷ lines) = tt
+names_few (suc most) before (line ∷ lines) = by (is_next before line.1) (names_few most (before ++ line.1 ∷ []) lines)
+  where
+    by : (b : Bool) → HasFew most (names_on most (before ++ line.1 ∷ []) lines) → HasFew (suc most) (if b then with_first line.1 (names_on most (before ++ line.1 ∷ []) lines) else Err (BadScript line.0))
+    by true rest = first_few most line.1 (names_on most (before ++ line.1 ∷ []) lines) rest
+    by false rest = tt
 
-restore_asked : (db : List ℕ) (names : List (List ℕ)) → FitsJob (Restore db names) → CanBeDone (ToRestore db names)
-restore_asked db names fits = (plain_file db (and_parts (is_file db) (nat_le (length db) 94) fits.0).0, plain_files names fits.3, fits.1)
+some_few : (count : ℕ) (lines : List Numbered) → HasFew 1000 (some_names_on count lines)
+unfolding some_names_on
+some_few count [] = tt
+some_few count (line ∷ lines) = names_few 1000 [] (line ∷ lines)
 
-fold_asked : (out : List ℕ) (names : List (List ℕ)) → FitsJob (Fold out names) → CanBeDone (ToFold out names)
-fold_asked out names fits = (plain_file out fits.0, plain_files names fits.3, fits.1)
+list_few : (bytes : List ℕ) → HasFew 1000 (list_of bytes)
+unfolding list_of
+list_few bytes = by (nat_lt 1048576 (length bytes))
+  where
+    by : (b : Bool) → HasFew 1000 (if b then Err (ScriptLong (length bytes)) else some_names_on (length (lines_of bytes)) (left 0 bytes))
+    by true = tt
+    by false = some_few (length (lines_of bytes)) (left 0 bytes)
 
--- a plan can be made of any list
-pub plan_can : (keep : ℕ) (names : Result (List (List ℕ)) Refusal) → CanBeMet (to_plan keep names)
-plan_can keep (Ok names) = tt
-plan_can keep (Err refusal) = tt
+-- so they can be planned for
+plan_can : (keep : ℕ) (names : Result (List (List ℕ)) Refusal) → HasFew 1000 names → CanBeMet (to_plan keep names)
+plan_can keep (Ok names) few = few
+plan_can keep (Err refusal) few = tt
+
+pub list_can : (keep : ℕ) (bytes : List ℕ) → CanBeMet (to_plan keep (list_of bytes))
+list_can keep bytes = plan_can keep (list_of bytes) (list_few bytes)
+
+pub listed_can : (keep : ℕ) (list : List ℕ) (file : File) → CanBeMet (to_plan keep (names_in list file))
+listed_can keep list None = tt
+listed_can keep list (Some bytes) = list_can keep bytes
 
 -- What the words ask for can be asked.
 module _ (files : Files) where
@@ -313,20 +170,10 @@ module _ (files : Files) where
 
   pub job_can : (job : Job) → FitsJob job → CanBeMet (request_of files job)
   job_can (Run name) fits = script_can name (script_in name (files name)) refl
-  job_can (Backup level db file) fits = backup_askable level db file fits
-  job_can (BackupSince guid db file) fits = since_askable guid db file fits
-  job_can (Stat db) fits = stat_askable db fits
-  job_can (Check db) fits = check_askable db fits
-  job_can (Reclaim db) fits = reclaim_askable db fits
-  job_can (Lock db) fits = begin_askable db fits
-  job_can (LockWithSize db) fits = begin_askable db fits
-  job_can (Unlock db) fits = end_askable db fits
   job_can (Gen number name) fits = plain_file name fits
-  job_can (Fixup db) fits = plain_file db (and_parts (is_file db) (nat_le (length db) 94) fits).0
-  job_can (Restore db names) fits = restore_asked db names fits
-  job_can (Fold out names) fits = fold_asked out names fits
-  job_can (PlanOf keep list) fits = plan_can keep (names_in list (files list))
-  job_can (Apply db file) fits = (plain_file db (and_parts (is_file db) (nat_le (length db) 94) fits.0).0, plain_file file fits.1)
+  job_can (Attach db ask) fits = attach_askable db ask fits.0 fits.1
+  job_can (Turn deed) fits = fits
+  job_can (PlanOf keep list) fits = listed_can keep list (files list)
 
   pub can_be_asked : (words : List Word) → CanBeMet (request_asked files words)
   can_be_asked words = by (job_of words) refl

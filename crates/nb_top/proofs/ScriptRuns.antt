@@ -6,6 +6,7 @@ use Rattle.nb_fields.specs.Fresh.{fresh}
 use Rattle.nb_host.specs.World.{World}
 use Rattle.nb_host.specs.declared.faults.Fault.{Fault}
 use Rattle.nb_host.specs.declared.refusals.Refusal.{Refusal}
+use Rattle.nb_host.specs.declared.faults.RunError.{RunError}
 use Rattle.nb_change.specs.Gave.{GaveNothing}
 use Rattle.nb_page.specs.Quiet.{Quiet}
 use Rattle.nb_model.specs.declared.statement.Statement.{Statement}
@@ -16,7 +17,6 @@ use Rattle.nb_state.specs.Beginnings.{Attaches, Creates}
 use Rattle.nb_state.specs.Open.{Held}
 use Rattle.nb_script.specs.Asked.{IsFirst, IsAskable}
 use Rattle.nb_script.specs.Scripts.{Plan}
-use Rattle.nb_session.specs.declared.stop.Stop.{Stop}
 use Rattle.nb_top.specs.declared.status.Status.{Status}
 use Rattle.nb_top.specs.Performed.{cache_asked, RunsTo, Knows, KnowsOpened, MayBeGiven}
 use Rattle.nb_top.specs.declared.telling.Telling.{Telling}
@@ -27,10 +27,10 @@ use Rattle.nb_top.proofs.CreatingRuns.{creates_begins, creating_unbegun}
 use Rattle.nb_top.proofs.ReopeningRuns.{attaches_begins, open_fails}
 
 -- a result that is a failure
-pub runs_err : (result : Result Status Stop) → IsErr result → (P : Result Status Stop → Type 0) → ((e : Stop) → P (Err e)) → P result
+pub runs_err : (result : Result Status RunError) → IsErr result → (P : Result Status RunError → Type 0) → ((e : RunError) → P (Err e)) → P result
 runs_err (Ok x) is P runs = absurd (no_err is)
   where
-    no_err : IsErr {T = Status} {E = Stop} (Ok x) → ⊥
+    no_err : IsErr {T = Status} {E = RunError} (Ok x) → ⊥
     no_err h = cc
 runs_err (Err e) is P runs = runs e
 
@@ -59,7 +59,7 @@ module _ (old : World) (account : Account) (given : Given) (plan : Plan) (tellin
   knows_opened first is = subst (λ (s : Statement). KnowsOpened old.files account s) is knows.1
 
   -- nothing happened
-  pub script_unbegun : (new : World) (e : Stop) → Quiet old new → RunsTo (Err e) old new (Ok (ToRun plan telling)) account given
+  pub script_unbegun : (new : World) (e : RunError) → Quiet old new → RunsTo (Err e) old new (Ok (ToRun plan telling)) account given
   script_unbegun new e quiet = by (first_opens plan.first askable.first)
     where
       by : Opens plan.first → RunsTo (Err e) old new (Ok (ToRun plan telling)) account given

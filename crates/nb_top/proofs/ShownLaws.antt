@@ -3,10 +3,11 @@ use Rattle.std.proofs.Common.{◌≡◌, ◌≢◌, ℕ, List, sym, ap, subst}
 use Rattle.std.specs.Prelude.{Option, Some, None, Result, Ok, Err, IsErr}
 use Rattle.nb_host.specs.declared.refusals.Refusal.{Refusal}
 use Rattle.nb_host.specs.declared.refusals.Refusal.TheVariants.{BadScript, Usage}
-use Rattle.nb_session.specs.declared.stop.Stop.{Stop}
+use Rattle.nb_host.specs.declared.faults.RunError.{RunError}
+use Rattle.nb_model.specs.declared.job.Deed.{Deed}
 use Rattle.nb_top.specs.declared.broken.Broken.{Broken}
 use Rattle.nb_top.specs.declared.status.Status.{Status}
-use Rattle.nb_top.specs.Requests.{Request, Deed, Asked, Runs, Does, to_plan}
+use Rattle.nb_top.specs.Requests.{Request, Asked, Runs, Does, to_plan}
 use Rattle.nb_top.specs.Shown.{Names, BreaksAt, IfShown, IsShownOf}
 
 -- it isn't refused for a line
@@ -28,12 +29,12 @@ pub usage_unbroken : IsUnbroken (Runs (Err Usage))
 usage_unbroken line h = cc
 
 -- nothing was noted
-pub unshown : (result : Result Status Stop) (broken : Option Broken) (asked : Asked) → broken ≡ None → IsUnbroken asked → IsShownOf result broken asked
+pub unshown : (result : Result Status RunError) (broken : Option Broken) (asked : Asked) → broken ≡ None → IsUnbroken asked → IsShownOf result broken asked
 unshown (Ok status) broken asked none other = subst (λ (b : Option Broken). BreaksAt b asked) (sym none) other
 unshown (Err e) broken asked none other = subst (λ (b : Option Broken). IfShown b asked) (sym none) tt
 
 -- where it ended early nothing has to be
-pub unshown_early : (result : Result Status Stop) (broken : Option Broken) (asked : Asked) → broken ≡ None → IsErr result → IsShownOf result broken asked
+pub unshown_early : (result : Result Status RunError) (broken : Option Broken) (asked : Asked) → broken ≡ None → IsErr result → IsShownOf result broken asked
 unshown_early (Ok status) broken asked none failed = absurd (cc failed)
 unshown_early (Err e) broken asked none failed = subst (λ (b : Option Broken). IfShown b asked) (sym none) tt
 
@@ -41,7 +42,7 @@ pub same_refusal : (r q : Refusal) → Runs (Err r) ≡ Runs (Err q) → r ≡ q
 same_refusal r q h = cc
 
 -- what was noted is the line of the refusal
-pub shown_by : (result : Result Status Stop) (broken : Option Broken) (refusal : Refusal) → Names broken refusal → IsShownOf result broken (Runs (Err refusal))
+pub shown_by : (result : Result Status RunError) (broken : Option Broken) (refusal : Refusal) → Names broken refusal → IsShownOf result broken (Runs (Err refusal))
 shown_by (Ok status) (Some b) refusal names = ap (λ (r : Refusal). Runs (Err r)) names
 shown_by (Ok status) None refusal names = λ line h. names line (same_refusal refusal (BadScript line) h)
 shown_by (Err e) (Some b) refusal names = ap (λ (r : Refusal). Runs (Err r)) names

@@ -9,6 +9,7 @@ use Rattle.nb_host.specs.Moments.{IsTimely, AtEachMoment}
 use Rattle.nb_host.specs.declared.faults.Fault.{Fault}
 use Rattle.nb_host.specs.declared.faults.Fault.TheVariants.{Refused as RefusedFault}
 use Rattle.nb_host.specs.declared.refusals.Refusal.{Refusal}
+use Rattle.nb_host.specs.declared.faults.RunError.{RunError}
 use Rattle.nb_change.specs.Changes.{Other}
 use Rattle.nb_change.specs.Gave.{GaveNothing}
 use Rattle.nb_change.proofs.MomentLaws.{joined, left_before, weaker}
@@ -22,7 +23,6 @@ use Rattle.nb_model.specs.Output.{output, status_after, status_of}
 use Rattle.nb_model.specs.Run.{Event, replies_of}
 use Rattle.nb_model.proofs.OutputLaws.{output_one, status_one}
 use Rattle.nb_model.proofs.StatusLaws.{status_refused}
-use Rattle.nb_session.specs.declared.stop.Stop.{Stop}
 use Rattle.nb_session.specs.Says.{FrontSaid, SaysLine}
 use Rattle.nb_session.specs.Stops.{IsSaid}
 use Rattle.nb_session.proofs.OthersLaws.{now_left}
@@ -110,7 +110,7 @@ module _ (old mid : World) (job : OneTurn) (turn : Event) (quiet : Quiet old mid
   quiet_gave = record { guids = quiet.guids; times = quiet.times }
 
   -- so it ended early
-  pub quiet_turn : (account : Account) → turn ≡ job.turn account → (e : Stop) → TurnsTo (Err e) old mid job account
+  pub quiet_turn : (account : Account) → turn ≡ job.turn account → (e : RunError) → TurnsTo (Err e) old mid job account
   quiet_turn account is e =
       subst (λ (t : Event). AtEachMoment old mid (TurnLeft (Leaves old) old job t) → TurnLeft (Read old.files) old job t mid.files mid.said → TurnsTo (Err e) old mid job account) (sym is)
       (λ stops reads. record { stops = stops; reads = reads; gave = quiet_gave; ended = tt }) quiet_stops quiet_reads
@@ -135,7 +135,7 @@ module _ (old mid : World) (job : OneTurn) (account : Account) (result : Result 
       by false is = way_left old job turn (Read old.files) mid.files mid.said is serves.left.said serves.reads serves.left.others_read
 
   -- It ended early.
-  pub turn_fails : (e : Stop) → TurnsTo (Err e) old mid job account
+  pub turn_fails : (e : RunError) → TurnsTo (Err e) old mid job account
   turn_fails e = record { stops = call_stops; reads = call_reads; gave = serves.gave; ended = tt }
 
   -- A line is said after it.
@@ -168,7 +168,7 @@ module _ (old mid : World) (job : OneTurn) (account : Account) (result : Result 
     refusal_line = ap (λ (e : Event). output (e ∷ [])) refused.is ∙ output_one (only_refusal refusal) (RefusedReply refusal) refl
 
     module _ (new : World) (timely : IsTimely new) (reads_left : LeavesAll new new.files) {S E : Type 0} (told : Result S E) (says : SaysLine told mid new (line_text 1 (RefusedReply refusal))) where
-      pub turn_refused : (end : Result Status Stop) → IfOk end (λ status. status ≡ Refused) → OnOk end (new.said ≡ mid.said ++ line_text 1 (RefusedReply refusal)) → TurnsTo end old new job account
+      pub turn_refused : (end : Result Status RunError) → IfOk end (λ status. status ≡ Refused) → OnOk end (new.said ≡ mid.said ++ line_text 1 (RefusedReply refusal)) → TurnsTo end old new job account
       turn_refused end as_refused said = record {
         stops = joined old mid new _ _ _ call_stops says.moments (λ files now left. left)
             (λ files now front. told_left old job turn (Leaves old) files now none (said_then new timely reads_left (RefusedReply refusal) told says refusal_line files now front)
@@ -182,7 +182,7 @@ module _ (old mid : World) (job : OneTurn) (account : Account) (result : Result 
           number : number_of Refused ≡ status_of (replies_of (turn ∷ []))
           number = sym (ap (λ (e : Event). status_of (replies_of (e ∷ []))) refused.is ∙ status_one (only_refusal refusal) (RefusedReply refusal) refl ∙ status_refused refusal refused.other)
 
-          by : (end : Result Status Stop) → IfOk end (λ status. status ≡ Refused) → OnOk end (new.said ≡ mid.said ++ line_text 1 (RefusedReply refusal)) → IfOk end (λ status. TurnEnded status old new job turn)
+          by : (end : Result Status RunError) → IfOk end (λ status. status ≡ Refused) → OnOk end (new.said ≡ mid.said ++ line_text 1 (RefusedReply refusal)) → IfOk end (λ status. TurnEnded status old new job turn)
           by (Ok status) e whole = record {
             said = said_all new timely reads_left (RefusedReply refusal) told says refusal_line whole;
             ended = ap number_of e ∙ number;
@@ -232,7 +232,7 @@ module _ (old mid : World) (job : OneTurn) (account : Account) (result : Result 
               (λ m off. same_now m ∙ serves.left.others_read m off)
 
       -- not to its end
-      pub turn_unsaid : (e : Stop) → TurnsTo (Err e) old new job account
+      pub turn_unsaid : (e : RunError) → TurnsTo (Err e) old new job account
       turn_unsaid e = record { stops = done_stops; reads = done_reads; gave = gave_nothing new timely reads_left reply told says reply_line; ended = tt }
 
       pub turn_done : new.said ≡ mid.said ++ line_text 1 reply → TurnsTo (Ok Done) old new job account
@@ -287,7 +287,7 @@ module _ (old mid new : World) (quiet : Quiet old mid) (job : OneTurn) (account 
           by false e (inl (inr half, none)) = inl (inr half, none)
           by false e (inr done) = inr done
 
-  pub turn_quietly : (result : Result Status Stop) → TurnsTo result mid new job account → TurnsTo result old new job account
+  pub turn_quietly : (result : Result Status RunError) → TurnsTo result mid new job account → TurnsTo result old new job account
   turn_quietly result turns = record {
     stops = joined old mid new _ _ _ (quiet_stops old mid job its_turn quiet) turns.stops (λ files said left. left) (since (Leaves old) (Leaves mid) was_before);
     reads = since (Read old.files) (Read mid.files) (λ m file same. same ∙ ap (λ (f : Files). f m) quiet.still.files) new.files new.said turns.reads;
@@ -295,7 +295,7 @@ module _ (old mid new : World) (quiet : Quiet old mid) (job : OneTurn) (account 
     ended = by result turns.ended;
   }
     where
-      by : (r : Result Status Stop) → IfOk r (λ status. TurnEnded status mid new job its_turn) → IfOk r (λ status. TurnEnded status old new job its_turn)
+      by : (r : Result Status RunError) → IfOk r (λ status. TurnEnded status mid new job its_turn) → IfOk r (λ status. TurnEnded status old new job its_turn)
       by (Ok status) ended = record {
         said = ended.said ∙ ap (λ (s : List ℕ). s ++ output (its_turn ∷ [])) quiet.said;
         ended = ended.ended;

@@ -7,6 +7,7 @@
 use Rattle.std.specs.Prelude.{◌≡◌, ◌⊎◌, ℕ, List, Bool, None, Some, Result, Ok, Err, IsErr}
 use Rattle.nb_host.specs.World.{World}
 use Rattle.nb_host.specs.declared.refusals.Refusal.{Refusal}
+use Rattle.nb_host.specs.declared.faults.RunError.{RunError}
 use Rattle.nb_change.specs.Changes.{Only}
 use Rattle.nb_model.specs.Account.{Plain, Account, Base, with_entry}
 use Rattle.nb_model.specs.Causes.{not_free}
@@ -19,7 +20,6 @@ use Rattle.nb_state.specs.Open.{Held}
 use Rattle.nb_script.specs.Scripts.{Plan, script_of}
 use Rattle.nb_session.specs.ByTurns.{GoesByTurns}
 use Rattle.nb_session.specs.Others.{LeavesOthers}
-use Rattle.nb_session.specs.declared.stop.Stop.{Stop}
 use Rattle.nb_top.specs.declared.status.Status.{Status}
 use Rattle.nb_top.specs.declared.status.Status.TheVariants.{Device, Memory}
 use Rattle.nb_top.specs.declared.telling.Telling.{Telling}
@@ -28,7 +28,7 @@ use Rattle.nb_top.specs.Performed.{PlaysOpened, PlaysTold, pages_first, told_lat
 use Rattle.nb_top.specs.Requests.{Request, ToRun, ToGenerate, Asked, Runs, Does}
 
 -- a call of the host failed, or memory ran out
-abbrev pub EndsEarly : Result Status Stop → Type 0
+abbrev pub EndsEarly : Result Status RunError → Type 0
 EndsEarly (Ok Device) = Unit {0}
 EndsEarly (Ok Memory) = Unit {0}
 EndsEarly (Ok other) = ⊥
@@ -81,11 +81,11 @@ AskedByTurns world early old new (Runs asked) account given = RunByTurns world e
 AskedByTurns world early old new (Does deed) account given = Unit {0}
 
 -- The script's turns were taken and told: what is said of all of them, and of each.
-pub record TakesTold {H : Type 0} (world : H → World) (result : Result Bool Stop) (old new : H) (before after : Held) (t : Trail) (telling : Telling) (pages : ℕ) (now : Now) (schedule : List ℕ) : Type 0 where
+pub record TakesTold {H : Type 0} (world : H → World) (result : Result Bool RunError) (old new : H) (before after : Held) (t : Trail) (telling : Telling) (pages : ℕ) (now : Now) (schedule : List ℕ) : Type 0 where
   pub whole : PlaysTold result (world old) (world new) before after t telling pages now schedule
   pub turns : GoesByTurns world (told_later telling pages) old new now schedule
 
 -- The reply of the first statement was said, and then they were taken.
-pub record RunsOpened {H : Type 0} (world : H → World) (result : Result Bool Stop) (old new : H) (before after : Held) (start : Base) (first : Event) (telling : Telling) (pages : ℕ) (now : Now) (plan : Plan) : Type 0 where
+pub record RunsOpened {H : Type 0} (world : H → World) (result : Result Bool RunError) (old new : H) (before after : Held) (start : Base) (first : Event) (telling : Telling) (pages : ℕ) (now : Now) (plan : Plan) : Type 0 where
   pub whole : PlaysOpened result (world old) (world new) before after start first telling pages now plan
   pub turns : TurnsFrom world (IsErr result) (told_later telling pages) old new now plan.schedule

@@ -1,23 +1,23 @@
 -- What is done of what is asked for, in one record for all functions that do it.
 use Rattle.std.specs.Prelude.{ℕ, List, Bool, IsTrue, Result, Ok}
 use Rattle.nb_host.specs.World.{World}
+use Rattle.nb_host.specs.declared.faults.RunError.{RunError}
 use Rattle.nb_model.specs.Account.{Account}
 use Rattle.nb_model.specs.Gifts.{Foretells}
 use Rattle.nb_model.specs.Outcomes.{Given}
 use Rattle.nb_session.specs.Acts.{Grows}
-use Rattle.nb_session.specs.declared.stop.Stop.{Stop}
 use Rattle.nb_top.specs.declared.status.Status.{Status}
 use Rattle.nb_top.specs.ByTurns.{AskedByTurns, EndsEarly}
 use Rattle.nb_top.specs.Performed.{GoesTo, KnowsAsked, MayBeGiven, Performs}
 use Rattle.nb_top.specs.Requests.{Asked}
 
 -- It was done: what is said of all of it, and of each turn.
-pub record IsDone {H : Type 0} (world : H → World) (result : Result Status Stop) (old new : H) (asked : Asked) (account : Account) (given : Given) (done : Type 0) : Type 0 where
+pub record IsDone {H : Type 0} (world : H → World) (result : Result Status RunError) (old new : H) (asked : Asked) (account : Account) (given : Given) (done : Type 0) : Type 0 where
   pub whole : done
   pub turns : AskedByTurns world (EndsEarly result) old new asked account given
 
 -- It was done, up to its end or to what stopped it.
-pub record DoesAsked {H : Type 0} (world : H → World) (tells : Bool) (result : Result Status Stop) (old new : H) (asked : Asked) (done : Account → Given → Type 0) : Type 0 where
+pub record DoesAsked {H : Type 0} (world : H → World) (tells : Bool) (result : Result Status RunError) (old new : H) (asked : Asked) (done : Account → Given → Type 0) : Type 0 where
   -- Where an account knows what the files tell, and whatever GUIDs of 16 bytes and times may still be given. The numbers of pages in memory
   -- that were shown are the same for every account.
   pub does : IsTrue tells → (shown : List ℕ) × ((account : Account) (given : Given) → KnowsAsked (world old).files account asked → MayBeGiven given → Foretells given shown (world old) (world new)
@@ -26,7 +26,7 @@ pub record DoesAsked {H : Type 0} (world : H → World) (tells : Bool) (result :
   pub grows : (account : Account) → IsTrue tells → KnowsAsked (world old).files account asked → Grows (world old) (world new)
 
 -- what is done within a run
-abbrev pub Goes : {H : Type 0} → (world : H → World) → (tells : Bool) → (result : Result Status Stop) → (old new : H) → Asked → Type 0
+abbrev pub Goes : {H : Type 0} → (world : H → World) → (tells : Bool) → (result : Result Status RunError) → (old new : H) → Asked → Type 0
 Goes world tells result old new asked = DoesAsked world tells result old new asked (GoesTo result (world old) (world new) asked)
 
 -- what a run does that ends so

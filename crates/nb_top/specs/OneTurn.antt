@@ -1,9 +1,9 @@
 -- Jobs of one turn: what each asks for, does, and leaves half way, and what is promised of all of them.
 --
 -- Such a job opens no database. It may change one file, and no other: no difference file either. A job that only reads may change none. A new one is
--- a value of `OneTurn`, and a proof that its call serves it.
-use Rattle.std.specs.Prelude.{◌≡◌, ◌≢◌, ◌⊎◌, ℕ, List, [], ◌∷◌, ◌++◌, Bool, true, false, Option, None, Some, Ok}
-use Rattle.std.specs.List.{AllByRecursion}
+-- a value of `OneTurn`, with what fits it, and a proof that its call serves it.
+use Rattle.std.specs.Prelude.{◌≡◌, ◌≢◌, ◌⊎◌, ℕ, ◌≤◌, List, [], ◌∷◌, ◌++◌, length, Bool, true, false, Option, None, Some, Ok}
+use Rattle.std.specs.List.{AllByRecursion, list_all}
 use Rattle.nb_fields.specs.Free.{is_free_file}
 use Rattle.nb_fields.specs.Header.{guid_of, state_of}
 use Rattle.nb_host.specs.Files.{File, Files}
@@ -13,6 +13,8 @@ use Rattle.nb_host.specs.Moments.{AtEachMoment}
 use Rattle.nb_change.specs.Changes.{Names, NoNames, Only, Other}
 use Rattle.nb_change.specs.Gave.{GaveNothing}
 use Rattle.nb_page.specs.Free.{is_free_name}
+use Rattle.nb_model.specs.declared.job.Deed.{Deed}
+use Rattle.nb_model.specs.declared.job.Deed.TheVariants.{Restore, Fixup, Apply, Fold, Plan}
 use Rattle.nb_model.specs.Account.{Ask, Kept, Account, base_of}
 use Rattle.nb_model.specs.Causes.{is_free_entry}
 use Rattle.nb_model.specs.Image.{Image}
@@ -25,6 +27,7 @@ use Rattle.nb_model.specs.Run.{Event, replies_of}
 use Rattle.nb_model.specs.Stands.{IsKeptAs, IsSpan, nil}
 use Rattle.nb_model.specs.Strokes.{fixed, as_standby}
 use Rattle.nb_model.specs.Trail.{ShowsIn}
+use Rattle.nb_model.specs.Words.{is_database, is_file}
 use Rattle.nb_catalog.specs.Turns.{plan_turn}
 use Rattle.nb_fold.specs.Folding.{bytes_for, first_head, folded, last_head}
 use Rattle.nb_fold.specs.Verdict.{chained, fold_turn}
@@ -38,7 +41,6 @@ use Rattle.nb_session.specs.Stops.{IsSaid}
 use Rattle.nb_top.specs.declared.status.Status.{Status}
 use Rattle.nb_top.specs.declared.status.Status.TheVariants.{Device, Memory}
 use Rattle.nb_top.specs.Numbers.{number_of}
-use Rattle.nb_top.specs.Requests.{Deed, ToRestore, ToFix, ToMerge, ToFold, ToPlan}
 use Rattle.nb_top.specs.Standing.{HoldsKept, StandsFor}
 
 -- A job of one turn.
@@ -163,11 +165,19 @@ planning files keep names = record {
 
 -- the job
 abbrev pub one_turn : Files → Deed → OneTurn
-one_turn files (ToRestore db names) = restoring files db names
-one_turn files (ToFix db) = fixing files db
-one_turn files (ToMerge db name) = merging files db name
-one_turn files (ToFold out names) = folding files out names
-one_turn files (ToPlan keep names) = planning files keep names
+one_turn files (Restore db names) = restoring files db names
+one_turn files (Fixup db) = fixing files db
+one_turn files (Apply db name) = merging files db name
+one_turn files (Fold out names) = folding files out names
+one_turn files (Plan keep names) = planning files keep names
+
+-- its names are those that words may give, or a list, and no more and no fewer
+abbrev pub FitsDeed : Deed → Type 0
+FitsDeed (Restore db names) = (is_database db ≡ true) × (1 ≤ length names) × (length names ≤ 10) × (list_all is_file names ≡ true)
+FitsDeed (Fixup db) = is_database db ≡ true
+FitsDeed (Apply db name) = (is_database db ≡ true) × (is_file name ≡ true)
+FitsDeed (Fold out names) = (is_file out ≡ true) × (2 ≤ length names) × (length names ≤ 9) × (list_all is_file names ≡ true)
+FitsDeed (Plan keep names) = length names ≤ 1000
 
 -- a turn that makes no stroke and no file, as a refused one, or one that only tells something
 abbrev pub leaves_all : Event → Bool

@@ -20,6 +20,7 @@ use Rattle.nb_host.specs.Moments.{AtEachMoment}
 use Rattle.nb_host.specs.declared.faults.Fault.{Fault}
 use Rattle.nb_host.specs.declared.faults.Fault.TheVariants.{Refused as RefusedFault, Device as DeviceFault, Memory as MemoryFault}
 use Rattle.nb_host.specs.declared.refusals.Refusal.{Refusal}
+use Rattle.nb_host.specs.declared.faults.RunError.{RunError}
 use Rattle.nb_change.specs.Changes.{Other}
 use Rattle.nb_page.specs.Free.{is_free_name}
 use Rattle.nb_page.specs.Quiet.{Quiet}
@@ -46,7 +47,6 @@ use Rattle.nb_base.specs.Open.{OfFiles}
 use Rattle.nb_state.specs.Open.{Held}
 use Rattle.nb_gen.specs.Texts.{generated_first}
 use Rattle.nb_script.specs.Scripts.{Plan, script_of}
-use Rattle.nb_session.specs.declared.stop.Stop.{Stop}
 use Rattle.nb_state.specs.Does.{only_tells}
 use Rattle.nb_session.specs.Replies.{is_refusal, only_told}
 use Rattle.nb_session.specs.Acts.{MadeLeft, AreKept as AreFilesKept}
@@ -309,14 +309,14 @@ HasSmallScn account None = Unit {0}
 HasSmallScn account (Some target) = target.creates ≡ false → image_scn (base_in (account.entry target.name)).image < 4294967296
 
 -- it ended before anything was done
-abbrev pub IsUndone : Result Status Stop → (old new : World) → Type 0
+abbrev pub IsUndone : Result Status RunError → (old new : World) → Type 0
 IsUndone (Ok status) old new = ⊥
 IsUndone (Err stop) old new = Quiet old new
 
 -- What a run does that a script asks for, where the account knows of the database what the files tell, and these are the GUIDs and times
 -- that were given and may still be: its events are those that the script must have. At each moment a crash leaves a front of them, after it
 -- other files read as before, and at its end all is done.
-pub record RunsTo (result : Result Status Stop) (old new : World) (asked : Result Request Refusal) (account : Account) (given : Given) : Type 0 where
+pub record RunsTo (result : Result Status RunError) (old new : World) (asked : Result Request Refusal) (account : Account) (given : Given) : Type 0 where
   pub events : List Event
   pub last : Account
   pub left : Given
@@ -357,7 +357,7 @@ KnowsAsked files account (Runs asked) = Knows files account asked
 KnowsAsked files account (Does deed) = (one_turn files deed).knows account
 
 -- what is done of it
-abbrev pub GoesTo : (result : Result Status Stop) (old new : World) → Asked → Account → Given → Type 0
+abbrev pub GoesTo : (result : Result Status RunError) (old new : World) → Asked → Account → Given → Type 0
 GoesTo result old new (Runs asked) account given = RunsTo result old new asked account given
 GoesTo result old new (Does deed) account given = TurnsTo result old new (one_turn old.files deed) account
 
@@ -387,7 +387,7 @@ told_turns telling pages played = (told_later telling pages played.0, played.1)
 
 -- The script's turns were taken to their end and told, or some of them. Where more GUIDs could have been given, just those of the backups that they
 -- began were given, in order.
-pub record PlaysTold (result : Result Bool Stop) (old new : World) (before after : Held) (t : Trail) (telling : Telling) (pages : ℕ) (now : Now) (schedule : List ℕ) : Type 0 where
+pub record PlaysTold (result : Result Bool RunError) (old new : World) (before after : Held) (t : Trail) (telling : Telling) (pages : ℕ) (now : Now) (schedule : List ℕ) : Type 0 where
   pub how_often : ℕ
   pub plays : Plays result old new before after t now (told_turns telling pages (play (schedule ++ rounds how_often) now)) (files_made (play (schedule ++ rounds how_often) now).0)
   pub finished : AreFinished (play (schedule ++ rounds how_often) now).1.todo
@@ -395,7 +395,7 @@ pub record PlaysTold (result : Result Bool Stop) (old new : World) (before after
 
 -- The reply of the first statement was said, and then the script's turns were taken to their end, or some of them. `start` stood before
 -- the strokes of the first statement.
-pub record PlaysOpened (result : Result Bool Stop) (old new : World) (before after : Held) (start : Base) (first : Event) (telling : Telling) (pages : ℕ) (now : Now) (plan : Plan) : Type 0 where
+pub record PlaysOpened (result : Result Bool RunError) (old new : World) (before after : Held) (start : Base) (first : Event) (telling : Telling) (pages : ℕ) (now : Now) (plan : Plan) : Type 0 where
   pub how_often : ℕ
   pub plays : Plays result old new before after (settled start) now (played_behind first (told_turns telling pages (play (plan.schedule ++ rounds how_often) now))) (files_made (play (plan.schedule ++ rounds how_often) now).0)
   pub finished : AreFinished (play (plan.schedule ++ rounds how_often) now).1.todo

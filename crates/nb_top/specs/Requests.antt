@@ -1,38 +1,39 @@
 -- What the words of the command line ask for.
-use Rattle.std.specs.Prelude.{◌≡◌, ℕ, ◌≤◌, true, List, [], ◌∷◌, length, replicate, Option, None, Some, Result, Ok, Err}
-use Rattle.std.specs.List.{list_all}
+use Rattle.std.specs.Prelude.{◌≡◌, ℕ, ◌≤◌, true, false, List, [], ◌∷◌, replicate, None, Some, Result, Ok, Err}
 use Rattle.nb_host.specs.Files.{File, Files}
 use Rattle.nb_host.specs.declared.faults.Fault.{Fault}
 use Rattle.nb_host.specs.declared.faults.Fault.TheVariants.{Refused as RefusedFault, Device, Memory}
 use Rattle.nb_host.specs.declared.refusals.Refusal.{Refusal}
 use Rattle.nb_host.specs.declared.refusals.Refusal.TheVariants.{Usage, NoFile}
+use Rattle.nb_model.specs.declared.job.Ask.{Ask}
+use Rattle.nb_model.specs.declared.job.Ask.TheVariants.{Backup, BackupSince}
+use Rattle.nb_model.specs.declared.job.Deed.{Deed}
+use Rattle.nb_model.specs.declared.job.Deed.TheVariants.{Plan as PlanFiles}
 use Rattle.nb_model.specs.declared.job.Job.{Job}
-use Rattle.nb_model.specs.declared.job.Job.TheVariants.{Run, Stat, Check, Reclaim, Gen, Backup, BackupSince, Restore, Apply, Lock, LockWithSize, Unlock, Fixup, Fold, Plan as PlanOf}
+use Rattle.nb_model.specs.declared.job.Job.TheVariants.{Run, Gen, Attach, Turn, Plan as PlanOf}
 use Rattle.nb_model.specs.declared.statement.Statement.{Statement}
-use Rattle.nb_model.specs.declared.statement.Statement.TheVariants.{OpenDb, BeginBackup, EndBackup, ShowHeader, ShowPages, Check as CheckIt, Reclaim as ReclaimIt, Backup as BackupTo, BackupSince as BackupOf}
-use Rattle.nb_model.specs.Jobs.{usual_cache}
+use Rattle.nb_model.specs.declared.statement.Statement.TheVariants.{OpenDb}
+use Rattle.nb_model.specs.Jobs.{usual_cache, asks_of, asks_size}
 use Rattle.nb_model.specs.Words.{job_of, is_database, is_file}
 use Rattle.nb_catalog.specs.Turns.{names_in}
 use Rattle.nb_script.specs.Scripts.{Plan, script_of}
 use Rattle.nb_top.specs.declared.telling.Telling.{Telling}
 use Rattle.nb_top.specs.declared.telling.Telling.TheVariants.{All, Quietly, WithSize}
+use Rattle.nb_top.specs.OneTurn.{FitsDeed}
+
+-- what is asked of a database names a level and a file that words may give
+abbrev pub FitsAsk : Ask → Type 0
+FitsAsk (Backup level file) = (level ≤ 9) × (is_file file ≡ true)
+FitsAsk (BackupSince guid file) = is_file file ≡ true
+FitsAsk other = Unit {0}
 
 -- the names of a job are those that words may give
 abbrev pub FitsJob : Job → Type 0
-FitsJob (Stat db) = is_database db ≡ true
-FitsJob (Check db) = is_database db ≡ true
-FitsJob (Reclaim db) = is_database db ≡ true
+FitsJob (Run script) = Unit {0}
 FitsJob (Gen number script) = is_file script ≡ true
-FitsJob (Lock db) = is_database db ≡ true
-FitsJob (LockWithSize db) = is_database db ≡ true
-FitsJob (Backup level db file) = (level ≤ 9) × (is_database db ≡ true) × (is_file file ≡ true)
-FitsJob (BackupSince guid db file) = (is_database db ≡ true) × (is_file file ≡ true)
-FitsJob (Unlock db) = is_database db ≡ true
-FitsJob (Fixup db) = is_database db ≡ true
-FitsJob (Apply db file) = (is_database db ≡ true) × (is_file file ≡ true)
-FitsJob (Restore db files) = (is_database db ≡ true) × (1 ≤ length files) × (length files ≤ 10) × (list_all is_file files ≡ true)
-FitsJob (Fold out files) = (is_file out ≡ true) × (2 ≤ length files) × (length files ≤ 9) × (list_all is_file files ≡ true)
-FitsJob other = Unit {0}
+FitsJob (Attach db ask) = (is_database db ≡ true) × FitsAsk ask
+FitsJob (Turn deed) = FitsDeed deed
+FitsJob (PlanOf keep list) = Unit {0}
 
 -- What a run is asked for.
 pub data Request : Type 0 where
@@ -41,31 +42,10 @@ pub data Request : Type 0 where
   -- the script of a number, which is written under a name and then run, and of which only refusals and the pages by kind are told
   ToGenerate : (number : ℕ) (name : List ℕ) → Request
 
--- What is done by a job of one turn, which opens no database.
-pub data Deed : Type 0 where
-  -- a chain of files is restored to a database
-  ToRestore : (db : List ℕ) (names : List (List ℕ)) → Deed
-  -- a copy of a stalled database becomes a database, in place
-  ToFix : (db : List ℕ) → Deed
-  -- a level file is merged into a standby, in place
-  ToMerge : (db name : List ℕ) → Deed
-  -- level files are folded into one
-  ToFold : (out : List ℕ) (names : List (List ℕ)) → Deed
-  -- which of these backup files so many restore points need
-  ToPlan : (keep : ℕ) (names : List (List ℕ)) → Deed
-
 -- What the words ask for: a run, or why there is none, or a job of one turn.
 pub data Asked : Type 0 where
   Runs : Result Request Refusal → Asked
   Does : Deed → Asked
-
--- what a job of one turn does, whose words tell all of it
-abbrev pub deed_of : Job → Option Deed
-deed_of (Restore db names) = Some (ToRestore db names)
-deed_of (Fixup db) = Some (ToFix db)
-deed_of (Apply db file) = Some (ToMerge db file)
-deed_of (Fold out files) = Some (ToFold out files)
-deed_of other = None
 
 -- the script that a file spells, or why there is none
 abbrev pub script_in : (name : List ℕ) → File → Result Plan Refusal
@@ -81,29 +61,26 @@ to_run (Err refusal) = Err refusal
 abbrev pub plan_of : (db : List ℕ) → List Statement → Plan
 plan_of db statements = record { first_session = 1; first = OpenDb db usual_cache; schedule = []; sessions = statements ∷ replicate 15 [] }
 
--- the run that a job asks for, or why it is refused
-abbrev pub run_of : Files → Job → Result Request Refusal
-run_of files (Run script) = to_run (script_in script (files script))
-run_of files (Backup level db file) = Ok (ToRun (plan_of db (BackupTo level file ∷ [])) Quietly)
-run_of files (BackupSince guid db file) = Ok (ToRun (plan_of db (BackupOf guid file ∷ [])) Quietly)
-run_of files (Stat db) = Ok (ToRun (plan_of db (ShowHeader ∷ ShowPages ∷ [])) Quietly)
-run_of files (Check db) = Ok (ToRun (plan_of db (CheckIt ∷ [])) Quietly)
-run_of files (Reclaim db) = Ok (ToRun (plan_of db (ReclaimIt ∷ [])) Quietly)
-run_of files (Lock db) = Ok (ToRun (plan_of db (BeginBackup ∷ [])) Quietly)
-run_of files (LockWithSize db) = Ok (ToRun (plan_of db (BeginBackup ∷ [])) WithSize)
-run_of files (Unlock db) = Ok (ToRun (plan_of db (EndBackup ∷ [])) Quietly)
-run_of files (Gen number script) = Ok (ToGenerate number script)
-run_of files other = Err Usage
+-- how much of it is told
+abbrev pub telling_of : Ask → Telling
+telling_of ask = elim (asks_size ask) [ true ↦ WithSize | false ↦ Quietly ]
+
+-- the run of that script
+abbrev pub attached : (db : List ℕ) → Ask → Request
+attached db ask = ToRun (plan_of db (asks_of ask)) (telling_of ask)
 
 -- to plan for the files of a list, or why there is none
 abbrev pub to_plan : (keep : ℕ) → Result (List (List ℕ)) Refusal → Asked
-to_plan keep (Ok names) = Does (ToPlan keep names)
+to_plan keep (Ok names) = Does (PlanFiles keep names)
 to_plan keep (Err refusal) = Runs (Err refusal)
 
 -- what a job asks for
 abbrev pub request_of : Files → Job → Asked
+request_of files (Run script) = Runs (to_run (script_in script (files script)))
+request_of files (Gen number script) = Runs (Ok (ToGenerate number script))
+request_of files (Attach db ask) = Runs (Ok (attached db ask))
+request_of files (Turn deed) = Does deed
 request_of files (PlanOf keep list) = to_plan keep (names_in list (files list))
-request_of files job = elim (deed_of job) [ Some deed ↦ Does deed | None ↦ Runs (run_of files job) ]
 
 -- what the words ask for
 abbrev pub request_asked : Files → (words : List (List ℕ)) → Asked

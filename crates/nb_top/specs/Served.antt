@@ -7,6 +7,7 @@ use Rattle.nb_host.specs.declared.faults.Fault.{Fault}
 use Rattle.nb_host.specs.declared.faults.Fault.TheVariants.{Refused, Device, Memory}
 use Rattle.nb_host.specs.declared.refusals.Refusal.{Refusal}
 use Rattle.nb_host.specs.declared.refusals.Refusal.TheVariants.{Usage}
+use Rattle.nb_host.specs.declared.faults.RunError.{RunError}
 use Rattle.nb_change.specs.Changes.{Changes}
 use Rattle.nb_change.specs.Gave.{GaveNothing}
 use Rattle.nb_page.specs.Quiet.{Quiet}
@@ -16,7 +17,6 @@ use Rattle.nb_model.specs.Account.{Account}
 use Rattle.nb_model.specs.Jobs.{only_refusal}
 use Rattle.nb_model.specs.Output.{status_after}
 use Rattle.nb_model.specs.Run.{Event}
-use Rattle.nb_session.specs.declared.stop.Stop.{Stop}
 use Rattle.nb_top.specs.declared.status.Status.{Status}
 use Rattle.nb_top.specs.declared.status.Status.TheVariants.{Done as DoneStatus, Refused as RefusedStatus}
 use Rattle.nb_top.specs.OneTurn.{OneTurn, OfName, IsDoneFor, IsOnItsWay, Read, TurnEnded, TurnLeft, leaves_all}
@@ -59,7 +59,7 @@ status_told (Ok reply) = DoneStatus
 status_told (Err refusal) = RefusedStatus
 
 -- What a run does of the job.
-pub record TurnsTo (result : Result Status Stop) (old new : World) (job : OneTurn) (account : Account) : Type 0 where
+pub record TurnsTo (result : Result Status RunError) (old new : World) (job : OneTurn) (account : Account) : Type 0 where
   pub stops : AtEachMoment old new (TurnLeft (Leaves old) old job (job.turn account))
   pub reads : TurnLeft (Read old.files) old job (job.turn account) new.files new.said
   pub gave : GaveNothing old new

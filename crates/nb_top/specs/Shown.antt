@@ -2,7 +2,7 @@
 use Rattle.std.specs.Prelude.{◌≡◌, ◌≢◌, ℕ, Option, None, Some, Result, Ok, Err}
 use Rattle.nb_host.specs.declared.refusals.Refusal.{Refusal}
 use Rattle.nb_host.specs.declared.refusals.Refusal.TheVariants.{BadScript}
-use Rattle.nb_session.specs.declared.stop.Stop.{Stop}
+use Rattle.nb_host.specs.declared.faults.RunError.{RunError}
 use Rattle.nb_top.specs.declared.broken.Broken.{Broken}
 use Rattle.nb_top.specs.declared.status.Status.{Status}
 use Rattle.nb_top.specs.declared.status.Status.TheVariants.{Device, Memory}
@@ -28,7 +28,7 @@ IfShown None asked = Unit {0}
 IfShown (Some broken) asked = IsRefusedFor broken asked
 
 -- what is shown, within a run
-abbrev pub IsShownOf : Result Status Stop → Option Broken → Asked → Type 0
+abbrev pub IsShownOf : Result Status RunError → Option Broken → Asked → Type 0
 IsShownOf (Ok status) broken asked = BreaksAt broken asked
 IsShownOf (Err stop) broken asked = IfShown broken asked
 

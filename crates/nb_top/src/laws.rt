@@ -1,6 +1,6 @@
 // Laws of the whole program: each is a public function with an empty body, whose contract is the law. They show that what a run is
 // promised on holds where a first run begins and where the next one begins after a crash, and that a job is what it asks for.
-ghost use Rattle.std.specs.Prelude.{◌≡◌, ℕ, ◌+◌, ◌^◌, ◌<◌, List, [], Some, Result, Contains, IsTrue, false};
+ghost use Rattle.std.specs.Prelude.{◌≡◌, ℕ, ◌+◌, ◌^◌, ◌<◌, List, [], Some, Result, Ok, Contains, IsTrue, false};
 ghost use Rattle.nb_host.specs.Files.{Files, with_file};
 ghost use Rattle.nb_host.specs.Crash.{LeavesAll};
 ghost use Rattle.nb_host.specs.Moments.{AtEachMoment};
@@ -9,17 +9,19 @@ ghost use Rattle.nb_mem.specs.declared.entry.Entry.{Entry};
 ghost use Rattle.nb_mem.specs.Histories.{files_of, guids_behind, world_of};
 ghost use Rattle.nb_mem.specs.Outcomes.{IsLeft, placed};
 ghost use Rattle.nb_model.specs.Account.{Account, Kept};
-ghost use Rattle.nb_model.specs.Jobs.{Asks, IsAttaching, asks_of, turn_of};
+ghost use Rattle.nb_model.specs.Jobs.{IsAttaching, turn_of};
 ghost use Rattle.nb_model.specs.NewGuids.{AreNew};
 ghost use Rattle.nb_model.specs.Outcomes.{Given};
 ghost use Rattle.nb_model.specs.Run.{Event};
 ghost use Rattle.nb_model.specs.Stands.{Stands};
-ghost use Rattle.nb_model.specs.declared.job.Job.{Job};
+ghost use Rattle.nb_model.specs.declared.job.Ask.{Ask};
+ghost use Rattle.nb_model.specs.declared.job.Deed.{Deed};
+ghost use Rattle.nb_model.specs.declared.job.Job.TheVariants.{Attach, Turn};
 ghost use Rattle.nb_top.specs.declared.status.Status.{Status};
 ghost use Rattle.nb_top.specs.Goes.{IsRun};
 ghost use Rattle.nb_top.specs.OneTurn.{DoesTurn, leaves_all, one_turn};
 ghost use Rattle.nb_top.specs.Performed.{IsPerformed, IsSure, KnowsAsked, PerformsRun};
-ghost use Rattle.nb_top.specs.Requests.{Deed, Does, Request, Runs, request_asked, request_of, run_of};
+ghost use Rattle.nb_top.specs.Requests.{Does, Request, Runs, attached, request_asked, request_of};
 ghost use Rattle.nb_top.specs.Standing.{HoldsKept, NextMayBegin, StandsFor};
 ghost use Rattle.nb_top.specs.Touched.{OfAsked, TouchesOnly};
 ghost use Rattle.nb_top.specs.Worlds.{AreCopies, ArePlain, HaveNames, LeaveNames, NameNone, StartsFrom, account_of, empty, no_files};
@@ -102,15 +104,15 @@ pub fn what_stands_is_known()
 /// A job that attaches is exactly the run of the script that opens its database and asks what the job asks. It says nothing of the opening
 /// but why it is refused.
 pub fn a_job_attaches()
-    ensures asks { (files : Files) (job : Job) (asks : Asks) → asks_of job ≡ Some asks → request_of files job ≡ Runs (run_of files job) }
-    ensures attaches { (files : Files) (job : Job) (asks : Asks) (before last : Account) (given left : Given) (events : List Event) → asks_of job ≡ Some asks
-        → IsPerformed files (run_of files job) before given events last left → IsAttaching before given job asks events last }
-    ensures performs { (files : Files) (job : Job) (asks : Asks) (before last : Account) (given : Given) (events : List Event) → asks_of job ≡ Some asks
-        → (attaching : IsAttaching before given job asks events last) → IsPerformed files (run_of files job) before given events last attaching.left }
+    ensures asks { (files : Files) (db : List ℕ) (ask : Ask) → request_of files (Attach db ask) ≡ Runs (Ok (attached db ask)) }
+    ensures attaches { (files : Files) (db : List ℕ) (ask : Ask) (before last : Account) (given left : Given) (events : List Event)
+        → IsPerformed files (Ok (attached db ask)) before given events last left → IsAttaching before given db ask events last }
+    ensures performs { (files : Files) (db : List ℕ) (ask : Ask) (before last : Account) (given : Given) (events : List Event)
+        → (attaching : IsAttaching before given db ask events last) → IsPerformed files (Ok (attached db ask)) before given events last attaching.left }
 {}
 
 /// A job that neither attaches nor runs a script is a job of one turn, on its database.
 pub fn a_job_takes_its_turn()
-    ensures { (files : Files) (job : Job) (name : List ℕ) (turn : Event) (account : Account) → turn_of files account job ≡ Some (name, turn)
-        → (deed : Deed) × (request_of files job ≡ Does deed) × ((one_turn files deed).name ≡ Some name) × ((one_turn files deed).turn account ≡ turn) }
+    ensures { (files : Files) (deed : Deed) (name : List ℕ) (turn : Event) (account : Account) → turn_of files account deed ≡ Some (name, turn)
+        → (request_of files (Turn deed) ≡ Does deed) × ((one_turn files deed).name ≡ Some name) × ((one_turn files deed).turn account ≡ turn) }
 {}

@@ -1,35 +1,33 @@
 // A job, from the words to the last reply.
-ghost use Rattle.std.specs.Prelude.{◌≡◌, ◌≢◌, ◌⊎◌, [], ◌∷◌, None, Ok, Err, IsErr, map, string_bytes, IsTrue, IfOk};
+ghost use Rattle.std.specs.Prelude.{◌≡◌, ◌≢◌, ◌⊎◌, None, Ok, IsErr, map, string_bytes, IsTrue, IfOk};
 ghost use Rattle.nb_catalog.specs.NameLists.{list_of};
 ghost use Rattle.nb_catalog.specs.Turns.{names_in};
-ghost use Rattle.nb_host.specs.Causes.{Rose};
+ghost use Rattle.nb_host.specs.Causes.{Rose, CountsRun};
 ghost use Rattle.nb_host.specs.declared.refusals.Refusal.TheVariants.{Usage as UsageRefusal};
 ghost use Rattle.nb_change.specs.Gave.{GaveNothing};
+ghost use Rattle.nb_model.specs.Jobs.{asks_of};
 ghost use Rattle.nb_model.specs.Lines.{line_text};
 ghost use Rattle.nb_model.specs.declared.reply.Reply.TheVariants.{Refused as RefusedReply};
-ghost use Rattle.nb_model.specs.declared.statement.Statement.TheVariants.{BeginBackup, ShowHeader, ShowPages};
 ghost use Rattle.nb_model.specs.Words.{job_of};
 ghost use Rattle.nb_script.specs.Asked.{IsAskable};
 ghost use Rattle.nb_script.specs.Scripts.{script_of};
-ghost use Rattle.nb_session.specs.Causes.{CountsStop};
 ghost use Rattle.nb_session.specs.Says.{SaysLine};
 ghost use Rattle.nb_top.specs.Goes.{Goes, IsRun};
-ghost use Rattle.nb_top.specs.Requests.{Asked, FitsJob, IsAskedBy, IsReadJob, NamesNone, Runs, ToRun, plan_of, request_asked, request_of, script_in, to_plan, to_run};
+ghost use Rattle.nb_top.specs.Requests.{Asked, FitsJob, IsAskedBy, IsReadJob, NamesNone, Runs, attached, plan_of, request_asked, request_of, script_in, to_plan, to_run};
 ghost use Rattle.nb_top.specs.Shown.{IsShown, IsShownOf};
 
 use crate::Status;
 use crate::broken::{Broken, broken_by};
 use crate::generating::run_generated;
 use crate::reading::read_file;
-use crate::request::{script_asking, script_showing};
+use crate::request::{script_asking, telling_of};
 use crate::script::{refuse, run_script, settled};
 use crate::telling::Telling;
-use crate::turn::{run_plan, run_turn};
+use crate::turn::run_turn;
 use nb_catalog::read_list;
-use nb_host::{Fault, Host, Name, Refusal};
-use nb_model::{Job, Statement};
+use nb_host::{Fault, Host, Name, Refusal, RunError};
+use nb_model::{Ask, Deed, Job};
 use nb_script::parse;
-use nb_session::Stop;
 use nb_words::read_job;
 use std::alloc::Global;
 
@@ -39,12 +37,12 @@ fn run_bytes<H: Host>(
     host: &mut H,
     bytes: &[u8],
     broken: &mut Option<Broken>,
-) -> Result<Status, Stop>
+) -> Result<Status, RunError>
     requires { broken.old ≡ None }
     ensures goes { Goes H.world H.tells result host.old host.new (Runs (to_run (script_of bytes.now))) }
     ensures shown { IsShownOf result broken.new (Runs (to_run (script_of bytes.now))) }
     ensures done { IfOk result (λ status. (status ≡ Status.Done) ⊎ (status ≡ Status.Refused)) }
-    ensures cause { CountsStop result (H.faults host.old) (H.faults host.new) }
+    ensures cause { CountsRun result (H.faults host.old) (H.faults host.new) }
 {
     match settled(parse(alloc, bytes))? {
         Ok(script) => run_script(alloc, host, &script, Telling::All),
@@ -61,12 +59,12 @@ fn run_file<H: Host>(
     host: &mut H,
     name: &Name,
     broken: &mut Option<Broken>,
-) -> Result<Status, Stop>
+) -> Result<Status, RunError>
     requires { broken.old ≡ None }
     ensures goes { Goes H.world H.tells result host.old host.new (Runs (to_run (script_in name.now ((H.world host.old).files name.now)))) }
     ensures shown { IsTrue H.tells → IsShownOf result broken.new (Runs (to_run (script_in name.now ((H.world host.old).files name.now)))) }
     ensures done { IfOk result (λ status. (status ≡ Status.Done) ⊎ (status ≡ Status.Refused)) }
-    ensures cause { CountsStop result (H.faults host.old) (H.faults host.new) }
+    ensures cause { CountsRun result (H.faults host.old) (H.faults host.new) }
 {
     match settled(read_file(alloc, host, name))? {
         Ok(bytes) => run_bytes(alloc, host, &bytes, broken),
@@ -81,15 +79,18 @@ fn plan_bytes<H: Host>(
     keep: u32,
     bytes: &[u8],
     broken: &mut Option<Broken>,
-) -> Result<Status, Stop>
+) -> Result<Status, RunError>
     requires { broken.old ≡ None }
     ensures goes { Goes H.world H.tells result host.old host.new (to_plan keep (list_of bytes.now)) }
     ensures shown { IsShownOf result broken.new (to_plan keep (list_of bytes.now)) }
     ensures done { IfOk result (λ status. (status ≡ Status.Done) ⊎ (status ≡ Status.Refused)) }
-    ensures cause { CountsStop result (H.faults host.old) (H.faults host.new) }
+    ensures cause { CountsRun result (H.faults host.old) (H.faults host.new) }
 {
     match settled(read_list(alloc, bytes))? {
-        Ok(names) => run_plan(alloc, host, keep, names.as_slice()),
+        Ok(names) => {
+            let deed = Deed::Plan { keep, files: names };
+            run_turn(alloc, host, &deed)
+        }
         Err(refusal) => {
             *broken = broken_by(alloc, bytes, &refusal, "there is no name")?;
             refuse(alloc, host, 0, refusal)
@@ -104,12 +105,12 @@ fn plan_list<H: Host>(
     keep: u32,
     list: &Name,
     broken: &mut Option<Broken>,
-) -> Result<Status, Stop>
+) -> Result<Status, RunError>
     requires { broken.old ≡ None }
     ensures goes { Goes H.world H.tells result host.old host.new (to_plan keep (names_in list.now ((H.world host.old).files list.now))) }
     ensures shown { IsTrue H.tells → IsShownOf result broken.new (to_plan keep (names_in list.now ((H.world host.old).files list.now))) }
     ensures done { IfOk result (λ status. (status ≡ Status.Done) ⊎ (status ≡ Status.Refused)) }
-    ensures cause { CountsStop result (H.faults host.old) (H.faults host.new) }
+    ensures cause { CountsRun result (H.faults host.old) (H.faults host.new) }
 {
     match settled(read_file(alloc, host, list))? {
         Ok(bytes) => plan_bytes(alloc, host, keep, &bytes, broken),
@@ -117,34 +118,21 @@ fn plan_list<H: Host>(
     }
 }
 
-/// Opens a database and asks it one thing, and tells so much of it.
+/// Opens a database and asks it this.
 fn run_asking<H: Host>(
     alloc: Global,
     host: &mut H,
     db: &Name,
-    statement: Statement,
-    telling: Telling,
-) -> Result<Status, Stop>
-    requires askable { IsAskable (plan_of db.now (statement ∷ [])) }
-    ensures goes { Goes H.world H.tells result host.old host.new (Runs (Ok (ToRun (plan_of db.now (statement ∷ [])) telling))) }
+    ask: &Ask,
+) -> Result<Status, RunError>
+    requires askable { IsAskable (plan_of db.now (asks_of ask.now)) }
+    ensures goes { Goes H.world H.tells result host.old host.new (Runs (Ok (attached db.now ask.now))) }
     ensures done { IfOk result (λ status. (status ≡ Status.Done) ⊎ (status ≡ Status.Refused)) }
-    ensures cause { CountsStop result (H.faults host.old) (H.faults host.new) }
+    ensures cause { CountsRun result (H.faults host.old) (H.faults host.new) }
 {
-    match settled(script_asking(alloc, db, statement))? {
+    let telling = telling_of(ask);
+    match settled(script_asking(alloc, db, ask))? {
         Ok(script) => run_script(alloc, host, &script, telling),
-        Err(_) => unreachable!(),
-    }
-}
-
-/// Shows the header of a database and its pages.
-fn run_stat<H: Host>(alloc: Global, host: &mut H, db: &Name) -> Result<Status, Stop>
-    requires askable { IsAskable (plan_of db.now (ShowHeader ∷ ShowPages ∷ [])) }
-    ensures goes { Goes H.world H.tells result host.old host.new (Runs (Ok (ToRun (plan_of db.now (ShowHeader ∷ ShowPages ∷ [])) Telling.Quietly))) }
-    ensures done { IfOk result (λ status. (status ≡ Status.Done) ⊎ (status ≡ Status.Refused)) }
-    ensures cause { CountsStop result (H.faults host.old) (H.faults host.new) }
-{
-    match settled(script_showing(alloc, db))? {
-        Ok(script) => run_script(alloc, host, &script, Telling::Quietly),
         Err(_) => unreachable!(),
     }
 }
@@ -155,66 +143,29 @@ fn run_job<H: Host>(
     host: &mut H,
     job: &Job,
     broken: &mut Option<Broken>,
-) -> Result<Status, Stop>
+) -> Result<Status, RunError>
     requires fits { FitsJob job.now }
     requires none { broken.old ≡ None }
     ensures goes { Goes H.world H.tells result host.old host.new (request_of (H.world host.old).files job.now) }
     ensures shown { IsTrue H.tells → IsShownOf result broken.new (request_of (H.world host.old).files job.now) }
     ensures done { IfOk result (λ status. (status ≡ Status.Done) ⊎ (status ≡ Status.Refused)) }
-    ensures cause { CountsStop result (H.faults host.old) (H.faults host.new) }
+    ensures cause { CountsRun result (H.faults host.old) (H.faults host.new) }
 {
     match job {
         Job::Run { script } => run_file(alloc, host, script, broken),
         Job::Gen { number, script } => run_generated(alloc, host, *number, script),
-        Job::Restore { .. } => run_turn(alloc, host, job),
-        Job::Fixup { .. } => run_turn(alloc, host, job),
-        Job::Apply { .. } => run_turn(alloc, host, job),
-        Job::Fold { .. } => run_turn(alloc, host, job),
+        Job::Attach { db, ask } => run_asking(alloc, host, db, ask),
+        Job::Turn { deed } => run_turn(alloc, host, deed),
         Job::Plan { keep, list } => plan_list(alloc, host, *keep, list, broken),
-        Job::Backup { level, db, file } => {
-            let name = file.copied();
-            run_asking(
-                alloc,
-                host,
-                db,
-                Statement::Backup {
-                    level: *level,
-                    name,
-                },
-                Telling::Quietly,
-            )
-        }
-        Job::BackupSince { guid, db, file } => {
-            let name = file.copied();
-            run_asking(
-                alloc,
-                host,
-                db,
-                Statement::BackupSince { guid: *guid, name },
-                Telling::Quietly,
-            )
-        }
-        Job::Stat { db } => run_stat(alloc, host, db),
-        Job::Check { db } => run_asking(alloc, host, db, Statement::Check, Telling::Quietly),
-        Job::Reclaim { db } => run_asking(alloc, host, db, Statement::Reclaim, Telling::Quietly),
-        Job::Lock { db } => run_asking(alloc, host, db, Statement::BeginBackup, Telling::Quietly),
-        Job::LockWithSize { db } => run_asking(
-            alloc,
-            host,
-            db,
-            Statement::BeginBackup,
-            Telling::WithSize,
-        ),
-        Job::Unlock { db } => run_asking(alloc, host, db, Statement::EndBackup, Telling::Quietly),
     }
 }
 
 /// Refuses words that name no job.
-fn refuse_words<H: Host>(alloc: Global, host: &mut H) -> Result<Status, Stop>
+fn refuse_words<H: Host>(alloc: Global, host: &mut H) -> Result<Status, RunError>
     ensures usage { IfOk result (λ status. status ≡ Status.Usage) }
     ensures line { IsTrue H.tells → SaysLine result (H.world host.old) (H.world host.new) (line_text 0 (RefusedReply UsageRefusal)) }
     ensures gave { GaveNothing (H.world host.old) (H.world host.new) }
-    ensures cause { CountsStop result (H.faults host.old) (H.faults host.new) }
+    ensures cause { CountsRun result (H.faults host.old) (H.faults host.new) }
 {
     refuse(alloc, host, 0, Refusal::Usage)?;
     Ok(Status::Usage)
@@ -226,7 +177,7 @@ fn do_job<H: Host>(
     job: &Result<Job, Fault>,
     host: &mut H,
     broken: &mut Option<Broken>,
-) -> Result<Status, Stop>
+) -> Result<Status, RunError>
     requires read { IsReadJob job.now }
     requires none { broken.old ≡ None }
     ensures goes { (asked : Asked) → IsAskedBy job.now (H.world host.old).files asked → Goes H.world H.tells result host.old host.new asked }
@@ -234,13 +185,13 @@ fn do_job<H: Host>(
     ensures usage { IfOk result (λ status. status ≡ Status.Usage → NamesNone job.now) }
     ensures no_job { IfOk result (λ status. IsErr job.now → status ≡ Status.Usage) }
     ensures done { IfOk result (λ status. (status ≡ Status.Usage) ⊎ ((status ≡ Status.Done) ⊎ (status ≡ Status.Refused))) }
-    ensures cause { CountsStop result (H.faults host.old) (H.faults host.new) }
+    ensures cause { CountsRun result (H.faults host.old) (H.faults host.new) }
 {
     match job {
         Ok(job) => run_job(alloc, host, job, broken),
         Err(fault) => match fault {
             Fault::Refused(_) => refuse_words(alloc, host),
-            Fault::Memory => Err(Stop::Memory),
+            Fault::Memory => Err(RunError::Memory),
             Fault::Device => unreachable!(),
         },
     }
@@ -270,8 +221,8 @@ pub fn run_read<H: Host>(
 {
     match do_job(alloc, job, host, broken) {
         Ok(status) => status,
-        Err(Stop::Device) => Status::Device,
-        Err(Stop::Memory) => Status::Memory,
+        Err(RunError::Device) => Status::Device,
+        Err(RunError::Memory) => Status::Memory,
     }
 }
 

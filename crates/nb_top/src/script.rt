@@ -2,7 +2,7 @@
 ghost use Rattle.std.specs.Prelude.{◌≡◌, ◌⊎◌, ℕ, ◌<◌, List, [], Ok, Err, IsTrue, IfOk, IfErr, if◌then◌else◌};
 ghost use Rattle.nb_fields.specs.Fresh.{fresh};
 ghost use Rattle.nb_host.specs.declared.faults.Fault.TheVariants.{Refused};
-ghost use Rattle.nb_change.specs.Counts.{CountsDevice};
+ghost use Rattle.nb_host.specs.Causes.{CountsDevice, CountsRun};
 ghost use Rattle.nb_change.specs.Gave.{GaveNothing};
 ghost use Rattle.nb_page.specs.Quiet.{Quiet};
 ghost use Rattle.nb_model.specs.Account.{Base};
@@ -19,7 +19,6 @@ ghost use Rattle.nb_state.specs.Open.{NoPageWaits};
 ghost use Rattle.nb_state.specs.Beginnings.{Attaches, Creates};
 ghost use Rattle.nb_script.specs.Asked.{IsFirst, IsAskable};
 ghost use Rattle.nb_session.specs.Acts.{Grows};
-ghost use Rattle.nb_session.specs.Causes.{CountsStop};
 ghost use Rattle.nb_session.specs.Ready.{IsReady};
 ghost use Rattle.nb_session.specs.Says.{SaysLine};
 ghost use Rattle.nb_session.specs.Told.{told_events};
@@ -32,40 +31,23 @@ ghost use Rattle.nb_top.specs.Requests.{Runs, ToRun};
 use crate::Status;
 use crate::telling::Telling;
 use nb_engine::Engine;
-use nb_host::{Fault, Host, Refusal};
+use nb_host::{Fault, Host, Refusal, RunError};
 use nb_model::{Reply, Statement};
 use nb_script::Script;
-use nb_session::{Stop, Told, say, take_turns};
+use nb_session::{Told, say, take_turns};
 use std::alloc::Global;
 
 /// What was answered: a value or a refusal; otherwise the run ends.
-pub fn settled<T>(answer: Result<T, Fault>) -> Result<Result<T, Refusal>, Stop>
+pub fn settled<T>(answer: Result<T, Fault>) -> Result<Result<T, Refusal>, RunError>
     ensures value { IfOk result (λ settled. IfOk settled (λ value. answer ≡ Ok value)) }
     ensures refusal { IfOk result (λ settled. IfErr settled (λ refusal. answer ≡ Err (Refused refusal))) }
-    ensures cause { (before after : ℕ) → CountsDevice answer before after → CountsStop result before after }
+    ensures cause { (before after : ℕ) → CountsDevice answer before after → CountsRun result before after }
 {
     match answer {
         Ok(value) => Ok(Ok(value)),
         Err(Fault::Refused(refusal)) => Ok(Err(refusal)),
-        Err(Fault::Device) => Err(Stop::Device),
-        Err(Fault::Memory) => Err(Stop::Memory),
-    }
-}
-
-/// Says the line of a reply.
-pub fn say_line<H: Host>(
-    alloc: Global,
-    host: &mut H,
-    session: u32,
-    reply: &Reply,
-) -> Result<(), Stop>
-    ensures line { IsTrue H.tells → SaysLine result (H.world host.old) (H.world host.new) (line_text session reply.now) }
-    ensures gave { GaveNothing (H.world host.old) (H.world host.new) }
-    ensures cause { CountsStop result (H.faults host.old) (H.faults host.new) }
-{
-    match settled(say(alloc, host, session, reply))? {
-        Ok(()) => Ok(()),
-        Err(_) => unreachable!(),
+        Err(Fault::Device) => Err(RunError::Device),
+        Err(Fault::Memory) => Err(RunError::Memory),
     }
 }
 
@@ -75,13 +57,13 @@ pub fn refuse<H: Host>(
     host: &mut H,
     session: u32,
     refusal: Refusal,
-) -> Result<Status, Stop>
+) -> Result<Status, RunError>
     ensures ok { IfOk result (λ status. status ≡ Status.Refused) }
     ensures line { IsTrue H.tells → SaysLine result (H.world host.old) (H.world host.new) (line_text session (RefusedReply refusal)) }
     ensures gave { GaveNothing (H.world host.old) (H.world host.new) }
-    ensures cause { CountsStop result (H.faults host.old) (H.faults host.new) }
+    ensures cause { CountsRun result (H.faults host.old) (H.faults host.new) }
 {
-    say_line(alloc, host, session, &Reply::Refused { refusal })?;
+    say(alloc, host, session, &Reply::Refused { refusal })?;
     Ok(Status::Refused)
 }
 
@@ -125,17 +107,17 @@ fn say_opened<H: Host>(
     engine: &Engine,
     script: &Script,
     telling: Telling,
-) -> Result<(), Stop>
+) -> Result<(), RunError>
     ensures line { IsTrue H.tells → SaysLine result (H.world host.old) (H.world host.new)
         (if is_all telling then line_text script.now.first_session (opened_reply script.now.first engine.now.files.count engine.now.files.state) else []) }
     ensures gave { GaveNothing (H.world host.old) (H.world host.new) }
-    ensures cause { CountsStop result (H.faults host.old) (H.faults host.new) }
+    ensures cause { CountsRun result (H.faults host.old) (H.faults host.new) }
 {
     match telling {
         Telling::Quietly | Telling::WithSize | Telling::Sparingly => Ok(()),
         Telling::All => {
             let reply = first_reply(script.first(), engine.count(), engine.store().state());
-            say_line(alloc, host, script.first_session(), &reply)
+            say(alloc, host, script.first_session(), &reply)
         }
     }
 }
@@ -158,7 +140,7 @@ fn take_told<H: Host>(
     engine: &mut Engine,
     script: &Script,
     telling: Telling,
-) -> Result<bool, Stop>
+) -> Result<bool, RunError>
     requires askable { IsAskable script.now }
     ensures plays { IsTrue H.tells → (shown : List ℕ) × ((now : Now) (t : Trail) → IsReady (H.world host.old) engine.old t now → now.todo ≡ begun script.now.sessions → IsMaking now
         → Foretells now.given shown (H.world host.old) (H.world host.new)
@@ -166,7 +148,7 @@ fn take_told<H: Host>(
     ensures none_waits { IfOk result (λ refused. NoPageWaits engine.new) }
     ensures grows { (now : Now) (t : Trail) → IsTrue H.tells → IsReady (H.world host.old) engine.old t now → now.todo ≡ begun script.now.sessions → IsMaking now
         → Grows (H.world host.old) (H.world host.new) }
-    ensures cause { CountsStop result (H.faults host.old) (H.faults host.new) }
+    ensures cause { CountsRun result (H.faults host.old) (H.faults host.new) }
 {
     let told = told_by(telling, engine.count());
     take_turns(alloc, host, engine, script, told)
@@ -180,7 +162,7 @@ fn run_opened<H: Host>(
     engine: &mut Engine,
     script: &Script,
     telling: Telling,
-) -> Result<bool, Stop>
+) -> Result<bool, RunError>
     requires askable { IsAskable script.now }
     ensures plays { IsTrue H.tells → (shown : List ℕ) × ((now : Now) (start : Base) (strokes : List Stroke) → IsReady (H.world host.old) engine.old (settled_trail (base_now now)) now → now.todo ≡ begun script.now.sessions
         → IsMaking now → Foretells now.given shown (H.world host.old) (H.world host.new)
@@ -190,7 +172,7 @@ fn run_opened<H: Host>(
     ensures none_waits { IfOk result (λ refused. NoPageWaits engine.new) }
     ensures grows { (now : Now) → IsTrue H.tells → IsReady (H.world host.old) engine.old (settled_trail (base_now now)) now → now.todo ≡ begun script.now.sessions → IsMaking now
         → Grows (H.world host.old) (H.world host.new) }
-    ensures cause { CountsStop result (H.faults host.old) (H.faults host.new) }
+    ensures cause { CountsRun result (H.faults host.old) (H.faults host.new) }
 {
     say_opened(alloc, host, engine, script, telling)?;
     take_told(alloc, host, engine, script, telling)
@@ -215,11 +197,11 @@ pub fn run_script<H: Host>(
     host: &mut H,
     script: &Script,
     telling: Telling,
-) -> Result<Status, Stop>
+) -> Result<Status, RunError>
     requires askable { IsAskable script.now }
     ensures goes { Goes H.world H.tells result host.old host.new (Runs (Ok (ToRun script.now telling))) }
     ensures done { IfOk result (λ status. (status ≡ Status.Done) ⊎ (status ≡ Status.Refused)) }
-    ensures cause { CountsStop result (H.faults host.old) (H.faults host.new) }
+    ensures cause { CountsRun result (H.faults host.old) (H.faults host.new) }
 {
     match settled(open(alloc, host, script.first()))? {
         Ok(mut engine) => {

@@ -1,29 +1,28 @@
 // Jobs of one turn: a call of a crate below takes the turn, and its reply is said.
-ghost use Rattle.std.specs.Prelude.{◌≡◌, ◌⊎◌, ◌<◌, ◌≤◌, ◌^◌, length, Some, IsTrue, IfOk};
-ghost use Rattle.nb_change.specs.Counts.{CountsDevice};
+ghost use Rattle.std.specs.Prelude.{◌≡◌, ◌⊎◌, ◌≤◌, length, IsTrue, IfOk};
+ghost use Rattle.nb_host.specs.Causes.{CountsDevice, CountsRun};
 ghost use Rattle.nb_catalog.specs.Turns.{plan_turn};
 ghost use Rattle.nb_fold.specs.Verdict.{fold_turn};
 ghost use Rattle.nb_model.specs.Account.{Account};
 ghost use Rattle.nb_model.specs.Jobs.{apply_turn, fixup_turn, restore_turn};
 ghost use Rattle.nb_model.specs.Lines.{line_text};
-ghost use Rattle.nb_session.specs.Causes.{CountsStop};
 ghost use Rattle.nb_session.specs.Says.{SaysLine};
-ghost use Rattle.nb_top.specs.OneTurn.{fixing, folding, merging, one_turn, planning, restoring};
+ghost use Rattle.nb_top.specs.OneTurn.{FitsDeed, fixing, folding, merging, one_turn, planning, restoring};
 ghost use Rattle.nb_top.specs.Goes.{Goes};
-ghost use Rattle.nb_top.specs.Requests.{Deed, Does, FitsJob, ToPlan, deed_of};
+ghost use Rattle.nb_top.specs.Requests.{Does};
 ghost use Rattle.nb_top.specs.Served.{Serves, reply_told, status_told};
 
 use crate::Status;
-use crate::script::{refuse, say_line, settled};
+use crate::script::{refuse, settled};
 use nb_catalog::{named, plan_files};
 use nb_fixup::fix_up;
 use nb_fold::fold;
-use nb_host::{Fault, Host, Name, Refusal};
+use nb_host::{Fault, Host, Name, Refusal, RunError};
 use nb_inplace::apply;
 use nb_level::LevelHead;
-use nb_model::{Job, Reply};
+use nb_model::{Deed, Reply};
 use nb_restore::restore;
-use nb_session::Stop;
+use nb_session::say;
 use std::alloc::Global;
 
 /// Restores a chain of 1 to 10 backup files into a new database, and answers how many pages that has.
@@ -85,7 +84,7 @@ fn folded<H: Host>(alloc: Global, host: &mut H, out: &Name, files: &[Name]) -> R
 /// Plans which of these backup files the last restore points need, so many of them, and answers how many files those are, and the names of the
 /// others: those that may go, and those from which no chain leads down to level 0.
 fn planned<H: Host>(alloc: Global, host: &mut H, keep: u32, files: &[Name]) -> Result<Reply, Fault>
-    requires few { length files.now < 2 ^ 32 }
+    requires few { length files.now ≤ 1000 }
     ensures serves { IsTrue H.tells
         → Serves result (H.world host.old) (H.world host.new) (planning (H.world host.old).files keep files.now) (plan_turn (H.world host.old).files files.now keep) }
     ensures cause { CountsDevice result (H.faults host.old) (H.faults host.new) }
@@ -100,20 +99,19 @@ fn planned<H: Host>(alloc: Global, host: &mut H, keep: u32, files: &[Name]) -> R
     })
 }
 
-/// Takes the turn of the job, and answers its reply.
-fn take_turn<H: Host>(alloc: Global, host: &mut H, job: &Job) -> Result<Reply, Fault>
-    requires deed { (deed : Deed) × (deed_of job.now ≡ Some deed) }
-    requires fits { FitsJob job.now }
-    ensures serves { (deed : Deed) (account : Account) → deed_of job.now ≡ Some deed → IsTrue H.tells → (one_turn (H.world host.old).files deed).knows account
-        → Serves result (H.world host.old) (H.world host.new) (one_turn (H.world host.old).files deed) ((one_turn (H.world host.old).files deed).turn account) }
+/// Takes the turn of the deed, and answers its reply.
+fn take_turn<H: Host>(alloc: Global, host: &mut H, deed: &Deed) -> Result<Reply, Fault>
+    requires { FitsDeed deed.now }
+    ensures serves { (account : Account) → IsTrue H.tells → (one_turn (H.world host.old).files deed.now).knows account
+        → Serves result (H.world host.old) (H.world host.new) (one_turn (H.world host.old).files deed.now) ((one_turn (H.world host.old).files deed.now).turn account) }
     ensures cause { CountsDevice result (H.faults host.old) (H.faults host.new) }
 {
-    match job {
-        Job::Restore { db, files } => restored(alloc, host, db, files.as_slice()),
-        Job::Fixup { db } => fixed(host, db),
-        Job::Apply { db, file } => merged(alloc, host, db, file),
-        Job::Fold { out, files } => folded(alloc, host, out, files.as_slice()),
-        _ => unreachable!(),
+    match deed {
+        Deed::Restore { db, files } => restored(alloc, host, db, files.as_slice()),
+        Deed::Fixup { db } => fixed(host, db),
+        Deed::Apply { db, file } => merged(alloc, host, db, file),
+        Deed::Fold { out, files } => folded(alloc, host, out, files.as_slice()),
+        Deed::Plan { keep, files } => planned(alloc, host, *keep, files.as_slice()),
     }
 }
 
@@ -122,45 +120,32 @@ fn say_taken<H: Host>(
     alloc: Global,
     host: &mut H,
     taken: Result<Reply, Refusal>,
-) -> Result<Status, Stop>
+) -> Result<Status, RunError>
     ensures line { IsTrue H.tells → SaysLine result (H.world host.old) (H.world host.new) (line_text 1 (reply_told taken)) }
     ensures ended { IfOk result (λ status. status ≡ status_told taken) }
     ensures done { IfOk result (λ status. (status ≡ Status.Done) ⊎ (status ≡ Status.Refused)) }
-    ensures cause { CountsStop result (H.faults host.old) (H.faults host.new) }
+    ensures cause { CountsRun result (H.faults host.old) (H.faults host.new) }
 {
     match taken {
         Ok(reply) => {
-            say_line(alloc, host, 1, &reply)?;
+            say(alloc, host, 1, &reply)?;
             Ok(Status::Done)
         }
         Err(refusal) => refuse(alloc, host, 1, refusal),
     }
 }
 
-/// Does a job of one turn whose words tell all of it: takes the turn, and says its reply, or why it is refused.
-pub(crate) fn run_turn<H: Host>(alloc: Global, host: &mut H, job: &Job) -> Result<Status, Stop>
-    requires deed { (deed : Deed) × (deed_of job.now ≡ Some deed) }
-    requires fits { FitsJob job.now }
-    ensures goes { (deed : Deed) → deed_of job.now ≡ Some deed → Goes H.world H.tells result host.old host.new (Does deed) }
-    ensures done { IfOk result (λ status. (status ≡ Status.Done) ⊎ (status ≡ Status.Refused)) }
-    ensures cause { CountsStop result (H.faults host.old) (H.faults host.new) }
-{
-    let taken = settled(take_turn(alloc, host, job))?;
-    say_taken(alloc, host, taken)
-}
-
-/// Plans for these backup files, and says the plan, or why it is refused.
-pub(crate) fn run_plan<H: Host>(
+/// Does a deed: takes its turn, and says its reply, or why it is refused.
+pub(crate) fn run_turn<H: Host>(
     alloc: Global,
     host: &mut H,
-    keep: u32,
-    files: &[Name],
-) -> Result<Status, Stop>
-    requires few { length files.now < 2 ^ 32 }
-    ensures goes { Goes H.world H.tells result host.old host.new (Does (ToPlan keep files.now)) }
+    deed: &Deed,
+) -> Result<Status, RunError>
+    requires { FitsDeed deed.now }
+    ensures goes { Goes H.world H.tells result host.old host.new (Does deed.now) }
     ensures done { IfOk result (λ status. (status ≡ Status.Done) ⊎ (status ≡ Status.Refused)) }
-    ensures cause { CountsStop result (H.faults host.old) (H.faults host.new) }
+    ensures cause { CountsRun result (H.faults host.old) (H.faults host.new) }
 {
-    let taken = settled(planned(alloc, host, keep, files))?;
+    let taken = settled(take_turn(alloc, host, deed))?;
     say_taken(alloc, host, taken)
 }

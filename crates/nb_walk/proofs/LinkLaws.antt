@@ -10,7 +10,7 @@ use Rattle.nb_model.specs.Forms.{is_kind}
 use Rattle.nb_model.specs.Causes.{when}
 use Rattle.nb_model.specs.Chains.{Chain, owner_of, is_slot, slots_in, is_in_chain, owner_in}
 use Rattle.nb_model.proofs.ReadLaws.{and_no_right}
-use Rattle.nb_engine.specs.Data.{is_data, not_data}
+use Rattle.nb_alloc.specs.Data.{is_data, not_data}
 use Rattle.nb_alloc.proofs.PutLaws.{none_of}
 use Rattle.nb_walk.specs.Walks.{not_linked}
 

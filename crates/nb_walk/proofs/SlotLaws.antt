@@ -1,13 +1,34 @@
 -- The slots of a page, one by one.
-use Rattle.std.proofs.Common.{◌≡◌, ◌≢◌, ℕ, ◌+◌, ◌-◌, ◌*◌, ◌/◌, ◌<◌, ◌≤◌, List, [], ◌∷◌, ◌++◌, length, refl, sym, ap, ◌∙◌, arith, append_assoc}
+use Rattle.std.proofs.Common.{◌≡◌, ◌≢◌, ℕ, zero, suc, ◌+◌, ◌-◌, ◌*◌, ◌/◌, ◌<◌, ◌≤◌, List, [], ◌∷◌, ◌++◌, length, get_or, refl, sym, ap, ◌∙◌, arith, append_assoc}
 use Rattle.std.specs.Prelude.{Bool, true, false, ◌&&◌, ◌||◌, slice_index}
 use Rattle.std.specs.List.{list_all}
 use Rattle.std.proofs.lemmas.Bool.{and_parts}
-use Rattle.nb_fields.specs.Bytes.{part}
+use Rattle.nb_fields.specs.Bytes.{number_of, number_in, part}
 use Rattle.nb_model.specs.Image.{Page, Image, page_at}
 use Rattle.nb_model.specs.Chains.{Chain, Slot, Spot, is_used, is_filled, is_slot, slots_from, slots_in, spots_on, spots_of}
 use Rattle.nb_model.proofs.ReadLaws.{eq_no, eq_yes}
-use Rattle.nb_engine.proofs.WalkLaws.{slots_step}
+
+-- a number of one byte is that byte
+pub byte_at : (at : ℕ) (bytes : List ℕ) → number_in at 1 bytes ≡ get_or bytes at 0
+unfolding number_in number_of
+byte_at zero [] = refl
+byte_at zero (b ∷ bs) = omega arith
+byte_at (suc at) [] = refl
+byte_at (suc at) (b ∷ bs) = byte_at at bs
+
+-- a slot is within its page
+pub slot_inside : (n count slot : ℕ) → count ≡ (n - 32) / 256 → slot < count → 288 + 256 * slot ≤ n
+slot_inside n count slot many low =
+    let all : 256 * ((n - 32) / 256) ≤ n - 32 = omega arith in
+    omega (arith, many, low, all)
+
+-- the slots of a page from one on are that one and those after it
+pub slots_step : (page : Page) (count slot : ℕ) → slot < count → slots_from (count - slot) (32 + 256 * slot) page ≡ part (32 + 256 * slot) 256 page ∷ slots_from (count - (slot + 1)) (32 + 256 * (slot + 1)) page
+unfolding slots_from
+slots_step page count slot low =
+    let one : count - slot ≡ suc (count - (slot + 1)) = omega (arith, low) in
+    let next : 32 + 256 * slot + 256 ≡ 32 + 256 * (slot + 1) = omega arith in
+    ap (λ (n : ℕ). slots_from n (32 + 256 * slot) page) one ∙ ap (λ (a : ℕ). part (32 + 256 * slot) 256 page ∷ slots_from (count - (slot + 1)) a page) next
 
 -- The slots of a page from one on, by a test.
 module _ (test : Slot → Bool) (page : Page) (count slot : ℕ) (low : slot < count) where

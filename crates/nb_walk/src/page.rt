@@ -3,7 +3,7 @@ ghost use Rattle.std.specs.Prelude.{◌≡◌, ◌≢◌, ◌+◌, ◌<◌, ◌�
 ghost use Rattle.std.specs.List.{list_all};
 ghost use Rattle.nb_fields.specs.Places.{is_page_size};
 ghost use Rattle.nb_host.specs.declared.faults.Fault.TheVariants.{Memory};
-ghost use Rattle.nb_change.specs.Counts.{CountsDevice};
+ghost use Rattle.nb_host.specs.Causes.{CountsDevice};
 ghost use Rattle.nb_page.specs.Quiet.{Quiet};
 ghost use Rattle.nb_model.specs.Image.{page_at};
 ghost use Rattle.nb_model.specs.Chains.{is_slot, slots_in, next_in};
@@ -14,9 +14,10 @@ ghost use Rattle.nb_walk.specs.Walks.{chain_by, not_linked};
 
 use crate::chain::Chain;
 use crate::slots::{slot_at, slot_count, use_of};
-use nb_engine::Engine;
+use nb_alloc::take_data;
 use nb_fields::layouts::data;
 use nb_host::{Fault, Host, Refusal};
+use nb_state::Store;
 
 /// Whether a slot of the chain is of the form.
 fn is_slot(chain: Chain, slot: &[u8]) -> bool
@@ -51,30 +52,30 @@ fn are_slots(chain: Chain, page: &[u8]) -> bool
 /// The refusal is `NotDatabase` of the page, where it isn't one of the chain: it is past the end, or no data page, or of another owner, or one of
 /// its slots isn't of the form. It takes one read at most, and no memory.
 pub fn take_page<H: Host>(
+    store: &mut Store,
     host: &mut H,
-    engine: &mut Engine,
     chain: Chain,
     number: u32,
     page: &mut [u8],
 ) -> Result<u32, Fault>
-    requires size { length page.old ≡ engine.old.files.page_size }
-    ensures test { (t : Trail) → IsTrue H.tells → IsOpen (H.world host.old) engine.old t → Tested result (not_linked (chain_by chain) t.base.image number) }
-    ensures page { (t : Trail) → IsTrue H.tells → IsOpen (H.world host.old) engine.old t → OnOk result (page.new ≡ page_at t.base.image number) }
+    requires size { IsTrue (is_page_size (length page.old)) }
+    requires room { length page.old ≡ store.old.files.page_size }
+    ensures test { (t : Trail) → IsTrue H.tells → IsOpen (H.world host.old) store.old t → Tested result (not_linked (chain_by chain) t.base.image number) }
+    ensures page { (t : Trail) → IsTrue H.tells → IsOpen (H.world host.old) store.old t → OnOk result (page.new ≡ page_at t.base.image number) }
     ensures next { IfOk result (λ next. next ≡ next_in page.new) }
     ensures form { OnOk result (list_all (is_slot (chain_by chain)) (slots_in page.new) ≡ true) }
     ensures low { OnOk result (0 < number) }
     ensures high { OnOk result (number < 1048576) }
+    ensures below { OnOk result (number < store.old.files.count) }
     ensures sized { length page.new ≡ length page.old }
-    ensures open { (t : Trail) → IsTrue H.tells → IsOpen (H.world host.old) engine.old t → IsOpen (H.world host.new) engine.new t }
-    ensures same { but_pages engine.new ≡ but_pages engine.old }
+    ensures open { (t : Trail) → IsTrue H.tells → IsOpen (H.world host.old) store.old t → IsOpen (H.world host.new) store.new t }
+    ensures same { but_pages store.new ≡ but_pages store.old }
     ensures quiet { Quiet (H.world host.old) (H.world host.new) }
     ensures once { IsTrue H.tells → (H.world host.new).reads ≤ (H.world host.old).reads + 1 }
     ensures cause { CountsDevice result (H.faults host.old) (H.faults host.new) }
     ensures takes_none { IfErr result (λ fault. fault ≢ Memory) }
 {
-    // Slots are counted by the size of a page, which is one of six.
-    let _size = engine.page_size();
-    engine.data_read(host, number, chain.owner(), page)?;
+    take_data(store, host, number, chain.owner(), page)?;
     if !are_slots(chain, page) {
         return Err(Fault::Refused(Refusal::NotDatabase { page: number }));
     }

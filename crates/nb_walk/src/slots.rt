@@ -1,5 +1,5 @@
 // The slots of a data page, as its bytes hold them.
-ghost use Rattle.std.specs.Prelude.{◌≡◌, ◌+◌, ◌-◌, ◌*◌, ◌/◌, ◌≤◌, ◌&&◌, IsTrue, nat_le, slice_index, length, IfSome};
+ghost use Rattle.std.specs.Prelude.{◌≡◌, ◌+◌, ◌-◌, ◌*◌, ◌/◌, ◌≤◌, ◌&&◌, IsTrue, nat_le, slice_index, length, is_some, IfSome};
 ghost use Rattle.nb_fields.specs.Bytes.{part};
 ghost use Rattle.nb_fields.specs.Places.{is_page_size};
 ghost use Rattle.nb_host.specs.Names.{is_name};
@@ -55,14 +55,17 @@ pub fn table_name(slot: &[u8]) -> &[u8]
     &slot[catalogue::NAME_AT..catalogue::NAME_AT + length]
 }
 
-/// The name of the file in the slot of a backup.
-fn file_name(slot: &[u8]) -> &[u8]
-    requires size { length slot.now ≡ 256 }
-    requires fits { length_in slot.now ≤ 100 }
-    ensures { result.now ≡ file_in slot.now }
+/// The name of the file in the slot of a backup, and none where that is of no form.
+pub fn backup_file(slot: &[u8]) -> Option<Name>
+    requires { length slot.now ≡ 256 }
+    ensures exact { is_some result ≡ (nat_le (length_in slot.now) 100 && is_name (file_in slot.now)) }
+    ensures same { IfSome result (λ name. name ≡ file_in slot.now) }
 {
     let length = history::NameLength::get(slot) as usize;
-    &slot[history::NAME_AT..history::NAME_AT + length]
+    if length > history::MOST_NAME {
+        return None;
+    }
+    Name::read_bytes(&slot[history::NAME_AT..history::NAME_AT + length])
 }
 
 /// Whether what the slot of a table holds is of the form: a name of a table.
@@ -79,8 +82,7 @@ pub(crate) fn is_backup(slot: &[u8]) -> bool
     requires { length slot.now ≡ 256 }
     ensures { result ≡ (nat_le (length_in slot.now) 100 && is_name (file_in slot.now)) }
 {
-    history::NameLength::get(slot) <= history::MOST_NAME as u64
-        && Name::read_bytes(file_name(slot)).is_some()
+    backup_file(slot).is_some()
 }
 
 /// Whether what the slot of a row holds is of the form: its text is no longer than texts are.

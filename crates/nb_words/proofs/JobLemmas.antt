@@ -1,6 +1,8 @@
 -- The jobs of the cells, by the words that they ask for.
 use Rattle.uuid.specs.Text.{parsed_hyphenated}
-use Rattle.nb_model.specs.declared.job.Job.TheVariants.{Backup, BackupSince, Fold, Restore, Run}
+use Rattle.nb_model.specs.declared.job.Ask.TheVariants.{Backup, BackupSince}
+use Rattle.nb_model.specs.declared.job.Deed.TheVariants.{Fold, Restore}
+use Rattle.nb_model.specs.declared.job.Job.TheVariants.{Run, Attach, Turn}
 use Rattle.std.proofs.lemmas.List.{take_more, take_all, map-append, get_or_default, length-map}
 use Rattle.std.proofs.Common.{drop, nat_le, take, ◌++◌, ◌-◌, ap₂, slice_index, ◌≡◌, ◌∙◌, ◌+◌, ◌<◌, ◌≤◌, ℕ, zero, suc, ◌&&◌, Bool, true, false, List, [], ◌∷◌, length, get_or, Option, Some, None, refl, ap, sym, subst, cond, arith, Bor, codes}
 use Rattle.std.specs.List.{list_all}
@@ -58,10 +60,10 @@ no_job None false d f since level e = refl
 
 pub backup_unnamed : (since db file : Word) → named db file ≡ None → None ≡ backup_job (since ∷ db ∷ file ∷ [])
 backup_unnamed since db file e =
-    no_job (parsed_hyphenated since) (is_level since) (is_database db) (is_file file) (λ guid. BackupSince guid db file) (Backup (slice_index since 0 - 48) db file) (unnamed (is_database db) (is_file file) (db, file) e)
+    no_job (parsed_hyphenated since) (is_level since) (is_database db) (is_file file) (λ guid. Attach db (BackupSince guid file)) (Attach db (Backup (slice_index since 0 - 48) file)) (unnamed (is_database db) (is_file file) (db, file) e)
 
-levelled : (v d f : Bool) (db file : Word) (n l : ℕ) (p : Word × Word) → pair_if (d && f) (db, file) ≡ Some p → cond v (Some n) None ≡ Some l → Some (Backup l p.0 p.1) ≡ job_if (v && d && f) (Backup n db file)
-levelled true true true db file n l p e h = ap₂ (λ (k : ℕ) (q : Word × Word). Some (Backup k q.0 q.1)) (sym (inner_number n l h)) (sym (inner_names (db, file) p e)) where
+levelled : (v d f : Bool) (db file : Word) (n l : ℕ) (p : Word × Word) → pair_if (d && f) (db, file) ≡ Some p → cond v (Some n) None ≡ Some l → Some (Attach p.0 (Backup l p.1)) ≡ job_if (v && d && f) (Attach db (Backup n file))
+levelled true true true db file n l p e h = ap₂ (λ (k : ℕ) (q : Word × Word). Some (Attach q.0 (Backup k q.1))) (sym (inner_number n l h)) (sym (inner_names (db, file) p e)) where
   inner_number : (a b : ℕ) → Some a ≡ Some b → a ≡ b
   inner_number a b e = cc
 
@@ -72,10 +74,10 @@ levelled true false f db file n l p e h = absurd (cc)
 levelled false d f db file n l p e h = absurd (cc)
 
 pub backup_of_level : (since db file : Word) (l : ℕ) (p : Word × Word) → named db file ≡ Some p → parsed_hyphenated since ≡ None → cond (is_level since) (Some (slice_index since 0 - 48)) None ≡ Some l
-    → Some (Backup l p.0 p.1) ≡ backup_job (since ∷ db ∷ file ∷ [])
+    → Some (Attach p.0 (Backup l p.1)) ≡ backup_job (since ∷ db ∷ file ∷ [])
 backup_of_level since db file l p e g h =
     levelled (is_level since) (is_database db) (is_file file) db file (slice_index since 0 - 48) l p e h
-    ∙ sym (ap (λ (o : Option (List ℕ)). backup_by o (is_database db && is_file file) (is_level since && is_database db && is_file file) (λ guid. BackupSince guid db file) (Backup (slice_index since 0 - 48) db file)) g)
+    ∙ sym (ap (λ (o : Option (List ℕ)). backup_by o (is_database db && is_file file) (is_level since && is_database db && is_file file) (λ guid. Attach db (BackupSince guid file)) (Attach db (Backup (slice_index since 0 - 48) file))) g)
 
 -- ---- names, one after another
 
@@ -143,7 +145,7 @@ all_four a b c d e f g h = and_from (a && b && c) d (and_from (a && b) c (and_fr
 pub restored : (words : List (Bor Word)) (d : Bor Word) (db : Word) (files : List Word) → 2 ≤ length words → length words ≤ 11
     → cond (is_database (get_or words 0 d).now) (Some (get_or words 0 d).now) None ≡ Some db
     → cond (list_all is_file (words_of (take (length words - 1) (drop 1 words)))) (Some (words_of (take (length words - 1) (drop 1 words)))) None ≡ Some files
-    → Some (Restore db files) ≡ restore_job (words_of words)
+    → Some (Turn (Restore db files)) ≡ restore_job (words_of words)
 restored [] d db files least most named all = absurd (omega (arith, least))
 restored (w ∷ ws) d db files least most named all =
     let first = is_some_of (is_database w.now) w.now db named in
@@ -151,7 +153,7 @@ restored (w ∷ ws) d db files least most named all =
     let rest = is_some_of (list_all is_file (words_of ws)) (words_of ws) files (subst (λ (r : List (Bor Word)). cond (list_all is_file (words_of r)) (Some (words_of r)) None ≡ Some files) behind all) in
     let count : length (words_of ws) ≡ length ws = length-map ws (λ (s : Bor Word). s.now) in
     let test = all_four (is_database w.now) (nat_le 1 (length (words_of ws))) (nat_le (length (words_of ws)) 10) (list_all is_file (words_of ws)) first.0 (le-leb 1 (length (words_of ws)) (omega (arith, count, least))) (le-leb (length (words_of ws)) 10 (omega (arith, count, most))) rest.0 in
-    ap₂ (λ (n : Word) (f : List Word). Some (Restore n f)) first.1 rest.1 ∙ sym (ap (λ (b : Bool). job_if b (Restore w.now (words_of ws))) test)
+    ap₂ (λ (n : Word) (f : List Word). Some (Turn (Restore n f))) first.1 rest.1 ∙ sym (ap (λ (b : Bool). job_if b (Turn (Restore w.now (words_of ws)))) test)
 
 -- ---- folding
 
@@ -165,11 +167,11 @@ not_other false is = absurd (true≢false is)
 pub folded : (verb word : Word) (words : List (Bor Word)) (out : Word) (files : List Word) → same_name verb (codes "fold") ≡ true → 2 ≤ length words → length words ≤ 9
     → cond (is_file word) (Some word) None ≡ Some out
     → cond (list_all is_file (words_of words)) (Some (words_of words)) None ≡ Some files
-    → Some (Fold out files) ≡ fold_job (verb ∷ word ∷ words_of words)
+    → Some (Turn (Fold out files)) ≡ fold_job (verb ∷ word ∷ words_of words)
 folded verb word words out files is least most named all =
     let first = is_some_of (is_file word) word out named in
     let rest = is_some_of (list_all is_file (words_of words)) (words_of words) files all in
     let count : length (words_of words) ≡ length words = length-map words (λ (s : Bor Word). s.now) in
     let test = all_five (same_name verb (codes "fold")) (is_file word) (nat_le 2 (length (words_of words))) (nat_le (length (words_of words)) 9) (list_all is_file (words_of words)) is first.0
     (le-leb 2 (length (words_of words)) (omega (arith, count, least))) (le-leb (length (words_of words)) 9 (omega (arith, count, most))) rest.0 in
-    ap₂ (λ (n : Word) (f : List Word). Some (Fold n f)) first.1 rest.1 ∙ sym (ap (λ (b : Bool). job_if b (Fold word (words_of words))) test)
+    ap₂ (λ (n : Word) (f : List Word). Some (Turn (Fold n f))) first.1 rest.1 ∙ sym (ap (λ (b : Bool). job_if b (Turn (Fold word (words_of words)))) test)

@@ -3,9 +3,11 @@ use Rattle.std.proofs.Common.{◌≡◌, ◌∙◌, ◌≤◌, ℕ, zero, suc, �
 use Rattle.nb_host.specs.Names.{same_name}
 use Rattle.std.specs.List.{list_all, position_or_len, slice_index_or}
 use Rattle.std.proofs.lemmas.Bool.{and_left, and_right, and_parts, eqb-true, lt-leb}
-use Rattle.nb_model.specs.Words.{Word, are_flags, job_read, job_of_flags, job_if, plain_job, fold_job, backup_job, restore_job, apply_job, database_job, is_database, is_file}
+use Rattle.nb_model.specs.Words.{Word, are_flags, job_read, job_of_flags, job_if, plain_job, fold_job, backup_job, restore_job, apply_job, ask_job, fixup_job, is_database, is_file}
+use Rattle.nb_model.specs.declared.job.Ask.TheVariants.{Lock, LockWithSize, Unlock}
+use Rattle.nb_model.specs.declared.job.Deed.TheVariants.{Restore, Fold}
 use Rattle.nb_model.specs.declared.job.Job.{Job}
-use Rattle.nb_model.specs.declared.job.Job.TheVariants.{Lock, LockWithSize, Unlock, Fixup, Restore, Fold}
+use Rattle.nb_model.specs.declared.job.Job.TheVariants.{Turn}
 use Rattle.nb_words.specs.Choice.{IsTheChoice, choices, column_of, job_in}
 
 -- from a column on a row has zeros
@@ -33,7 +35,7 @@ fourth_fails a b c d e f = rw f (and_left (a && b && c && false) e (and_right (a
 
 over_nine : (verb out : Word) (files : List Word) → 10 ≤ length files → None ≡ fold_job (verb ∷ out ∷ files)
 over_nine verb out files le =
-    sym (ap (λ b. job_if b (Fold out files)) (fourth_fails (same_name verb (codes "fold")) (is_file out) (nat_le 2 (length files)) (nat_le (length files) 9) (list_all is_file files) (lt-leb (length files) 9 (omega (arith, le)))))
+    sym (ap (λ b. job_if b (Turn (Fold out files))) (fourth_fails (same_name verb (codes "fold")) (is_file out) (nat_le 2 (length files)) (nat_le (length files) 9) (list_all is_file files) (lt-leb (length files) 9 (omega (arith, le)))))
 
 plain_row : (plain : List Word) → at (cells 0) plain ≡ plain_job plain
 plain_row [] = refl
@@ -60,12 +62,12 @@ backup_row (a ∷ b ∷ c ∷ []) = refl
 backup_row (a ∷ b ∷ c ∷ d ∷ rest) = past (cells 1) 4 (a ∷ b ∷ c ∷ d ∷ rest) refl (omega arith) (omega arith)
 
 too_many : (db : Word) (files : List Word) → 11 ≤ length files → None ≡ restore_job (db ∷ files)
-too_many db files le = sym (ap (λ b. job_if b (Restore db files)) (past_ten (is_database db) (nat_le 1 (length files)) (nat_le (length files) 10) (list_all is_file files) (lt-leb (length files) 10 (omega (arith, le))))) where
+too_many db files le = sym (ap (λ b. job_if b (Turn (Restore db files))) (past_ten (is_database db) (nat_le 1 (length files)) (nat_le (length files) 10) (list_all is_file files) (lt-leb (length files) 10 (omega (arith, le))))) where
   past_ten : (a b c d : Bool) → c ≡ false → (a && b && c && d) ≡ false
   past_ten a b c d e = rw e (and_left (a && b && false) d (and_right (a && b) false refl))
 
 too_few : (db : Word) → None ≡ restore_job (db ∷ [])
-too_few db = sym (ap (λ b. job_if b (Restore db [])) (none_given (is_database db))) where
+too_few db = sym (ap (λ b. job_if b (Turn (Restore db []))) (none_given (is_database db))) where
   none_given : (a : Bool) → (a && false && true && true) ≡ false
   none_given true = refl
   none_given false = refl
@@ -93,22 +95,22 @@ apply_row (a ∷ []) = refl
 apply_row (a ∷ b ∷ []) = refl
 apply_row (a ∷ b ∷ c ∷ rest) = past (cells 3) 3 (a ∷ b ∷ c ∷ rest) refl (omega arith) (omega arith)
 
-lock_row : (plain : List Word) → at (cells 4) plain ≡ database_job Lock plain
+lock_row : (plain : List Word) → at (cells 4) plain ≡ ask_job Lock plain
 lock_row [] = refl
 lock_row (a ∷ []) = refl
 lock_row (a ∷ b ∷ rest) = past (cells 4) 2 (a ∷ b ∷ rest) refl (omega arith) (omega arith)
 
-size_row : (plain : List Word) → at (cells 5) plain ≡ database_job LockWithSize plain
+size_row : (plain : List Word) → at (cells 5) plain ≡ ask_job LockWithSize plain
 size_row [] = refl
 size_row (a ∷ []) = refl
 size_row (a ∷ b ∷ rest) = past (cells 5) 2 (a ∷ b ∷ rest) refl (omega arith) (omega arith)
 
-unlock_row : (plain : List Word) → at (cells 6) plain ≡ database_job Unlock plain
+unlock_row : (plain : List Word) → at (cells 6) plain ≡ ask_job Unlock plain
 unlock_row [] = refl
 unlock_row (a ∷ []) = refl
 unlock_row (a ∷ b ∷ rest) = past (cells 6) 2 (a ∷ b ∷ rest) refl (omega arith) (omega arith)
 
-fixup_row : (plain : List Word) → at (cells 7) plain ≡ database_job Fixup plain
+fixup_row : (plain : List Word) → at (cells 7) plain ≡ fixup_job plain
 fixup_row [] = refl
 fixup_row (a ∷ []) = refl
 fixup_row (a ∷ b ∷ rest) = past (cells 7) 2 (a ∷ b ∷ rest) refl (omega arith) (omega arith)
@@ -125,7 +127,7 @@ picked (b ∷ bs) [] = None
 picked (b ∷ bs) (job ∷ jobs) = elim b [ true ↦ job | false ↦ picked bs jobs ]
 
 cells_by : (plain : List Word) (a b c d e f g h : Bool) → at (cells (position_or_len (λ t. t) (a ∷ b ∷ c ∷ d ∷ e ∷ f ∷ g ∷ h ∷ []))) plain
-    ≡ picked (a ∷ b ∷ c ∷ d ∷ e ∷ f ∷ g ∷ h ∷ []) (plain_job plain ∷ backup_job plain ∷ restore_job plain ∷ apply_job plain ∷ database_job Lock plain ∷ database_job LockWithSize plain ∷ database_job Unlock plain ∷ database_job Fixup plain ∷ [])
+    ≡ picked (a ∷ b ∷ c ∷ d ∷ e ∷ f ∷ g ∷ h ∷ []) (plain_job plain ∷ backup_job plain ∷ restore_job plain ∷ apply_job plain ∷ ask_job Lock plain ∷ ask_job LockWithSize plain ∷ ask_job Unlock plain ∷ fixup_job plain ∷ [])
 cells_by plain true b c d e f g h = plain_row plain
 cells_by plain false true c d e f g h = backup_row plain
 cells_by plain false false true d e f g h = restore_row plain

@@ -4,9 +4,9 @@ use Rattle.std.specs.List.{position_or_len, range_with_len}
 use Rattle.std.specs.Cmp.Lexicographic.{pointwise}
 use Rattle.nb_fields.specs.Cases.{cell}
 use Rattle.nb_words.specs.Read.{counts_of}
-use Rattle.nb_model.specs.Words.{Word, are_flags, job_read, named_job, gen_or_plan, fold_job, backup_job, restore_job, apply_job, database_job}
+use Rattle.nb_model.specs.Words.{Word, are_flags, job_read, named_job, gen_or_plan, fold_job, backup_job, restore_job, apply_job, ask_job, fixup_job}
+use Rattle.nb_model.specs.declared.job.Ask.TheVariants.{Lock, LockWithSize, Unlock}
 use Rattle.nb_model.specs.declared.job.Job.{Job}
-use Rattle.nb_model.specs.declared.job.Job.TheVariants.{Lock, LockWithSize, Unlock, Fixup}
 
 -- the sets of flags that name a job
 abbrev pub sets : List (List ℕ)
@@ -58,13 +58,13 @@ job_in cell plain = elim (cell == 1) [
       | false ↦ elim (cell == 4) [
         | true ↦ restore_job plain
         | false ↦ elim (cell == 5) [
-          | true ↦ database_job Lock plain
+          | true ↦ ask_job Lock plain
           | false ↦ elim (cell == 6) [
-            | true ↦ database_job LockWithSize plain
+            | true ↦ ask_job LockWithSize plain
             | false ↦ elim (cell == 7) [
-              | true ↦ database_job Unlock plain
+              | true ↦ ask_job Unlock plain
               | false ↦ elim (cell == 8) [
-                | true ↦ database_job Fixup plain
+                | true ↦ fixup_job plain
                 | false ↦ elim (cell == 9) [ true ↦ apply_job plain | false ↦ elim (cell == 10) [ true ↦ fold_job plain | false ↦ None ] ]
               ]
             ]

@@ -2,15 +2,14 @@
 ghost use Rattle.std.specs.Prelude.{◌≡◌, [], ◌∷◌, Some, None, cond, IfOk, IfErr};
 ghost use Rattle.std.specs.List.{list_all};
 ghost use Rattle.nb_host.specs.declared.faults.Fault.TheVariants.{Memory};
-ghost use Rattle.nb_model.specs.declared.job.Job.TheVariants.{Lock, LockWithSize, Unlock, Fixup};
-ghost use Rattle.nb_model.specs.Words.{is_file, asks_one, named_job, gen_job, plan_job, gen_or_plan, fold_job, backup_job, restore_job, apply_job, database_job};
+ghost use Rattle.nb_model.specs.Words.{is_file, asks_one, named_job, gen_job, plan_job, gen_or_plan, fold_job, backup_job, restore_job, apply_job, ask_job, fixup_job};
 ghost use Rattle.nb_words.specs.Choice.{job_in};
 ghost use Rattle.nb_words.specs.Parts.{one_database};
 ghost use Rattle.nb_words.specs.Read.{words_of};
 
 use crate::word;
 use nb_host::{Fault, Name};
-use nb_model::{Job, NameList};
+use nb_model::{Ask, Deed, Job, NameList};
 use std::alloc::Global;
 
 /// What the first of two words asks of a database.
@@ -18,11 +17,17 @@ fn asked_of(verb: &str, db: Name) -> Option<Job>
     ensures { result ≡ asks_one verb.now db }
 {
     if verb == "stat" {
-        Some(Job::Stat { db })
+        Some(Job::Attach { db, ask: Ask::Stat })
     } else if verb == "check" {
-        Some(Job::Check { db })
+        Some(Job::Attach {
+            db,
+            ask: Ask::Check,
+        })
     } else if verb == "reclaim" {
-        Some(Job::Reclaim { db })
+        Some(Job::Attach {
+            db,
+            ask: Ask::Reclaim,
+        })
     } else {
         None
     }
@@ -97,9 +102,15 @@ fn backup_of(since: &str, db: &str, file: &str) -> Option<Job>
 {
     let (db, file) = word::database_and_file(db, file)?;
     match word::guid(since) {
-        Some(guid) => Some(Job::BackupSince { guid, db, file }),
+        Some(guid) => Some(Job::Attach {
+            db,
+            ask: Ask::BackupSince { guid, file },
+        }),
         None => match word::level(since) {
-            Some(level) => Some(Job::Backup { level, db, file }),
+            Some(level) => Some(Job::Attach {
+                db,
+                ask: Ask::Backup { level, file },
+            }),
             None => None,
         },
     }
@@ -142,7 +153,9 @@ fn restore(alloc: Global, words: &[&str]) -> Result<Option<Job>, Fault>
     };
     let files = files(alloc, &words[1..])?;
     match files {
-        Some(files) => Ok(Some(Job::Restore { db, files })),
+        Some(files) => Ok(Some(Job::Turn {
+            deed: Deed::Restore { db, files },
+        })),
         None => Ok(None),
     }
 }
@@ -160,7 +173,9 @@ fn of_more(alloc: Global, verb: &str, out: &str, words: &[&str]) -> Result<Optio
     };
     let files = files(alloc, words)?;
     match files {
-        Some(files) => Ok(Some(Job::Fold { out, files })),
+        Some(files) => Ok(Some(Job::Turn {
+            deed: Deed::Fold { out, files },
+        })),
         None => Ok(None),
     }
 }
@@ -181,7 +196,9 @@ fn apply_to(db: &str, file: &str) -> Option<Job>
     ensures { result ≡ apply_job (db.now ∷ file.now ∷ []) }
 {
     let (db, file) = word::database_and_file(db, file)?;
-    Some(Job::Apply { db, file })
+    Some(Job::Turn {
+        deed: Deed::Apply { db, file },
+    })
 }
 
 fn apply(words: &[&str]) -> Option<Job>
@@ -203,36 +220,22 @@ fn one_database(words: &[&str]) -> Option<Name>
     }
 }
 
-/// `-L DB`
-fn lock(words: &[&str]) -> Option<Job>
-    ensures { result ≡ database_job Lock (words_of words.now) }
+/// `-L DB`, `-L -S DB` and `-N DB`: that database is asked this.
+fn asking(words: &[&str], ask: Ask) -> Option<Job>
+    ensures { result ≡ ask_job ask (words_of words.now) }
 {
     let db = one_database(words)?;
-    Some(Job::Lock { db })
-}
-
-/// `-L -S DB`
-fn lock_with_size(words: &[&str]) -> Option<Job>
-    ensures { result ≡ database_job LockWithSize (words_of words.now) }
-{
-    let db = one_database(words)?;
-    Some(Job::LockWithSize { db })
-}
-
-/// `-N DB`
-fn unlock(words: &[&str]) -> Option<Job>
-    ensures { result ≡ database_job Unlock (words_of words.now) }
-{
-    let db = one_database(words)?;
-    Some(Job::Unlock { db })
+    Some(Job::Attach { db, ask })
 }
 
 /// `-F DB`
 fn fixup(words: &[&str]) -> Option<Job>
-    ensures { result ≡ database_job Fixup (words_of words.now) }
+    ensures { result ≡ fixup_job (words_of words.now) }
 {
     let db = one_database(words)?;
-    Some(Job::Fixup { db })
+    Some(Job::Turn {
+        deed: Deed::Fixup { db },
+    })
 }
 
 /// The job of a cell of the table, and none where the words are no names of the kinds that it asks for.
@@ -245,9 +248,9 @@ pub(crate) fn of_cell(alloc: Global, cell: u8, words: &[&str]) -> Result<Option<
         2 => Ok(gen_or_plan(words)),
         3 => Ok(backup(words)),
         4 => restore(alloc, words),
-        5 => Ok(lock(words)),
-        6 => Ok(lock_with_size(words)),
-        7 => Ok(unlock(words)),
+        5 => Ok(asking(words, Ask::Lock)),
+        6 => Ok(asking(words, Ask::LockWithSize)),
+        7 => Ok(asking(words, Ask::Unlock)),
         8 => Ok(fixup(words)),
         9 => Ok(apply(words)),
         10 => fold(alloc, words),

@@ -1,18 +1,14 @@
 use Rattle.std.proofs.Common.{◌≡◌, ◌≢◌, ℕ, ◌/◌, [], ◌∷◌, sym, ap, subst, ◌∙◌, arith}
-use Rattle.std.specs.Prelude.{Bool, true, false, Option, None, IsTrue}
+use Rattle.std.specs.Prelude.{Bool, true, false, IsTrue}
 use Rattle.nb_fields.specs.Places.{is_page_size, entries_in}
 use Rattle.nb_model.specs.Image.{image_size}
 use Rattle.nb_model.specs.Forms.{is_kind, system_kind, scn_page_of}
 use Rattle.nb_model.proofs.SoundLaws.{scn_page_there}
 use Rattle.nb_alloc.proofs.BehindLaws.{entry_absent, entry_there, entry_lacks}
-use Rattle.nb_alloc.proofs.DoesLaws.{tested_on}
 use Rattle.nb_alloc.proofs.PassLaws.{kind_entries, no_map}
 use Rattle.nb_alloc.proofs.PutLaws.{scn_page-without, other-with}
 use Rattle.nb_alloc.proofs.RaiseLaws.{scn_page-is}
 use Rattle.nb_alloc.proofs.behind.find_lacking.Goals as goal
-
-pub returns-in_err-there-clause-test : goal.returns-in_err-there-clause-test
-returns-in_err-there-clause-test g c = tested_on Bool (Option ℕ) _ _ None None c.from_residual.ensures (λ r e. e) c.in_err-there.ensures.test
 
 pub returns-then-is_place-clause-value : goal.returns-then-is_place-clause-value
 returns-then-is_place-clause-value g c t tells is =

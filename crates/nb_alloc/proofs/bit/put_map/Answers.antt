@@ -1,9 +1,12 @@
 use Rattle.std.proofs.Common.{◌/◌, ℕ, ◌%◌, [], ◌∷◌, ap, subst, ◌∙◌, arith, sym}
-use Rattle.std.specs.Prelude.{Ok, Err}
+use Rattle.std.specs.Prelude.{Result, Ok, Err}
+use Rattle.nb_host.specs.Faults.{as_fault}
+use Rattle.nb_host.specs.declared.faults.Fault.{Fault}
 use Rattle.nb_fields.specs.Places.{bits_in, inventory_place}
 use Rattle.nb_model.specs.Image.{Image}
 use Rattle.nb_model.specs.Forms.{inventory_of, bit_number}
 use Rattle.nb_model.proofs.SoundLaws.{inventory_place_some}
+use Rattle.nb_state.proofs.MakesLaws.{none_refused}
 use Rattle.nb_alloc.specs.Tries.{Tries}
 use Rattle.nb_alloc.specs.Put.{entry_cause, raise_strokes}
 use Rattle.nb_alloc.specs.Mark.{bit_for, bit_stroke, mark_cause, mark_stroke, mark_strokes}
@@ -11,6 +14,7 @@ use Rattle.nb_alloc.proofs.TestLaws.{inventory_place_is}
 use Rattle.nb_alloc.proofs.MarkLaws.{plain, entries_some, mark_stroke-after}
 use Rattle.nb_alloc.proofs.DoesLaws.{tries_passed, tries_front, tries_opened}
 use Rattle.nb_alloc.proofs.PageLaws.{then_page, bit_at, mark_tries}
+use Rattle.nb_change.proofs.FaultLaws.{counts_passed, memory_wanted, none_wanted}
 use Rattle.nb_change.proofs.ResultLaws.{passed_on}
 use Rattle.nb_alloc.proofs.WantLaws.{stops_first, stops_then}
 use Rattle.nb_base.specs.Takes.{after_strokes}
@@ -47,9 +51,30 @@ returns-clause-tries g c t tells is form read =
     let number = c.covers-k.ensures.index ∙ ap (λ (n : ℕ). p % bits_in n) size in
     let first = subst (λ (q : ℕ). Tries {T = Unit {0}} (Ok tt) old mid c.args.store.now c.raise_entry.new.store t (entry_cause image q) (raise_strokes image q)) at (c.in_ok-raise_entry.ensures.tries t tells is) in
     let bits = λ (x : Image). bit_stroke x (inventory_of image p) (bit_number image p) bit in
-    mark_tries c.write_bit.result _ _ _ _ t p bit form some
-    (then_page old mid _ _ t (inventory_of image p) (plain t.base p form) some first c.write_bit.result new _ c.args.map.now bits read (mark_stroke-after image _ p bit) c.write_bit.ensures.not_refused
-    (bit_at c.write_bit.result mid new _ _ c.args.map.now c.place_of-place.result (inventory_of image p) c.covers-k.result.1 (bit_number image p) bit at number (λ u opened is. c.write_bit.ensures.makes u tells opened is)))
+    let done : Result (Unit {0}) Fault = Ok tt in
+    mark_tries done _ _ _ _ t p bit form some
+    (then_page old mid _ _ t (inventory_of image p) (plain t.base p form) some first done new _ c.args.map.now bits read (mark_stroke-after image _ p bit) tt
+    (bit_at done mid new _ _ c.args.map.now c.place_of-place.result (inventory_of image p) c.covers-k.result.1 (bit_number image p) bit at number (λ u opened is. c.in_ok-write_bit.ensures.makes u tells opened is)))
+
+pub returns-in_err-write_bit-clause-tries : goal.returns-in_err-write_bit-clause-tries
+returns-in_err-write_bit-clause-tries g c t tells is form read =
+    let image = t.base.image in
+    let p = c.args.number in
+    let bit = bit_for c.args.free in
+    let old = g.H.Host.world c.args.host.now in
+    let mid = g.H.Host.world c.raise_entry.new.host in
+    let new = g.H.Host.world c.write_bit.new.host in
+    let failed : Result (Unit {0}) Fault = Err (as_fault c.in_err-write_bit.field-0.0) in
+    let size = c.page_size-page_size.ensures.value ∙ is.files.agrees.page_size in
+    let some = entries_some _ image c.page_size-page_size.ensures.one_of size in
+    let at = inventory_place_is image _ p _ _ c.place_of-place.ensures c.covers-k.ensures.number size in
+    let number = c.covers-k.ensures.index ∙ ap (λ (n : ℕ). p % bits_in n) size in
+    let first = subst (λ (q : ℕ). Tries {T = Unit {0}} (Ok tt) old mid c.args.store.now c.raise_entry.new.store t (entry_cause image q) (raise_strokes image q)) at (c.in_ok-raise_entry.ensures.tries t tells is) in
+    let bits = λ (x : Image). bit_stroke x (inventory_of image p) (bit_number image p) bit in
+    tries_passed c.from_residual-in_err-write_bit.result (as_fault c.in_err-write_bit.field-0.0) (λ r. Tries r old new c.args.store.now c.write_bit.new.store t (mark_cause image p) (mark_strokes image p bit)) c.from_residual-in_err-write_bit.ensures
+    (mark_tries failed _ _ _ _ t p bit form some
+    (then_page old mid _ _ t (inventory_of image p) (plain t.base p form) some first failed new _ c.args.map.now bits read (mark_stroke-after image _ p bit) (none_refused c.in_err-write_bit.field-0.0)
+    (bit_at failed mid new _ _ c.args.map.now c.place_of-place.result (inventory_of image p) c.covers-k.result.1 (bit_number image p) bit at number (λ u opened is. c.in_err-write_bit.ensures.makes u tells opened is))))
 
 pub returns-in_err-raise_entry-clause-on_memory : goal.returns-in_err-raise_entry-clause-on_memory
 returns-in_err-raise_entry-clause-on_memory g c t tells is memory =
@@ -57,8 +82,8 @@ returns-in_err-raise_entry-clause-on_memory g c t tells is memory =
     let left = c.in_err-raise_entry.ensures.on_memory t tells is wants in
     stops_first _ _ c.args.store.now c.raise_entry.new.store t _ left.0 left.1
 
-pub returns-clause-on_memory : goal.returns-clause-on_memory
-returns-clause-on_memory g c t tells is memory =
+pub returns-in_err-write_bit-clause-on_memory : goal.returns-in_err-write_bit-clause-on_memory
+returns-in_err-write_bit-clause-on_memory g c t tells is memory =
     let image = t.base.image in
     let old = g.H.Host.world c.args.host.now in
     let mid = g.H.Host.world c.raise_entry.new.host in
@@ -67,8 +92,18 @@ returns-clause-on_memory g c t tells is memory =
     let at = inventory_place_is image _ c.args.number _ _ c.place_of-place.ensures c.covers-k.ensures.number size in
     let first = subst (λ (q : ℕ). Tries {T = Unit {0}} (Ok tt) old mid c.args.store.now c.raise_entry.new.store t (entry_cause image q) (raise_strokes image q)) at (c.in_ok-raise_entry.ensures.tries t tells is) in
     let xs = raise_strokes image (inventory_of image c.args.number) in
-    let left = c.write_bit.ensures.on_memory (after_strokes t xs) tells (tries_opened tt old mid c.args.store.now c.raise_entry.new.store t _ xs first) memory in
+    let wants = memory_wanted c.from_residual-in_err-write_bit.result c.in_err-write_bit.field-0.0 c.from_residual-in_err-write_bit.ensures (Unit {0}) memory in
+    let left = c.in_err-write_bit.ensures.on_memory (after_strokes t xs) tells (tries_opened tt old mid c.args.store.now c.raise_entry.new.store t _ xs first) wants in
     stops_then old mid new c.args.store.now c.raise_entry.new.store c.write_bit.new.store t _ xs first left.0 left.1
+
+pub returns-in_err-write_bit-clause-cause : goal.returns-in_err-write_bit-clause-cause
+returns-in_err-write_bit-clause-cause g c =
+    counts_passed c.from_residual-in_err-write_bit.result c.in_err-write_bit.field-0.0 c.from_residual-in_err-write_bit.ensures (Unit {0}) _ _ _ c.in_ok-raise_entry.ensures.cause c.in_err-write_bit.ensures.cause
+
+pub returns-in_err-write_bit-clause-takes_none : goal.returns-in_err-write_bit-clause-takes_none
+returns-in_err-write_bit-clause-takes_none g c unstalled =
+    none_wanted c.from_residual-in_err-write_bit.result c.in_err-write_bit.field-0.0 c.from_residual-in_err-write_bit.ensures
+    (c.in_err-write_bit.ensures.takes_none (λ one. unstalled (sym c.in_ok-raise_entry.ensures.goes.state ∙ one)))
 
 pub write_bit-requires-clause-inside : goal.write_bit-requires-clause-inside
 write_bit-requires-clause-inside g c =

@@ -14,7 +14,8 @@ use Rattle.nb_alloc.proofs.make.make_new.Given as goal
 abbrev pub invariant-loop-store : goal.invariant-loop-store
 invariant-loop-store g l = record {
   so_far : (t : Trail) → IsTrue g.H.Host.tells → IsOpen (g.H.Host.world l.fn.host) l.fn.store t → l.fn.first ≡ lowest_free t.base.image → HoldsMap t.base.image l.fn.first l.fn.map
-      → SoFar (code_of l.fn.kind) (content l.fn.own l.fn.payload) (IsSearchable t.base.image × (draft_cause (new_of (code_of l.fn.kind) (content l.fn.own l.fn.payload) t.base.image).0 ≡ None)) (g.H.Host.world l.fn.host) (g.H.Host.world l.host) l.fn.store l.store t l.place (new_of (code_of l.fn.kind) (content l.fn.own l.fn.payload) t.base.image).0.strokes (new_of (code_of l.fn.kind) (content l.fn.own l.fn.payload) t.base.image).1 l.map;
+      → IsSearchable t.base.image → draft_cause (new_of (code_of l.fn.kind) (content l.fn.own l.fn.payload) t.base.image).0 ≡ None
+      → SoFar (code_of l.fn.kind) (content l.fn.own l.fn.payload) (g.H.Host.world l.fn.host) (g.H.Host.world l.host) l.fn.store l.store t l.place (new_of (code_of l.fn.kind) (content l.fn.own l.fn.payload) t.base.image).0.strokes (new_of (code_of l.fn.kind) (content l.fn.own l.fn.payload) t.base.image).1 l.map;
   goes : Goes l.fn.store l.store;
   low : 5 ≤ l.place;
   behind : l.fn.first ≤ l.place;

@@ -1,11 +1,15 @@
 use Rattle.std.proofs.Common.{◌≡◌, ℕ, [], ◌∷◌, sym, ap, subst, ◌∙◌, arith}
-use Rattle.std.specs.Prelude.{false, ◌==◌}
+use Rattle.std.specs.Prelude.{Result, Ok, Err, false, ◌==◌}
+use Rattle.nb_host.specs.Faults.{as_fault}
+use Rattle.nb_host.specs.declared.faults.Fault.{Fault}
 use Rattle.nb_fields.specs.Bytes.{is_zeros}
 use Rattle.nb_fields.specs.Kinds.{code_of}
 use Rattle.nb_fields.specs.Page.{stamped}
 use Rattle.nb_model.specs.Image.{Page, image_scn}
 use Rattle.nb_model.specs.Strokes.{page}
 use Rattle.nb_model.specs.Forms.{old_page}
+use Rattle.nb_change.proofs.FaultLaws.{counts_passed, none_wanted}
+use Rattle.nb_state.proofs.MakesLaws.{none_refused}
 use Rattle.nb_alloc.specs.Tries.{Tries}
 use Rattle.nb_alloc.specs.Put.{entry_cause, raise_strokes}
 use Rattle.nb_alloc.specs.Make.{page_strokes}
@@ -35,8 +39,30 @@ returns-clause-tries g c t payload tells is room filled =
     let p : ℕ = c.args.number in
     let kind : ℕ = code_of c.args.kind in
     let bytes = stamped_page image p c.code.result kind c.scn.result payload c.args.page.now c.stamp.new.page filled c.stamp.ensures.written c.code.ensures (c.scn.ensures ∙ is.agrees.scn) room in
-    put_then c.write.result _ (g.H.Host.world c.raise_entry.new.host) _ _ c.raise_entry.new.store _ t p c.stamp.new.page _ (c.in_ok-raise_entry.ensures.tries t tells is) bytes c.write.ensures.not_refused
-    (λ u opened. c.write.ensures.makes u tells opened)
+    let done : Result (Unit {0}) Fault = Ok tt in
+    put_then done _ (g.H.Host.world c.raise_entry.new.host) _ _ c.raise_entry.new.store _ t p c.stamp.new.page _ (c.in_ok-raise_entry.ensures.tries t tells is) bytes tt
+    (λ u opened. c.in_ok-write.ensures.makes u tells opened)
+
+pub returns-in_err-write-clause-tries : goal.returns-in_err-write-clause-tries
+returns-in_err-write-clause-tries g c t payload tells is room filled =
+    let image = t.base.image in
+    let p : ℕ = c.args.number in
+    let kind : ℕ = code_of c.args.kind in
+    let failed : Result (Unit {0}) Fault = Err (as_fault c.in_err-write.field-0.0) in
+    let bytes = stamped_page image p c.code.result kind c.scn.result payload c.args.page.now c.stamp.new.page filled c.stamp.ensures.written c.code.ensures (c.scn.ensures ∙ is.agrees.scn) room in
+    tries_passed c.from_residual-in_err-write.result (as_fault c.in_err-write.field-0.0)
+    (λ r. Tries r (g.H.Host.world c.args.host.now) (g.H.Host.world c.write.new.host) c.args.store.now c.write.new.self t (entry_cause image p) (page_strokes image p kind payload)) c.from_residual-in_err-write.ensures
+    (put_then failed _ (g.H.Host.world c.raise_entry.new.host) _ _ c.raise_entry.new.store _ t p c.stamp.new.page _ (c.in_ok-raise_entry.ensures.tries t tells is) bytes (none_refused c.in_err-write.field-0.0)
+    (λ u opened. c.in_err-write.ensures.makes u tells opened))
+
+pub returns-in_err-write-clause-cause : goal.returns-in_err-write-clause-cause
+returns-in_err-write-clause-cause g c =
+    counts_passed c.from_residual-in_err-write.result c.in_err-write.field-0.0 c.from_residual-in_err-write.ensures (Unit {0}) _ _ _ c.in_ok-raise_entry.ensures.cause c.in_err-write.ensures.cause
+
+pub returns-in_err-write-clause-takes_none : goal.returns-in_err-write-clause-takes_none
+returns-in_err-write-clause-takes_none g c unstalled =
+    none_wanted c.from_residual-in_err-write.result c.in_err-write.field-0.0 c.from_residual-in_err-write.ensures
+    (c.in_err-write.ensures.takes_none (λ one. unstalled (sym c.in_ok-raise_entry.ensures.goes.state ∙ one)))
 
 pub write-requires-clause-low : goal.write-requires-clause-low
 write-requires-clause-low g c = omega (arith, c.requires.inside, c.in_ok-raise_entry.ensures.goes.longer)

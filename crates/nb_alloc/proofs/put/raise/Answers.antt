@@ -1,4 +1,5 @@
 use Rattle.std.proofs.Common.{◌≡◌, ◌/◌, ℕ, length, ap, ◌∙◌, arith}
+use Rattle.nb_host.specs.Faults.{as_answer}
 use Rattle.nb_fields.specs.Places.{entries_in, scn_place}
 use Rattle.nb_fields.proofs.PlaceLemmas.{entries-least}
 use Rattle.nb_model.specs.Image.{Page}
@@ -28,4 +29,4 @@ returns-clause-makes g c t tells is none must before =
     let long : c.page_size-page_size.result ≡ length c.args.scn_page.now = omega (arith, c.requires.room, c.page_size-page_size.ensures.value) in
     let stroke = raise_stroke-is image _ p c.covers-k.result.0 c.covers-k.result.1 place c.scn.result c.args.scn_page.now c.raise.new.self size c.covers-k.ensures.number c.covers-k.ensures.index c.place_of-place.ensures
     long c.covers-k.ensures.inside before (c.scn.ensures ∙ is.agrees.scn) may.below c.raise.ensures.page in
-    makes_one c.write.result _ _ _ _ t _ _ (ap (λ (x : Page). page place x) c.as_slice.ensures ∙ stroke) (c.write.ensures.makes t tells is)
+    makes_one (as_answer c.write.result) _ _ _ _ t _ _ (ap (λ (x : Page). page place x) c.as_slice.ensures ∙ stroke) (c.write.ensures.makes t tells is)

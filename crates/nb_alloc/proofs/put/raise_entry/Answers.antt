@@ -1,15 +1,16 @@
-use Rattle.std.proofs.Common.{◌≡◌, ◌/◌, ◌<◌, List, sym, subst, ◌∙◌, []}
+use Rattle.std.proofs.Common.{◌≡◌, ◌/◌, ◌<◌, List, sym, ap, subst, ◌∙◌, []}
 use Rattle.std.specs.Prelude.{Bool, true, Ok, Err}
+use Rattle.nb_host.specs.Faults.{as_fault}
 use Rattle.nb_fields.specs.Places.{entries_in, scn_place}
 use Rattle.nb_model.specs.Strokes.{Stroke}
 use Rattle.nb_state.specs.Open.{Held}
 use Rattle.nb_state.specs.Does.{Makes}
-use Rattle.nb_state.proofs.MakesLaws.{makes_none}
+use Rattle.nb_state.proofs.MakesLaws.{makes_none, none_refused}
 use Rattle.nb_alloc.specs.Tries.{Tries}
 use Rattle.nb_alloc.specs.Put.{must_raise, raise_strokes, entry_cause}
 use Rattle.nb_alloc.proofs.PutLaws.{raised_not, raised_once}
 use Rattle.nb_alloc.proofs.DoesLaws.{tries_early, tries_passed, tries_made, tries_after}
-use Rattle.nb_change.proofs.ResultLaws.{passed_on}
+use Rattle.nb_change.proofs.FaultLaws.{counts_passed, memory_wanted, none_wanted}
 use Rattle.nb_alloc.proofs.WantLaws.{strikes_after}
 use Rattle.nb_alloc.proofs.put.raise_entry.Goals.{then-branch+in_ok-raise, else-branch}
 use Rattle.nb_alloc.proofs.put.raise_entry.Goals as goal
@@ -33,11 +34,12 @@ returns-in_err-raise-clause-tries g c t tells is =
     let must : must_raise image p ≡ true = sym told.value ∙ c.if-branch.true in
     let still = asked.open t tells is in
     let makes = c.in_err-raise.ensures.makes t tells still told.test must (told.page c.if-branch.true) in
-    tries_passed c.from_residual-in_err-raise.result c.in_err-raise.field-0.0
+    let fault = as_fault c.in_err-raise.field-0.0 in
+    tries_passed c.from_residual-in_err-raise.result fault
     (λ r. Tries r (g.H.Host.world c.args.host.now) (g.H.Host.world c.raise.new.host) c.args.store.now c.raise.new.store t (entry_cause image p) (raise_strokes image p)) c.from_residual-in_err-raise.ensures
     (tries_after _ _ _ _ _ _ _ t _ _ asked.same asked.quiet is
-    (tries_made _ _ _ _ _ t _ _ told.test c.in_err-raise.ensures.not_refused
-    (subst (λ (ss : List Stroke). Makes {T = Unit {0}} (Err c.in_err-raise.field-0.0) (g.H.Host.world c.must_raise.new.host) (g.H.Host.world c.raise.new.host) c.must_raise.new.store c.raise.new.store t ss) (sym (raised_once image p must)) makes)))
+    (tries_made _ _ _ _ _ t _ _ told.test (none_refused c.in_err-raise.field-0.0)
+    (subst (λ (ss : List Stroke). Makes {T = Unit {0}} (Err fault) (g.H.Host.world c.must_raise.new.host) (g.H.Host.world c.raise.new.host) c.must_raise.new.store c.raise.new.store t ss) (sym (raised_once image p must)) makes)))
 
 pub returns-clause-tries : goal.returns-clause-tries
 returns-clause-tries g c t tells is =
@@ -64,6 +66,15 @@ returns-clause-tries g c t tells is =
 pub returns-in_err-raise-clause-on_memory : goal.returns-in_err-raise-clause-on_memory
 returns-in_err-raise-clause-on_memory g c t tells is memory =
     let asked = c.in_ok-must_raise.ensures in
-    let wants = sym (passed_on c.from_residual-in_err-raise.result c.in_err-raise.field-0.0 c.from_residual-in_err-raise.ensures) ∙ memory in
+    let wants = memory_wanted c.from_residual-in_err-raise.result c.in_err-raise.field-0.0 c.from_residual-in_err-raise.ensures (Unit {0}) memory in
     let left = c.in_err-raise.ensures.on_memory t tells (asked.open t tells is) wants in
     (strikes_after _ _ _ c.args.store.now c.must_raise.new.store t [] asked.same asked.quiet is left.0, left.1)
+
+pub returns-in_err-raise-clause-cause : goal.returns-in_err-raise-clause-cause
+returns-in_err-raise-clause-cause g c =
+    counts_passed c.from_residual-in_err-raise.result c.in_err-raise.field-0.0 c.from_residual-in_err-raise.ensures (Unit {0}) _ _ _ c.in_ok-must_raise.ensures.cause c.in_err-raise.ensures.cause
+
+pub returns-in_err-raise-clause-takes_none : goal.returns-in_err-raise-clause-takes_none
+returns-in_err-raise-clause-takes_none g c unstalled =
+    none_wanted c.from_residual-in_err-raise.result c.in_err-raise.field-0.0 c.from_residual-in_err-raise.ensures
+    (c.in_err-raise.ensures.takes_none (λ one. unstalled (sym (ap (λ (h : Held). h.files.state) c.in_ok-must_raise.ensures.same) ∙ one)))

@@ -1,5 +1,6 @@
 use Rattle.std.proofs.Common.{◌≡◌, length, sym, ap, subst, ◌∙◌}
 use Rattle.std.specs.Prelude.{false, ◌==◌}
+use Rattle.nb_host.specs.Faults.{as_answer}
 use Rattle.nb_fields.specs.Bytes.{is_zeros}
 use Rattle.nb_fields.proofs.SizeLemmas.{size_facts}
 use Rattle.nb_model.specs.Image.{Page}
@@ -17,4 +18,4 @@ returns-clause-makes g c t tells is before =
     let size = size_facts (length c.args.page.now) c.requires.size in
     let bytes = raw_page t.base.image c.args.page.now c.put_text.new.page c.stamp.new.page c.args.text.now c.code.result c.scn.result c.args.number
     c.put_text.ensures.written c.stamp.ensures.written c.code.ensures c.requires.short size.at_least before (c.scn.ensures ∙ is.agrees.scn) in
-    makes_one c.write.result _ _ _ _ t _ _ (ap (λ (x : Page). page c.args.number x) bytes) (c.write.ensures.makes t tells is)
+    makes_one (as_answer c.write.result) _ _ _ _ t _ _ (ap (λ (x : Page). page c.args.number x) bytes) (c.write.ensures.makes t tells is)

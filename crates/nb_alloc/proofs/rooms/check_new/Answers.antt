@@ -3,7 +3,7 @@ use Rattle.std.specs.Prelude.{IsTrue, IfOk}
 use Rattle.nb_fields.specs.Places.{is_page_size}
 use Rattle.nb_model.specs.Image.{image_size}
 use Rattle.nb_alloc.proofs.NewReads.{few_tested}
-use Rattle.nb_alloc.proofs.WayLaws.{begins_at, place_begins, ends_tested, ends_shaped}
+use Rattle.nb_alloc.proofs.WayLaws.{begins_at, place_begins, ends_tested}
 use Rattle.nb_alloc.proofs.rooms.check_new.Goals as goal
 
 pub find_room-requires-clause-low : goal.find_room-requires-clause-low
@@ -16,11 +16,6 @@ pub returns-clause-test : goal.returns-clause-test
 returns-clause-test g c t kind payload tells is shaped short =
     let way = begins_at t.base.image _ _ _ c.begin-way.ensures.from c.begin-way.ensures.made c.begin-way.ensures.fresh shaped in
     ends_tested c.find_room.result t.base.image t.base.image _ _ _ _ _ kind payload short (c.find_room.ensures.ends t t.base.image tells is way)
-
-pub returns-clause-shaped : goal.returns-clause-shaped
-returns-clause-shaped g c t kind payload tells is shaped short =
-    let way = begins_at t.base.image _ _ _ c.begin-way.ensures.from c.begin-way.ensures.made c.begin-way.ensures.fresh shaped in
-    ends_shaped c.find_room.result t.base.image t.base.image _ _ _ _ _ kind payload short (c.find_room.ensures.ends t t.base.image tells is way)
 
 pub returns-clause-value : goal.returns-clause-value
 returns-clause-value g c t tells is =

@@ -16,7 +16,7 @@ use Rattle.nb_alloc.proofs.rooms.check_rooms.Goals as goal
 pub returns-in_err-behind-clause-one : goal.returns-in_err-behind-clause-one
 returns-in_err-behind-clause-one g c t first tells is shaped short is_data count_is =
     let image = t.base.image in
-    tested_on Behind ℕ _ _ None (behind_cause (new_of 5 first image).0 c.args.number) c.from_residual.ensures (λ r e. none_is r (behind_cause (new_of 5 first image).0 c.args.number) e) c.in_err-behind.ensures.test
+    tested_on Behind ℕ _ _ None (behind_cause (new_of 5 first image).0 c.args.number) c.from_residual.ensures (λ r e. none_is r (behind_cause (new_of 5 first image).0 c.args.number) e) tt
 
 pub returns-clause-one : goal.returns-clause-one
 returns-clause-one g c t first tells is shaped short is_data count_is =
@@ -30,7 +30,7 @@ returns-clause-one g c t first tells is shaped short is_data count_is =
 pub returns-in_err-behind-clause-two : goal.returns-in_err-behind-clause-two
 returns-in_err-behind-clause-two g c t first second tells is shaped short small is_data count_is =
     let image = t.base.image in
-    tested_on Behind ℕ _ _ None (behind_cause (second_data first second image).0 c.args.number) c.from_residual.ensures (λ r e. none_is r (behind_cause (second_data first second image).0 c.args.number) e) c.in_err-behind.ensures.test
+    tested_on Behind ℕ _ _ None (behind_cause (second_data first second image).0 c.args.number) c.from_residual.ensures (λ r e. none_is r (behind_cause (second_data first second image).0 c.args.number) e) tt
 
 pub returns-clause-two : goal.returns-clause-two
 returns-clause-two g c t first second tells is shaped short small is_data count_is =

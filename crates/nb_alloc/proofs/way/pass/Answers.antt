@@ -25,7 +25,7 @@ module _ (g : _) (c : goal.After-is_there g) (t : Trail) (is : IsOpen (g.H.Host.
 
 pub returns-in_err-there-clause-test : goal.returns-in_err-there-clause-test
 returns-in_err-there-clause-test g c t tells is =
-    tested_on Bool (Unit {0}) _ _ None _ c.from_residual.ensures (λ r e. none_is r (need_cause (first_not t.base.image (own_entry_on t.base.image c.args.way.now.made c.args.place))) e) c.in_err-there.ensures.test
+    tested_on Bool (Unit {0}) _ _ None _ c.from_residual.ensures (λ r e. none_is r (need_cause (first_not t.base.image (own_entry_on t.base.image c.args.way.now.made c.args.place))) e) tt
 
 pub returns-then-there-clause-test : goal.returns-then-there-clause-test
 returns-then-there-clause-test g c t tells is =

@@ -1,6 +1,7 @@
-use Rattle.std.proofs.Common.{sym, subst}
-use Rattle.std.specs.Prelude.{Result, Err}
+use Rattle.std.proofs.Common.{◌≢◌, refl, sym, subst}
+use Rattle.std.specs.Prelude.{Result, Err, IfErr}
 use Rattle.nb_host.specs.declared.faults.Fault.{Fault}
+use Rattle.nb_host.specs.declared.faults.Fault.TheVariants.{Memory}
 use Rattle.nb_model.specs.Causes.{not_kind}
 use Rattle.nb_state.specs.Does.{Tested}
 use Rattle.nb_alloc.proofs.NeedReads.{kind_refused, kind_found}
@@ -14,3 +15,7 @@ pub returns-in-Refused-clause-value : goal.returns-in-Refused-clause-value
 returns-in-Refused-clause-value c image kind place tested =
     sym (kind_refused image kind place c.in-Refused.field-0
     (subst (λ (f : Fault). Tested {T = Unit {0}} (Err f) (not_kind image kind place)) c.in-Refused.is (subst (λ (r : Result (Unit {0}) Fault). Tested r (not_kind image kind place)) c.in-Err.is tested))).0
+
+pub unreachable-requires : goal.unreachable-requires
+unreachable-requires c =
+    subst (λ (f : Fault). f ≢ Memory) c.in-Memory.is (subst (λ (r : Result (Unit {0}) Fault). IfErr r (λ f. f ≢ Memory)) c.in-Err.is c.requires) refl

@@ -10,13 +10,12 @@ use Rattle.nb_model.specs.Causes.{when}
 use Rattle.nb_model.specs.Outcomes.{says}
 use Rattle.nb_state.proofs.MakesLaws.{goes_on, goes_nowhere}
 use Rattle.nb_alloc.proofs.CauseLaws.{unless_allowed}
-use Rattle.nb_alloc.proofs.DoesLaws.{seeing, refused_does, tested_does, tries_passed, tries_after, tries_does}
+use Rattle.nb_alloc.proofs.DoesLaws.{seeing, refused_does, tested_does, tries_other, tries_valued, tries_passed, tries_after, tries_does}
 use Rattle.nb_state.specs.Does.{Does}
 use Rattle.nb_state.specs.Open.{Held}
 use Rattle.nb_model.specs.Leaks.{leaked}
 use Rattle.nb_model.specs.Checks.{check_cause, reclaimed, reclaim_turn}
 use Rattle.nb_check.proofs.CauseLaws.{closed_fails, check_fails, reclaim_free, reclaim_refused, reclaim_says}
-use Rattle.nb_check.proofs.TriesLaws.{tries_as, tries_value}
 use Rattle.nb_check.proofs.checking.reclaim.Goals as goal
 
 pub returns-then-is_read_only-clause-turn : goal.returns-then-is_read_only-clause-turn
@@ -47,7 +46,7 @@ returns-in_err-give_back-clause-turn g c s t tells same is =
     tries_passed c.from_residual-in_err-give_back.result fault (λ r. Does Freed r w new c.args.engine.now c.give_back.new.engine t (reclaim_turn s)) c.from_residual-in_err-give_back.ensures
     (tries_does {T = ℕ} Freed (Err fault) w new c.args.engine.now c.give_back.new.engine t s reclaim_turn None said refl xs same
     (reclaim_says now (reclaim_free t.base.image (ap (λ (b : Bool). when b (Access 1)) open_to) (found.test t tells is)) ∙ sym (unless_allowed now None (says now said xs) refl)) tt
-    (tries_as (Unit {0}) ℕ fault w new c.args.engine.now c.give_back.new.engine t None xs
+    (tries_other (Unit {0}) ℕ fault w new c.args.engine.now c.give_back.new.engine t None xs
     (tries_after {T = Unit {0}} (Err fault) w mid new c.args.engine.now c.check.new.engine c.give_back.new.engine t None xs found.same found.quiet is
     (c.in_err-give_back.ensures.tries t tells (found.open t tells is) (found.sound t tells is) (found.leaked t tells is)))))
 
@@ -64,7 +63,7 @@ returns-clause-turn g c s t tells same is =
     tries_does Freed (Ok c.count.result) w new c.args.engine.now c.give_back.new.engine t s reclaim_turn None said refl xs same
     (reclaim_says now (reclaim_free t.base.image (ap (λ (b : Bool). when b (Access 1)) open_to) (found.test t tells is)) ∙ sym (unless_allowed now None (says now said xs) refl))
     (ap Freed (c.count.ensures ∙ ap length (found.leaked t tells is)))
-    (tries_value tt c.count.result w new c.args.engine.now c.give_back.new.engine t None xs
+    (tries_valued {S = Unit {0}} tt c.count.result w new c.args.engine.now c.give_back.new.engine t None xs
     (tries_after {T = Unit {0}} (Ok tt) w mid new c.args.engine.now c.check.new.engine c.give_back.new.engine t None xs found.same found.quiet is
     (c.in_ok-give_back.ensures.tries t tells (found.open t tells is) (found.sound t tells is) (found.leaked t tells is))))
 

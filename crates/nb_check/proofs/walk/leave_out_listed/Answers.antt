@@ -11,7 +11,7 @@ use Rattle.nb_state.specs.Open.{Held}
 use Rattle.nb_check.specs.Sets.{IsWithout}
 use Rattle.nb_check.specs.Walks.{chains_on}
 use Rattle.nb_check.proofs.ListLaws.{lists_first, lists_free, lists_used, lists_broken, lists_last}
-use Rattle.nb_engine.proofs.WalkLaws.{slot_inside}
+use Rattle.nb_walk.proofs.SlotLaws.{slot_inside}
 use Rattle.nb_check.proofs.walk.leave_out_listed.Goals as goal
 
 -- whether a slot is used, by its first byte

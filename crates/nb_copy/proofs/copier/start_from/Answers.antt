@@ -27,7 +27,6 @@ use Rattle.nb_copy.proofs.RoomStartLaws.{start_roomless, start_unmade, made_open
 use Rattle.nb_base.specs.Open.{OfFiles}
 use Rattle.nb_state.specs.Open.{name_of}
 use Rattle.nb_state.proofs.MakesLaws.{goes_nowhere, goes_on}
-use Rattle.nb_state.proofs.SizeLaws.{open_sized}
 use Rattle.nb_copy.proofs.BesideLaws.{made_kept}
 use Rattle.nb_copy.proofs.AsideLaws.{open_aside}
 use Rattle.nb_copy.proofs.copier.start_from.Goals as goal
@@ -69,8 +68,7 @@ returns-in_err-room-clause-turn g c s t tells same runs is free plain given =
     let fault = c.in_err-room.field-0.0 in
     let none = c.in_ok-head.ensures.test seen t tells refl is (λ zero. free (sym (ap (λ (b : Base). image_state b.image) same) ∙ zero)) in
     let here = c.check_start.ensures.open t tells is in
-    let sized = open_sized mid c.check_start.new.engine t here in
-    let tries = tries_after {T = Room} (Err fault) old mid new a c.check_start.new.engine d t (room_cause t.base.image) (room_in t.base.image).draft.strokes c.check_start.ensures.same c.check_start.ensures.quiet is (c.in_err-room.ensures.makes t tells here sized) in
+    let tries = tries_after {T = Room} (Err fault) old mid new a c.check_start.new.engine d t (room_cause t.base.image) (room_in t.base.image).draft.strokes c.check_start.ensures.same c.check_start.ensures.quiet is (c.in_err-room.ensures.makes t tells here) in
     subst (λ (x : Base). StartsBackup c.from_residual-in_err-room.result old new a d t name (next_guid s.given) (turn_since (record s { base = x }) c.args.session c.args.since name)) same
     (subst (λ (r : Result Backed Fault). StartsBackup r old new a d t name (next_guid s.given) (turn_since seen c.args.session c.args.since name)) (sym (passed_on c.from_residual-in_err-room.result fault c.from_residual-in_err-room.ensures))
     (start_roomless old new a d t seen c.args.session c.args.since name runs refl is (free_apart old a t name is (c.in_ok-head.ensures.free tells) plain) none Room fault tries))
@@ -80,7 +78,7 @@ returns-in_err-room-clause-asks g c t tells is =
     let old = g.H.Host.world c.args.host.now in
     let mid = g.H.Host.world c.check_start.new.host in
     let here = c.check_start.ensures.open t tells is in
-    (replicate 16 0, refl, inl ((c.in_err-room.ensures.some t tells here).makes.gave.guids ∙ c.check_start.ensures.quiet.guids))
+    (replicate 16 0, refl, inl ((c.in_err-room.ensures.makes t tells here).makes.gave.guids ∙ c.check_start.ensures.quiet.guids))
 
 pub returns-in_err-make-clause-turn : goal.returns-in_err-make-clause-turn
 returns-in_err-make-clause-turn g c s t tells same runs is free plain given =
@@ -95,8 +93,7 @@ returns-in_err-make-clause-turn g c s t tells same runs is free plain given =
     let make = c.in_err-make.ensures in
     let none = c.in_ok-head.ensures.test seen t tells refl is (λ zero. free (sym (ap (λ (b : Base). image_state b.image) same) ∙ zero)) in
     let here = c.check_start.ensures.open t tells is in
-    let sized = open_sized mid c.check_start.new.engine t here in
-    let tries = tries_after {T = Room} (Ok c.in_ok-room.room) old mid there a c.check_start.new.engine b t (room_cause t.base.image) (room_in t.base.image).draft.strokes c.check_start.ensures.same c.check_start.ensures.quiet is (c.in_ok-room.ensures.makes t tells here sized) in
+    let tries = tries_after {T = Room} (Ok c.in_ok-room.room) old mid there a c.check_start.new.engine b t (room_cause t.base.image) (room_in t.base.image).draft.strokes c.check_start.ensures.same c.check_start.ensures.quiet is (c.in_ok-room.ensures.makes t tells here) in
     let file = remade_alone _ _ there made name _ IsEmpty tells (g.met.H.Host.timely _) make.files make.log.said make.time refl in
     subst (λ (x : Base). StartsBackup c.from_residual-in_err-make.result old made a b t name (next_guid s.given) (turn_since (record s { base = x }) c.args.session c.args.since name)) same
     (subst (λ (r : Result Backed Fault). StartsBackup r old made a b t name (next_guid s.given) (turn_since seen c.args.session c.args.since name)) (sym (passed_on c.from_residual-in_err-make.result Device c.from_residual-in_err-make.ensures))
@@ -106,7 +103,7 @@ returns-in_err-make-clause-turn g c s t tells same runs is free plain given =
 pub returns-in_err-make-clause-asks : goal.returns-in_err-make-clause-asks
 returns-in_err-make-clause-asks g c t tells is =
     let here = c.check_start.ensures.open t tells is in
-    (replicate 16 0, refl, inl (c.in_err-make.ensures.log.guids ∙ (c.in_ok-room.ensures.some t tells here).makes.gave.guids ∙ c.check_start.ensures.quiet.guids))
+    (replicate 16 0, refl, inl (c.in_err-make.ensures.log.guids ∙ (c.in_ok-room.ensures.makes t tells here).makes.gave.guids ∙ c.check_start.ensures.quiet.guids))
 
 pub returns-in_err-head-2-clause-turn : goal.returns-in_err-head-2-clause-turn
 returns-in_err-head-2-clause-turn g c s t tells same runs is free plain given =
@@ -125,10 +122,9 @@ returns-in_err-head-2-clause-turn g c s t tells same runs is free plain given =
     let make = c.in_ok-make.ensures in
     let none = c.in_ok-head.ensures.test seen t tells refl is (λ zero. free (sym (ap (λ (b : Base). image_state b.image) same) ∙ zero)) in
     let here = c.check_start.ensures.open t tells is in
-    let sized = open_sized mid c.check_start.new.engine t here in
     let apart = free_apart old a t name is (c.in_ok-head.ensures.free tells) plain in
     let room = c.in_ok-room.room in
-    let tries = tries_after {T = Room} (Ok room) old mid there a c.check_start.new.engine b t (room_cause t.base.image) (room_in t.base.image).draft.strokes c.check_start.ensures.same c.check_start.ensures.quiet is (c.in_ok-room.ensures.makes t tells here sized) in
+    let tries = tries_after {T = Room} (Ok room) old mid there a c.check_start.new.engine b t (room_cause t.base.image) (room_in t.base.image).draft.strokes c.check_start.ensures.same c.check_start.ensures.quiet is (c.in_ok-room.ensures.makes t tells here) in
     let xs = (room_in t.base.image).draft.strokes in
     let reads = λ (m : List ℕ). g.met.H.Host.reads_left c.history_room.new.host tells m in
     let file = remade_alone _ _ there made name _ IsEmpty tells (g.met.H.Host.timely _) make.files make.log.said make.time refl in
@@ -148,7 +144,7 @@ returns-in_err-head-2-clause-asks g c t tells is =
     let made = g.H.Host.world c.make.new.self in
     let here = c.check_start.ensures.open t tells is in
     let log = c.in_ok-make.ensures.log in
-    let gave = nothing_joined old there made (nothing_joined old mid there (quiet_gave old mid c.check_start.ensures.quiet) (c.in_ok-room.ensures.some t tells here).makes.gave) (record { guids = log.guids; times = log.times }) in
+    let gave = nothing_joined old there made (nothing_joined old mid there (quiet_gave old mid c.check_start.ensures.quiet) (c.in_ok-room.ensures.makes t tells here).makes.gave) (record { guids = log.guids; times = log.times }) in
     let asks = c.begin.ensures.asks tells in
     (asks.0, asks.1, given_before old made (g.H.Host.world c.begin.new.host) asks.0 gave asks.2)
 
@@ -160,7 +156,7 @@ returns-clause-asks g c t tells is =
     let made = g.H.Host.world c.make.new.self in
     let here = c.check_start.ensures.open t tells is in
     let log = c.in_ok-make.ensures.log in
-    let gave = nothing_joined old there made (nothing_joined old mid there (quiet_gave old mid c.check_start.ensures.quiet) (c.in_ok-room.ensures.some t tells here).makes.gave) (record { guids = log.guids; times = log.times }) in
+    let gave = nothing_joined old there made (nothing_joined old mid there (quiet_gave old mid c.check_start.ensures.quiet) (c.in_ok-room.ensures.makes t tells here).makes.gave) (record { guids = log.guids; times = log.times }) in
     let asks = c.begin.ensures.asks tells in
     (asks.0, asks.1, given_before old made (g.H.Host.world c.begin.new.host) asks.0 gave asks.2)
 
@@ -183,9 +179,8 @@ returns-clause-turn g c s t tells same runs is free plain given =
     let make = c.in_ok-make.ensures in
     let none = c.in_ok-head.ensures.test seen t tells refl is (λ zero. free (sym (ap (λ (b : Base). image_state b.image) same) ∙ zero)) in
     let here = c.check_start.ensures.open t tells is in
-    let sized = open_sized mid c.check_start.new.engine t here in
     let apart = free_apart old a t name is (c.in_ok-head.ensures.free tells) plain in
-    let tries = tries_after {T = Room} (Ok room) old mid there a c.check_start.new.engine b t (room_cause t.base.image) (room_in t.base.image).draft.strokes c.check_start.ensures.same c.check_start.ensures.quiet is (c.in_ok-room.ensures.makes t tells here sized) in
+    let tries = tries_after {T = Room} (Ok room) old mid there a c.check_start.new.engine b t (room_cause t.base.image) (room_in t.base.image).draft.strokes c.check_start.ensures.same c.check_start.ensures.quiet is (c.in_ok-room.ensures.makes t tells here) in
     let xs = (room_in t.base.image).draft.strokes in
     let reads = λ (m : List ℕ). g.met.H.Host.reads_left c.history_room.new.host tells m in
     let left = λ (m : List ℕ). g.met.H.Host.reads_left c.make.new.self tells m in
@@ -199,7 +194,7 @@ returns-clause-turn g c s t tells same runs is free plain given =
     let sixteen : length guid ≡ 16 = ap length (sym (given_guid made.guids new.guids guid asks.0 begins.gave asks.2)) ∙ asks.1 in
     let nine : bare.level ≤ 9 = c.in_ok-head.ensures.level in
     let started = started_is old there a b t seen c.args.session c.args.since name runs refl is apart none Room room tries made reads file gave new d empty left bare begun begins room c.in_ok-file.file c.start.new.self c.count.result sixteen (c.in_ok-head.ensures.head t tells is)
-    (c.in_ok-room.ensures.room t tells here sized) (c.in_ok-room.ensures.below t tells here sized) c.in_ok-file.ensures c.start.ensures c.count.ensures.value nine c.in_ok-head.ensures.previous c.in_ok-head.ensures.sized c.in_ok-head.ensures.size in
+    (c.in_ok-room.ensures.room t tells here) (c.in_ok-room.ensures.below t tells here) c.in_ok-file.ensures c.start.ensures c.count.ensures.value nine c.in_ok-head.ensures.previous c.in_ok-head.ensures.sized c.in_ok-head.ensures.size in
     let copier : List ℕ → Backed = λ n. record { backing = record { name = n; ask = ask_by begun; scn = begun.scn; guid = begun.guid; page = room.page; slot = room.slot }; page_size = begun.page_size; file = c.start.new.self } in
     subst (λ (x : Base). StartsBackup (Ok (copier c.copied.result)) old new a d t name guid (turn_since (record s { base = x }) c.args.session c.args.since name)) same
     (subst (λ (n : List ℕ). StartsBackup (Ok (copier n)) old new a d t name guid (turn_since seen c.args.session c.args.since name)) (sym c.copied.ensures)
@@ -217,14 +212,14 @@ returns-in_err-file-clause-made_first g c t tells is plain = let check = c.in_ok
 pub returns-in_err-room-clause-made_first : goal.returns-in_err-room-clause-made_first
 returns-in_err-room-clause-made_first g c t tells is plain =
     let check = c.in_ok-head.ensures in
-    let makes = (c.in_err-room.ensures.some t tells (check.open t tells is)).makes in
+    let makes = (c.in_err-room.ensures.makes t tells (check.open t tells is)).makes in
     inl (nothing_joined _ _ _ (quiet_gave _ _ check.quiet) makes.gave, goes_on _ _ _ (goes_nowhere _ _ check.same) makes.goes)
 
 pub returns-in_err-make-clause-made_first : goal.returns-in_err-make-clause-made_first
 returns-in_err-make-clause-made_first g c t tells is plain =
     let check = c.in_ok-head.ensures in
     let log = c.in_err-make.ensures.log in
-    let makes = (c.in_ok-room.ensures.some t tells (check.open t tells is)).makes in
+    let makes = (c.in_ok-room.ensures.makes t tells (check.open t tells is)).makes in
     inl (nothing_joined _ _ _ (nothing_joined _ _ _ (quiet_gave _ _ check.quiet) makes.gave) (record { guids = log.guids; times = log.times }), goes_on _ _ _ (goes_nowhere _ _ check.same) makes.goes)
 
 pub returns-in_err-head-2-clause-made_first : goal.returns-in_err-head-2-clause-made_first
@@ -234,7 +229,7 @@ returns-in_err-head-2-clause-made_first g c t tells is plain =
     let b = c.history_room.new.self in
     let name : List ℕ = c.args.name.now in
     let make = c.in_ok-make.ensures in
-    let makes = (c.in_ok-room.ensures.some t tells (check.open t tells is)).makes in
+    let makes = (c.in_ok-room.ensures.makes t tells (check.open t tells is)).makes in
     let file = remade_alone _ _ (g.H.Host.world c.history_room.new.host) (g.H.Host.world c.make.new.self) name _ IsEmpty tells (g.met.H.Host.timely _) make.files make.log.said make.time refl in
     let own = makes.goes.name ∙ ap name_of check.same in
     let apart : OfFiles (name_of b) name → ⊥ = λ its. free_apart (g.H.Host.world c.args.host.now) a t name is (check.free tells) plain (subst (λ (n : List ℕ). OfFiles n name) own its) in
@@ -251,7 +246,7 @@ returns-clause-made_first g c t tells is plain =
     let b = c.history_room.new.self in
     let name : List ℕ = c.args.name.now in
     let make = c.in_ok-make.ensures in
-    let makes = (c.in_ok-room.ensures.some t tells (check.open t tells is)).makes in
+    let makes = (c.in_ok-room.ensures.makes t tells (check.open t tells is)).makes in
     let file = remade_alone _ _ (g.H.Host.world c.history_room.new.host) (g.H.Host.world c.make.new.self) name _ IsEmpty tells (g.met.H.Host.timely _) make.files make.log.said make.time refl in
     let own = makes.goes.name ∙ ap name_of check.same in
     let apart : OfFiles (name_of b) name → ⊥ = λ its. free_apart (g.H.Host.world c.args.host.now) a t name is (check.free tells) plain (subst (λ (n : List ℕ). OfFiles n name) own its) in

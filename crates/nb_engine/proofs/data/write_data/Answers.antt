@@ -1,17 +1,16 @@
-use Rattle.std.proofs.Common.{◌≡◌, ◌+◌, ◌≤◌, ◌<◌, ◌++◌, ℕ, List, length, take, drop, refl, sym, ap, subst, ◌∙◌, arith, length-drop}
+use Rattle.std.proofs.Common.{◌≡◌, ◌+◌, ◌≤◌, ◌++◌, ℕ, List, length, take, drop, sym, ap, subst, ◌∙◌, arith, length-drop}
 use Rattle.std.specs.Prelude.{IsTrue}
 use Rattle.nb_fields.specs.Page.{with_payload}
 use Rattle.nb_fields.specs.Places.{is_page_size}
 use Rattle.nb_fields.proofs.SizeLemmas.{size_facts}
-use Rattle.nb_model.specs.Image.{Page, page_at, image_size}
+use Rattle.nb_model.specs.Image.{Page, page_at}
 use Rattle.nb_model.specs.Forms.{old_page}
 use Rattle.nb_model.specs.Causes.{not_kind}
 use Rattle.nb_alloc.specs.Data.{data_cause}
 use Rattle.nb_state.specs.Open.{Held}
-use Rattle.nb_engine.proofs.DataLaws.{data_there, none_there, by_entry, behind_payload}
-use Rattle.nb_alloc.proofs.DoesLaws.{tries_early, tries_after, tries_these}
-use Rattle.nb_engine.proofs.LinkLaws.{any_strokes}
-use Rattle.nb_alloc.proofs.MakeLaws.{tries_named, old_below}
+use Rattle.nb_engine.proofs.DataLaws.{data_there, none_there, behind_payload, put_tries}
+use Rattle.nb_alloc.proofs.DoesLaws.{tries_early}
+use Rattle.nb_alloc.proofs.MakeLaws.{old_below}
 use Rattle.nb_engine.proofs.data.write_data.Goals as goal
 
 pub put_behind-requires-clause-head : goal.put_behind-requires-clause-head
@@ -34,17 +33,12 @@ returns-clause-tries g c t tells is =
     let payload : List ℕ = drop 16 bytes in
     let page = c.in_ok-take_system.ensures in
     let reads = page.reads t tells is in
-    let low : p < length image = data_there image p reads.test in
-    let here = old_below p image low in
+    let here = old_below p image (data_there image p reads.test) in
     let facts = size_facts (length c.args.page.now) c.requires.size in
-    let size : IsTrue (is_page_size (image_size image)) = subst (λ (n : ℕ). IsTrue (is_page_size n)) (c.requires.room ∙ is.files.agrees.page_size) c.requires.size in
     let long : length bytes ≡ length (page_at image p) = omega (arith, c.requires.same, c.requires.room, c.take_system.auto.into, ap length reads.page) in
     let filled : c.put_behind.new.page ≡ with_payload (old_page p image) payload = c.put_behind.ensures ∙ ap (λ (x : Page). take 16 x ++ payload) reads.page ∙ behind_payload (page_at image p) bytes long ∙ ap (λ (x : Page). with_payload x payload) (sym here) in
     let room : 16 + length payload ≤ length (old_page p image) = omega (arith, length-drop 16 bytes, c.requires.same, c.requires.room, facts.at_least, long, ap length here) in
-    tries_named c.put_page.result _ _ _ _ t _ _ _ _ (by_entry image p reads.test) refl
-    (tries_these c.put_page.result _ _ _ _ t _ _ _ (λ none. any_strokes t.base p size none 5 payload low)
-    (tries_after c.put_page.result _ (g.H.Host.world c.take_system.new.host) _ _ c.take_system.new.store _ t _ _ page.same page.quiet is
-    (c.put_page.ensures.tries t payload tells (page.open t tells is) room filled)))
+    put_tries c.put_page.result _ _ _ _ _ _ t p bytes is (subst (λ (n : ℕ). IsTrue (is_page_size n)) c.requires.room c.requires.size) reads.test page.same page.quiet (c.put_page.ensures.tries t payload tells (page.open t tells is) room filled)
 
 pub put_page-requires-clause-inside : goal.put_page-requires-clause-inside
 put_page-requires-clause-inside g c = omega (arith, c.in_ok-take_system.ensures.below, ap (λ (h : Held). h.files.count) c.in_ok-take_system.ensures.same)

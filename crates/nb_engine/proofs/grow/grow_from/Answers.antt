@@ -1,4 +1,4 @@
-use Rattle.std.proofs.Common.{◌≡◌, ◌<◌, ℕ, List, length, sym, subst, ◌∙◌}
+use Rattle.std.proofs.Common.{◌≡◌, ◌<◌, ℕ, List, length, sym, subst, ◌∙◌, arith}
 use Rattle.std.specs.Prelude.{None, IsTrue, Ok, Err}
 use Rattle.nb_fields.specs.Places.{is_page_size}
 use Rattle.nb_model.specs.Forms.{drafted}
@@ -6,13 +6,11 @@ use Rattle.nb_model.specs.Image.{image_size}
 use Rattle.nb_model.specs.Chains.{grown}
 use Rattle.nb_model.proofs.SearchLaws.{draft_cause}
 use Rattle.nb_base.specs.Takes.{after_strokes}
-use Rattle.nb_state.specs.Does.{Makes}
 use Rattle.nb_alloc.specs.Data.{new_behind}
-use Rattle.nb_alloc.specs.Make.{MakesSome, page_strokes, new_of}
-use Rattle.nb_engine.specs.Room.{linked_payload, link_cause}
+use Rattle.nb_alloc.specs.Make.{new_of}
 use Rattle.nb_alloc.specs.Tries.{Tries}
-use Rattle.nb_alloc.proofs.DoesLaws.{tries_passed}
-use Rattle.nb_engine.proofs.GrowLaws.{grown_number, new_below, grown_below, grown_front, grown_failed, grown_done, some_failed, some_done}
+use Rattle.nb_alloc.proofs.DoesLaws.{tries_passed, tries_opened}
+use Rattle.nb_engine.proofs.GrowLaws.{grown_number, new_below, grown_below, grown_front, grown_failed, grown_done}
 use Rattle.nb_alloc.proofs.RoomsLaws.{free_behind}
 use Rattle.nb_engine.proofs.grow.grow_from.Goals as goal
 
@@ -24,10 +22,9 @@ returns-in_err-number-clause-tries g c t chain pages slots tells is may last =
     let full = subst (λ (xs : List ℕ). draft_cause (new_of 5 (λ p. xs) image).0 ≡ None) (sym may.bytes) free.clear in
     let fault = c.in_err-number.field-0.0 in
     let new = g.H.Host.world c.make_new.new.host in
-    let these = (c.in_err-number.ensures.makes t tells is may.at may.holds).these (may.searchable, full) in
-    let made = subst (λ (xs : List ℕ). Makes {T = ℕ} (Err fault) w new c.args.store.now c.make_new.new.store t (new_of 5 (λ p. xs) image).0.strokes) may.bytes these.makes in
+    let made = subst (λ (xs : List ℕ). Tries {T = ℕ} (Err fault) w new c.args.store.now c.make_new.new.store t None (new_of 5 (λ p. xs) image).0.strokes) may.bytes (c.in_err-number.ensures.makes t tells is may.at may.holds may.searchable full) in
     tries_passed c.from_residual.result fault (λ r. Tries r w new c.args.store.now c.make_new.new.store t None (grown chain pages slots (drafted image)).0.strokes) c.from_residual.ensures
-    (grown_front chain slots t pages fault w new c.args.store.now c.make_new.new.store these.sure made)
+    (grown_front chain slots t pages fault w new c.args.store.now c.make_new.new.store made)
 
 pub returns-in_err-link-clause-tries : goal.returns-in_err-link-clause-tries
 returns-in_err-link-clause-tries g c t chain pages slots tells is may last =
@@ -39,10 +36,9 @@ returns-in_err-link-clause-tries g c t chain pages slots tells is may last =
     let mid = g.H.Host.world c.make_new.new.host in
     let new = g.H.Host.world c.link.new.host in
     let n : ℕ = c.in_ok-number.number in
-    let these = (c.in_ok-number.ensures.makes t tells is may.at may.holds).these (may.searchable, full) in
-    let made = subst (λ (xs : List ℕ). Makes (Ok n) w mid c.args.store.now c.make_new.new.store t (new_of 5 (λ p. xs) image).0.strokes) may.bytes these.makes in
+    let made = subst (λ (xs : List ℕ). Tries (Ok n) w mid c.args.store.now c.make_new.new.store t None (new_of 5 (λ p. xs) image).0.strokes) may.bytes (c.in_ok-number.ensures.makes t tells is may.at may.holds may.searchable full) in
     let number = subst (λ (xs : List ℕ). n ≡ (new_of 5 (λ p. xs) image).1) may.bytes (c.in_ok-number.ensures.value t tells is may.at may.holds may.searchable full) in
-    let opened = made.opened in
+    let opened = tries_opened n w mid c.args.store.now c.make_new.new.store t None (new_behind chain slots image).0.strokes made in
     let size : IsTrue (is_page_size (image_size (after_strokes t (new_behind chain slots image).0.strokes).base.image)) =
     subst (λ (k : ℕ). IsTrue (is_page_size k)) (c.requires.room ∙ sym c.in_ok-number.ensures.goes.page_size ∙ opened.files.agrees.page_size) c.requires.size in
     tries_passed c.from_residual-in_err-link.result fault (λ r. Tries r w new c.args.store.now c.link.new.store t None (grown chain pages slots (drafted image)).0.strokes) c.from_residual-in_err-link.ensures
@@ -58,10 +54,9 @@ returns-clause-tries g c t chain pages slots tells is may last =
     let mid = g.H.Host.world c.make_new.new.host in
     let new = g.H.Host.world c.link.new.host in
     let n : ℕ = c.in_ok-number.number in
-    let these = (c.in_ok-number.ensures.makes t tells is may.at may.holds).these (may.searchable, full) in
-    let made = subst (λ (xs : List ℕ). Makes (Ok n) w mid c.args.store.now c.make_new.new.store t (new_of 5 (λ p. xs) image).0.strokes) may.bytes these.makes in
+    let made = subst (λ (xs : List ℕ). Tries (Ok n) w mid c.args.store.now c.make_new.new.store t None (new_of 5 (λ p. xs) image).0.strokes) may.bytes (c.in_ok-number.ensures.makes t tells is may.at may.holds may.searchable full) in
     let number = subst (λ (xs : List ℕ). n ≡ (new_of 5 (λ p. xs) image).1) may.bytes (c.in_ok-number.ensures.value t tells is may.at may.holds may.searchable full) in
-    let opened = made.opened in
+    let opened = tries_opened n w mid c.args.store.now c.make_new.new.store t None (new_behind chain slots image).0.strokes made in
     let size : IsTrue (is_page_size (image_size (after_strokes t (new_behind chain slots image).0.strokes).base.image)) =
     subst (λ (k : ℕ). IsTrue (is_page_size k)) (c.requires.room ∙ sym c.in_ok-number.ensures.goes.page_size ∙ opened.files.agrees.page_size) c.requires.size in
     grown_done chain slots t pages c.args.last free size last n w mid new c.args.store.now c.make_new.new.store c.link.new.store number made
@@ -73,35 +68,11 @@ returns-clause-grown g c t chain pages slots tells is may =
     let free = free_behind (new_behind chain slots image).0 c.args.last may.free in
     let full = subst (λ (xs : List ℕ). draft_cause (new_of 5 (λ p. xs) image).0 ≡ None) (sym may.bytes) free.clear in
     let n : ℕ = c.in_ok-number.number in
-    let all = c.in_ok-number.ensures.makes t tells is may.at may.holds in
-    let inside = subst (λ (xs : List ℕ). n < length (new_of 5 (λ p. xs) image).0.image) may.bytes (new_below t 5 (λ p. c.args.payload.now) n all.some.made all.ends (all.these (may.searchable, full)).same) in
+    let strokes = (new_of 5 (λ p. c.args.payload.now) image).0.strokes in
+    let opened = tries_opened n _ _ _ _ t None strokes (c.in_ok-number.ensures.makes t tells is may.at may.holds may.searchable full) in
+    let low : n < length (after_strokes t strokes).base.image = omega (arith, c.in_ok-number.ensures.added, opened.files.agrees.count) in
+    let inside = subst (λ (xs : List ℕ). n < length (new_of 5 (λ p. xs) image).0.image) may.bytes (new_below t 5 (λ p. c.args.payload.now) n low) in
     record {
       is = subst (λ (xs : List ℕ). n ≡ (new_of 5 (λ p. xs) image).1) may.bytes (c.in_ok-number.ensures.value t tells is may.at may.holds may.searchable full) ∙ sym (grown_number chain slots image pages);
       below = grown_below chain slots image pages n inside;
     }
-
-pub returns-in_err-number-clause-some : goal.returns-in_err-number-clause-some
-returns-in_err-number-clause-some g c t tells is at holds =
-    let fault = c.in_err-number.field-0.0 in
-    tries_passed c.from_residual.result fault (λ r. MakesSome r (g.H.Host.world c.args.host.now) (g.H.Host.world c.make_new.new.host) c.args.store.now c.make_new.new.store t) c.from_residual.ensures
-    (c.in_err-number.ensures.makes t tells is at holds).some
-
-pub returns-in_err-link-clause-some : goal.returns-in_err-link-clause-some
-returns-in_err-link-clause-some g c t tells is at holds =
-    let w = g.H.Host.world c.args.host.now in
-    let fault = c.in_err-link.field-0.0 in
-    let n : ℕ = c.in_ok-number.number in
-    let some = (c.in_ok-number.ensures.makes t tells is at holds).some in
-    let u = after_strokes t some.made in
-    tries_passed c.from_residual-in_err-link.result fault (λ r. MakesSome r w (g.H.Host.world c.link.new.host) c.args.store.now c.link.new.store t) c.from_residual-in_err-link.ensures
-    (some_failed n fault w (g.H.Host.world c.make_new.new.host) (g.H.Host.world c.link.new.host) c.args.store.now c.make_new.new.store c.link.new.store t some.made some.makes (link_cause u.base.image c.args.last)
-    (page_strokes u.base.image c.args.last 5 (linked_payload u.base.image c.args.last n)) (c.in_err-link.ensures.tries u tells some.makes.opened))
-
-pub returns-clause-some : goal.returns-clause-some
-returns-clause-some g c t tells is at holds =
-    let w = g.H.Host.world c.args.host.now in
-    let n : ℕ = c.in_ok-number.number in
-    let some = (c.in_ok-number.ensures.makes t tells is at holds).some in
-    let u = after_strokes t some.made in
-    some_done n w (g.H.Host.world c.make_new.new.host) (g.H.Host.world c.link.new.host) c.args.store.now c.make_new.new.store c.link.new.store t some.made some.makes (link_cause u.base.image c.args.last)
-    (page_strokes u.base.image c.args.last 5 (linked_payload u.base.image c.args.last n)) (c.in_ok-link.ensures.tries u tells some.makes.opened)

@@ -5,21 +5,21 @@ use Rattle.nb_fields.proofs.SizeLemmas.{size_facts}
 use Rattle.nb_page.proofs.QuietLemmas.{quiet_begun}
 use Rattle.nb_model.specs.Image.{Page, page_at}
 use Rattle.nb_model.specs.Forms.{old_page}
-use Rattle.nb_engine.specs.Room.{linked_payload, link_cause}
+use Rattle.nb_engine.specs.Room.{linked_payload, write_cause}
 use Rattle.nb_alloc.proofs.DoesLaws.{tries_failed, tries_after}
 use Rattle.nb_alloc.proofs.MakeLaws.{tries_fault, tries_named, old_below}
 use Rattle.nb_state.specs.Open.{Held}
-use Rattle.nb_engine.proofs.LinkLaws.{written_payload, payload_inside, link_low, link_past}
+use Rattle.nb_engine.proofs.LinkLaws.{written_payload, payload_inside, write_low, write_past}
 use Rattle.nb_engine.proofs.grow.link.Goals as goal
 
 pub returns-then-last-count-clause-tries : goal.returns-then-last-count-clause-tries
 returns-then-last-count-clause-tries g c t tells is =
     let w = g.H.Host.world c.args.host.now in
-    tries_failed (Unit {0}) _ w w c.args.store.now c.args.store.now t (link_cause t.base.image c.args.last) _ (link_past t.base.image c.args.last (omega (arith, is.files.agrees.count, c.count.ensures.value, c.if-last-count.true))) refl
+    tries_failed (Unit {0}) _ w w c.args.store.now c.args.store.now t (write_cause t.base.image c.args.last) _ (write_past t.base.image c.args.last (omega (arith, is.files.agrees.count, c.count.ensures.value, c.if-last-count.true))) refl
     (quiet_begun w (g.met.H.Host.timely c.args.host.now)) is is
 
 pub returns-in_err-read-clause-tries : goal.returns-in_err-read-clause-tries
-returns-in_err-read-clause-tries g c t tells is = tries_fault _ _ _ _ _ t (link_cause t.base.image c.args.last) _ c.from_residual.ensures c.in_err-read.ensures.same c.in_err-read.ensures.quiet is
+returns-in_err-read-clause-tries g c t tells is = tries_fault _ _ _ _ _ t (write_cause t.base.image c.args.last) _ c.from_residual.ensures c.in_err-read.ensures.same c.in_err-read.ensures.quiet is
 
 pub returns-clause-tries : goal.returns-clause-tries
 returns-clause-tries g c t tells is =
@@ -37,7 +37,7 @@ returns-clause-tries g c t tells is =
     let payload : List ℕ = linked_payload image p c.args.next in
     let filled : c.put.new.page ≡ with_payload (old_page p image) payload = now ∙ written_payload 16 bytes (page_at image p) (omega arith) inside long ∙ ap (λ (x : Page). with_payload x payload) (sym here) in
     let room : 16 + length payload ≤ length (old_page p image) = omega (arith, payload_inside 16 bytes (page_at image p) (omega arith) inside long, ap length here) in
-    tries_named c.put_page.result _ _ _ _ t _ _ _ _ (link_low image p low) refl
+    tries_named c.put_page.result _ _ _ _ t _ _ _ _ (write_low image p low) refl
     (tries_after c.put_page.result _ (g.H.Host.world c.read.new.host) _ _ c.read.new.self _ t _ _ old.same old.quiet is
     (c.put_page.ensures.tries t payload tells (old.open t tells is) room filled))
 

@@ -12,7 +12,6 @@ use Rattle.nb_engine.proofs.GrowLaws.{rows_are, no_rows_short, grow_refused, gro
 use Rattle.nb_alloc.proofs.MakeLaws.{tries_named}
 use Rattle.nb_alloc.proofs.NewLaws.{told}
 use Rattle.nb_alloc.proofs.RoomsLaws.{grown_judged}
-use Rattle.nb_alloc.proofs.WhereLaws.{makes_some_none, makes_some_after}
 use Rattle.nb_engine.proofs.room.grow.Goals as goal
 
 pub returns-in_err-first-clause-makes : goal.returns-in_err-first-clause-makes
@@ -45,21 +44,6 @@ returns-clause-makes g c t pages tells is shaped last is_data =
     tries_named c.grow_from.result w new c.args.store.now c.grow_from.new.store t None (grow_cause image pages) strokes strokes (sym (grow_free image pages room spent)) refl
     (tries_after c.grow_from.result w (g.H.Host.world c.check_rooms.new.host) new _ _ _ t _ _ tests.same tests.quiet is
     (c.grow_from.ensures.tries t History pages [] tells still (record { at = tests.value t tells is; holds = tests.map t tells is refl; searchable = shaped; free = none; bytes = rows_are }) last))
-
-pub returns-in_err-first-clause-some : goal.returns-in_err-first-clause-some
-returns-in_err-first-clause-some g c t tells is =
-    let tests = c.in_err-first.ensures in
-    makes_some_none c.from_residual.result _ _ _ _ t tests.same tests.quiet is (tests.open t tells is)
-
-pub returns-in_err-check_scn-clause-some : goal.returns-in_err-check_scn-clause-some
-returns-in_err-check_scn-clause-some g c t tells is =
-    let tests = c.in_ok-first.ensures in
-    makes_some_none c.from_residual-in_err-check_scn.result _ _ _ _ t tests.same tests.quiet is (tests.open t tells is)
-
-pub returns-clause-some : goal.returns-clause-some
-returns-clause-some g c t tells is =
-    let tests = c.in_ok-first.ensures in
-    makes_some_after c.grow_from.result _ _ _ _ _ _ t tests.same tests.quiet is (c.grow_from.ensures.some t tells (tests.open t tells is) (tests.value t tells is) (tests.map t tells is refl))
 
 pub returns-clause-grown : goal.returns-clause-grown
 returns-clause-grown g c t pages tells is shaped is_data =

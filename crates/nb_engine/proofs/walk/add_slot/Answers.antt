@@ -1,46 +1,40 @@
-use Rattle.std.proofs.Common.{sym, ap, ◌∙◌}
-use Rattle.std.specs.Prelude.{Some, not}
-use Rattle.nb_model.specs.Chains.{Spot}
+use Rattle.std.proofs.Common.{◌≡◌, ◌≢◌, sym, ap, ◌∙◌}
+use Rattle.std.specs.Prelude.{true, Some, not, slice_index}
+use Rattle.std.proofs.lemmas.Bool.{false≢true, eqb-true}
+use Rattle.nb_model.specs.Chains.{History, Slot, Spot, is_slot}
+use Rattle.nb_walk.proofs.SlotLaws.{used_of, filled_of}
 use Rattle.nb_engine.specs.declared.rows.HistoryRow.{HistoryRow}
 use Rattle.nb_engine.specs.History.{meets}
-use Rattle.nb_engine.proofs.SlotLaws.{slot_free, slot_used, slot_other, walked_of, free_first, free_more, used_met, used_other}
+use Rattle.nb_engine.proofs.SlotLaws.{walked_of, free_first, free_more, used_met, used_other}
 use Rattle.nb_engine.proofs.walk.add_slot.Goals as goal
 
-pub returns-then-is_none-clause-form : goal.returns-then-is_none-clause-form
-returns-then-is_none-clause-form c = sym (slot_free c.args.slot.now (sym c.use_of-used.ensures ∙ c.if-used-eq0.true))
+-- the first byte of a slot of the form that isn't free
+used_one : (slot : Slot) → is_slot History slot ≡ true → slice_index slot 0 ≢ 0 → slice_index slot 0 ≡ 1
+used_one slot form some = eqb-true (slice_index slot 0) 1 (used_of History slot form some)
 
 pub returns-then-is_none-clause-walked : goal.returns-then-is_none-clause-walked
-returns-then-is_none-clause-walked c ss is good =
+returns-then-is_none-clause-walked c ss is =
     let s : Spot = record { page = c.args.place.page; slot = c.args.place.slot; bytes = c.args.slot.now } in
-    free_first c.args.wanted.now ss s c.args.walked.now is (c.is_none.ensures ∙ ap not c.if-is_none.true) (sym c.use_of-used.ensures ∙ c.if-used-eq0.true)
-
-pub returns-else-is_none-clause-form : goal.returns-else-is_none-clause-form
-returns-else-is_none-clause-form c = sym (slot_free c.args.slot.now (sym c.use_of-used.ensures ∙ c.if-used-eq0.true))
+    free_first c.args.wanted.now ss s c.args.walked.now is (c.is_none.ensures ∙ ap not c.if-is_none.true) (sym c.use_of.ensures ∙ c.if-use_of-eq0.true)
 
 pub returns-else-is_none-clause-walked : goal.returns-else-is_none-clause-walked
-returns-else-is_none-clause-walked c ss is good =
+returns-else-is_none-clause-walked c ss is =
     let s : Spot = record { page = c.args.place.page; slot = c.args.place.slot; bytes = c.args.slot.now } in
-    free_more c.args.wanted.now ss s c.args.walked.now is (c.is_none.ensures ∙ ap not c.if-is_none.false) (sym c.use_of-used.ensures ∙ c.if-used-eq0.true)
+    free_more c.args.wanted.now ss s c.args.walked.now is (c.is_none.ensures ∙ ap not c.if-is_none.false) (sym c.use_of.ensures ∙ c.if-use_of-eq0.true)
 
-pub returns-then-is_met_by-clause-form : goal.returns-then-is_met_by-clause-form
-returns-then-is_met_by-clause-form c = c.in-Some.ensures.exact ∙ sym (slot_used c.args.slot.now (sym c.use_of-used.ensures ∙ c.if-used-ne1.false))
+pub returns-in_default-clause-walked : goal.returns-in_default-clause-walked
+returns-in_default-clause-walked c ss is =
+    absurd (false≢true (c.in_default.ensures.exact ∙ filled_of History c.args.slot.now c.requires.form (λ e. c.if-use_of-eq0.false (c.use_of.ensures ∙ e))))
 
 pub returns-then-is_met_by-clause-walked : goal.returns-then-is_met_by-clause-walked
-returns-then-is_met_by-clause-walked c ss is good =
+returns-then-is_met_by-clause-walked c ss is =
     let s : Spot = record { page = c.args.place.page; slot = c.args.place.slot; bytes = c.args.slot.now } in
+    let one = used_one c.args.slot.now c.requires.form (λ e. c.if-use_of-eq0.false (c.use_of.ensures ∙ e)) in
     ap (λ (r : HistoryRow). walked_of (Some r) c.args.walked.now.room) c.in-Some.ensures.row
-    ∙ used_met c.args.wanted.now ss s c.args.walked.now is (sym c.use_of-used.ensures ∙ c.if-used-ne1.false) (sym (c.is_met_by.ensures ∙ ap (meets c.args.wanted.now) c.in-Some.ensures.row) ∙ c.if-is_met_by.true)
-
-pub returns-else-is_met_by-clause-form : goal.returns-else-is_met_by-clause-form
-returns-else-is_met_by-clause-form c = c.in-Some.ensures.exact ∙ sym (slot_used c.args.slot.now (sym c.use_of-used.ensures ∙ c.if-used-ne1.false))
+    ∙ used_met c.args.wanted.now ss s c.args.walked.now is one (sym (c.is_met_by.ensures ∙ ap (meets c.args.wanted.now) c.in-Some.ensures.row) ∙ c.if-is_met_by.true)
 
 pub returns-else-is_met_by-clause-walked : goal.returns-else-is_met_by-clause-walked
-returns-else-is_met_by-clause-walked c ss is good =
+returns-else-is_met_by-clause-walked c ss is =
     let s : Spot = record { page = c.args.place.page; slot = c.args.place.slot; bytes = c.args.slot.now } in
-    used_other c.args.wanted.now ss s c.args.walked.now is (sym c.use_of-used.ensures ∙ c.if-used-ne1.false) (sym (c.is_met_by.ensures ∙ ap (meets c.args.wanted.now) c.in-Some.ensures.row) ∙ c.if-is_met_by.false)
-
-pub returns-in-None-clause-form : goal.returns-in-None-clause-form
-returns-in-None-clause-form c = c.in-None.ensures.exact ∙ sym (slot_used c.args.slot.now (sym c.use_of-used.ensures ∙ c.if-used-ne1.false))
-
-pub returns-then-used-ne1-clause-form : goal.returns-then-used-ne1-clause-form
-returns-then-used-ne1-clause-form c = sym (slot_other c.args.slot.now (λ e. c.if-used-eq0.false (c.use_of-used.ensures ∙ e)) (λ e. c.if-used-ne1.true (c.use_of-used.ensures ∙ e)))
+    let one = used_one c.args.slot.now c.requires.form (λ e. c.if-use_of-eq0.false (c.use_of.ensures ∙ e)) in
+    used_other c.args.wanted.now ss s c.args.walked.now is one (sym (c.is_met_by.ensures ∙ ap (meets c.args.wanted.now) c.in-Some.ensures.row) ∙ c.if-is_met_by.false)

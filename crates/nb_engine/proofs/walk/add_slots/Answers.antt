@@ -1,49 +1,49 @@
-use Rattle.std.proofs.Common.{◌+◌, ◌-◌, ◌*◌, ◌/◌, ℕ, [], ◌∷◌, ◌++◌, length, refl, sym, ap, ◌∙◌, arith}
-use Rattle.std.specs.List.{list_all}
-use Rattle.nb_model.specs.Chains.{History, Slot, is_slot, slots_in}
-use Rattle.nb_engine.specs.History.{gathered}
-use Rattle.nb_engine.proofs.WalkLaws.{form_first, form_here, form_next, form_last, comes_first, comes_next, comes_last, sliced, slot_inside}
+use Rattle.std.proofs.Common.{◌≡◌, ℕ, [], ◌∷◌, ◌++◌, length, sym, ap, ◌∙◌, arith}
+use Rattle.std.specs.Prelude.{Bool}
+use Rattle.nb_model.specs.Chains.{History, Slot, is_slot}
+use Rattle.nb_walk.proofs.SlotLaws.{slot_inside, test_first, passes_here, passes_next}
+use Rattle.nb_walk.proofs.SpotLaws.{comes_first, comes_next, comes_last}
+use Rattle.nb_engine.specs.History.{gathered, IsPlaced}
 use Rattle.nb_engine.proofs.walk.add_slots.Goals as goal
 
-pub loop-slot-init : goal.loop-slot-init
-loop-slot-init c = record {
-  many = refl;
-  form = form_first c.args.page.now;
-  comes = λ ss is. comes_first c.args.wanted.now ss c.args.page.now c.args.number ((length c.args.page.now - 32) / 256) c.args.walked.now refl is;
-  placed = λ placed. placed;
-}
+abbrev test : Slot → Bool
+test = is_slot History
 
-pub returns-then-not-add_slot-clause-form : goal.returns-then-not-add_slot-clause-form
-returns-then-not-add_slot-clause-form c =
+pub loop-slot-init : goal.loop-slot-init
+loop-slot-init c =
     let page = c.args.page.now in
-    let count : ℕ = (length page - 32) / 256 in
-    let slot : ℕ = c.loop-slot.slot in
-    sym (form_here page count slot c.loop-slot-test.true (list_all (is_slot History) (slots_in page)) c.loop-slot.invariant.form
-    (ap (is_slot History) (sym (sliced (32 + 256 * slot) page)) ∙ sym c.add_slot.ensures.form ∙ c.if-not-add_slot.true))
+    let count : ℕ = c.slot_count-count.result in
+    record {
+      many = c.slot_count-count.ensures;
+      form = sym (test_first test page count c.slot_count-count.ensures) ∙ c.requires.form;
+      comes = λ ss is. comes_first (λ xs. c.args.walked.now ≡ gathered c.args.wanted.now xs) ss page c.args.number count c.slot_count-count.ensures is;
+      placed = λ placed. placed;
+    }
+
+pub slot_at-requires : goal.slot_at-requires
+slot_at-requires c = slot_inside (length c.args.page.now) c.slot_count-count.result c.loop-slot.slot c.slot_count-count.ensures c.loop-slot-test.true
+
+pub add_slot-requires-clause-form : goal.add_slot-requires-clause-form
+add_slot-requires-clause-form c = ap test c.slot_at.ensures.bytes ∙ passes_here test c.args.page.now c.slot_count-count.result c.loop-slot.slot c.loop-slot-test.true c.loop-slot.invariant.form
 
 pub loop-slot-preserved : goal.loop-slot-preserved
 loop-slot-preserved c =
+    let wanted = c.args.wanted.now in
     let page = c.args.page.now in
-    let count : ℕ = (length page - 32) / 256 in
+    let count : ℕ = c.slot_count-count.result in
     let slot : ℕ = c.loop-slot.slot in
+    let place : IsPlaced (length page) (record { page = c.args.number; slot = slot }) = record { low = c.requires.low; high = c.requires.high; inside = slot_inside (length page) count slot c.slot_count-count.ensures c.loop-slot-test.true } in
     record {
-      many = refl;
-      form = form_next page count slot c.loop-slot-test.true (list_all (is_slot History) (slots_in page)) c.loop-slot.invariant.form
-          (ap (is_slot History) (sym (sliced (32 + 256 * slot) page)) ∙ sym c.add_slot.ensures.form ∙ c.if-not-add_slot.false);
+      many = c.loop-slot.invariant.many;
+      form = passes_next test page count slot c.loop-slot-test.true c.loop-slot.invariant.form;
       comes = λ ss is.
-          comes_next c.args.wanted.now ss page c.args.number count slot c.loop-slot.walked c.add_slot.new.walked c.loop-slot-test.true (c.loop-slot.invariant.comes ss is)
+          comes_next (λ xs. c.loop-slot.walked ≡ gathered wanted xs) (λ xs. c.add_slot.new.walked ≡ gathered wanted xs) ss page c.args.number count slot c.loop-slot-test.true (c.loop-slot.invariant.comes ss is)
           (λ front was.
-          c.add_slot.ensures.walked front was c.if-not-add_slot.false
-          ∙ ap (λ (b : Slot). gathered c.args.wanted.now (front ++ record { page = c.args.number; slot = slot; bytes = b } ∷ [])) (sliced (32 + 256 * slot) page));
-      placed = λ placed.
-          c.add_slot.ensures.placed (length page) (c.loop-slot.invariant.placed placed)
-          (record { low = c.requires.low; high = c.requires.high; inside = slot_inside (length page) count slot refl c.loop-slot-test.true });
+          c.add_slot.ensures.walked front was
+          ∙ ap (λ (b : Slot). gathered wanted (front ++ record { page = c.args.number; slot = slot; bytes = b } ∷ [])) c.slot_at.ensures.bytes);
+      placed = λ placed. c.add_slot.ensures.placed (length page) place (c.loop-slot.invariant.placed placed);
     }
 
-pub returns-clause-form : goal.returns-clause-form
-returns-clause-form c =
-    sym (form_last (list_all (is_slot History) (slots_in c.args.page.now)) c.args.page.now ((length c.args.page.now - 32) / 256) c.loop-slot.slot (omega (arith, c.loop-slot-test.false)) c.loop-slot.invariant.form)
-
 pub returns-clause-walked : goal.returns-clause-walked
-returns-clause-walked c ss is good =
-    comes_last c.args.wanted.now ss c.args.page.now c.args.number ((length c.args.page.now - 32) / 256) c.loop-slot.slot c.loop-slot.walked (omega (arith, c.loop-slot-test.false)) (c.loop-slot.invariant.comes ss is)
+returns-clause-walked c ss is =
+    comes_last (λ xs. c.loop-slot.walked ≡ gathered c.args.wanted.now xs) ss c.args.page.now c.args.number c.slot_count-count.result c.loop-slot.slot (omega (arith, c.loop-slot-test.false)) (c.loop-slot.invariant.comes ss is)

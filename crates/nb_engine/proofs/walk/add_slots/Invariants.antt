@@ -1,16 +1,16 @@
 use Rattle.std.proofs.Common.{◌≡◌, ◌+◌, ◌-◌, ◌*◌, ◌/◌, List, length}
-use Rattle.std.specs.Prelude.{IfSome}
+use Rattle.std.specs.Prelude.{IfSome, true}
 use Rattle.std.specs.List.{list_all}
-use Rattle.nb_model.specs.Chains.{History, Spot, is_slot, slots_from, slots_in}
+use Rattle.nb_model.specs.Chains.{History, Spot, is_slot, slots_from}
+use Rattle.nb_walk.proofs.SpotLaws.{Comes}
 use Rattle.nb_engine.specs.History.{gathered, IsPlaced}
-use Rattle.nb_engine.proofs.WalkLaws.{Comes}
 use Rattle.nb_engine.proofs.walk.add_slots.Given as goal
 
 abbrev pub invariant-loop-slot : goal.invariant-loop-slot
 invariant-loop-slot l = record {
   many : l.count ≡ (length l.fn.page - 32) / 256;
-  form : list_all (is_slot History) (slots_in l.fn.page) ≡ list_all (is_slot History) (slots_from (l.count - l.slot) (32 + 256 * l.slot) l.fn.page);
-  comes : (ss : List Spot) → l.fn.walked ≡ gathered l.fn.wanted ss → Comes l.fn.wanted ss l.fn.page l.fn.number l.count l.slot l.walked;
+  form : list_all (is_slot History) (slots_from (l.count - l.slot) (32 + 256 * l.slot) l.fn.page) ≡ true;
+  comes : (ss : List Spot) → l.fn.walked ≡ gathered l.fn.wanted ss → Comes (λ xs. l.walked ≡ gathered l.fn.wanted xs) ss l.fn.page l.fn.number l.count l.slot;
   placed : IfSome l.fn.walked.room (IsPlaced (length l.fn.page)) → IfSome l.walked.room (IsPlaced (length l.fn.page));
 }
 

@@ -1,17 +1,18 @@
 use Rattle.std.proofs.Common.{◌≡◌, ◌⊎◌, ◌+◌, ◌-◌, ◌<◌, ◌≤◌, length}
 use Rattle.std.specs.Prelude.{IsTrue, IfSome}
 use Rattle.nb_page.specs.Quiet.{Quiet}
+use Rattle.nb_model.specs.Chains.{History}
 use Rattle.nb_model.specs.Trail.{Trail}
 use Rattle.nb_state.specs.Open.{IsOpen, but_pages}
+use Rattle.nb_walk.proofs.WalkLaws.{Walks}
 use Rattle.nb_engine.specs.History.{IsPlaced}
-use Rattle.nb_engine.proofs.WalkLaws.{Walks}
+use Rattle.nb_engine.proofs.SlotLaws.{Gathers}
 use Rattle.nb_engine.proofs.walk.walk.Given as goal
 
 abbrev pub invariant-loop-left : goal.invariant-loop-left
 invariant-loop-left g l = record {
-  walks : (t : Trail) → IsTrue g.H.Host.tells → IsOpen (g.H.Host.world l.fn.host) l.fn.store t → Walks t.base.image l.fn.wanted l.left l.number l.walked;
+  walks : (t : Trail) → IsTrue g.H.Host.tells → IsOpen (g.H.Host.world l.fn.host) l.fn.store t → Walks History t.base.image (Gathers l.fn.wanted t.base.image l.walked) l.left l.number;
   placed : IfSome l.walked.room (IsPlaced l.fn.store.files.page_size);
-  low : 0 < l.number;
   seen : (l.number ≡ 4) ⊎ (4 < l.fn.store.files.count);
   few : l.left ≤ l.fn.store.files.count;
   room : length l.page ≡ length l.fn.page;

@@ -2,8 +2,8 @@ use Rattle.std.proofs.Common.{◌+◌, ◌≤◌, List, get_or, refl, sym, ap, s
 use Rattle.std.specs.Prelude.{Err}
 use Rattle.std.proofs.lemmas.List.{take_all}
 use Rattle.nb_host.specs.Files.{Files}
+use Rattle.nb_host.specs.Causes.{CountsDevice}
 use Rattle.nb_page.proofs.QuietLemmas.{quiet_begun, quiet_joined}
-use Rattle.nb_change.specs.Counts.{CountsDevice}
 use Rattle.nb_fold.specs.Sources.{Held, IsTaken, Waits, rest_after, counts_at, due}
 use Rattle.nb_chain.proofs.AnswerLemmas.{passed}
 use Rattle.nb_fold.proofs.PassLaws.{found, passed_all, due_set, pages_set, apart_set, behind_still, counts_upto, counts_front, fails_alike}

@@ -12,9 +12,9 @@ pub returns-in_err-take_turn : goal.returns-in_err-take_turn
 returns-in_err-take_turn g c =
     let a = g.A.Agent in
     let of = kind a.left a.session a.fits a.step in
-    let fault = c.in_err-take_turn.field-0.0 in
-    turns_handed of c.args.order.now _ _ c.from_residual.result fault c.from_residual.ensures.1
-    (turns_err of c.args.order.now c.loop-session.session-index _ _ _ fault c.loop-session-test.true c.loop-session.invariant c.in_err-take_turn.ensures)
+    let error = c.in_err-take_turn.field-0.0 in
+    turns_handed of c.args.order.now _ _ c.from_residual.result error c.from_residual.ensures.1
+    (turns_err of c.args.order.now c.loop-session.session-index _ _ _ error c.loop-session-test.true c.loop-session.invariant c.in_err-take_turn.ensures)
 
 pub loop-session-preserved : goal.loop-session-preserved
 loop-session-preserved g c =

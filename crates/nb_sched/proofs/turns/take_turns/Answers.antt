@@ -9,8 +9,8 @@ pub returns-in_err-take_order-clause-turns : goal.returns-in_err-take_order-clau
 returns-in_err-take_order-clause-turns g c =
     let a = g.A.Agent in
     let of = kind a.left a.session a.fits a.step in
-    let fault = c.in_err-take_order.field-0.0 in
-    (0, turns_no_round of c.args.schedule.now _ _ _ (turns_handed of c.args.schedule.now _ _ c.from_residual.result fault c.from_residual.ensures.1 c.in_err-take_order.ensures))
+    let error = c.in_err-take_order.field-0.0 in
+    (0, turns_no_round of c.args.schedule.now _ _ _ (turns_handed of c.args.schedule.now _ _ c.from_residual.result error c.from_residual.ensures.1 c.in_err-take_order.ensures))
 
 pub loop-count-init : goal.loop-count-init
 loop-count-init g c =
@@ -33,11 +33,11 @@ returns-in_err-take_order-2-clause-turns g c =
     let a = g.A.Agent in
     let of = kind a.left a.session a.fits a.step in
     let so_far = c.loop-count.invariant.0 in
-    let fault = c.in_err-take_order-2.field-0.0 in (
+    let error = c.in_err-take_order-2.field-0.0 in (
       so_far.0 + 1,
       turns_round of c.args.schedule.now so_far.0 _ _ _ _ so_far.1
-          (turns_handed of all_sessions _ _ c.from_residual-in_err-take_order-2.result fault c.from_residual-in_err-take_order-2.ensures.1
-          (round_stops of c.loop-count.count _ _ fault c.in_err-take_order-2.ensures)),
+          (turns_handed of all_sessions _ _ c.from_residual-in_err-take_order-2.result error c.from_residual-in_err-take_order-2.ensures.1
+          (round_stops of c.loop-count.count _ _ error c.in_err-take_order-2.ensures)),
     )
 
 pub loop-count-smaller : goal.loop-count-smaller

@@ -2,6 +2,7 @@ use Rattle.std.proofs.Common.{◌≡◌, ◌-◌, ℕ, refl, sym, ap, subst}
 use Rattle.std.specs.Prelude.{Ok, Err, None}
 use Rattle.nb_host.specs.declared.faults.Fault.{Fault}
 use Rattle.nb_host.specs.declared.faults.Fault.TheVariants.{Refused, Device, Memory}
+use Rattle.nb_host.specs.declared.faults.RunError.TheVariants.{Device as DeviceError, Memory as MemoryError}
 use Rattle.nb_model.specs.declared.reply.Reply.TheVariants.{Level}
 use Rattle.nb_model.specs.Backups.{close_backup}
 use Rattle.nb_model.specs.Outcomes.{Given, ClosesBackup, next_time}
@@ -31,7 +32,7 @@ returns-in-Ok-More-clause-turn g c how now t more tells ready makes here goes =
     let later : Backed = c.turn.new.self in
     let rest : ℕ = file_count copier.file - file_next copier.file in
     let may : MayGoOn a t copier = may_go_on old a t now session copier more ready makes.going here goes.1 in
-    let asked = c.in-Ok-More.ensures.asks t tells ready.opened may.stalled goes.0 may.below may.apart in
+    let asked = c.in-Ok-More.ensures.asks t tells ready.opened may.stalled goes.0 may.apart in
     let turns = λ (given : Given) (most : GaveTimeAtMost old mid (next_time given)).
     subst (λ (p : Progress). BackupTurn (Ok p) old mid a b copier later t (next_time given) (close_backup (seen_with now given) copier.backing).strokes) c.in-Ok-More.field-0-is
     (c.in-Ok-More.ensures.turn (seen_with now given) t tells ready.base ready.opened may.stalled may.entry goes.0 may.below may.apart most) in
@@ -53,7 +54,7 @@ returns-in-Ok-Finished-clause-turn g c how now t more tells ready makes here goe
     let later : Backed = c.turn.new.self in
     let rest : ℕ = file_count copier.file - file_next copier.file in
     let may : MayGoOn a t copier = may_go_on old a t now session copier more ready makes.going here goes.1 in
-    let asked = c.in-Ok-Finished.ensures.asks t tells ready.opened may.stalled goes.0 may.below may.apart in
+    let asked = c.in-Ok-Finished.ensures.asks t tells ready.opened may.stalled goes.0 may.apart in
     let turns = λ (given : Given) (most : GaveTimeAtMost old mid (next_time given)).
     subst (λ (p : Progress). BackupTurn (Ok p) old mid a b copier later t (next_time given) (close_backup (seen_with now given) copier.backing).strokes) c.in-Ok-Finished.field-0-is
     (c.in-Ok-Finished.ensures.turn (seen_with now given) t tells ready.base ready.opened may.stalled may.entry goes.0 may.below may.apart most) in
@@ -76,7 +77,7 @@ returns-in_err-say_refused-in-Err-Refused-clause-turn g c how now t more tells r
     let later : Backed = c.turn.new.self in
     let rest : ℕ = file_count copier.file - file_next copier.file in
     let may : MayGoOn a t copier = may_go_on old a t now session copier more ready makes.going here goes.1 in
-    let asked = c.in-Err-Refused.ensures.asks t tells ready.opened may.stalled goes.0 may.below may.apart in
+    let asked = c.in-Err-Refused.ensures.asks t tells ready.opened may.stalled goes.0 may.apart in
     let turns = λ (given : Given) (most : GaveTimeAtMost old mid (next_time given)).
     subst (λ (f : Fault). BackupTurn (Err f) old mid a b copier later t (next_time given) (close_backup (seen_with now given) copier.backing).strokes) c.in-Err-Refused.field-0-is
     (c.in-Err-Refused.ensures.turn (seen_with now given) t tells ready.base ready.opened may.stalled may.entry goes.0 may.below may.apart most) in
@@ -94,7 +95,7 @@ returns-in_ok-say_refused-in-Err-Refused-clause-turn g c how now t more tells re
     let later : Backed = c.turn.new.self in
     let rest : ℕ = file_count copier.file - file_next copier.file in
     let may : MayGoOn a t copier = may_go_on old a t now session copier more ready makes.going here goes.1 in
-    let asked = c.in-Err-Refused.ensures.asks t tells ready.opened may.stalled goes.0 may.below may.apart in
+    let asked = c.in-Err-Refused.ensures.asks t tells ready.opened may.stalled goes.0 may.apart in
     let turns = λ (given : Given) (most : GaveTimeAtMost old mid (next_time given)).
     subst (λ (f : Fault). BackupTurn (Err f) old mid a b copier later t (next_time given) (close_backup (seen_with now given) copier.backing).strokes) c.in-Err-Refused.field-0-is
     (c.in-Err-Refused.ensures.turn (seen_with now given) t tells ready.base ready.opened may.stalled may.entry goes.0 may.below may.apart most) in
@@ -112,14 +113,14 @@ returns-in-Err-Device-clause-turn g c how now t more tells ready makes here goes
     let later : Backed = c.turn.new.self in
     let rest : ℕ = file_count copier.file - file_next copier.file in
     let may : MayGoOn a t copier = may_go_on old a t now session copier more ready makes.going here goes.1 in
-    let asked = c.in-Err-Device.ensures.asks t tells ready.opened may.stalled goes.0 may.below may.apart in
+    let asked = c.in-Err-Device.ensures.asks t tells ready.opened may.stalled goes.0 may.apart in
     let turns = λ (given : Given) (most : GaveTimeAtMost old mid (next_time given)).
     subst (λ (f : Fault). BackupTurn (Err f) old mid a b copier later t (next_time given) (close_backup (seen_with now given) copier.backing).strokes) c.in-Err-Device.field-0-is
     (c.in-Err-Device.ensures.turn (seen_with now given) t tells ready.base ready.opened may.stalled may.entry goes.0 may.below may.apart most) in
     turns_failed how (λ progress. None) (Err Device) left_refused (left_task _) old mid mid a b t now session (copy_first rest (ClosesBackup copier.backing)) (copy_rest rest (ClosesBackup copier.backing)) more _ (backup_files old mid a b t now session copier later ready goes.0 goes.1 c.in-Err-Device.ensures.goes) makes here
     (turn_acts old mid a b t now session copier later ready goes.0 goes.1 c.in-Err-Device.ensures.goes (g.met.H.Host.reads_left c.args.host.now tells copier.backing.name) (Err Device) turns asked.0 asked.1 tt)
     (marks_made (λ progress. None) (Err Device) old mid a b t now session (copy_first rest (ClosesBackup copier.backing)) _ (apart_one a copier.backing.name _ goes.1) (g.met.H.Host.reads_left c.turn.new.host tells))
-    (Err Device) refl
+    (Err DeviceError) refl
 
 pub returns-in-Err-Memory-clause-turn : goal.returns-in-Err-Memory-clause-turn
 returns-in-Err-Memory-clause-turn g c how now t more tells ready makes here goes =
@@ -132,11 +133,11 @@ returns-in-Err-Memory-clause-turn g c how now t more tells ready makes here goes
     let later : Backed = c.turn.new.self in
     let rest : ℕ = file_count copier.file - file_next copier.file in
     let may : MayGoOn a t copier = may_go_on old a t now session copier more ready makes.going here goes.1 in
-    let asked = c.in-Err-Memory.ensures.asks t tells ready.opened may.stalled goes.0 may.below may.apart in
+    let asked = c.in-Err-Memory.ensures.asks t tells ready.opened may.stalled goes.0 may.apart in
     let turns = λ (given : Given) (most : GaveTimeAtMost old mid (next_time given)).
     subst (λ (f : Fault). BackupTurn (Err f) old mid a b copier later t (next_time given) (close_backup (seen_with now given) copier.backing).strokes) c.in-Err-Memory.field-0-is
     (c.in-Err-Memory.ensures.turn (seen_with now given) t tells ready.base ready.opened may.stalled may.entry goes.0 may.below may.apart most) in
     turns_failed how (λ progress. None) (Err Memory) left_refused (left_task _) old mid mid a b t now session (copy_first rest (ClosesBackup copier.backing)) (copy_rest rest (ClosesBackup copier.backing)) more _ (backup_files old mid a b t now session copier later ready goes.0 goes.1 c.in-Err-Memory.ensures.goes) makes here
     (turn_acts old mid a b t now session copier later ready goes.0 goes.1 c.in-Err-Memory.ensures.goes (g.met.H.Host.reads_left c.args.host.now tells copier.backing.name) (Err Memory) turns asked.0 asked.1 tt)
     (marks_made (λ progress. None) (Err Memory) old mid a b t now session (copy_first rest (ClosesBackup copier.backing)) _ (apart_one a copier.backing.name _ goes.1) (g.met.H.Host.reads_left c.turn.new.host tells))
-    (Err Memory) refl
+    (Err MemoryError) refl

@@ -2,6 +2,7 @@ use Rattle.std.proofs.Common.{[], refl, sym, ap, subst}
 use Rattle.std.specs.Prelude.{Ok, Err, None}
 use Rattle.nb_host.specs.declared.faults.Fault.{Fault}
 use Rattle.nb_host.specs.declared.faults.Fault.TheVariants.{Refused, Device, Memory}
+use Rattle.nb_host.specs.declared.faults.RunError.TheVariants.{Device as DeviceError, Memory as MemoryError}
 use Rattle.nb_model.specs.declared.reply.Reply.TheVariants.{Refused as RefusedBy}
 use Rattle.nb_model.specs.Outcomes.{Begins, Given, next_guid}
 use Rattle.nb_model.specs.Turns.{first_turn}
@@ -70,7 +71,7 @@ returns-in-Err-Device-clause-turn g c how now t more tells ready makes here =
     subst (λ (f : Fault). StartsBackup (Err f) old mid a b t (file_asked it) (next_guid given) (first_turn (seen_with now given) session it)) c.in-Err-Device.field-0-is
     (c.in-Err-Device.ensures.turn (seen_with now given) t tells ready.base ready.running ready.opened (knows_free old a t now (file_asked it) ready makes.going plain) (no_delta a (file_asked it) plain) most) in
     turns_failed how (λ copier. None) (Err Device) (λ (taken : Taken). taken.refused) (λ (taken : Taken). taken.task) old mid mid a b t now session (Begins it) [] more (begun_in session (Begins it) now) (start_touch session it now) makes here
-    (start_acts old mid a b t now session it asks ready (Err Device) starts asked.0 asked.2 asked.1 c.start.ensures.cap) (marks_made (λ (copier : Backed). None) (Err Device) old mid a b t now session (Begins it) (begun_in session (Begins it) now) (start_apart old mid a b t now session it asks ready plain) (λ m. g.met.H.Host.reads_left c.start.new.host tells m)) (Err Device) refl
+    (start_acts old mid a b t now session it asks ready (Err Device) starts asked.0 asked.2 asked.1 c.start.ensures.cap) (marks_made (λ (copier : Backed). None) (Err Device) old mid a b t now session (Begins it) (begun_in session (Begins it) now) (start_apart old mid a b t now session it asks ready plain) (λ m. g.met.H.Host.reads_left c.start.new.host tells m)) (Err DeviceError) refl
 
 pub returns-in-Err-Memory-clause-turn : goal.returns-in-Err-Memory-clause-turn
 returns-in-Err-Memory-clause-turn g c how now t more tells ready makes here =
@@ -87,4 +88,4 @@ returns-in-Err-Memory-clause-turn g c how now t more tells ready makes here =
     subst (λ (f : Fault). StartsBackup (Err f) old mid a b t (file_asked it) (next_guid given) (first_turn (seen_with now given) session it)) c.in-Err-Memory.field-0-is
     (c.in-Err-Memory.ensures.turn (seen_with now given) t tells ready.base ready.running ready.opened (knows_free old a t now (file_asked it) ready makes.going plain) (no_delta a (file_asked it) plain) most) in
     turns_failed how (λ copier. None) (Err Memory) (λ (taken : Taken). taken.refused) (λ (taken : Taken). taken.task) old mid mid a b t now session (Begins it) [] more (begun_in session (Begins it) now) (start_touch session it now) makes here
-    (start_acts old mid a b t now session it asks ready (Err Memory) starts asked.0 asked.2 asked.1 c.start.ensures.cap) (marks_made (λ (copier : Backed). None) (Err Memory) old mid a b t now session (Begins it) (begun_in session (Begins it) now) (start_apart old mid a b t now session it asks ready plain) (λ m. g.met.H.Host.reads_left c.start.new.host tells m)) (Err Memory) refl
+    (start_acts old mid a b t now session it asks ready (Err Memory) starts asked.0 asked.2 asked.1 c.start.ensures.cap) (marks_made (λ (copier : Backed). None) (Err Memory) old mid a b t now session (Begins it) (begun_in session (Begins it) now) (start_apart old mid a b t now session it asks ready plain) (λ m. g.met.H.Host.reads_left c.start.new.host tells m)) (Err MemoryError) refl

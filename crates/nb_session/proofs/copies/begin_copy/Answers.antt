@@ -2,6 +2,7 @@ use Rattle.std.proofs.Common.{◌≡◌, [], refl, sym, ap, subst}
 use Rattle.std.specs.Prelude.{Ok, Err, None, Some}
 use Rattle.nb_host.specs.declared.faults.Fault.{Fault}
 use Rattle.nb_host.specs.declared.faults.Fault.TheVariants.{Refused, Device, Memory}
+use Rattle.nb_host.specs.declared.faults.RunError.TheVariants.{Device as DeviceError, Memory as MemoryError}
 use Rattle.nb_model.specs.declared.reply.Reply.TheVariants.{Refused as RefusedBy}
 use Rattle.nb_model.specs.declared.statement.Statement.TheVariants.{CopyTo}
 use Rattle.nb_model.specs.Backups.{copy_turn}
@@ -58,7 +59,7 @@ returns-in-Err-Device-clause-turn g c how now t more tells ready makes here =
     let starts = subst (λ (f : Fault). StartsCopy (Err f) old mid a b t name (copy_turn (seen_now now) c.args.session name)) c.in-Err-Device.field-0-is
     (c.in-Err-Device.ensures.turn (seen_now now) t tells ready.base ready.running ready.opened (knows_unused old a t now name ready makes.going c.requires.plain)) in
     turns_failed how (λ copy. None) (Err Device) (λ (taken : Taken). taken.refused) (λ (taken : Taken). taken.task) old mid mid a b t now c.args.session (Begins (CopyTo name)) [] more [] (begins_touch c.args.session (CopyTo name) now (λ asks. asks)) makes here
-    (begin_acts old mid a b t now c.args.session name ready named (Err Device) (cap_kept a b c.in-Err-Device.ensures.stays) starts) (λ acts. marks_none old mid a) (Err Device) refl
+    (begin_acts old mid a b t now c.args.session name ready named (Err Device) (cap_kept a b c.in-Err-Device.ensures.stays) starts) (λ acts. marks_none old mid a) (Err DeviceError) refl
 
 pub returns-in-Err-Memory-clause-turn : goal.returns-in-Err-Memory-clause-turn
 returns-in-Err-Memory-clause-turn g c how now t more tells ready makes here =
@@ -71,4 +72,4 @@ returns-in-Err-Memory-clause-turn g c how now t more tells ready makes here =
     let starts = subst (λ (f : Fault). StartsCopy (Err f) old mid a b t name (copy_turn (seen_now now) c.args.session name)) c.in-Err-Memory.field-0-is
     (c.in-Err-Memory.ensures.turn (seen_now now) t tells ready.base ready.running ready.opened (knows_unused old a t now name ready makes.going c.requires.plain)) in
     turns_failed how (λ copy. None) (Err Memory) (λ (taken : Taken). taken.refused) (λ (taken : Taken). taken.task) old mid mid a b t now c.args.session (Begins (CopyTo name)) [] more [] (begins_touch c.args.session (CopyTo name) now (λ asks. asks)) makes here
-    (begin_acts old mid a b t now c.args.session name ready named (Err Memory) (cap_kept a b c.in-Err-Memory.ensures.stays) starts) (λ acts. marks_none old mid a) (Err Memory) refl
+    (begin_acts old mid a b t now c.args.session name ready named (Err Memory) (cap_kept a b c.in-Err-Memory.ensures.stays) starts) (λ acts. marks_none old mid a) (Err MemoryError) refl

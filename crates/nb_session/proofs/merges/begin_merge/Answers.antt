@@ -2,6 +2,7 @@ use Rattle.std.proofs.Common.{[], length, refl, sym, ap, subst}
 use Rattle.std.specs.Prelude.{Ok, Err, None}
 use Rattle.nb_host.specs.declared.faults.Fault.{Fault}
 use Rattle.nb_host.specs.declared.faults.Fault.TheVariants.{Refused, Device, Memory}
+use Rattle.nb_host.specs.declared.faults.RunError.TheVariants.{Device as DeviceError, Memory as MemoryError}
 use Rattle.nb_model.specs.declared.reply.Reply.TheVariants.{Refused as RefusedBy}
 use Rattle.nb_model.specs.declared.statement.Statement.TheVariants.{EndBackup}
 use Rattle.nb_model.specs.Outcomes.{Begins}
@@ -48,7 +49,7 @@ returns-in-Err-Device-clause-turn g c how now t more tells ready makes here =
     let b = c.end.new.self in
     let does = subst (λ (f : Fault). DoesEnd (Err f) old mid a b t (end_scn t.base.image) (end_turn (seen_now now) c.args.session)) c.in-Err-Device.field-0-is (c.in-Err-Device.ensures.turn (seen_now now) t tells ready.base ready.running ready.opened) in
     turns_failed how (λ scn. None) (Err Device) (λ (taken : Taken). taken.refused) (λ (taken : Taken). taken.task) old mid mid a b t now c.args.session _ [] more [] (begins_touch c.args.session EndBackup now (λ asks. asks)) makes here
-    (end_acts old mid a b t now c.args.session ready (Err Device) c.end.ensures.cap does) (λ acts. marks_none old mid a) (Err Device) refl
+    (end_acts old mid a b t now c.args.session ready (Err Device) c.end.ensures.cap does) (λ acts. marks_none old mid a) (Err DeviceError) refl
 
 pub returns-in-Err-Memory-clause-turn : goal.returns-in-Err-Memory-clause-turn
 returns-in-Err-Memory-clause-turn g c how now t more tells ready makes here =
@@ -58,4 +59,4 @@ returns-in-Err-Memory-clause-turn g c how now t more tells ready makes here =
     let b = c.end.new.self in
     let does = subst (λ (f : Fault). DoesEnd (Err f) old mid a b t (end_scn t.base.image) (end_turn (seen_now now) c.args.session)) c.in-Err-Memory.field-0-is (c.in-Err-Memory.ensures.turn (seen_now now) t tells ready.base ready.running ready.opened) in
     turns_failed how (λ scn. None) (Err Memory) (λ (taken : Taken). taken.refused) (λ (taken : Taken). taken.task) old mid mid a b t now c.args.session _ [] more [] (begins_touch c.args.session EndBackup now (λ asks. asks)) makes here
-    (end_acts old mid a b t now c.args.session ready (Err Memory) c.end.ensures.cap does) (λ acts. marks_none old mid a) (Err Memory) refl
+    (end_acts old mid a b t now c.args.session ready (Err Memory) c.end.ensures.cap does) (λ acts. marks_none old mid a) (Err MemoryError) refl

@@ -2,6 +2,7 @@ use Rattle.std.proofs.Common.{[], length, refl, sym, ap, subst}
 use Rattle.std.specs.Prelude.{Ok, Err, Some, None}
 use Rattle.nb_host.specs.declared.faults.Fault.{Fault}
 use Rattle.nb_host.specs.declared.faults.Fault.TheVariants.{Device, Memory}
+use Rattle.nb_host.specs.declared.faults.RunError.TheVariants.{Device as DeviceError, Memory as MemoryError}
 use Rattle.nb_model.specs.declared.reply.Reply.{Reply}
 use Rattle.nb_model.specs.Outcomes.{Ends}
 use Rattle.nb_model.specs.Pages.{end_turn, end_scn}
@@ -61,7 +62,7 @@ returns-in-Err-Device-clause-turn g c how now t more tells ready makes here runs
     let quiet = ends_quiet old a t now c.args.session ready makes.going c.args.reply.now more here runs in
     let does = subst (λ (f : Fault). DoesEnd (Err f) old mid a b t (end_scn t.base.image) (end_turn (seen_now now) c.args.session)) c.in-Err-Device.field-0-is (c.in-Err-Device.ensures.turn (seen_now now) t tells ready.base ready.running ready.opened) in
     turns_failed how (λ scn. None) (Err Device) left_refused (left_task _) old mid mid a b t now c.args.session (Ends c.args.reply.now) [] more [] (ends_touch c.args.session c.args.reply.now now) makes here
-    (ends_acts old mid a b t now c.args.session ready c.args.reply.now quiet (Err Device) c.end.ensures.cap does) (λ acts. marks_none old mid a) (Err Device) refl
+    (ends_acts old mid a b t now c.args.session ready c.args.reply.now quiet (Err Device) c.end.ensures.cap does) (λ acts. marks_none old mid a) (Err DeviceError) refl
 
 pub returns-in-Err-Memory-clause-turn : goal.returns-in-Err-Memory-clause-turn
 returns-in-Err-Memory-clause-turn g c how now t more tells ready makes here runs =
@@ -72,4 +73,4 @@ returns-in-Err-Memory-clause-turn g c how now t more tells ready makes here runs
     let quiet = ends_quiet old a t now c.args.session ready makes.going c.args.reply.now more here runs in
     let does = subst (λ (f : Fault). DoesEnd (Err f) old mid a b t (end_scn t.base.image) (end_turn (seen_now now) c.args.session)) c.in-Err-Memory.field-0-is (c.in-Err-Memory.ensures.turn (seen_now now) t tells ready.base ready.running ready.opened) in
     turns_failed how (λ scn. None) (Err Memory) left_refused (left_task _) old mid mid a b t now c.args.session (Ends c.args.reply.now) [] more [] (ends_touch c.args.session c.args.reply.now now) makes here
-    (ends_acts old mid a b t now c.args.session ready c.args.reply.now quiet (Err Memory) c.end.ensures.cap does) (λ acts. marks_none old mid a) (Err Memory) refl
+    (ends_acts old mid a b t now c.args.session ready c.args.reply.now quiet (Err Memory) c.end.ensures.cap does) (λ acts. marks_none old mid a) (Err MemoryError) refl

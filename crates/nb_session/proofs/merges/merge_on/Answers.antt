@@ -1,5 +1,6 @@
 use Rattle.std.proofs.Common.{[], ◌++◌, refl, ap, subst, ◌∙◌}
 use Rattle.std.specs.Prelude.{Ok, Err, Some}
+use Rattle.nb_host.specs.declared.faults.Fault.TheVariants.{Device}
 use Rattle.nb_model.specs.declared.reply.Reply.{Reply}
 use Rattle.nb_session.specs.Says.{SaysLine}
 use Rattle.nb_session.specs.Told.{told_line, told_reply}
@@ -21,8 +22,8 @@ returns-in_err-merge_turn-clause-turn g c now t more tells ready makes here =
     let a = c.args.engine.now in
     let b = c.merge_turn.new.self in
     let m = c.args.merging.now in
-    turns_failed c.args.told (merge_said m.reply) (Err c.in_err-merge_turn.field-0.0) left_refused (left_task _) old mid mid a b t now c.args.session _ _ more [] (merges_touch c.args.session m.left m.reply now) makes here
-    (merge_acts old mid a b t now c.args.session m.reply ready c.merge_turn.ensures.cap (Err c.in_err-merge_turn.field-0.0) c.in_err-merge_turn.ensures.not_refused m.left c.requires.fits.0 (c.in_err-merge_turn.ensures.merges t tells ready.opened)) (λ acts. marks_none old mid a)
+    turns_failed c.args.told (merge_said m.reply) (Err Device) left_refused (left_task _) old mid mid a b t now c.args.session _ _ more [] (merges_touch c.args.session m.left m.reply now) makes here
+    (merge_acts old mid a b t now c.args.session m.reply ready c.merge_turn.ensures.cap (Err c.in_err-merge_turn.field-0.0) m.left c.requires.fits.0 (c.in_err-merge_turn.ensures.merges t tells ready.opened)) (λ acts. marks_none old mid a)
     c.from_residual.result c.from_residual.ensures.0
 
 pub returns-in-More-clause-turn : goal.returns-in-More-clause-turn
@@ -35,7 +36,7 @@ returns-in-More-clause-turn g c now t more tells ready makes here =
     let merges = subst (λ (p : Progress). Merges (Ok p) old mid a b t) c.in-More.is (c.in_ok-merge_turn.ensures.merges t tells ready.opened) in
     let goes = subst (λ (p : Progress). GoesOn p a b) c.in-More.is c.in_ok-merge_turn.ensures.goes in
     turns_quiet c.args.told (merge_said m.reply) (Ok More) left_refused (left_task _) old mid mid a b t now c.args.session _ _ more [] (merges_touch c.args.session m.left m.reply now) makes here
-    (merge_acts old mid a b t now c.args.session m.reply ready c.merge_turn.ensures.cap (Ok More) tt m.left c.requires.fits.0 merges) (λ acts. marks_none old mid a)
+    (merge_acts old mid a b t now c.args.session m.reply ready c.merge_turn.ensures.cap (Ok More) m.left c.requires.fits.0 merges) (λ acts. marks_none old mid a)
     Same tt refl ready (λ said is. is) (λ told. more_behind c.args.session m.reply a b mid now m.left c.requires.fits.0 goes)
 
 pub returns-in_err-tell-in-Finished-clause-turn : goal.returns-in_err-tell-in-Finished-clause-turn
@@ -47,7 +48,7 @@ returns-in_err-tell-in-Finished-clause-turn g c now t more tells ready makes her
     let m = c.args.merging.now in
     let merges = subst (λ (p : Progress). Merges (Ok p) old mid a b t) c.in-Finished.is (c.in_ok-merge_turn.ensures.merges t tells ready.opened) in
     turns_unsaid c.args.told (merge_said m.reply) (Ok Finished) left_refused (left_task _) old mid (g.H.Host.world c.tell.new.host) a b t now c.args.session _ _ more [] (merges_touch c.args.session m.left m.reply now) makes here
-    (merge_acts old mid a b t now c.args.session m.reply ready c.merge_turn.ensures.cap (Ok Finished) tt m.left c.requires.fits.0 merges) (λ acts. marks_none old mid a)
+    (merge_acts old mid a b t now c.args.session m.reply ready c.merge_turn.ensures.cap (Ok Finished) m.left c.requires.fits.0 merges) (λ acts. marks_none old mid a)
     tt m.reply (λ said is. is) c.tell.result (subst (λ (r : Reply). SaysLine c.tell.result mid (g.H.Host.world c.tell.new.host) (told_line c.args.session (told_reply c.args.told (Some r)))) c.replace-reply.ensures.value (c.tell.ensures.line tells)) ready c.from_residual-in_err-tell-in-Finished.result c.from_residual-in_err-tell-in-Finished.ensures.0
 
 pub returns-in_ok-tell-in-Finished-clause-turn : goal.returns-in_ok-tell-in-Finished-clause-turn
@@ -61,6 +62,6 @@ returns-in_ok-tell-in-Finished-clause-turn g c now t more tells ready makes here
     let merges = subst (λ (p : Progress). Merges (Ok p) old mid a b t) c.in-Finished.is (c.in_ok-merge_turn.ensures.merges t tells ready.opened) in
     let goes = subst (λ (p : Progress). GoesOn p a b) c.in-Finished.is c.in_ok-merge_turn.ensures.goes in
     turns_said c.args.told (merge_said m.reply) (Ok Finished) left_refused (left_task _) old mid new a b t now c.args.session _ _ more [] (merges_touch c.args.session m.left m.reply now) makes here
-    (merge_acts old mid a b t now c.args.session m.reply ready c.merge_turn.ensures.cap (Ok Finished) tt m.left c.requires.fits.0 merges) (λ acts. marks_none old mid a)
+    (merge_acts old mid a b t now c.args.session m.reply ready c.merge_turn.ensures.cap (Ok Finished) m.left c.requires.fits.0 merges) (λ acts. marks_none old mid a)
     tt m.reply (λ said is. is) c.tell.result (subst (λ (r : Reply). SaysLine c.tell.result mid (g.H.Host.world c.tell.new.host) (told_line c.args.session (told_reply c.args.told (Some r)))) c.replace-reply.ensures.value (c.tell.ensures.line tells)) ready _ ((c.in_ok-tell-in-Finished.ensures.line tells).said ∙ ap (λ (r : Reply). mid.said ++ told_line c.args.session (told_reply c.args.told (Some r))) c.replace-reply.ensures.value) (λ is. status_none m.reply c.requires.fits.1)
     (λ told. finished_behind c.args.session m.reply a b new now m.left c.requires.fits.0 goes)

@@ -2,7 +2,7 @@ use Rattle.std.proofs.Common.{◌≡◌, ℕ, ◌-◌, List, [], ◌∷◌, sym,
 use Rattle.std.specs.Prelude.{Result, Bool, None}
 use Rattle.std.specs.List.{slice_index_or}
 use Rattle.nb_host.specs.World.{World}
-use Rattle.nb_host.specs.declared.faults.Fault.{Fault}
+use Rattle.nb_host.specs.declared.faults.RunError.{RunError}
 use Rattle.nb_model.specs.declared.statement.Statement.{Statement}
 use Rattle.nb_model.specs.Outcomes.{Turn, Begins}
 use Rattle.nb_model.specs.Run.{Now}
@@ -12,11 +12,12 @@ use Rattle.nb_session.specs.declared.task.Taken.{Taken}
 use Rattle.nb_session.specs.declared.told.Told.{Told}
 use Rattle.nb_session.specs.Askers.{TaskFits}
 use Rattle.nb_session.specs.Steps.{Turns}
-use Rattle.nb_session.proofs.TurnLaws.{handed_turns, handed_none, handed_counts, handed_failure}
+use Rattle.nb_session.proofs.StepLaws.{counts_handed}
+use Rattle.nb_session.proofs.TurnLaws.{handed_turns, handed_none}
 use Rattle.nb_session.proofs.session.begin_statement.Goals as goal
 
 -- the first turn of a statement
-abbrev Begun : (told : Told) (answer : Result Taken Fault) (old new : World) (a b : Held) (t : Trail) (now : Now) (session : ℕ) (more : List Turn) → Statement → Type 0
+abbrev Begun : (told : Told) (answer : Result Taken RunError) (old new : World) (a b : Held) (t : Trail) (now : Now) (session : ℕ) (more : List Turn) → Statement → Type 0
 Begun told answer old new a b t now session more statement =
     slice_index_or now.todo (session - 1) [] ≡ Begins statement ∷ more → Turns told (λ taken. taken.refused) (λ taken. taken.task) answer old new a b t now session (Begins statement) [] more
 
@@ -33,17 +34,16 @@ returns-in-CopyTo-clause-turn g c now t more tells ready makes =
 
 pub returns-in_err-refused-in_default : goal.returns-in_err-refused-in_default
 returns-in_err-refused-in_default g c =
-    let fault = c.in_err-refused-in_default.field-0.0 in
+    let error = c.in_err-refused-in_default.field-0.0 in
     let answer = c.from_residual.result in
     let handed = c.from_residual.ensures in
     record {
       turn = λ now t more tells ready makes here.
-          handed_turns fault answer handed c.args.told (λ (refused : Bool). refused) (λ (refused : Bool). None) (g.H.Host.world c.args.host.now) (g.H.Host.world c.answer.new.host) c.args.engine.now c.answer.new.engine t now c.args.session (Begins c.args.statement.now) [] more
+          handed_turns error answer handed c.args.told (λ (refused : Bool). refused) (λ (refused : Bool). None) (g.H.Host.world c.args.host.now) (g.H.Host.world c.answer.new.host) c.args.engine.now c.answer.new.engine t now c.args.session (Begins c.args.statement.now) [] more
           (c.in_err-refused-in_default.ensures.turn now t more tells ready makes here);
-      fits = handed_none fault answer handed (λ (taken : Taken). TaskFits c.args.session taken.task c.answer.new.engine);
+      fits = handed_none error answer handed (λ (taken : Taken). TaskFits c.args.session taken.task c.answer.new.engine);
       others = c.answer.ensures.others c.args.session;
-      cause = handed_counts fault answer handed Bool _ _ c.in_err-refused-in_default.ensures.cause;
-      not_refused = handed_failure fault answer handed c.in_err-refused-in_default.ensures.not_refused;
+      cause = counts_handed error Bool answer _ _ handed c.in_err-refused-in_default.ensures.cause;
     }
 
 pub returns-in_ok-refused-in_default : goal.returns-in_ok-refused-in_default
@@ -54,5 +54,4 @@ returns-in_ok-refused-in_default g c = record {
   fits = tt;
   others = c.answer.ensures.others c.args.session;
   cause = c.in_ok-refused-in_default.ensures.cause;
-  not_refused = tt;
 }

@@ -10,7 +10,6 @@ use Rattle.nb_state.specs.Open.{Held}
 use Rattle.nb_session.specs.Replies.{some_said}
 use Rattle.nb_session.proofs.ActLaws.{some_by, does_acts, may_passed, may_then_memory, may_value, sync_acts, sync_failed, begin_acts, cache_acts}
 use Rattle.nb_session.proofs.HeaderLaws.{header_does}
-use Rattle.nb_session.proofs.ReadyLaws.{ready_sized}
 use Rattle.nb_session.proofs.TurnLaws.{seen_now}
 use Rattle.nb_state.proofs.TurnLaws.{no_call}
 use Rattle.nb_session.proofs.statement.do_statement.Goals as goal
@@ -59,7 +58,7 @@ returns-in_err-page-in-PageNew-clause-turn g c now t session tells ready =
     let s = seen_now now in
     may_passed (some_by page_made) some_said _ _ _ _ t now session _ [] _ c.from_residual-in_err-page-in-PageNew.result c.from_residual-in_err-page-in-PageNew.ensures
     (does_acts page_made _ _ _ _ _ t now session c.args.statement.now _ c.in-PageNew.is refl refl refl _ refl ready
-    (c.in_err-page-in-PageNew.ensures.turn s t tells ready.base ready.opened (ready_sized _ _ t now ready)))
+    (c.in_err-page-in-PageNew.ensures.turn s t tells ready.base ready.opened))
 
 pub returns-in_ok-page-in-PageNew-clause-turn : goal.returns-in_ok-page-in-PageNew-clause-turn
 unfolding first_turn
@@ -67,7 +66,7 @@ returns-in_ok-page-in-PageNew-clause-turn g c now t session tells ready =
     let s = seen_now now in
     may_value (some_by page_made) some_said _ _ _ _ t now session _ [] c.in_ok-page-in-PageNew.page (PageMade c.in_ok-page-in-PageNew.page) refl
     (does_acts page_made _ _ _ _ _ t now session c.args.statement.now _ c.in-PageNew.is refl refl refl _ refl ready
-    (c.in_ok-page-in-PageNew.ensures.turn s t tells ready.base ready.opened (ready_sized _ _ t now ready)))
+    (c.in_ok-page-in-PageNew.ensures.turn s t tells ready.base ready.opened))
 
 pub returns-in_err-page_free-in-Free-clause-turn : goal.returns-in_err-page_free-in-Free-clause-turn
 unfolding first_turn

@@ -6,7 +6,6 @@ use Rattle.nb_model.specs.Turns.{first_turn}
 use Rattle.nb_engine.specs.Replies.{done, valued}
 use Rattle.nb_session.specs.Replies.{some_said}
 use Rattle.nb_session.proofs.ActLaws.{some_by, does_acts, may_passed, may_then_memory, may_value}
-use Rattle.nb_session.proofs.ReadyLaws.{ready_sized}
 use Rattle.nb_session.proofs.TurnLaws.{seen_now}
 use Rattle.nb_session.proofs.tables.do_on_tables.Goals as goal
 
@@ -16,7 +15,7 @@ returns-in_err-create-in-CreateTable-clause-turn g c now t session tells ready =
     let s = seen_now now in
     may_passed (some_by done) some_said _ _ _ _ t now session _ [] _ c.from_residual.result c.from_residual.ensures
     (does_acts done _ _ _ _ _ t now session c.args.statement.now _ c.in-CreateTable.is refl refl refl _ refl ready
-    (c.in_err-create-in-CreateTable.ensures.turn s t tells ready.base ready.opened (ready_sized _ _ t now ready)))
+    (c.in_err-create-in-CreateTable.ensures.turn s t tells ready.base ready.opened))
 
 pub returns-in_ok-create-in-CreateTable-clause-turn : goal.returns-in_ok-create-in-CreateTable-clause-turn
 unfolding first_turn
@@ -24,7 +23,7 @@ returns-in_ok-create-in-CreateTable-clause-turn g c now t session tells ready =
     let s = seen_now now in
     may_value (some_by done) some_said _ _ _ _ t now session _ [] c.in_ok-create-in-CreateTable.field-0 Done refl
     (does_acts done _ _ _ _ _ t now session c.args.statement.now _ c.in-CreateTable.is refl refl refl _ refl ready
-    (c.in_ok-create-in-CreateTable.ensures.turn s t tells ready.base ready.opened (ready_sized _ _ t now ready)))
+    (c.in_ok-create-in-CreateTable.ensures.turn s t tells ready.base ready.opened))
 
 pub returns-in_err-drop_table-in-DropTable-clause-turn : goal.returns-in_err-drop_table-in-DropTable-clause-turn
 unfolding first_turn
@@ -32,7 +31,7 @@ returns-in_err-drop_table-in-DropTable-clause-turn g c now t session tells ready
     let s = seen_now now in
     may_passed (some_by done) some_said _ _ _ _ t now session _ [] _ c.from_residual-in_err-drop_table-in-DropTable.result c.from_residual-in_err-drop_table-in-DropTable.ensures
     (does_acts done _ _ _ _ _ t now session c.args.statement.now _ c.in-DropTable.is refl refl refl _ refl ready
-    (c.in_err-drop_table-in-DropTable.ensures.turn s t tells ready.base ready.opened (ready_sized _ _ t now ready)))
+    (c.in_err-drop_table-in-DropTable.ensures.turn s t tells ready.base ready.opened))
 
 pub returns-in_ok-drop_table-in-DropTable-clause-turn : goal.returns-in_ok-drop_table-in-DropTable-clause-turn
 unfolding first_turn
@@ -40,7 +39,7 @@ returns-in_ok-drop_table-in-DropTable-clause-turn g c now t session tells ready 
     let s = seen_now now in
     may_value (some_by done) some_said _ _ _ _ t now session _ [] c.in_ok-drop_table-in-DropTable.field-0 Done refl
     (does_acts done _ _ _ _ _ t now session c.args.statement.now _ c.in-DropTable.is refl refl refl _ refl ready
-    (c.in_ok-drop_table-in-DropTable.ensures.turn s t tells ready.base ready.opened (ready_sized _ _ t now ready)))
+    (c.in_ok-drop_table-in-DropTable.ensures.turn s t tells ready.base ready.opened))
 
 pub returns-in_err-insert-in-Insert-clause-turn : goal.returns-in_err-insert-in-Insert-clause-turn
 unfolding first_turn
@@ -48,7 +47,7 @@ returns-in_err-insert-in-Insert-clause-turn g c now t session tells ready =
     let s = seen_now now in
     may_passed (some_by done) some_said _ _ _ _ t now session _ [] _ c.from_residual-in_err-insert-in-Insert.result c.from_residual-in_err-insert-in-Insert.ensures
     (does_acts done _ _ _ _ _ t now session c.args.statement.now _ c.in-Insert.is refl refl refl _ (ap (λ text. insert_turn s c.in-Insert.table c.in-Insert.key text) c.as_slice.ensures) ready
-    (c.in_err-insert-in-Insert.ensures.turn s t tells ready.base ready.opened (ready_sized _ _ t now ready)))
+    (c.in_err-insert-in-Insert.ensures.turn s t tells ready.base ready.opened))
 
 pub returns-in_ok-insert-in-Insert-clause-turn : goal.returns-in_ok-insert-in-Insert-clause-turn
 unfolding first_turn
@@ -56,7 +55,7 @@ returns-in_ok-insert-in-Insert-clause-turn g c now t session tells ready =
     let s = seen_now now in
     may_value (some_by done) some_said _ _ _ _ t now session _ [] c.in_ok-insert-in-Insert.field-0 Done refl
     (does_acts done _ _ _ _ _ t now session c.args.statement.now _ c.in-Insert.is refl refl refl _ (ap (λ text. insert_turn s c.in-Insert.table c.in-Insert.key text) c.as_slice.ensures) ready
-    (c.in_ok-insert-in-Insert.ensures.turn s t tells ready.base ready.opened (ready_sized _ _ t now ready)))
+    (c.in_ok-insert-in-Insert.ensures.turn s t tells ready.base ready.opened))
 
 pub returns-in_err-update-in-Update-clause-turn : goal.returns-in_err-update-in-Update-clause-turn
 unfolding first_turn

@@ -1,14 +1,11 @@
-use Rattle.std.proofs.Common.{◌≡◌, ℕ, List, refl, sym, subst, ◌∙◌}
+use Rattle.std.proofs.Common.{◌≡◌, ℕ, List, refl, sym, ◌∙◌}
 use Rattle.std.specs.Prelude.{true, false, Ok, Err, is_some}
 use Rattle.nb_host.specs.declared.refusals.Refusal.TheVariants.{KeyExists}
 use Rattle.nb_model.specs.declared.reply.Reply.TheVariants.{Done}
-use Rattle.nb_model.specs.Account.{Base}
 use Rattle.nb_model.specs.Causes.{read_only, too_long}
 use Rattle.nb_model.specs.Chains.{RowsFrom, Slot, found_pages, spots, row_spot, row_slot, place_slot}
 use Rattle.nb_model.specs.Forms.{drafted}
 use Rattle.nb_model.specs.Outcomes.{Seen}
-use Rattle.nb_model.specs.Image.{image_size}
-use Rattle.nb_model.specs.Sound.{IsOfSize}
 use Rattle.nb_model.specs.Tables.{insert_turn}
 use Rattle.nb_engine.specs.Replies.{done}
 use Rattle.nb_engine.specs.Tries.{Tries}
@@ -21,7 +18,7 @@ use Rattle.nb_table.proofs.ChangeLaws.{said, key_known, key_new, walked_room, wa
 use Rattle.nb_table.proofs.change.insert.Goals as goal
 
 pub returns-in_err-rows-clause-turn : goal.returns-in_err-rows-clause-turn
-returns-in_err-rows-clause-turn g c s t tells same is sizes =
+returns-in_err-rows-clause-turn g c s t tells same is =
     let image = t.base.image in
     let table : List ℕ = c.args.table.now in
     let text : List ℕ = c.args.text.now in
@@ -30,7 +27,7 @@ returns-in_err-rows-clause-turn g c s t tells same is sizes =
     (found.test t tells is) (insert_refused (seeing s t.base) table c.args.key text)
 
 pub returns-then-is_some-clause-turn : goal.returns-then-is_some-clause-turn
-returns-then-is_some-clause-turn g c s t tells same is sizes =
+returns-then-is_some-clause-turn g c s t tells same is =
     let image = t.base.image in
     let table : List ℕ = c.args.table.now in
     let text : List ℕ = c.args.text.now in
@@ -44,7 +41,7 @@ returns-then-is_some-clause-turn g c s t tells same is sizes =
     (insert_goes (seeing s t.base) table key text (found.test t tells is) (spot_of rows.table) (found.table t tells is) rows.first found.first bytes refl ∙ key_known (seeing s t.base) (RowsFrom rows.first) key bytes known)
 
 pub returns-in_err-add_slot-clause-turn : goal.returns-in_err-add_slot-clause-turn
-returns-in_err-add_slot-clause-turn g c s t tells same is sizes =
+returns-in_err-add_slot-clause-turn g c s t tells same is =
     let image = t.base.image in
     let table : List ℕ = c.args.table.now in
     let text : List ℕ = c.args.text.now in
@@ -52,7 +49,6 @@ returns-in_err-add_slot-clause-turn g c s t tells same is sizes =
     let found = c.in_ok-rows.ensures in
     let rows = c.in_ok-rows.rows in
     let w = g.H.Host.world c.args.host.now in
-    let here = subst (λ (b : Base). IsOfSize (image_size b.image) b.image) (sym same) sizes in
     let ss = spots (RowsFrom rows.first) image in
     let are = found.walked t tells is in
     let none = found.test t tells is in
@@ -70,10 +66,10 @@ returns-in_err-add_slot-clause-turn g c s t tells same is sizes =
     tries_does done result w after c.args.engine.now c.add_slot.new.engine t s (λ (x : Seen). insert_turn x table key text) (place_cause (RowsFrom rows.first) image bytes) Done refl into.strokes same turn (said result)
     (tries_passed result fault (λ r. Tries r w after c.args.engine.now c.add_slot.new.engine t (place_cause (RowsFrom rows.first) image bytes) into.strokes) c.from_residual-in_err-add_slot.ensures
     (tries_after {T = Unit {0}} (Err fault) w _ after c.args.engine.now _ c.add_slot.new.engine t (place_cause (RowsFrom rows.first) image bytes) into.strokes found.same found.quiet is
-    (c.in_err-add_slot.ensures.tries t (RowsFrom rows.first) tells (found.open t tells is) here refl formed room last)))
+    (c.in_err-add_slot.ensures.tries t (RowsFrom rows.first) tells (found.open t tells is) refl formed room last)))
 
 pub returns-clause-turn : goal.returns-clause-turn
-returns-clause-turn g c s t tells same is sizes =
+returns-clause-turn g c s t tells same is =
     let image = t.base.image in
     let table : List ℕ = c.args.table.now in
     let text : List ℕ = c.args.text.now in
@@ -81,7 +77,6 @@ returns-clause-turn g c s t tells same is sizes =
     let found = c.in_ok-rows.ensures in
     let rows = c.in_ok-rows.rows in
     let w = g.H.Host.world c.args.host.now in
-    let here = subst (λ (b : Base). IsOfSize (image_size b.image) b.image) (sym same) sizes in
     let ss = spots (RowsFrom rows.first) image in
     let are = found.walked t tells is in
     let none = found.test t tells is in
@@ -96,4 +91,4 @@ returns-clause-turn g c s t tells same is sizes =
     let after = g.H.Host.world c.add_slot.new.host in
     tries_does done (Ok tt) w after c.args.engine.now c.add_slot.new.engine t s (λ (x : Seen). insert_turn x table key text) (place_cause (RowsFrom rows.first) image bytes) Done refl into.strokes same turn (said (Ok tt))
     (tries_after {T = Unit {0}} (Ok tt) w _ after c.args.engine.now _ c.add_slot.new.engine t (place_cause (RowsFrom rows.first) image bytes) into.strokes found.same found.quiet is
-    (c.in_ok-add_slot.ensures.tries t (RowsFrom rows.first) tells (found.open t tells is) here refl formed room last))
+    (c.in_ok-add_slot.ensures.tries t (RowsFrom rows.first) tells (found.open t tells is) refl formed room last))

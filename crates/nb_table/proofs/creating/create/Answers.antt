@@ -1,17 +1,15 @@
-use Rattle.std.proofs.Common.{◌≡◌, ℕ, List, refl, sym, ap, subst, ◌∙◌, arith}
+use Rattle.std.proofs.Common.{◌≡◌, ℕ, List, refl, sym, ap, ◌∙◌, arith}
 use Rattle.std.specs.Prelude.{Option, Ok, Err}
 use Rattle.nb_page.proofs.QuietLemmas.{quiet_begun}
 use Rattle.nb_model.specs.declared.reply.Reply.TheVariants.{Done}
-use Rattle.nb_model.specs.Account.{Base}
 use Rattle.nb_model.specs.Causes.{read_only}
 use Rattle.nb_model.specs.Forms.{is_kind}
 use Rattle.nb_host.specs.declared.refusals.Refusal.TheVariants.{NotDatabase}
 use Rattle.nb_engine.specs.Data.{unmade}
 use Rattle.nb_alloc.proofs.PutLaws.{none_of}
 use Rattle.nb_model.specs.Chains.{Catalogue, found_pages, last_of}
-use Rattle.nb_model.specs.Image.{image_size, is_read_only}
+use Rattle.nb_model.specs.Image.{is_read_only}
 use Rattle.nb_model.specs.Outcomes.{Seen}
-use Rattle.nb_model.specs.Sound.{IsOfSize}
 use Rattle.nb_model.specs.Tables.{create_turn}
 use Rattle.nb_model.proofs.TableTurns.{name_short}
 use Rattle.nb_engine.specs.Replies.{done}
@@ -21,11 +19,11 @@ use Rattle.nb_state.specs.Does.{Does}
 use Rattle.nb_table.specs.declared.look.Place.{Place}
 use Rattle.nb_table.specs.Creates.{new_cause, created_in, created_behind}
 use Rattle.nb_table.proofs.CreateTurnLaws.{create_denied, create_refused, create_at, create_last, new_formed, place_data}
-use Rattle.nb_table.proofs.SpotPages.{last_kind}
+use Rattle.nb_walk.proofs.SpotPages.{last_kind}
 use Rattle.nb_table.proofs.creating.create.Goals as goal
 
 pub returns-in_err-check_access-clause-turn : goal.returns-in_err-check_access-clause-turn
-returns-in_err-check_access-clause-turn g c s t tells same is sizes =
+returns-in_err-check_access-clause-turn g c s t tells same is =
     let image = t.base.image in
     let table : List ℕ = c.args.table.now in
     let w = g.H.Host.world c.args.host.now in
@@ -34,7 +32,7 @@ returns-in_err-check_access-clause-turn g c s t tells same is sizes =
     (c.in_err-check_access.ensures.test image closed) (create_denied (seeing s t.base) table)
 
 pub returns-in_err-free-clause-turn : goal.returns-in_err-free-clause-turn
-returns-in_err-free-clause-turn g c s t tells same is sizes =
+returns-in_err-free-clause-turn g c s t tells same is =
     let image = t.base.image in
     let table : List ℕ = c.args.table.now in
     let closed : c.is_read_only.result ≡ is_read_only image = c.is_read_only.ensures ∙ ap (λ (h : Held). h.read_only) c.store.ensures ∙ is.agrees.read_only in
@@ -43,7 +41,7 @@ returns-in_err-free-clause-turn g c s t tells same is sizes =
     (create_refused (seeing s t.base) table (c.in_ok-check_access.ensures.test image closed))
 
 pub returns-in_err-create_in-in-Some-clause-turn : goal.returns-in_err-create_in-in-Some-clause-turn
-returns-in_err-create_in-in-Some-clause-turn g c s t tells same is sizes =
+returns-in_err-create_in-in-Some-clause-turn g c s t tells same is =
     let image = t.base.image in
     let table : List ℕ = c.args.table.now in
     let closed : c.is_read_only.result ≡ is_read_only image = c.is_read_only.ensures ∙ ap (λ (h : Held). h.read_only) c.store.ensures ∙ is.agrees.read_only in
@@ -51,7 +49,6 @@ returns-in_err-create_in-in-Some-clause-turn g c s t tells same is sizes =
     let tests = c.in_ok-free.ensures in
     let new = tests.test t tells is in
     let place = c.in-Some.place in
-    let here = subst (λ (b : Base). IsOfSize (image_size b.image) b.image) (sym same) sizes in
     let w = g.H.Host.world c.args.host.now in
     let mid = g.H.Host.world c.check_table.new.host in
     let last = g.H.Host.world c.create_in.new.host in
@@ -65,10 +62,10 @@ returns-in_err-create_in-in-Some-clause-turn g c s t tells same is sizes =
     (tries_does {T = Unit {0}} done (Err fault) w last c.args.engine.now c.create_in.new.engine t s (λ (x : Seen). create_turn x table) (unmade image made) Done refl made.strokes same
     (create_at now table free new place at) tt
     (tries_after {T = Unit {0}} (Err fault) w mid last c.args.engine.now c.check_table.new.engine c.create_in.new.engine t (unmade image made) made.strokes tests.same tests.quiet is
-    (c.in_err-create_in-in-Some.ensures.tries t tells (tests.open t tells is) here kind)))
+    (c.in_err-create_in-in-Some.ensures.tries t tells (tests.open t tells is) kind)))
 
 pub returns-in_ok-create_in-in-Some-clause-turn : goal.returns-in_ok-create_in-in-Some-clause-turn
-returns-in_ok-create_in-in-Some-clause-turn g c s t tells same is sizes =
+returns-in_ok-create_in-in-Some-clause-turn g c s t tells same is =
     let image = t.base.image in
     let table : List ℕ = c.args.table.now in
     let closed : c.is_read_only.result ≡ is_read_only image = c.is_read_only.ensures ∙ ap (λ (h : Held). h.read_only) c.store.ensures ∙ is.agrees.read_only in
@@ -76,7 +73,6 @@ returns-in_ok-create_in-in-Some-clause-turn g c s t tells same is sizes =
     let tests = c.in_ok-free.ensures in
     let new = tests.test t tells is in
     let place = c.in-Some.place in
-    let here = subst (λ (b : Base). IsOfSize (image_size b.image) b.image) (sym same) sizes in
     let w = g.H.Host.world c.args.host.now in
     let mid = g.H.Host.world c.check_table.new.host in
     let last = g.H.Host.world c.create_in.new.host in
@@ -88,17 +84,16 @@ returns-in_ok-create_in-in-Some-clause-turn g c s t tells same is sizes =
     tries_does {T = Unit {0}} done (Ok tt) w last c.args.engine.now c.create_in.new.engine t s (λ (x : Seen). create_turn x table) (unmade image made) Done refl made.strokes same
     (create_at now table free new place at) refl
     (tries_after {T = Unit {0}} (Ok tt) w mid last c.args.engine.now c.check_table.new.engine c.create_in.new.engine t (unmade image made) made.strokes tests.same tests.quiet is
-    (c.in_ok-create_in-in-Some.ensures.tries t tells (tests.open t tells is) here kind))
+    (c.in_ok-create_in-in-Some.ensures.tries t tells (tests.open t tells is) kind))
 
 pub returns-in_err-create_behind-in-None-clause-turn : goal.returns-in_err-create_behind-in-None-clause-turn
-returns-in_err-create_behind-in-None-clause-turn g c s t tells same is sizes =
+returns-in_err-create_behind-in-None-clause-turn g c s t tells same is =
     let image = t.base.image in
     let table : List ℕ = c.args.table.now in
     let closed : c.is_read_only.result ≡ is_read_only image = c.is_read_only.ensures ∙ ap (λ (h : Held). h.read_only) c.store.ensures ∙ is.agrees.read_only in
     let free = c.in_ok-check_access.ensures.test image closed in
     let tests = c.in_ok-free.ensures in
     let new = tests.test t tells is in
-    let here = subst (λ (b : Base). IsOfSize (image_size b.image) b.image) (sym same) sizes in
     let w = g.H.Host.world c.args.host.now in
     let mid = g.H.Host.world c.check_table.new.host in
     let end = g.H.Host.world c.create_behind.new.host in
@@ -113,17 +108,16 @@ returns-in_err-create_behind-in-None-clause-turn g c s t tells same is sizes =
     (tries_does {T = Unit {0}} done (Err fault) w end c.args.engine.now c.create_behind.new.engine t s (λ (x : Seen). create_turn x table) (unmade image made) Done refl made.strokes same
     (create_last now table free new none) tt
     (tries_after {T = Unit {0}} (Err fault) w mid end c.args.engine.now c.check_table.new.engine c.create_behind.new.engine t (unmade image made) made.strokes tests.same tests.quiet is
-    (c.in_err-create_behind-in-None.ensures.tries t tells (tests.open t tells is) here (record { is = last_is; kind = kind }))))
+    (c.in_err-create_behind-in-None.ensures.tries t tells (tests.open t tells is) (record { is = last_is; kind = kind }))))
 
 pub returns-in_ok-create_behind-in-None-clause-turn : goal.returns-in_ok-create_behind-in-None-clause-turn
-returns-in_ok-create_behind-in-None-clause-turn g c s t tells same is sizes =
+returns-in_ok-create_behind-in-None-clause-turn g c s t tells same is =
     let image = t.base.image in
     let table : List ℕ = c.args.table.now in
     let closed : c.is_read_only.result ≡ is_read_only image = c.is_read_only.ensures ∙ ap (λ (h : Held). h.read_only) c.store.ensures ∙ is.agrees.read_only in
     let free = c.in_ok-check_access.ensures.test image closed in
     let tests = c.in_ok-free.ensures in
     let new = tests.test t tells is in
-    let here = subst (λ (b : Base). IsOfSize (image_size b.image) b.image) (sym same) sizes in
     let w = g.H.Host.world c.args.host.now in
     let mid = g.H.Host.world c.check_table.new.host in
     let end = g.H.Host.world c.create_behind.new.host in
@@ -136,7 +130,7 @@ returns-in_ok-create_behind-in-None-clause-turn g c s t tells same is sizes =
     tries_does {T = Unit {0}} done (Ok tt) w end c.args.engine.now c.create_behind.new.engine t s (λ (x : Seen). create_turn x table) (unmade image made) Done refl made.strokes same
     (create_last now table free new none) refl
     (tries_after {T = Unit {0}} (Ok tt) w mid end c.args.engine.now c.check_table.new.engine c.create_behind.new.engine t (unmade image made) made.strokes tests.same tests.quiet is
-    (c.in_ok-create_behind-in-None.ensures.tries t tells (tests.open t tells is) here (record { is = last_is; kind = kind })))
+    (c.in_ok-create_behind-in-None.ensures.tries t tells (tests.open t tells is) (record { is = last_is; kind = kind })))
 
 pub create_behind-requires-clause-name : goal.create_behind-requires-clause-name
 create_behind-requires-clause-name g c = omega (arith, name_short c.args.table.now c.as_str-name.ensures.name)

@@ -14,7 +14,7 @@ pub returns-in_err-lacking-clause-test : goal.returns-in_err-lacking-clause-test
 returns-in_err-lacking-clause-test g c t pages tells is found =
     let image = t.base.image in
     let noted : List ℕ = entry_broken image c.args.rows.now.table.place.page in
-    tested_on (Option ℕ) (Unit {0}) _ _ None (lowest_broken (drop_broken image pages noted)) c.from_residual.ensures (λ r e. absurd (none_some r e)) c.in_err-lacking.ensures.test
+    tested_on (Option ℕ) (Unit {0}) _ _ None (lowest_broken (drop_broken image pages noted)) c.from_residual.ensures (λ r e. absurd (none_some r e)) tt
 
 pub returns-clause-test : goal.returns-clause-test
 returns-clause-test g c t pages tells is found =

@@ -14,21 +14,21 @@ use Rattle.nb_table.proofs.DropLaws.{table_least, drop_cause, its_chain, its_kin
 use Rattle.nb_table.proofs.dropping.drop_rows.Goals as goal
 
 pub returns-in_err-check_drop-clause-tries : goal.returns-in_err-check_drop-clause-tries
-returns-in_err-check_drop-clause-tries g c t table tells is sizes has =
+returns-in_err-check_drop-clause-tries g c t table tells is has =
     let image = t.base.image in
     let spot = spot_of c.args.rows.now.table in
     let pages : List ℕ = found_pages (RowsFrom (first_in spot.bytes)) image in
     let scn : image_scn image < 4294967296 = omega (arith, is.agrees.scn, is.agrees.four) in
     let header = header_of _ _ t is scn in
     let size : IsTrue (is_page_size c.args.engine.now.files.page_size) = subst (λ (n : ℕ). IsTrue (is_page_size n)) c.requires.room c.requires.size in
-    let shaped = shaped_of _ _ t is size (table_least image table spot has) sizes in
+    let shaped = shaped_of _ _ t is size (table_least image table spot has) in
     let check = c.in_err-check_drop.ensures in
     tries_early (Unit {0}) (Unit {0}) _ _ _ _ _ _ t (lowest_broken (drop_broken image pages (entry_broken image spot.page))) (not_of_form (dropped image spot)) (dropped image spot).strokes c.from_residual.ensures
     (λ r e. drop_cause image header shaped table spot has ∙ e)
     (check.test t pages tells is (its_chain t header shaped table spot has c.args.rows.now.first c.requires.first)) check.same check.quiet is (check.open t tells is)
 
 pub returns-in_err-put_slot-clause-tries : goal.returns-in_err-put_slot-clause-tries
-returns-in_err-put_slot-clause-tries g c t table tells is sizes has =
+returns-in_err-put_slot-clause-tries g c t table tells is has =
     let image = t.base.image in
     let spot = spot_of c.args.rows.now.table in
     let pages : List ℕ = found_pages (RowsFrom (first_in spot.bytes)) image in
@@ -39,7 +39,7 @@ returns-in_err-put_slot-clause-tries g c t table tells is sizes has =
     let scn : image_scn image < 4294967296 = omega (arith, is.agrees.scn, is.agrees.four) in
     let header = header_of _ _ t is scn in
     let size : IsTrue (is_page_size c.args.engine.now.files.page_size) = subst (λ (n : ℕ). IsTrue (is_page_size n)) c.requires.room c.requires.size in
-    let shaped = shaped_of _ _ t is size (table_least image table spot has) sizes in
+    let shaped = shaped_of _ _ t is size (table_least image table spot has) in
     let check = c.in_ok-check_drop.ensures in
     let none = check.test t pages tells is (its_chain t header shaped table spot has c.args.rows.now.first c.requires.first) in
     let still = check.open t tells is in
@@ -48,7 +48,7 @@ returns-in_err-put_slot-clause-tries g c t table tells is sizes has =
     (drop_front t header shaped table spot has none fault mid new c.check_drop.new.engine c.put_slot.new.engine (c.in_err-put_slot.ensures.tries t tells still (its_kind t header shaped table spot has))))
 
 pub returns-in_err-give_all_back-clause-tries : goal.returns-in_err-give_all_back-clause-tries
-returns-in_err-give_all_back-clause-tries g c t table tells is sizes has =
+returns-in_err-give_all_back-clause-tries g c t table tells is has =
     let image = t.base.image in
     let spot = spot_of c.args.rows.now.table in
     let first : ℕ = c.args.rows.now.first in
@@ -61,7 +61,7 @@ returns-in_err-give_all_back-clause-tries g c t table tells is sizes has =
     let scn : image_scn image < 4294967296 = omega (arith, is.agrees.scn, is.agrees.four) in
     let header = header_of _ _ t is scn in
     let size : IsTrue (is_page_size c.args.engine.now.files.page_size) = subst (λ (n : ℕ). IsTrue (is_page_size n)) c.requires.room c.requires.size in
-    let shaped = shaped_of _ _ t is size (table_least image table spot has) sizes in
+    let shaped = shaped_of _ _ t is size (table_least image table spot has) in
     let check = c.in_ok-check_drop.ensures in
     let none = check.test t pages tells is (its_chain t header shaped table spot has first c.requires.first) in
     let still = check.open t tells is in
@@ -73,7 +73,7 @@ returns-in_err-give_all_back-clause-tries g c t table tells is sizes has =
     (drop_shaped t header shaped table spot has none) (drop_chain t header shaped table spot has none first c.requires.first) (drop_givable t header shaped table spot has none))))
 
 pub returns-clause-tries : goal.returns-clause-tries
-returns-clause-tries g c t table tells is sizes has =
+returns-clause-tries g c t table tells is has =
     let image = t.base.image in
     let spot = spot_of c.args.rows.now.table in
     let first : ℕ = c.args.rows.now.first in
@@ -85,7 +85,7 @@ returns-clause-tries g c t table tells is sizes has =
     let scn : image_scn image < 4294967296 = omega (arith, is.agrees.scn, is.agrees.four) in
     let header = header_of _ _ t is scn in
     let size : IsTrue (is_page_size c.args.engine.now.files.page_size) = subst (λ (n : ℕ). IsTrue (is_page_size n)) c.requires.room c.requires.size in
-    let shaped = shaped_of _ _ t is size (table_least image table spot has) sizes in
+    let shaped = shaped_of _ _ t is size (table_least image table spot has) in
     let check = c.in_ok-check_drop.ensures in
     let none = check.test t pages tells is (its_chain t header shaped table spot has first c.requires.first) in
     let still = check.open t tells is in

@@ -1,11 +1,8 @@
-use Rattle.std.proofs.Common.{ℕ, List, [], refl, sym, subst}
+use Rattle.std.proofs.Common.{ℕ, List, [], refl}
 use Rattle.std.specs.Prelude.{Ok, Err}
 use Rattle.nb_model.specs.declared.reply.Reply.TheVariants.{Done}
-use Rattle.nb_model.specs.Account.{Base}
 use Rattle.nb_model.specs.Causes.{read_only, too_long, not_of_form}
-use Rattle.nb_model.specs.Image.{image_size}
 use Rattle.nb_model.specs.Outcomes.{Seen}
-use Rattle.nb_model.specs.Sound.{IsOfSize}
 use Rattle.nb_model.specs.Tables.{drop_turn}
 use Rattle.nb_engine.specs.Replies.{done}
 use Rattle.nb_alloc.proofs.DoesLaws.{seeing, tested_does, tries_passed, tries_after, tries_does}
@@ -18,7 +15,7 @@ use Rattle.nb_table.proofs.DropTurnLaws.{drop_refused, whole_table, drop_says}
 use Rattle.nb_table.proofs.dropping.drop_table.Goals as goal
 
 pub returns-in_err-rows-clause-turn : goal.returns-in_err-rows-clause-turn
-returns-in_err-rows-clause-turn g c s t tells same is sizes =
+returns-in_err-rows-clause-turn g c s t tells same is =
     let image = t.base.image in
     let table : List ℕ = c.args.table.now in
     let found = c.in_err-rows.ensures in
@@ -26,7 +23,7 @@ returns-in_err-rows-clause-turn g c s t tells same is sizes =
     (found.test t tells is) (drop_refused (seeing s t.base) table)
 
 pub returns-in_err-drop_rows-clause-turn : goal.returns-in_err-drop_rows-clause-turn
-returns-in_err-drop_rows-clause-turn g c s t tells same is sizes =
+returns-in_err-drop_rows-clause-turn g c s t tells same is =
     let image = t.base.image in
     let table : List ℕ = c.args.table.now in
     let found = c.in_ok-rows.ensures in
@@ -35,7 +32,6 @@ returns-in_err-drop_rows-clause-turn g c s t tells same is sizes =
     let mid = g.H.Host.world c.find_rows.new.host in
     let new = g.H.Host.world c.drop_rows.new.host in
     let fault = c.in_err-drop_rows.field-0.0 in
-    let here = subst (λ (b : Base). IsOfSize (image_size b.image) b.image) (sym same) sizes in
     let now = seeing s t.base in
     let none = found.test t tells is in
     let has = whole_table now table none spot (found.table t tells is) in
@@ -44,10 +40,10 @@ returns-in_err-drop_rows-clause-turn g c s t tells same is sizes =
     (tries_does {T = Unit {0}} done (Err fault) w new c.args.engine.now c.drop_rows.new.engine t s (λ (x : Seen). drop_turn x table) (not_of_form whole) Done refl whole.strokes same
     (drop_says now table none spot has) tt
     (tries_after {T = Unit {0}} (Err fault) w mid new c.args.engine.now c.find_rows.new.engine c.drop_rows.new.engine t (not_of_form whole) whole.strokes found.same found.quiet is
-    (c.in_err-drop_rows.ensures.tries t table tells (found.open t tells is) here has)))
+    (c.in_err-drop_rows.ensures.tries t table tells (found.open t tells is) has)))
 
 pub returns-clause-turn : goal.returns-clause-turn
-returns-clause-turn g c s t tells same is sizes =
+returns-clause-turn g c s t tells same is =
     let image = t.base.image in
     let table : List ℕ = c.args.table.now in
     let found = c.in_ok-rows.ensures in
@@ -55,7 +51,6 @@ returns-clause-turn g c s t tells same is sizes =
     let w = g.H.Host.world c.args.host.now in
     let mid = g.H.Host.world c.find_rows.new.host in
     let new = g.H.Host.world c.drop_rows.new.host in
-    let here = subst (λ (b : Base). IsOfSize (image_size b.image) b.image) (sym same) sizes in
     let now = seeing s t.base in
     let none = found.test t tells is in
     let has = whole_table now table none spot (found.table t tells is) in
@@ -63,4 +58,4 @@ returns-clause-turn g c s t tells same is sizes =
     tries_does {T = Unit {0}} done (Ok tt) w new c.args.engine.now c.drop_rows.new.engine t s (λ (x : Seen). drop_turn x table) (not_of_form whole) Done refl whole.strokes same
     (drop_says now table none spot has) refl
     (tries_after {T = Unit {0}} (Ok tt) w mid new c.args.engine.now c.find_rows.new.engine c.drop_rows.new.engine t (not_of_form whole) whole.strokes found.same found.quiet is
-    (c.in_ok-drop_rows.ensures.tries t table tells (found.open t tells is) here has))
+    (c.in_ok-drop_rows.ensures.tries t table tells (found.open t tells is) has))

@@ -6,8 +6,7 @@ use Rattle.nb_host.specs.declared.refusals.Refusal.{Refusal}
 use Rattle.nb_engine.specs.Data.{not_data}
 use Rattle.nb_engine.specs.Mark.{mark_cause}
 use Rattle.nb_engine.specs.Tries.{Tries}
-use Rattle.nb_alloc.proofs.DoesLaws.{tries_early, tries_passed, tries_after}
-use Rattle.nb_engine.proofs.KeepLaws.{tries_other, tries_valued}
+use Rattle.nb_alloc.proofs.DoesLaws.{tries_early, tries_passed, tries_after, tries_other, tries_valued}
 use Rattle.nb_table.proofs.dropping.give_back.Goals as goal
 
 none_some : (r : Refusal) → None ≡ Some r → ⊥

@@ -17,7 +17,7 @@ returns-in_err-data_read-clause-test g c t tells is =
 
 pub returns-in_err-here-clause-test : goal.returns-in_err-here-clause-test
 returns-in_err-here-clause-test g c t tells is =
-    tested_on (Option ℕ) (Option ℕ × ℕ) _ _ None (not_data t.base.image c.args.owner c.args.number) c.from_residual-in_err-here.ensures (λ r e. absurd (none_some r e)) c.in_err-here.ensures.test
+    tested_on (Option ℕ) (Option ℕ × ℕ) _ _ None (not_data t.base.image c.args.owner c.args.number) c.from_residual-in_err-here.ensures (λ r e. absurd (none_some r e)) tt
 
 pub returns-clause-test : goal.returns-clause-test
 returns-clause-test g c t tells is = (c.in_ok-data_read.ensures.reads t tells is).test

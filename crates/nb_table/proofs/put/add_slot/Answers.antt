@@ -5,16 +5,15 @@ use Rattle.nb_model.specs.Forms.{drafted, is_kind}
 use Rattle.nb_model.specs.Chains.{found_pages, last_of, grown, place_slot}
 use Rattle.nb_engine.specs.Data.{unmade}
 use Rattle.nb_engine.specs.Tries.{Tries}
-use Rattle.nb_alloc.proofs.DoesLaws.{tries_passed}
-use Rattle.nb_engine.proofs.KeepLaws.{tries_other, tries_valued}
+use Rattle.nb_alloc.proofs.DoesLaws.{tries_passed, tries_other, tries_valued}
 use Rattle.nb_alloc.proofs.PutLaws.{none_of}
 use Rattle.nb_table.specs.Rows.{place_cause}
 use Rattle.nb_table.proofs.PlaceLaws.{place_kind, there_tries, behind_tries}
-use Rattle.nb_table.proofs.SpotPages.{last_kind}
+use Rattle.nb_walk.proofs.SpotPages.{last_kind}
 use Rattle.nb_table.proofs.put.add_slot.Goals as goal
 
 pub returns-in_err-put_slot-in-Some-clause-tries : goal.returns-in_err-put_slot-in-Some-clause-tries
-returns-in_err-put_slot-in-Some-clause-tries g c t chain tells is sizes owner formed room last =
+returns-in_err-put_slot-in-Some-clause-tries g c t chain tells is owner formed room last =
     let w = g.H.Host.world c.args.host.now in
     let bytes : List ℕ = c.args.bytes.now in
     let free = sym c.in-Some.is ∙ room in
@@ -27,7 +26,7 @@ returns-in_err-put_slot-in-Some-clause-tries g c t chain tells is sizes owner fo
     (c.in_err-put_slot-in-Some.ensures.tries t tells is (place_kind t.base.image chain formed bytes c.in-Some.place free)))
 
 pub returns-in_ok-put_slot-in-Some-clause-tries : goal.returns-in_ok-put_slot-in-Some-clause-tries
-returns-in_ok-put_slot-in-Some-clause-tries g c t chain tells is sizes owner formed room last =
+returns-in_ok-put_slot-in-Some-clause-tries g c t chain tells is owner formed room last =
     let w = g.H.Host.world c.args.host.now in
     let bytes : List ℕ = c.args.bytes.now in
     let free = sym c.in-Some.is ∙ room in
@@ -36,7 +35,7 @@ returns-in_ok-put_slot-in-Some-clause-tries g c t chain tells is sizes owner for
     (c.in_ok-put_slot-in-Some.ensures.tries t tells is (place_kind t.base.image chain formed bytes c.in-Some.place free))
 
 pub returns-in_err-data_grow-in-None-clause-tries : goal.returns-in_err-data_grow-in-None-clause-tries
-returns-in_err-data_grow-in-None-clause-tries g c t chain tells is sizes owner formed room last =
+returns-in_err-data_grow-in-None-clause-tries g c t chain tells is owner formed room last =
     let image = t.base.image in
     let w = g.H.Host.world c.args.host.now in
     let bytes : List ℕ = c.args.bytes.now in
@@ -50,10 +49,10 @@ returns-in_err-data_grow-in-None-clause-tries g c t chain tells is sizes owner f
     let fault = c.in_err-data_grow-in-None.field-0.0 in
     tries_passed c.from_residual-in_err-data_grow-in-None.result fault (λ r. Tries r w new c.args.engine.now after t (place_cause chain t.base.image bytes) into.strokes) c.from_residual-in_err-data_grow-in-None.ensures
     (behind_tries image chain formed bytes none {T = Unit {0}} (Err fault) w new c.args.engine.now after t
-    (tries_other ℕ (Unit {0}) fault w new c.args.engine.now after t (unmade image grows) grows.strokes (c.in_err-data_grow-in-None.ensures.makes t chain pages tells is sizes owner last is_data)))
+    (tries_other ℕ (Unit {0}) fault w new c.args.engine.now after t (unmade image grows) grows.strokes (c.in_err-data_grow-in-None.ensures.makes t chain pages tells is owner last is_data)))
 
 pub returns-in_ok-data_grow-in-None-clause-tries : goal.returns-in_ok-data_grow-in-None-clause-tries
-returns-in_ok-data_grow-in-None-clause-tries g c t chain tells is sizes owner formed room last =
+returns-in_ok-data_grow-in-None-clause-tries g c t chain tells is owner formed room last =
     let image = t.base.image in
     let w = g.H.Host.world c.args.host.now in
     let bytes : List ℕ = c.args.bytes.now in
@@ -64,4 +63,4 @@ returns-in_ok-data_grow-in-None-clause-tries g c t chain tells is sizes owner fo
     let grows = (grown chain pages bytes (drafted image)).0 in
     let is_data : is_kind image 5 c.args.last ≡ true = ap (is_kind image 5) last ∙ none_of (is_kind image 5 (last_of pages)) (NotDatabase (last_of pages)) (last_kind chain image formed) in
     behind_tries image chain formed bytes none {T = Unit {0}} (Ok tt) w new c.args.engine.now after t
-    (tries_valued {S = ℕ} {T = Unit {0}} _ tt w new c.args.engine.now after t (unmade image grows) grows.strokes (c.in_ok-data_grow-in-None.ensures.makes t chain pages tells is sizes owner last is_data))
+    (tries_valued {S = ℕ} {T = Unit {0}} _ tt w new c.args.engine.now after t (unmade image grows) grows.strokes (c.in_ok-data_grow-in-None.ensures.makes t chain pages tells is owner last is_data))

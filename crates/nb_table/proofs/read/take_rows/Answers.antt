@@ -10,7 +10,7 @@ use Rattle.nb_alloc.proofs.DoesLaws.{tested_on}
 use Rattle.nb_walk.specs.Walks.{not_linked}
 use Rattle.nb_walk.proofs.WalkLaws.{walks_first, walks_broken, walks_next, walks_none, walks_all, walks_over}
 use Rattle.nb_table.proofs.SortedLaws.{HoldsRows, any_rows, rows_none, rows_more}
-use Rattle.nb_table.proofs.SpotLaws.{spots_found}
+use Rattle.nb_walk.proofs.SpotLaws.{spots_found}
 use Rattle.nb_table.proofs.read.take_rows.Goals as goal
 
 pub loop-left-init : goal.loop-left-init

@@ -2,9 +2,8 @@ use Rattle.std.proofs.Common.{◌≡◌, ℕ, [], ◌∷◌, ◌++◌, length, s
 use Rattle.std.specs.Prelude.{Bool}
 use Rattle.nb_model.specs.Chains.{Slot, is_slot}
 use Rattle.nb_table.specs.Walks.{chain_of, gathered, IsPlaced}
-use Rattle.nb_engine.proofs.WalkLaws.{slot_inside}
-use Rattle.nb_walk.proofs.SlotLaws.{test_first, passes_here, passes_next}
-use Rattle.nb_table.proofs.SpotLaws.{comes_first, comes_next, comes_last}
+use Rattle.nb_walk.proofs.SlotLaws.{slot_inside, test_first, passes_here, passes_next}
+use Rattle.nb_walk.proofs.SpotLaws.{comes_first, comes_next, comes_last}
 use Rattle.nb_table.proofs.walk.add_slots.Goals as goal
 
 pub loop-slot-init : goal.loop-slot-init

@@ -5,7 +5,7 @@ use Rattle.nb_model.specs.Chains.{Chain, Spot, is_slot, slots_in, spots_on, spot
 use Rattle.nb_alloc.proofs.DoesLaws.{tested_on}
 use Rattle.nb_walk.specs.Walks.{not_linked}
 use Rattle.nb_table.specs.Walks.{chain_of, gathered}
-use Rattle.nb_table.proofs.SpotLaws.{spots_more}
+use Rattle.nb_walk.proofs.SpotLaws.{spots_more}
 use Rattle.nb_table.proofs.walk.take_link.Goals as goal
 
 pub returns-in_err-next-clause-test : goal.returns-in_err-next-clause-test

@@ -9,7 +9,7 @@ use Rattle.nb_walk.specs.Walks.{not_linked}
 use Rattle.nb_walk.proofs.WalkLaws.{walks_first, walks_broken, walks_next, walks_none, walks_all, walks_last, walks_length, walks_over}
 use Rattle.nb_table.specs.Walks.{chain_of, gathered}
 use Rattle.nb_table.proofs.GatherLaws.{Gathers, walked_of, gathered_none}
-use Rattle.nb_table.proofs.SpotLaws.{spots_found}
+use Rattle.nb_walk.proofs.SpotLaws.{spots_found}
 use Rattle.nb_table.proofs.walk.walk.Goals as goal
 
 pub loop-left-init : goal.loop-left-init

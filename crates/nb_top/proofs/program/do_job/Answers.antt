@@ -2,7 +2,7 @@ use Rattle.std.proofs.Common.{◌≡◌, ◌∙◌, ℕ, List, refl, sym, subst}
 use Rattle.std.specs.Prelude.{Err}
 use Rattle.nb_host.specs.declared.faults.Fault.{Fault}
 use Rattle.nb_host.specs.declared.refusals.Refusal.TheVariants.{Usage}
-use Rattle.nb_session.specs.declared.stop.Stop.TheVariants.{Memory as MemoryStop}
+use Rattle.nb_host.specs.declared.faults.RunError.TheVariants.{Memory as MemoryError}
 use Rattle.nb_page.proofs.QuietLemmas.{quiet_begun}
 use Rattle.nb_top.specs.Goes.{Goes}
 use Rattle.nb_top.specs.Requests.{IsAskedBy, IsReadJob, Runs, request_asked}
@@ -37,7 +37,7 @@ pub returns-in-Memory-clause-goes : goal.returns-in-Memory-clause-goes
 returns-in-Memory-clause-goes g c asked by =
     let old = g.H.Host.world c.args.host.now in
     let is : (words : List (List ℕ)) × (asked ≡ request_asked old.files words) = subst (λ (f : Fault). IsAskedBy (Err f) old.files asked) c.in-Memory.is (subst (λ r. IsAskedBy r old.files asked) c.in-Err.is by) in
-    goes_undone g.H.Host.world g.H.Host.tells c.args.host.now c.args.host.now asked (Err MemoryStop) (subst CanBeMet (sym is.1) (can_be_asked old.files is.0)) refl (quiet_begun old (g.met.H.Host.timely c.args.host.now))
+    goes_undone g.H.Host.world g.H.Host.tells c.args.host.now c.args.host.now asked (Err MemoryError) (subst CanBeMet (sym is.1) (can_be_asked old.files is.0)) refl (quiet_begun old (g.met.H.Host.timely c.args.host.now))
 
 pub returns-in-Refused-clause-shown : goal.returns-in-Refused-clause-shown
 returns-in-Refused-clause-shown g c asked tells by =
@@ -46,4 +46,4 @@ returns-in-Refused-clause-shown g c asked tells by =
     unshown c.refuse_words.result c.args.broken.now asked c.requires.none (λ line h. usage_unbroken line (sym is ∙ h))
 
 pub returns-in-Memory-clause-shown : goal.returns-in-Memory-clause-shown
-returns-in-Memory-clause-shown g c asked tells by = unshown_early (Err MemoryStop) c.args.broken.now asked c.requires.none refl
+returns-in-Memory-clause-shown g c asked tells by = unshown_early (Err MemoryError) c.args.broken.now asked c.requires.none refl

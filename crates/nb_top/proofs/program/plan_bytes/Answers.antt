@@ -1,5 +1,5 @@
-use Rattle.std.proofs.Common.{◌≡◌, [], refl, sym, subst}
-use Rattle.std.specs.Prelude.{Some, Ok, Err}
+use Rattle.std.proofs.Common.{◌≡◌, ◌≤◌, [], length, refl, sym, subst}
+use Rattle.std.specs.Prelude.{Some, Ok, Err, IfOk}
 use Rattle.nb_host.specs.declared.faults.Fault.TheVariants.{Refused}
 use Rattle.nb_page.proofs.QuietLemmas.{quiet_begun}
 use Rattle.nb_catalog.specs.Answers.{Says}
@@ -9,34 +9,38 @@ use Rattle.nb_top.specs.Requests.{to_plan}
 use Rattle.nb_top.specs.Shown.{IsShownOf}
 use Rattle.nb_top.proofs.GoesLaws.{goes_refused, goes_undone}
 use Rattle.nb_top.proofs.Lists.{list_number}
-use Rattle.nb_top.proofs.RequestLaws.{plan_can}
+use Rattle.nb_top.proofs.RequestLaws.{list_can}
 use Rattle.nb_top.proofs.ScriptRuns.{settled_refusal, settled_value}
 use Rattle.nb_top.proofs.ShownLaws.{plan_unbroken, shown_by, unshown}
 use Rattle.nb_top.proofs.program.plan_bytes.Goals as goal
 
+pub run_turn-requires : goal.run_turn-requires
+run_turn-requires g c =
+    let is = settled_value c.in_ok-names.field-0 c.in-Ok.names (λ value. c.read_list.result ≡ Ok value) c.in-Ok.is c.in_ok-names.ensures.value in
+    subst (λ r. IfOk r (λ names. length names ≤ 1000)) is c.read_list.ensures.most
+
 pub returns-in_err-names-clause-goes : goal.returns-in_err-names-clause-goes
 returns-in_err-names-clause-goes g c =
     let old = g.H.Host.world c.args.host.now in
-    goes_undone g.H.Host.world g.H.Host.tells c.args.host.now c.args.host.now (to_plan c.args.keep (list_of c.args.bytes.now)) c.from_residual.result (plan_can c.args.keep (list_of c.args.bytes.now)) c.from_residual.ensures.0 (quiet_begun old (g.met.H.Host.timely c.args.host.now))
+    goes_undone g.H.Host.world g.H.Host.tells c.args.host.now c.args.host.now (to_plan c.args.keep (list_of c.args.bytes.now)) c.from_residual.result (list_can c.args.keep c.args.bytes.now) c.from_residual.ensures.0 (quiet_begun old (g.met.H.Host.timely c.args.host.now))
 
 pub returns-in_err-broken-in-Err-clause-goes : goal.returns-in_err-broken-in-Err-clause-goes
 returns-in_err-broken-in-Err-clause-goes g c =
     let old = g.H.Host.world c.args.host.now in
-    goes_undone g.H.Host.world g.H.Host.tells c.args.host.now c.args.host.now (to_plan c.args.keep (list_of c.args.bytes.now)) c.from_residual-in_err-broken-in-Err.result (plan_can c.args.keep (list_of c.args.bytes.now)) c.from_residual-in_err-broken-in-Err.ensures.0
+    goes_undone g.H.Host.world g.H.Host.tells c.args.host.now c.args.host.now (to_plan c.args.keep (list_of c.args.bytes.now)) c.from_residual-in_err-broken-in-Err.result (list_can c.args.keep c.args.bytes.now) c.from_residual-in_err-broken-in-Err.ensures.0
     (quiet_begun old (g.met.H.Host.timely c.args.host.now))
 
 pub returns-in-Ok-clause-goes : goal.returns-in-Ok-clause-goes
 returns-in-Ok-clause-goes g c =
     let is = settled_value c.in_ok-names.field-0 c.in-Ok.names (λ value. c.read_list.result ≡ Ok value) c.in-Ok.is c.in_ok-names.ensures.value in
     let read = subst (λ answer. Says (list_of c.args.bytes.now) answer) is c.read_list.ensures.exact in
-    subst (λ r. Goes g.H.Host.world g.H.Host.tells c.run_plan.result c.args.host.now c.run_plan.new.host (to_plan c.args.keep r)) (sym read)
-    (subst (λ names. Goes g.H.Host.world g.H.Host.tells c.run_plan.result c.args.host.now c.run_plan.new.host (to_plan c.args.keep (Ok names))) c.as_slice.ensures c.run_plan.ensures.goes)
+    subst (λ r. Goes g.H.Host.world g.H.Host.tells c.run_turn.result c.args.host.now c.run_turn.new.host (to_plan c.args.keep r)) (sym read) c.run_turn.ensures.goes
 
 pub returns-in-Ok-clause-shown : goal.returns-in-Ok-clause-shown
 returns-in-Ok-clause-shown g c =
     let is = settled_value c.in_ok-names.field-0 c.in-Ok.names (λ value. c.read_list.result ≡ Ok value) c.in-Ok.is c.in_ok-names.ensures.value in
     let read = subst (λ answer. Says (list_of c.args.bytes.now) answer) is c.read_list.ensures.exact in
-    subst (λ r. IsShownOf c.run_plan.result c.args.broken.now (to_plan c.args.keep r)) (sym read) (unshown c.run_plan.result c.args.broken.now _ c.requires (plan_unbroken c.args.keep c.in-Ok.names))
+    subst (λ r. IsShownOf c.run_turn.result c.args.broken.now (to_plan c.args.keep r)) (sym read) (unshown c.run_turn.result c.args.broken.now _ c.requires (plan_unbroken c.args.keep c.in-Ok.names))
 
 pub returns-in_ok-broken-in-Err-clause-goes : goal.returns-in_ok-broken-in-Err-clause-goes
 returns-in_ok-broken-in-Err-clause-goes g c =

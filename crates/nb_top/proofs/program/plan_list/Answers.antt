@@ -11,7 +11,7 @@ use Rattle.nb_top.specs.Requests.{Runs, to_plan}
 use Rattle.nb_top.specs.Shown.{IsShownOf}
 use Rattle.nb_top.proofs.GoesLaws.{goes_refused, goes_same, goes_undone}
 use Rattle.nb_top.proofs.Lists.{list_number, plan_quietly, unread_list}
-use Rattle.nb_top.proofs.RequestLaws.{plan_can}
+use Rattle.nb_top.proofs.RequestLaws.{listed_can}
 use Rattle.nb_top.proofs.ScriptRuns.{settled_refusal, settled_value}
 use Rattle.nb_top.proofs.ShownLaws.{same_refusal, unshown}
 use Rattle.nb_top.proofs.program.plan_list.Goals as goal
@@ -20,7 +20,7 @@ pub returns-in_err-bytes-clause-goes : goal.returns-in_err-bytes-clause-goes
 returns-in_err-bytes-clause-goes g c =
     let old = g.H.Host.world c.args.host.now in
     let list = c.args.list.now in
-    goes_undone g.H.Host.world g.H.Host.tells c.args.host.now c.read_file.new.host (to_plan c.args.keep (names_in list (old.files list))) c.from_residual.result (plan_can c.args.keep (names_in list (old.files list)))
+    goes_undone g.H.Host.world g.H.Host.tells c.args.host.now c.read_file.new.host (to_plan c.args.keep (names_in list (old.files list))) c.from_residual.result (listed_can c.args.keep list (old.files list))
     c.from_residual.ensures.0 c.read_file.ensures.quiet
 
 pub returns-in-Ok-clause-goes : goal.returns-in-Ok-clause-goes

@@ -1,8 +1,9 @@
-use Rattle.std.proofs.Common.{◌≡◌, [], ◌∷◌, subst}
+use Rattle.std.proofs.Common.{◌≡◌, subst}
 use Rattle.std.specs.Prelude.{Ok, IfOk}
 use Rattle.nb_page.proofs.QuietLemmas.{quiet_begun}
+use Rattle.nb_model.specs.Jobs.{asks_of}
 use Rattle.nb_top.specs.Goes.{Goes}
-use Rattle.nb_top.specs.Requests.{Runs, ToRun, plan_of}
+use Rattle.nb_top.specs.Requests.{Runs, ToRun, attached, plan_of}
 use Rattle.nb_top.proofs.GoesLaws.{goes_undone}
 use Rattle.nb_top.proofs.ScriptRuns.{settled_value}
 use Rattle.nb_top.proofs.program.run_asking.Goals as goal
@@ -10,12 +11,12 @@ use Rattle.nb_top.proofs.program.run_asking.Goals as goal
 pub returns-in_err-script-clause-goes : goal.returns-in_err-script-clause-goes
 returns-in_err-script-clause-goes g c =
     let old = g.H.Host.world c.args.host.now in
-    goes_undone g.H.Host.world g.H.Host.tells c.args.host.now c.args.host.now (Runs (Ok (ToRun (plan_of c.args.db.now (c.args.statement ∷ [])) c.args.telling))) c.from_residual.result c.requires.askable c.from_residual.ensures.0
-    (quiet_begun old (g.met.H.Host.timely c.args.host.now))
+    goes_undone g.H.Host.world g.H.Host.tells c.args.host.now c.args.host.now (Runs (Ok (attached c.args.db.now c.args.ask.now))) c.from_residual.result c.requires.askable c.from_residual.ensures.0 (quiet_begun old (g.met.H.Host.timely c.args.host.now))
 
 pub returns-clause-goes : goal.returns-clause-goes
 returns-clause-goes g c =
-    let plan = plan_of c.args.db.now (c.args.statement ∷ []) in
+    let plan = plan_of c.args.db.now (asks_of c.args.ask.now) in
     let is = settled_value c.in_ok-script.field-0 c.in-Ok.script (λ value. c.script_asking.result ≡ Ok value) c.in-Ok.is c.in_ok-script.ensures.value in
     let same : c.in-Ok.script ≡ plan = subst (λ r. IfOk r (λ script. script ≡ plan)) is c.script_asking.ensures.script in
-    subst (λ p. Goes g.H.Host.world g.H.Host.tells c.run_script.result c.args.host.now c.run_script.new.host (Runs (Ok (ToRun p c.args.telling)))) same c.run_script.ensures.goes
+    subst (λ t. Goes g.H.Host.world g.H.Host.tells c.run_script.result c.args.host.now c.run_script.new.host (Runs (Ok (ToRun plan t)))) c.telling_of-telling.ensures
+    (subst (λ p. Goes g.H.Host.world g.H.Host.tells c.run_script.result c.args.host.now c.run_script.new.host (Runs (Ok (ToRun p c.telling_of-telling.result)))) same c.run_script.ensures.goes)

@@ -11,4 +11,4 @@ returns-in-All-clause-line g c tells =
     let line = ap (λ s. line_text s c.first_reply-reply.result) c.first_session.ensures.value
     ∙ ap (line_text plan.first_session) (c.first_reply-reply.ensures ∙ ap (λ s. opened_reply s c.count.result c.state.result) c.first.ensures ∙ ap (λ n. opened_reply plan.first n c.state.result) c.count.ensures.value
     ∙ ap (opened_reply plan.first held.files.count) (c.state.ensures.value ∙ ap (λ h. h.files.state) c.store.ensures)) in
-    rw c.in-All.is (says_other _ _ _ _ _ line (c.say_line.ensures.line tells))
+    rw c.in-All.is (says_other _ _ _ _ _ line (c.say.ensures.line tells))

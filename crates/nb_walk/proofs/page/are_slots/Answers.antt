@@ -3,8 +3,7 @@ use Rattle.std.specs.Prelude.{Bool}
 use Rattle.std.specs.List.{list_all}
 use Rattle.nb_model.specs.Chains.{Slot, is_slot, slots_in}
 use Rattle.nb_walk.specs.Walks.{chain_by}
-use Rattle.nb_engine.proofs.WalkLaws.{slot_inside}
-use Rattle.nb_walk.proofs.SlotLaws.{test_first, test_here, test_next, test_last}
+use Rattle.nb_walk.proofs.SlotLaws.{slot_inside, test_first, test_here, test_next, test_last}
 use Rattle.nb_walk.proofs.page.are_slots.Goals as goal
 
 pub loop-slot-init : goal.loop-slot-init

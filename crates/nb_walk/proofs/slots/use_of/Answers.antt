@@ -1,5 +1,5 @@
 use Rattle.std.proofs.Common.{◌∙◌}
-use Rattle.nb_engine.proofs.SlotLaws.{byte_at}
+use Rattle.nb_walk.proofs.SlotLaws.{byte_at}
 use Rattle.nb_walk.proofs.slots.use_of.Goals as goal
 
 pub returns : goal.returns

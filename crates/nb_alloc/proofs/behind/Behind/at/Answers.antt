@@ -1,15 +1,10 @@
 use Rattle.std.proofs.Common.{ℕ, sym, subst, ◌∙◌}
-use Rattle.std.specs.Prelude.{Option, None, false, IsTrue}
+use Rattle.std.specs.Prelude.{false, IsTrue}
 use Rattle.nb_fields.specs.Places.{is_page_size}
 use Rattle.nb_model.specs.Image.{image_size}
-use Rattle.nb_alloc.specs.declared.behind.Behind.{Behind}
 use Rattle.nb_alloc.specs.Behind.{IsKnown}
 use Rattle.nb_alloc.proofs.BehindLaws.{known_lacking}
-use Rattle.nb_alloc.proofs.DoesLaws.{tested_on}
 use Rattle.nb_alloc.proofs.behind.Behind.at.Goals as goal
-
-pub returns-in_err-lacking-clause-test : goal.returns-in_err-lacking-clause-test
-returns-in_err-lacking-clause-test g c = tested_on (Option ℕ) Behind _ _ None None c.from_residual.ensures (λ r e. e) c.in_err-lacking.ensures.test
 
 pub returns-clause-known : goal.returns-clause-known
 returns-clause-known g c t tells is kind =

@@ -119,35 +119,31 @@ returns-in_ok-close-in-Finished-clause-turn g c s t tells same is stalled entry 
     close_finished old mid c.args.engine.now c.turn.new.engine copier t is stalled apart reads c.turn.ensures.engine file gave new c.close.new.engine _ (next_time s.given) (close_backup s copier.backing).strokes kept (ends_all c.self.inside.file copier.file filed counts.0) ours written
 
 pub returns-in_err-close-in-Finished-clause-asks : goal.returns-in_err-close-in-Finished-clause-asks
-returns-in_err-close-in-Finished-clause-asks g c t tells is stalled backing below apart =
+returns-in_err-close-in-Finished-clause-asks g c t tells is stalled backing apart =
     let old = g.H.Host.world c.args.host.now in
     let mid = g.H.Host.world c.turn.new.host in
     let copier : Backed = c.args.self.now in
     let filed = ap (λ (v : Backed). v.file) c.self.view_is in
-    let backed = ap (λ (v : Backed). v.backing) c.self.view_is in
     let goes = subst (λ (f : FileCopy). IsFileCopying old f t.base.frozen) (sym filed) backing.goes in
     let reads = g.met.H.Host.reads_left c.args.host.now tells copier.backing.name in
     let file = file_named old mid c.self.inside.file copier.file copier.backing.name t.base.frozen filed backing.name (c.turn.ensures.left t tells is stalled goes) in
     let gave = c.turn.ensures.gave in
     let here = mid_open old mid c.args.engine.now c.turn.new.engine copier t is stalled apart reads c.turn.ensures.engine file gave in
-    let low : c.self.inside.room.page < length t.base.image = omega (arith, below, ap (λ (b : Backing). b.page) backed) in
-    let asks = c.close.ensures.asks t tells here low in
+    let asks = c.close.ensures.asks t tells here in
     (asks.0, asked_before old mid (g.H.Host.world c.close.new.host) asks.0 gave asks.1)
 
 pub returns-in_ok-close-in-Finished-clause-asks : goal.returns-in_ok-close-in-Finished-clause-asks
-returns-in_ok-close-in-Finished-clause-asks g c t tells is stalled backing below apart =
+returns-in_ok-close-in-Finished-clause-asks g c t tells is stalled backing apart =
     let old = g.H.Host.world c.args.host.now in
     let mid = g.H.Host.world c.turn.new.host in
     let copier : Backed = c.args.self.now in
     let filed = ap (λ (v : Backed). v.file) c.self.view_is in
-    let backed = ap (λ (v : Backed). v.backing) c.self.view_is in
     let goes = subst (λ (f : FileCopy). IsFileCopying old f t.base.frozen) (sym filed) backing.goes in
     let reads = g.met.H.Host.reads_left c.args.host.now tells copier.backing.name in
     let file = file_named old mid c.self.inside.file copier.file copier.backing.name t.base.frozen filed backing.name (c.turn.ensures.left t tells is stalled goes) in
     let gave = c.turn.ensures.gave in
     let here = mid_open old mid c.args.engine.now c.turn.new.engine copier t is stalled apart reads c.turn.ensures.engine file gave in
-    let low : c.self.inside.room.page < length t.base.image = omega (arith, below, ap (λ (b : Backing). b.page) backed) in
-    let asks = c.close.ensures.asks t tells here low in
+    let asks = c.close.ensures.asks t tells here in
     (asks.0, asked_before old mid (g.H.Host.world c.close.new.host) asks.0 gave asks.1)
 
 pub returns-in_err-turn-clause-reads : goal.returns-in_err-turn-clause-reads

@@ -5,7 +5,7 @@ use Rattle.nb_state.specs.Open.{Held, IsOpen}
 use Rattle.nb_alloc.specs.Mark.{mark_cause}
 use Rattle.nb_alloc.specs.Tries.{Tries}
 use Rattle.nb_alloc.proofs.MakeLaws.{mark_none}
-use Rattle.nb_alloc.proofs.WhereLaws.{sure_of}
+use Rattle.nb_alloc.proofs.DoesLaws.{sure_of}
 use Rattle.nb_engine.proofs.NewTurn.{well_of}
 use Rattle.nb_engine.proofs.engine.Engine.data_free.Goals as goal
 

@@ -1,5 +1,6 @@
 use Rattle.std.proofs.Common.{◌≡◌, ◌≤◌, ℕ, length, refl, sym, ap, subst, ◌∙◌, arith}
-use Rattle.std.specs.Prelude.{Some, None, Err}
+use Rattle.std.specs.Prelude.{Some, None}
+use Rattle.std.proofs.lemmas.Result.{IfOk-weaker}
 use Rattle.nb_fields.specs.Payloads.{data_payload}
 use Rattle.nb_host.specs.declared.faults.Fault.TheVariants.{Refused}
 use Rattle.nb_host.specs.declared.refusals.Refusal.TheVariants.{NotDatabase}
@@ -7,20 +8,19 @@ use Rattle.nb_page.proofs.QuietLemmas.{quiet_begun}
 use Rattle.nb_model.specs.Forms.{drafted}
 use Rattle.nb_model.specs.Chains.{owner_of, grown}
 use Rattle.nb_state.specs.Open.{Held, IsOpen, but_pages}
-use Rattle.nb_alloc.proofs.WhereLaws.{makes_some_none, makes_some_after}
 use Rattle.nb_alloc.specs.Behind.{behind_cause}
 use Rattle.nb_alloc.specs.Data.{new_behind, unmade}
 use Rattle.nb_alloc.specs.Search.{IsShort}
 use Rattle.nb_alloc.proofs.ContentLaws.{data_short}
 use Rattle.nb_alloc.proofs.DoesLaws.{tries_early, tries_failed, tries_after}
 use Rattle.nb_alloc.proofs.MakeLaws.{tries_named}
-use Rattle.nb_engine.proofs.GrowLaws.{grown_is}
+use Rattle.nb_engine.specs.Room.{IsGrown}
 use Rattle.nb_engine.proofs.NewTurn.{searchable_of}
 use Rattle.nb_alloc.proofs.RoomsLaws.{unmade_short, grown_unmade}
 use Rattle.nb_engine.proofs.engine.Engine.data_grow.Goals as goal
 
 pub returns-then-count-lt-FIRST_TO_GIVE-clause-makes : goal.returns-then-count-lt-FIRST_TO_GIVE-clause-makes
-returns-then-count-lt-FIRST_TO_GIVE-clause-makes g c t chain pages tells is sizes owner last is_data =
+returns-then-count-lt-FIRST_TO_GIVE-clause-makes g c t chain pages tells is owner last is_data =
     let w = g.H.Host.world c.args.host.now in
     let here = subst (λ (h : Held). IsOpen w h t) (sym c.self.view_is) is in
     let grows = (grown chain pages c.args.slots.now (drafted t.base.image)).0 in
@@ -29,13 +29,13 @@ returns-then-count-lt-FIRST_TO_GIVE-clause-makes g c t chain pages tells is size
     (unmade_short t.base.image grows (omega (arith, count, c.if-count-lt-FIRST_TO_GIVE.true)) ∙ ap (λ (n : ℕ). Some (NotDatabase n)) (sym count)) refl (quiet_begun w (g.met.H.Host.timely c.args.host.now)) is is
 
 pub returns-in_err-first-clause-makes : goal.returns-in_err-first-clause-makes
-returns-in_err-first-clause-makes g c t chain pages tells is sizes owner last is_data =
+returns-in_err-first-clause-makes g c t chain pages tells is owner last is_data =
     let w = g.H.Host.world c.args.host.now in
     let here = subst (λ (h : Held). IsOpen w h t) (sym c.self.view_is) is in
     let image = t.base.image in
     let slots = c.args.slots.now in
     let long : 5 ≤ length image = omega (arith, here.files.agrees.count, c.count-count.ensures.value, c.if-count-lt-FIRST_TO_GIVE.false) in
-    let shaped = searchable_of w _ t here c.self.invariant.0 long sizes in
+    let shaped = searchable_of w _ t here c.self.invariant.0 long in
     let grows = (grown chain pages slots (drafted image)).0 in
     let short : IsShort (λ p. data_payload 0 (owner_of chain) slots) = λ p. data_short (owner_of chain) slots c.requires.short in
     let cause : unmade image grows ≡ behind_cause (new_behind chain slots image).0 c.args.last = grown_unmade image chain pages slots long ∙ ap (behind_cause (new_behind chain slots image).0) (sym last) in
@@ -44,13 +44,13 @@ returns-in_err-first-clause-makes g c t chain pages tells is sizes owner last is
     (tests.one t (λ p. data_payload 0 (owner_of chain) slots) tells here shaped short is_data refl) (tests.same ∙ ap but_pages c.self.view_is) tests.quiet is (tests.open t tells here)
 
 pub returns-clause-makes : goal.returns-clause-makes
-returns-clause-makes g c t chain pages tells is sizes owner last is_data =
+returns-clause-makes g c t chain pages tells is owner last is_data =
     let w = g.H.Host.world c.args.host.now in
     let here = subst (λ (h : Held). IsOpen w h t) (sym c.self.view_is) is in
     let image = t.base.image in
     let slots = c.args.slots.now in
     let long : 5 ≤ length image = omega (arith, here.files.agrees.count, c.count-count.ensures.value, c.if-count-lt-FIRST_TO_GIVE.false) in
-    let shaped = searchable_of w _ t here c.self.invariant.0 long sizes in
+    let shaped = searchable_of w _ t here c.self.invariant.0 long in
     let grows = (grown chain pages slots (drafted image)).0 in
     let short : IsShort (λ p. data_payload 0 (owner_of chain) slots) = λ p. data_short (owner_of chain) slots c.requires.short in
     let cause : unmade image grows ≡ behind_cause (new_behind chain slots image).0 c.args.last = grown_unmade image chain pages slots long ∙ ap (behind_cause (new_behind chain slots image).0) (sym last) in
@@ -64,37 +64,20 @@ returns-clause-makes g c t chain pages tells is sizes owner last is_data =
     (c.grow_from.ensures.tries t chain pages slots tells still (record { at = tests.value t tells here; holds = tests.map t tells here refl; searchable = shaped; free = none; bytes = bytes }) last))
 
 pub returns-clause-value : goal.returns-clause-value
-returns-clause-value g c t chain pages tells is sizes owner is_data =
+returns-clause-value g c t chain pages tells is owner is_data =
     let w = g.H.Host.world c.args.host.now in
     let here = subst (λ (h : Held). IsOpen w h t) (sym c.self.view_is) is in
     let image = t.base.image in
     let slots = c.args.slots.now in
     let long : 5 ≤ length image = omega (arith, here.files.agrees.count, c.count-count.ensures.value, c.if-count-lt-FIRST_TO_GIVE.false) in
-    let shaped = searchable_of w _ t here c.self.invariant.0 long sizes in
+    let shaped = searchable_of w _ t here c.self.invariant.0 long in
     let grows = (grown chain pages slots (drafted image)).0 in
     let short : IsShort (λ p. data_payload 0 (owner_of chain) slots) = λ p. data_short (owner_of chain) slots c.requires.short in
     let tests = c.in_ok-first.ensures in
     let none = tests.one t (λ p. data_payload 0 (owner_of chain) slots) tells here shaped short is_data refl in
     let still = tests.open t tells here in
     let bytes = c.fill_payload.ensures ∙ ap (λ (n : ℕ). data_payload 0 n slots) owner in
-    grown_is c.grow_from.result image chain pages slots (c.grow_from.ensures.grown t chain pages slots tells still (record { at = tests.value t tells here; holds = tests.map t tells here refl; searchable = shaped; free = none; bytes = bytes }))
-
-pub returns-then-count-lt-FIRST_TO_GIVE-clause-some : goal.returns-then-count-lt-FIRST_TO_GIVE-clause-some
-returns-then-count-lt-FIRST_TO_GIVE-clause-some g c t tells is =
-    let w = g.H.Host.world c.args.host.now in
-    makes_some_none {T = ℕ} (Err (Refused (NotDatabase c.count-count.result))) w w c.args.self.now c.args.self.now t refl (quiet_begun w (g.met.H.Host.timely c.args.host.now)) is is
-
-pub returns-in_err-first-clause-some : goal.returns-in_err-first-clause-some
-returns-in_err-first-clause-some g c t tells is =
-    let here = subst (λ (h : Held). IsOpen (g.H.Host.world c.args.host.now) h t) (sym c.self.view_is) is in
-    let tests = c.in_err-first.ensures in
-    makes_some_none c.from_residual.result _ _ _ _ t (tests.same ∙ ap but_pages c.self.view_is) tests.quiet is (tests.open t tells here)
-
-pub returns-clause-some : goal.returns-clause-some
-returns-clause-some g c t tells is =
-    let here = subst (λ (h : Held). IsOpen (g.H.Host.world c.args.host.now) h t) (sym c.self.view_is) is in
-    let tests = c.in_ok-first.ensures in
-    makes_some_after c.grow_from.result _ _ _ _ _ _ t (tests.same ∙ ap but_pages c.self.view_is) tests.quiet is (c.grow_from.ensures.some t tells (tests.open t tells here) (tests.value t tells here) (tests.map t tells here refl))
+    IfOk-weaker c.grow_from.result (IsGrown image chain pages slots) _ (λ number is. is.is) (c.grow_from.ensures.grown t chain pages slots tells still (record { at = tests.value t tells here; holds = tests.map t tells here refl; searchable = shaped; free = none; bytes = bytes }))
 
 pub grow_from-requires-clause-inside : goal.grow_from-requires-clause-inside
 grow_from-requires-clause-inside g c = omega (arith, c.in_ok-first.ensures.within (omega (arith, c.count-count.ensures.value, c.if-count-lt-FIRST_TO_GIVE.false)), ap (λ (h : Held). h.files.count) c.in_ok-first.ensures.same)

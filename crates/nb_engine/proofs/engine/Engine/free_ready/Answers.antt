@@ -1,5 +1,5 @@
 use Rattle.std.proofs.Common.{◌≡◌, ℕ, ◌/◌, List, [], ◌∷◌, ◌++◌, sym, ap, subst, ◌∙◌, arith}
-use Rattle.std.specs.Prelude.{Bool, true, false, Option, None, IsTrue}
+use Rattle.std.specs.Prelude.{Bool, true, false, IsTrue}
 use Rattle.std.proofs.lemmas.List.{append-nil}
 use Rattle.nb_fields.specs.Places.{is_page_size, bits_in}
 use Rattle.nb_model.specs.Causes.{lowest_broken}
@@ -9,7 +9,6 @@ use Rattle.nb_model.proofs.SoundLaws.{inventory_place_some, inventory_there}
 use Rattle.nb_state.specs.Open.{Held, IsOpen}
 use Rattle.nb_alloc.specs.Behind.{entry_broken, give_broken, page_in}
 use Rattle.nb_alloc.proofs.BehindLaws.{lacking_cause, other_none, other_page}
-use Rattle.nb_alloc.proofs.DoesLaws.{tested_on}
 use Rattle.nb_alloc.proofs.PassLaws.{kind_map}
 use Rattle.nb_alloc.proofs.TestLaws.{inventory_place_is}
 use Rattle.nb_engine.proofs.engine.Engine.free_ready.Goals as goal
@@ -18,12 +17,6 @@ pub find_lacking-requires-clause-low : goal.find_lacking-requires-clause-low
 find_lacking-requires-clause-low g c =
     let some = inventory_place_some c.page_size-page_size.result c.covers-k.result.0 c.page_size-page_size.ensures.one_of in
     omega (arith, some, c.place_of-place.ensures)
-
-pub returns-in_err-lacking-clause-test : goal.returns-in_err-lacking-clause-test
-returns-in_err-lacking-clause-test g c = tested_on (Option ℕ) (Option ℕ) _ _ None None c.from_residual.ensures (λ r e. e) c.in_err-lacking.ensures.test
-
-pub returns-in_err-there-clause-test : goal.returns-in_err-there-clause-test
-returns-in_err-there-clause-test g c = tested_on Bool (Option ℕ) _ _ None None c.from_residual-in_err-there.ensures (λ r e. e) c.in_err-there.ensures.test
 
 pub returns-then-there-clause-value : goal.returns-then-there-clause-value
 returns-then-there-clause-value g c t tells is =

@@ -1,5 +1,4 @@
-use Rattle.std.proofs.Common.{◌<◌, ℕ, refl, sym, subst, arith}
-use Rattle.std.specs.Prelude.{Err}
+use Rattle.std.proofs.Common.{◌<◌, ◌≤◌, ℕ, length, refl, sym, subst, arith}
 use Rattle.nb_host.specs.declared.faults.Fault.TheVariants.{Refused}
 use Rattle.nb_host.specs.declared.refusals.Refusal.TheVariants.{NotDatabase}
 use Rattle.nb_page.proofs.QuietLemmas.{quiet_begun}
@@ -8,51 +7,42 @@ use Rattle.nb_model.specs.Forms.{drafted}
 use Rattle.nb_model.specs.Chains.{backup_slot, put_slot}
 use Rattle.nb_model.proofs.PutSound.{IsPlace}
 use Rattle.nb_state.specs.Open.{Held, IsOpen}
-use Rattle.nb_state.specs.Does.{unless_by}
-use Rattle.nb_alloc.specs.Make.{MakesSome}
 use Rattle.nb_alloc.specs.Tries.{Tries}
 use Rattle.nb_alloc.specs.Put.{entry_cause}
-use Rattle.nb_alloc.proofs.MakeLaws.{entry_none}
+use Rattle.nb_alloc.proofs.DoesLaws.{tries_failed, sure_of}
+use Rattle.nb_alloc.proofs.MakeLaws.{entry_none, tries_named}
+use Rattle.nb_engine.specs.Room.{write_cause}
+use Rattle.nb_engine.proofs.LinkLaws.{write_low, write_past}
 use Rattle.nb_engine.proofs.NewTurn.{well_of}
-use Rattle.nb_alloc.proofs.WhereLaws.{makes_some_none, sure_of}
 use Rattle.nb_engine.proofs.engine.Engine.history_add.Goals as goal
 
 pub returns-then-room-count-clause-tries : goal.returns-then-room-count-clause-tries
-returns-then-room-count-clause-tries g c t tells is low =
+returns-then-room-count-clause-tries g c t tells is =
     let w = g.H.Host.world c.args.host.now in
     let here = subst (λ (h : Held). IsOpen w h t) (sym c.self.view_is) is in
     let row = c.args.row.now in
-    let strokes = (put_slot c.args.room.now.page c.args.room.now.slot (backup_slot row.level row.scn row.time row.guid row.name) (drafted t.base.image)).strokes in
-    absurd {A = Tries {T = Unit {0}} (Err (Refused (NotDatabase c.args.room.now.page))) w w c.args.self.now c.args.self.now t (entry_cause t.base.image c.args.room.now.page) strokes}
-    (omega (arith, low, here.files.agrees.count, c.count-count.ensures.value, c.if-room-count.true))
+    let p : ℕ = c.args.room.now.page in
+    let strokes = (put_slot p c.args.room.now.slot (backup_slot row.level row.scn row.time row.guid row.name) (drafted t.base.image)).strokes in
+    let far : length t.base.image ≤ p = omega (arith, here.files.agrees.count, c.count-count.ensures.value, c.if-room-count.true) in
+    tries_failed (Unit {0}) (Refused (NotDatabase p)) w w c.args.self.now c.args.self.now t (write_cause t.base.image p) strokes (write_past t.base.image p far) refl
+    (quiet_begun w (g.met.H.Host.timely c.args.host.now)) is is
 
 pub returns-then-room-count-clause-sure : goal.returns-then-room-count-clause-sure
 returns-then-room-count-clause-sure g c t tells is low sound =
     let here = subst (λ (h : Held). IsOpen (g.H.Host.world c.args.host.now) h t) (sym c.self.view_is) is in
     absurd {A = ⊥} (omega (arith, low, here.files.agrees.count, c.count-count.ensures.value, c.if-room-count.true))
 
-pub returns-then-room-count-clause-some : goal.returns-then-room-count-clause-some
-returns-then-room-count-clause-some g c t tells is =
-    let w = g.H.Host.world c.args.host.now in
-    makes_some_none (Err (Refused (NotDatabase c.args.room.now.page))) w w c.args.self.now c.args.self.now t refl (quiet_begun w (g.met.H.Host.timely c.args.host.now)) is is
-
-pub returns-clause-some : goal.returns-clause-some
-returns-clause-some g c t tells is =
-    let w = g.H.Host.world c.args.host.now in
-    let here = subst (λ (h : Held). IsOpen w h t) (sym c.self.view_is) is in
-    let row = c.args.row.now in
-    let strokes = (put_slot c.args.room.now.page c.args.room.now.slot (backup_slot row.level row.scn row.time row.guid row.name) (drafted t.base.image)).strokes in
-    let cause = entry_cause t.base.image c.args.room.now.page in
-    subst (λ (h : Held). MakesSome c.add_row.result w (g.H.Host.world c.add_row.new.host) h c.add_row.new.store t) c.self.view_is (record { made = unless_by cause strokes; makes = (c.add_row.ensures.tries t tells here).makes })
-
 pub returns-clause-tries : goal.returns-clause-tries
-returns-clause-tries g c t tells is low =
+returns-clause-tries g c t tells is =
     let w = g.H.Host.world c.args.host.now in
     let here = subst (λ (h : Held). IsOpen w h t) (sym c.self.view_is) is in
     let row = c.args.row.now in
-    let strokes = (put_slot c.args.room.now.page c.args.room.now.slot (backup_slot row.level row.scn row.time row.guid row.name) (drafted t.base.image)).strokes in
+    let p : ℕ = c.args.room.now.page in
+    let strokes = (put_slot p c.args.room.now.slot (backup_slot row.level row.scn row.time row.guid row.name) (drafted t.base.image)).strokes in
+    let low : p < length t.base.image = omega (arith, here.files.agrees.count, c.count-count.ensures.value, c.if-room-count.false) in
     let new = g.H.Host.world c.add_row.new.host in
-    subst (λ (h : Held). Tries c.add_row.result w new h c.add_row.new.store t (entry_cause t.base.image c.args.room.now.page) strokes) c.self.view_is (c.add_row.ensures.tries t tells here)
+    tries_named c.add_row.result w new c.args.self.now c.add_row.new.store t (entry_cause t.base.image p) (write_cause t.base.image p) strokes strokes (write_low t.base.image p low) refl
+    (subst (λ (h : Held). Tries c.add_row.result w new h c.add_row.new.store t (entry_cause t.base.image p) strokes) c.self.view_is (c.add_row.ensures.tries t tells here))
 
 pub returns-clause-sure : goal.returns-clause-sure
 returns-clause-sure g c t tells is low sound =

@@ -2,31 +2,28 @@ use Rattle.std.proofs.Common.{◌≡◌, ℕ, List, [], ◌∷◌, sym, ap, subs
 use Rattle.std.specs.Prelude.{IsTrue, true, None, Ok, Err}
 use Rattle.nb_fields.specs.Page.{kind_of}
 use Rattle.nb_page.proofs.QuietLemmas.{quiet_joined}
-use Rattle.nb_model.specs.Image.{page_at, image_size}
+use Rattle.nb_model.specs.Image.{page_at}
 use Rattle.nb_model.specs.Strokes.{Stroke}
 use Rattle.nb_model.specs.Trail.{Trail}
-use Rattle.nb_model.specs.Sound.{IsOfSize}
 use Rattle.nb_model.specs.Forms.{drafted, is_kind}
 use Rattle.nb_model.specs.Causes.{first_cause, broken_at, not_of_form, no_room, no_scn, short_for}
 use Rattle.nb_model.specs.Chains.{History, pages_of, found_pages, spots, free_spot, last_of, grown}
 use Rattle.nb_model.specs.Backups.{room_in}
 use Rattle.nb_state.specs.Open.{Held, IsOpen, but_pages}
 use Rattle.nb_state.specs.Does.{Makes}
-use Rattle.nb_state.proofs.MakesLaws.{makes_none, makes_after}
+use Rattle.nb_state.proofs.MakesLaws.{makes_none}
 use Rattle.nb_engine.specs.declared.walk.Room.{Room}
 use Rattle.nb_engine.specs.declared.walk.Walked.{Walked}
-use Rattle.nb_alloc.specs.Make.{MakesSome}
 use Rattle.nb_engine.specs.Room.{room_cause, taken_draft, grow_cause}
 use Rattle.nb_alloc.specs.Search.{IsSearchable}
 use Rattle.nb_alloc.specs.Tries.{Tries}
 use Rattle.nb_alloc.proofs.CauseLaws.{first_here}
-use Rattle.nb_alloc.proofs.DoesLaws.{tries_early, tries_passed, tries_made, tries_after}
-use Rattle.nb_engine.proofs.KeepLaws.{IsSpot, kept_room, kept_below, kept_none, kept_cause, grown_room, grown_low, grown_draft, grown_cause, room_some, room_none, tries_other, tries_valued}
+use Rattle.nb_alloc.proofs.DoesLaws.{tries_early, tries_passed, tries_made, tries_after, tries_other, tries_valued}
+use Rattle.nb_engine.proofs.KeepLaws.{IsSpot, kept_room, kept_below, kept_none, kept_cause, grown_room, grown_low, grown_draft, grown_cause, room_some, room_none}
 use Rattle.nb_alloc.proofs.MakeLaws.{tries_named}
 use Rattle.nb_engine.proofs.NewTurn.{searchable_of}
 use Rattle.nb_model.proofs.StepLaws.{kind_from}
 use Rattle.nb_engine.proofs.WalkLaws.{last_data, spot_data, history_least}
-use Rattle.nb_alloc.proofs.WhereLaws.{makes_as, makes_valued}
 use Rattle.nb_engine.proofs.engine.Engine.history_room.Goals as goal
 use Rattle.nb_engine.proofs.engine.Engine.history_room.Goals.{In-Some, In-None}
 
@@ -70,11 +67,11 @@ module _ (g : _) (c : goal.In-None g) (t : Trail) (tells : IsTrue g.H.Host.tells
       let data_page = last_data t.base.image linked_none in
       ap (is_kind t.base.image 5) last_is ∙ kind_from t.base.image 5 (last_of (found_pages History t.base.image)) data_page.low data_page.kind
 
-  shaped : IsOfSize (image_size t.base.image) t.base.image → IsSearchable t.base.image
+  shaped : IsSearchable t.base.image
   shaped = searchable_of _ _ t (subst (λ (h : Held). IsOpen (g.H.Host.world c.args.host.now) h t) (sym c.self.view_is) is) c.self.invariant.0 (history_least t.base.image linked_none)
 
 pub returns-in_err-walked-clause-makes : goal.returns-in_err-walked-clause-makes
-returns-in_err-walked-clause-makes g c t tells is sizes =
+returns-in_err-walked-clause-makes g c t tells is =
     let w = g.H.Host.world c.args.host.now in
     let here = subst (λ (h : Held). IsOpen w h t) (sym c.self.view_is) is in
     let image = t.base.image in
@@ -83,7 +80,7 @@ returns-in_err-walked-clause-makes g c t tells is sizes =
     (λ r e. first_here (broken_at (pages_of History image)) (short_for (free_spot (spots History image)) image ∷ not_of_form (room_in image).draft ∷ no_room (room_in image).draft ∷ no_scn image ∷ []) r e) (walked.test t tells here) (walked.same ∙ ap but_pages c.self.view_is) walked.quiet is (walked.open t tells here)
 
 pub returns-in_err-check_room-in-Some-clause-makes : goal.returns-in_err-check_room-in-Some-clause-makes
-returns-in_err-check_room-in-Some-clause-makes g c t tells is sizes =
+returns-in_err-check_room-in-Some-clause-makes g c t tells is =
     let at = (goal.at.returns-in_err-check_room-in-Some-clause-makes g c).In-Some in
     let walked = c.in_ok-walked.ensures in
     let tests = c.in_err-check_room-in-Some.ensures in
@@ -91,7 +88,7 @@ returns-in_err-check_room-in-Some-clause-makes g c t tells is sizes =
     (tests.test t tells (walked_some g at t tells is) (kind g at t tells is)) (tests.same ∙ walked.same ∙ ap but_pages c.self.view_is) (quiet_joined _ _ _ walked.quiet tests.quiet) is (tests.open t tells (walked_some g at t tells is))
 
 pub returns-in_ok-check_room-in-Some-clause-makes : goal.returns-in_ok-check_room-in-Some-clause-makes
-returns-in_ok-check_room-in-Some-clause-makes g c t tells is sizes =
+returns-in_ok-check_room-in-Some-clause-makes g c t tells is =
     let at = (goal.at.returns-in_ok-check_room-in-Some-clause-makes g c).In-Some in
     let slot = kept g at t tells is in
     let walked = c.in_ok-walked.ensures in
@@ -101,7 +98,7 @@ returns-in_ok-check_room-in-Some-clause-makes g c t tells is sizes =
     (makes_none (Ok c.in-Some.room) _ _ _ _ t (tests.same ∙ walked.same ∙ ap but_pages c.self.view_is) (quiet_joined _ _ _ walked.quiet tests.quiet) is (tests.open t tells (walked_some g at t tells is))))
 
 pub returns-in_err-number-in-None-clause-makes : goal.returns-in_err-number-in-None-clause-makes
-returns-in_err-number-in-None-clause-makes g c t tells is sizes =
+returns-in_err-number-in-None-clause-makes g c t tells is =
     let at = (goal.at.returns-in_err-number-in-None-clause-makes g c).In-None in
     let image = t.base.image in
     let pages : List ℕ = found_pages History image in
@@ -112,10 +109,10 @@ returns-in_err-number-in-None-clause-makes g c t tells is sizes =
     (tries_named {T = Room} (Err fault) w new c.args.self.now c.grow.new.store t (grow_cause image pages) (room_cause image) (grown History pages [] (drafted image)).0.strokes (room_in image).draft.strokes (grown_cause image (none g at t tells is) (linked_none g at t tells is)) (sym (grown_draft image (none g at t tells is)))
     (tries_other ℕ Room fault _ _ _ _ t _ _
     (tries_after {T = ℕ} (Err fault) _ _ _ _ _ _ t _ _ (c.in_ok-walked.ensures.same ∙ ap but_pages c.self.view_is) c.in_ok-walked.ensures.quiet is
-    (c.in_err-number-in-None.ensures.makes t pages tells (walked_none g at t tells is) (shaped g at t tells is sizes) (last_is g at t tells is) (is_data g at t tells is)))))
+    (c.in_err-number-in-None.ensures.makes t pages tells (walked_none g at t tells is) (shaped g at t tells is) (last_is g at t tells is) (is_data g at t tells is)))))
 
 pub returns-in_ok-number-in-None-clause-makes : goal.returns-in_ok-number-in-None-clause-makes
-returns-in_ok-number-in-None-clause-makes g c t tells is sizes =
+returns-in_ok-number-in-None-clause-makes g c t tells is =
     let at = (goal.at.returns-in_ok-number-in-None-clause-makes g c).In-None in
     let image = t.base.image in
     let pages : List ℕ = found_pages History image in
@@ -123,63 +120,25 @@ returns-in_ok-number-in-None-clause-makes g c t tells is sizes =
     tries_named (Ok room) _ _ c.args.self.now c.grow.new.store t (grow_cause image pages) (room_cause image) (grown History pages [] (drafted image)).0.strokes (room_in image).draft.strokes (grown_cause image (none g at t tells is) (linked_none g at t tells is)) (sym (grown_draft image (none g at t tells is)))
     (tries_valued c.in_ok-number-in-None.number room _ _ _ _ t _ _
     (tries_after (Ok c.in_ok-number-in-None.number) _ _ _ _ _ _ t _ _ (c.in_ok-walked.ensures.same ∙ ap but_pages c.self.view_is) c.in_ok-walked.ensures.quiet is
-    (c.in_ok-number-in-None.ensures.makes t pages tells (walked_none g at t tells is) (shaped g at t tells is sizes) (last_is g at t tells is) (is_data g at t tells is))))
+    (c.in_ok-number-in-None.ensures.makes t pages tells (walked_none g at t tells is) (shaped g at t tells is) (last_is g at t tells is) (is_data g at t tells is))))
 
 pub returns-in_ok-check_room-in-Some-clause-room : goal.returns-in_ok-check_room-in-Some-clause-room
-returns-in_ok-check_room-in-Some-clause-room g c t tells is sizes =
+returns-in_ok-check_room-in-Some-clause-room g c t tells is =
     let slot = kept g (goal.at.returns-in_ok-check_room-in-Some-clause-room g c).In-Some t tells is in
     kept_room t.base.image slot.spot slot.is c.in-Some.room slot.page slot.slot
 
 pub returns-in_ok-number-in-None-clause-room : goal.returns-in_ok-number-in-None-clause-room
-returns-in_ok-number-in-None-clause-room g c t tells is sizes =
+returns-in_ok-number-in-None-clause-room g c t tells is =
     let at = (goal.at.returns-in_ok-number-in-None-clause-room g c).In-None in
-    grown_room t.base.image (none g at t tells is) c.in_ok-number-in-None.number (c.in_ok-number-in-None.ensures.grown t (found_pages History t.base.image) tells (walked_none g at t tells is) (shaped g at t tells is sizes) (is_data g at t tells is)).is
+    grown_room t.base.image (none g at t tells is) c.in_ok-number-in-None.number (c.in_ok-number-in-None.ensures.grown t (found_pages History t.base.image) tells (walked_none g at t tells is) (shaped g at t tells is) (is_data g at t tells is)).is
 
 pub returns-in_ok-check_room-in-Some-clause-below : goal.returns-in_ok-check_room-in-Some-clause-below
-returns-in_ok-check_room-in-Some-clause-below g c t tells is sizes =
+returns-in_ok-check_room-in-Some-clause-below g c t tells is =
     let at = (goal.at.returns-in_ok-check_room-in-Some-clause-below g c).In-Some in
     let slot = kept g at t tells is in
     kept_below t.base.image slot.spot slot.is c.in-Some.room slot.page (spot_data t.base.image (linked_some g at t tells is) slot.spot slot.is)
 
 pub returns-in_ok-number-in-None-clause-below : goal.returns-in_ok-number-in-None-clause-below
-returns-in_ok-number-in-None-clause-below g c t tells is sizes =
+returns-in_ok-number-in-None-clause-below g c t tells is =
     let at = (goal.at.returns-in_ok-number-in-None-clause-below g c).In-None in
-    grown_low t.base.image (none g at t tells is) c.in_ok-number-in-None.number (c.in_ok-number-in-None.ensures.grown t (found_pages History t.base.image) tells (walked_none g at t tells is) (shaped g at t tells is sizes) (is_data g at t tells is)).below
-
-pub returns-in_err-walked-clause-some : goal.returns-in_err-walked-clause-some
-returns-in_err-walked-clause-some g c t tells is =
-    let here = subst (λ (h : Held). IsOpen (g.H.Host.world c.args.host.now) h t) (sym c.self.view_is) is in
-    record { made = _; makes = makes_none {T = Room} c.from_residual.result _ _ _ _ t (c.in_err-walked.ensures.same ∙ ap but_pages c.self.view_is) c.in_err-walked.ensures.quiet is (c.in_err-walked.ensures.open t tells here) }
-
-pub returns-in_err-check_room-in-Some-clause-some : goal.returns-in_err-check_room-in-Some-clause-some
-returns-in_err-check_room-in-Some-clause-some g c t tells is =
-    let here = subst (λ (h : Held). IsOpen (g.H.Host.world c.args.host.now) h t) (sym c.self.view_is) is in
-    let walked = c.in_ok-walked.ensures in
-    let tests = c.in_err-check_room-in-Some.ensures in
-    record { made = _; makes = makes_none {T = Room} c.from_residual-in_err-check_room-in-Some.result _ _ _ _ t (tests.same ∙ walked.same ∙ ap but_pages c.self.view_is) (quiet_joined _ _ _ walked.quiet tests.quiet) is (tests.open t tells (walked.open t tells here)) }
-
-pub returns-in_ok-check_room-in-Some-clause-some : goal.returns-in_ok-check_room-in-Some-clause-some
-returns-in_ok-check_room-in-Some-clause-some g c t tells is =
-    let here = subst (λ (h : Held). IsOpen (g.H.Host.world c.args.host.now) h t) (sym c.self.view_is) is in
-    let walked = c.in_ok-walked.ensures in
-    let tests = c.in_ok-check_room-in-Some.ensures in
-    record { made = _; makes = makes_none (Ok c.in-Some.room) _ _ _ _ t (tests.same ∙ walked.same ∙ ap but_pages c.self.view_is) (quiet_joined _ _ _ walked.quiet tests.quiet) is (tests.open t tells (walked.open t tells here)) }
-
-pub returns-in_err-number-in-None-clause-some : goal.returns-in_err-number-in-None-clause-some
-returns-in_err-number-in-None-clause-some g c t tells is =
-    let walked = c.in_ok-walked.ensures in
-    let still = walked_none g (goal.at.returns-in_err-number-in-None-clause-some g c).In-None t tells is in
-    let fault = c.in_err-number-in-None.field-0.0 in
-    let new = g.H.Host.world c.grow.new.host in
-    let some = c.in_err-number-in-None.ensures.some t tells still in
-    tries_passed c.from_residual-in_err-number-in-None.result fault (λ r. MakesSome r (g.H.Host.world c.args.host.now) new c.args.self.now c.grow.new.store t) c.from_residual-in_err-number-in-None.ensures
-    (record { made = some.made; makes = makes_after {T = Room} (Err fault) _ _ new _ _ _ t some.made (walked.same ∙ ap but_pages c.self.view_is) walked.quiet is (makes_as ℕ Room fault _ new _ _ t some.made some.makes) })
-
-pub returns-in_ok-number-in-None-clause-some : goal.returns-in_ok-number-in-None-clause-some
-returns-in_ok-number-in-None-clause-some g c t tells is =
-    let walked = c.in_ok-walked.ensures in
-    let still = walked_none g (goal.at.returns-in_ok-number-in-None-clause-some g c).In-None t tells is in
-    let room : Room = record { page = c.in_ok-number-in-None.number; slot = 0 } in
-    let new = g.H.Host.world c.grow.new.host in
-    let some = c.in_ok-number-in-None.ensures.some t tells still in
-    record { made = some.made; makes = makes_after (Ok room) _ _ new _ _ _ t some.made (walked.same ∙ ap but_pages c.self.view_is) walked.quiet is (makes_valued c.in_ok-number-in-None.number room _ new _ _ t some.made some.makes) }
+    grown_low t.base.image (none g at t tells is) c.in_ok-number-in-None.number (c.in_ok-number-in-None.ensures.grown t (found_pages History t.base.image) tells (walked_none g at t tells is) (shaped g at t tells is) (is_data g at t tells is)).below

@@ -1,37 +1,32 @@
 use Rattle.std.proofs.Common.{◌≡◌, ◌≤◌, ℕ, List, [], ◌∷◌, length, refl, sym, subst, ◌∙◌, arith, ap}
-use Rattle.std.specs.Prelude.{true, false, Err, IfOk}
+use Rattle.std.specs.Prelude.{true, false, None, IfOk}
 use Rattle.nb_fields.specs.Payloads.{text_payload}
-use Rattle.nb_host.specs.declared.faults.Fault.TheVariants.{Refused}
 use Rattle.nb_host.specs.declared.refusals.Refusal.TheVariants.{Access, NotDatabase}
 use Rattle.nb_page.proofs.QuietLemmas.{quiet_begun}
-use Rattle.nb_model.specs.Account.{Base}
-use Rattle.nb_model.specs.Image.{image_size, is_read_only}
+use Rattle.nb_model.specs.Image.{is_read_only}
 use Rattle.nb_model.specs.declared.reply.Reply.TheVariants.{Refused as RefusedBy}
 use Rattle.nb_model.specs.Outcomes.{says}
 use Rattle.nb_model.specs.Pages.{new_turn}
-use Rattle.nb_model.specs.Sound.{IsOfSize}
 use Rattle.nb_model.proofs.NewSound.{empty_text}
 use Rattle.nb_model.proofs.SearchLaws.{draft_cause}
 use Rattle.nb_state.specs.Open.{Held, IsOpen, but_pages}
-use Rattle.nb_state.specs.Does.{Makes}
-use Rattle.nb_state.proofs.MakesLaws.{makes_after}
-use Rattle.nb_alloc.proofs.WhereLaws.{makes_some_none, makes_some_after}
+use Rattle.nb_alloc.specs.Tries.{Tries}
 use Rattle.nb_alloc.specs.Make.{new_raw, new_of}
 use Rattle.nb_engine.specs.Replies.{page_made}
-use Rattle.nb_alloc.proofs.DoesLaws.{seeing, tested_does, refused_does}
+use Rattle.nb_alloc.proofs.DoesLaws.{seeing, tries_after, tested_does, refused_does}
 use Rattle.nb_engine.proofs.NewTurn.{empty_is, searchable_of, new_closed, new_short, new_refused, new_says, made_does}
 use Rattle.nb_alloc.proofs.NewReads.{new_read}
 use Rattle.nb_engine.proofs.engine.Engine.page_new.Goals as goal
 
 pub returns-then-is_read_only-clause-turn : goal.returns-then-is_read_only-clause-turn
-returns-then-is_read_only-clause-turn g c s t tells same is sizes =
+returns-then-is_read_only-clause-turn g c s t tells same is =
     let w = g.H.Host.world c.args.host.now in
     let here = subst (λ (h : Held). IsOpen w h t) (sym c.self.view_is) is in
     let closed : is_read_only t.base.image ≡ true = sym here.agrees.read_only ∙ sym c.is_read_only.ensures ∙ c.if-is_read_only.true in
     refused_does page_made (Access 1) w w _ _ t s new_turn same refl (quiet_begun w (g.met.H.Host.timely c.args.host.now)) is is (new_closed (seeing s t.base) closed)
 
 pub returns-then-count-lt-FIRST_TO_GIVE-clause-turn : goal.returns-then-count-lt-FIRST_TO_GIVE-clause-turn
-returns-then-count-lt-FIRST_TO_GIVE-clause-turn g c s t tells same is sizes =
+returns-then-count-lt-FIRST_TO_GIVE-clause-turn g c s t tells same is =
     let w = g.H.Host.world c.args.host.now in
     let here = subst (λ (h : Held). IsOpen w h t) (sym c.self.view_is) is in
     let image = t.base.image in
@@ -42,62 +37,41 @@ returns-then-count-lt-FIRST_TO_GIVE-clause-turn g c s t tells same is sizes =
     (subst (λ (n : ℕ). new_turn (seeing s t.base) ≡ says (seeing s t.base) (RefusedBy (NotDatabase n)) []) (sym count) short)
 
 pub returns-in_err-first-clause-turn : goal.returns-in_err-first-clause-turn
-returns-in_err-first-clause-turn g c s t tells same is sizes =
+returns-in_err-first-clause-turn g c s t tells same is =
     let w = g.H.Host.world c.args.host.now in
     let here = subst (λ (h : Held). IsOpen w h t) (sym c.self.view_is) is in
     let image = t.base.image in
     let free : is_read_only image ≡ false = sym here.agrees.read_only ∙ sym c.is_read_only.ensures ∙ c.if-is_read_only.false in
     let long : 5 ≤ length image = omega (arith, here.files.agrees.count, c.count-count.ensures.value, c.if-count-lt-FIRST_TO_GIVE.false) in
-    let shaped = searchable_of w _ t here c.self.invariant.0 long (subst (λ (b : Base). IsOfSize (image_size b.image) b.image) (sym same) sizes) in
+    let shaped = searchable_of w _ t here c.self.invariant.0 long in
     let tests = c.in_err-first.ensures in
     tested_does ℕ ℕ page_made _ _ _ _ _ _ t s new_turn (draft_cause (new_raw image).0) c.from_residual.ensures same (tests.same ∙ ap but_pages c.self.view_is) tests.quiet is (tests.open t tells here)
     (tests.test t 8 (λ p. text_payload []) tells here shaped empty_text) (new_refused (seeing s t.base) free long)
 
 pub returns-clause-turn : goal.returns-clause-turn
-returns-clause-turn g c s t tells same is sizes =
+returns-clause-turn g c s t tells same is =
     let w = g.H.Host.world c.args.host.now in
     let here = subst (λ (h : Held). IsOpen w h t) (sym c.self.view_is) is in
     let image = t.base.image in
     let free : is_read_only image ≡ false = sym here.agrees.read_only ∙ sym c.is_read_only.ensures ∙ c.if-is_read_only.false in
     let long : 5 ≤ length image = omega (arith, here.files.agrees.count, c.count-count.ensures.value, c.if-count-lt-FIRST_TO_GIVE.false) in
-    let shaped = searchable_of w _ t here c.self.invariant.0 long (subst (λ (b : Base). IsOfSize (image_size b.image) b.image) (sym same) sizes) in
+    let shaped = searchable_of w _ t here c.self.invariant.0 long in
     let tests = c.in_ok-first.ensures in
     let room = tests.test t 8 (λ p. text_payload []) tells here shaped empty_text in
     let for_zeros = tests.test t 8 (λ p. 0 ∷ 0 ∷ []) tells here shaped (λ p. omega arith) in
-    let these = (c.make_new.ensures.makes t tells (tests.open t tells here) (tests.value t tells here) (tests.map t tells here)).these (shaped, for_zeros) in
+    let made = c.make_new.ensures.makes t tells (tests.open t tells here) (tests.value t tells here) (tests.map t tells here) shaped for_zeros in
     made_does c.make_new.result w _ c.args.self.now c.make_new.new.store t s (new_raw image).1 (new_raw image).0.strokes same (new_says (seeing s t.base) free long room)
-    (subst (λ (xs : List ℕ). IfOk c.make_new.result (λ number. number ≡ (new_of 8 (λ p. xs) image).1)) empty_is (c.make_new.ensures.value t tells (tests.open t tells here) (tests.value t tells here) (tests.map t tells here) shaped for_zeros)) these.sure
-    (makes_after c.make_new.result w _ _ _ _ _ t (new_raw image).0.strokes (tests.same ∙ ap but_pages c.self.view_is) tests.quiet is (subst (λ (xs : List ℕ). Makes c.make_new.result (g.H.Host.world c.check_new.new.host) (g.H.Host.world c.make_new.new.host) c.check_new.new.store c.make_new.new.store t (new_of 8 (λ p. xs) image).0.strokes) empty_is these.makes))
-
-pub returns-then-is_read_only-clause-some : goal.returns-then-is_read_only-clause-some
-returns-then-is_read_only-clause-some g c t tells is =
-    let w = g.H.Host.world c.args.host.now in
-    makes_some_none {T = ℕ} (Err (Refused (Access 1))) w w c.args.self.now c.args.self.now t refl (quiet_begun w (g.met.H.Host.timely c.args.host.now)) is is
-
-pub returns-then-count-lt-FIRST_TO_GIVE-clause-some : goal.returns-then-count-lt-FIRST_TO_GIVE-clause-some
-returns-then-count-lt-FIRST_TO_GIVE-clause-some g c t tells is =
-    let w = g.H.Host.world c.args.host.now in
-    makes_some_none {T = ℕ} (Err (Refused (NotDatabase c.count-count.result))) w w c.args.self.now c.args.self.now t refl (quiet_begun w (g.met.H.Host.timely c.args.host.now)) is is
-
-pub returns-in_err-first-clause-some : goal.returns-in_err-first-clause-some
-returns-in_err-first-clause-some g c t tells is =
-    let here = subst (λ (h : Held). IsOpen (g.H.Host.world c.args.host.now) h t) (sym c.self.view_is) is in
-    let tests = c.in_err-first.ensures in
-    makes_some_none c.from_residual.result _ _ _ _ t (tests.same ∙ ap but_pages c.self.view_is) tests.quiet is (tests.open t tells here)
-
-pub returns-clause-some : goal.returns-clause-some
-returns-clause-some g c t tells is =
-    let here = subst (λ (h : Held). IsOpen (g.H.Host.world c.args.host.now) h t) (sym c.self.view_is) is in
-    let tests = c.in_ok-first.ensures in
-    makes_some_after c.make_new.result _ _ _ _ _ _ t (tests.same ∙ ap but_pages c.self.view_is) tests.quiet is (c.make_new.ensures.makes t tells (tests.open t tells here) (tests.value t tells here) (tests.map t tells here)).some
+    (subst (λ (xs : List ℕ). IfOk c.make_new.result (λ number. number ≡ (new_of 8 (λ p. xs) image).1)) empty_is (c.make_new.ensures.value t tells (tests.open t tells here) (tests.value t tells here) (tests.map t tells here) shaped for_zeros))
+    (tries_after c.make_new.result w _ _ _ _ _ t None (new_raw image).0.strokes (tests.same ∙ ap but_pages c.self.view_is) tests.quiet is
+    (subst (λ (xs : List ℕ). Tries c.make_new.result (g.H.Host.world c.check_new.new.host) (g.H.Host.world c.make_new.new.host) c.check_new.new.store c.make_new.new.store t None (new_of 8 (λ p. xs) image).0.strokes) empty_is made))
 
 pub returns-clause-once : goal.returns-clause-once
-returns-clause-once g c t tells is sizes =
+returns-clause-once g c t tells is =
     let w = g.H.Host.world c.args.host.now in
     let here = subst (λ (h : Held). IsOpen w h t) (sym c.self.view_is) is in
     let image = t.base.image in
     let long : 5 ≤ length image = omega (arith, here.files.agrees.count, c.count-count.ensures.value, c.if-count-lt-FIRST_TO_GIVE.false) in
-    let shaped = searchable_of w _ t here c.self.invariant.0 long sizes in
+    let shaped = searchable_of w _ t here c.self.invariant.0 long in
     let tests = c.in_ok-first.ensures in
     let for_zeros = tests.test t 8 (λ p. 0 ∷ 0 ∷ []) tells here shaped (λ p. omega arith) in
     new_read c.make_new.result image c.in_ok-first.first (new_of 8 (λ p. 0 ∷ 0 ∷ []) image).1 _ _ _ (tests.value t tells here)

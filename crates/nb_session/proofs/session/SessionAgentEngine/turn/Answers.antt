@@ -11,7 +11,7 @@ pub returns-in_err-go_on-in-Some-clause-step : goal.returns-in_err-go_on-in-Some
 returns-in_err-go_on-in-Some-clause-step g c =
     rw (← c.self.view_is)
     (went_failed g.H.Host.tells (g.H.Host.world c.args.host.now) (g.H.Host.world c.go_on.new.host) _ _ c.args.engine.now c.go_on.new.engine _ _ c.go_on.ensures.others refl c.in-Some.field-0 c.in-Some.is c.go_on.new.task
-    c.in_err-go_on-in-Some.field-0.0 c.from_residual.result c.from_residual.ensures c.in_err-go_on-in-Some.ensures.turn c.in_err-go_on-in-Some.ensures.cause c.in_err-go_on-in-Some.ensures.not_refused)
+    c.in_err-go_on-in-Some.field-0.0 c.from_residual.result c.from_residual.ensures c.in_err-go_on-in-Some.ensures.turn c.in_err-go_on-in-Some.ensures.cause)
 
 pub returns-in_err-taken-in-None-clause-step : goal.returns-in_err-taken-in-None-clause-step
 returns-in_err-taken-in-None-clause-step g c =
@@ -20,7 +20,7 @@ returns-in_err-taken-in-None-clause-step g c =
     rw (← c.self.view_is)
     (began_failed g.H.Host.tells (g.H.Host.world c.args.host.now) (g.H.Host.world c.begin_statement.new.host) _ _ c.args.engine.now c.begin_statement.new.engine _ _ c.begin_statement.ensures.others refl
     (get_or c.self.inside.statements.now c.self.inside.next c.index-self-self.result) _ is (drop_more c.self.inside.statements.now c.self.inside.next c.index-self-self.result within)
-    c.in_err-taken-in-None.field-0.0 c.from_residual-in_err-taken-in-None.result c.from_residual-in_err-taken-in-None.ensures c.in_err-taken-in-None.ensures.turn c.in_err-taken-in-None.ensures.cause c.in_err-taken-in-None.ensures.not_refused)
+    c.in_err-taken-in-None.field-0.0 c.from_residual-in_err-taken-in-None.result c.from_residual-in_err-taken-in-None.ensures c.in_err-taken-in-None.ensures.turn c.in_err-taken-in-None.ensures.cause)
 
 pub returns-in_ok-taken-in-None-clause-step : goal.returns-in_ok-taken-in-None-clause-step
 returns-in_ok-taken-in-None-clause-step g c =

@@ -1,7 +1,6 @@
 use Rattle.std.proofs.Common.{◌≡◌, ◌+◌, ◌<◌, ◌≤◌, [], ◌∷◌, length, refl, sym, ap, subst, ◌∙◌, arith}
 use Rattle.std.specs.Prelude.{slice_index, None}
 use Rattle.nb_host.specs.World.{World}
-use Rattle.nb_host.specs.declared.faults.Fault.TheVariants.{Device}
 use Rattle.nb_model.specs.Strokes.{finish}
 use Rattle.nb_model.specs.Owner.{delta_name}
 use Rattle.nb_base.specs.Merging.{PutsPage}
@@ -18,7 +17,7 @@ returns-in_err-merge_entry-clause-merges g c t tells given =
     let is = subst (λ (h : Held). IsOpen old h t) (sym c.self.view_is) given in
     let entry = c.merge_entry.ensures in
     let left = subst (λ (h : Held). Strikes old new (name_of h) t []) c.self.view_is (entry.takes t tells is.files).left in
-    merge_failed old new c.args.self.now _ t c.from_residual.result (passed_on c.from_residual.result Device c.from_residual.ensures) (struck_front old new _ t [] (finish ∷ []) left) (λ low. left) entry.gave
+    merge_failed old new c.args.self.now _ t c.from_residual.result _ (passed_on c.from_residual.result c.in_err-merge_entry.field-0.0 c.from_residual.ensures) (struck_front old new _ t [] (finish ∷ []) left) (λ low. left) entry.gave
     (ap (λ (p : Rattle.nb_owner.specs.Open.Held). p.files.name) entry.same ∙ ap (λ (h : Held). name_of h) c.self.view_is)
 
 pub returns-then-self-delta_count-clause-merges : goal.returns-then-self-delta_count-clause-merges
@@ -53,7 +52,7 @@ returns-in_err-finish-clause-merges g c t tells given =
     let finished = c.finish.ensures in
     let all : length c.self.inside.pair.files.entries ≤ c.self.inside.merged = omega (arith, c.if-self-delta_count.false, c.delta_count.ensures.value) in
     let left = subst (λ (h : Held). Strikes old new (name_of h) t (finish ∷ [])) c.self.view_is (finished.takes t tells is.files (all_merged old _ t is merges all)).left in
-    merge_failed old new c.args.self.now _ t c.from_residual-in_err-finish.result (passed_on c.from_residual-in_err-finish.result Device c.from_residual-in_err-finish.ensures) left
+    merge_failed old new c.args.self.now _ t c.from_residual-in_err-finish.result _ (passed_on c.from_residual-in_err-finish.result c.in_err-finish.field-0.0 c.from_residual-in_err-finish.ensures) left
     (λ low. absurd (omega (arith, low, all, ap length is.files.agrees.entries, ap (λ (h : Held). h.merged) c.self.view_is))) finished.gave (finished.name ∙ ap (λ (h : Held). name_of h) c.self.view_is)
 
 pub returns-clause-merges : goal.returns-clause-merges

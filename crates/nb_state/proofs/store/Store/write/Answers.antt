@@ -2,8 +2,9 @@ use Rattle.std.proofs.Common.{◌≢◌, [], ◌∷◌, refl, sym, ap, subst, �
 use Rattle.std.specs.Prelude.{Result, IfErr}
 use Rattle.nb_fields.proofs.SizeLemmas.{size_facts}
 use Rattle.nb_host.specs.World.{World}
-use Rattle.nb_host.specs.declared.faults.Fault.{Fault}
-use Rattle.nb_host.specs.declared.faults.Fault.TheVariants.{Memory}
+use Rattle.nb_host.specs.Faults.{as_fault, as_answer}
+use Rattle.nb_host.specs.declared.faults.RunError.{RunError}
+use Rattle.nb_host.specs.declared.faults.RunError.TheVariants.{Memory}
 use Rattle.nb_model.specs.Strokes.{page}
 use Rattle.nb_base.specs.Takes.{Strikes}
 use Rattle.nb_base.specs.Touches.{WritesIn}
@@ -13,7 +14,7 @@ use Rattle.nb_state.specs.contracts.store.Store.{the_view}
 use Rattle.nb_state.specs.Does.{Goes, Makes}
 use Rattle.nb_state.proofs.AgreeLaws.{open_written, goes_files, goes_written}
 use Rattle.nb_change.proofs.ResultLaws.{passed_on}
-use Rattle.nb_state.proofs.MakesLaws.{never_ended}
+use Rattle.nb_state.proofs.MakesLaws.{never_ended, none_refused}
 use Rattle.nb_state.proofs.TurnLaws.{open_wanting}
 use Rattle.nb_state.proofs.store.Store.write.Goals as goal
 
@@ -29,10 +30,10 @@ returns-in_err-write-clause-makes g c t tells given =
     let after : Held = record c.args.self.now { files = c.write.new.self.files; pages = c.write.new.self.pages; cap = c.write.new.self.cap } in
     let left = subst (λ (h : Held). Strikes old new (name_of h) t (page c.args.number c.args.page.now ∷ [])) c.self.view_is (wrote.takes t tells is.files).left in
     let goes = subst (λ (h : Held). Goes h (record h { files = c.write.new.self.files; pages = c.write.new.self.pages; cap = c.write.new.self.cap })) c.self.view_is (goes_files _ c.write.new.self wrote.name wrote.page_size wrote.state wrote.longer wrote.entries wrote.cap) in
-    subst (λ (h : Held). Makes {T = Unit {0}} c.from_residual.result old new c.args.self.now h t (page c.args.number c.args.page.now ∷ [])) (sym (ap (λ (h : Held). record h { files = c.write.new.self.files; pages = c.write.new.self.pages; cap = c.write.new.self.cap }) c.self.view_is))
-    (subst (λ r. Makes {T = Unit {0}} r old new c.args.self.now after t (page c.args.number c.args.page.now ∷ [])) (sym (passed_on c.from_residual.result c.in_err-write.field-0.0 c.from_residual.ensures)) (record {
+    subst (λ (h : Held). Makes {T = Unit {0}} (as_answer c.from_residual.result) old new c.args.self.now h t (page c.args.number c.args.page.now ∷ [])) (sym (ap (λ (h : Held). record h { files = c.write.new.self.files; pages = c.write.new.self.pages; cap = c.write.new.self.cap }) c.self.view_is))
+    (subst (λ (r : Result (Unit {0}) RunError). Makes (as_answer r) old new c.args.self.now after t (page c.args.number c.args.page.now ∷ [])) (sym (passed_on c.from_residual.result c.in_err-write.field-0.0 c.from_residual.ensures)) (record {
       left = left;
-      opened = never_ended (Unit {0}) c.in_err-write.field-0.0 _ c.in_err-write.ensures.not_refused;
+      opened = never_ended (Unit {0}) (as_fault c.in_err-write.field-0.0) _ (none_refused c.in_err-write.field-0.0);
       goes = goes;
       gave = wrote.gave;
     }))
@@ -68,7 +69,7 @@ returns-in_err-write-clause-on_memory g c t tells given memory =
     let wants = sym (passed_on c.from_residual.result c.in_err-write.field-0.0 c.from_residual.ensures) ∙ memory in
     let on_memory = wrote.on_memory t tells is.files wants in (
       subst (λ (h : Held). Strikes old new (name_of h) t []) c.self.view_is on_memory.0,
-      open_wanting old new _ c.write.new.self t is wrote.state on_memory.1 (λ two. subst (λ (r : Result (Unit {0}) Fault). IfErr r (λ fault. fault ≢ Memory)) wants (wrote.takes_none (λ one. absurd (omega (arith, one, two)))) refl),
+      open_wanting old new _ c.write.new.self t is wrote.state on_memory.1 (λ two. subst (λ (r : Result (Unit {0}) RunError). IfErr r (λ error. error ≢ Memory)) wants (wrote.takes_none (λ one. absurd (omega (arith, one, two)))) refl),
     )
 
 pub returns-in_err-write-clause-idle : goal.returns-in_err-write-clause-idle

@@ -1,5 +1,5 @@
 -- The pages of a chain that is of the form are data pages: those of its slots, and the last.
-use Rattle.std.proofs.Common.{◌≡◌, ℕ, ◌<◌, List, length}
+use Rattle.std.proofs.Common.{◌≡◌, ℕ, List}
 use Rattle.std.specs.Prelude.{true, Bool, Some, None}
 use Rattle.nb_model.specs.Image.{Image}
 use Rattle.nb_model.specs.Causes.{not_kind, broken_at}
@@ -31,9 +31,6 @@ module _ (chain : Chain) (image : Image) (formed : broken_at (pages_of chain ima
   -- the last page
   pub last_in : is_in_chain chain image (last_of (found_pages chain image)) ≡ true
   last_in = let are = pages_found chain image formed in last_of_all (λ q. is_in_chain chain image q ≡ true) (found_pages chain image) are.some are.each
-
-  pub last_there : last_of (found_pages chain image) < length image
-  last_there = (in_chain chain image (last_of (found_pages chain image)) last_in).0
 
   pub last_kind : not_kind image 5 (last_of (found_pages chain image)) ≡ None
   last_kind = let parts = in_chain chain image (last_of (found_pages chain image)) last_in in kind_is image 5 (last_of (found_pages chain image)) parts.0 parts.1

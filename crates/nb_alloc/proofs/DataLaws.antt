@@ -1,0 +1,49 @@
+-- Whether a page is a data page of an owner.
+use Rattle.std.proofs.Common.{◌≡◌, ℕ, sym, ap, ◌∙◌, refl, arith}
+use Rattle.std.specs.Prelude.{Bool, true, false, not, ◌&&◌, ◌==◌, Some, None}
+use Rattle.nb_fields.specs.Header.{is_header}
+use Rattle.nb_host.specs.declared.refusals.Refusal.{Refusal}
+use Rattle.nb_host.specs.declared.refusals.Refusal.TheVariants.{NotDatabase}
+use Rattle.nb_model.specs.Image.{Image, page_at, first_page}
+use Rattle.nb_model.specs.Forms.{is_kind}
+use Rattle.nb_model.specs.Causes.{when, not_kind}
+use Rattle.nb_model.specs.Chains.{owner_in}
+use Rattle.nb_model.proofs.HeaderLaws.{header-kind}
+use Rattle.nb_model.proofs.ReadLaws.{eq_yes}
+use Rattle.nb_alloc.specs.Data.{not_data}
+use Rattle.nb_alloc.proofs.PutLaws.{is_kind-parts}
+
+-- tests of the owner after tests of the kind
+by_kind : (kind owner : Bool) (r s : Refusal) → when (not kind) r ≡ Some s → when (not (kind && owner)) r ≡ Some s
+by_kind false owner r s e = e
+by_kind true owner r s e = cc
+
+by_owner : (kind owner : Bool) (r : Refusal) → when (not kind) r ≡ None → when (not (kind && owner)) r ≡ when (not owner) r
+by_owner false owner r e = cc
+by_owner true owner r e = refl
+
+module _ (image : Image) (owner p : ℕ) where
+  -- the page is past the end or of another kind
+  kind_fails : (r : Refusal) → not_kind image 5 p ≡ Some r → not_data image owner p ≡ Some r
+  kind_fails r e = by_kind (is_kind image 5 p) (owner_in (page_at image p) == owner) (NotDatabase p) r e
+
+  -- it is a data page
+  module _ (kind : not_kind image 5 p ≡ None) where
+    pub owner_is : owner_in (page_at image p) ≡ owner → not_data image owner p ≡ None
+    owner_is same =
+        by_owner (is_kind image 5 p) (owner_in (page_at image p) == owner) (NotDatabase p) kind ∙ ap (λ (t : Bool). when (not t) (NotDatabase p)) (eq_yes (owner_in (page_at image p)) owner same)
+
+-- page 0 of a database is none
+header_kind : (image : Image) → is_header (first_page image) ≡ true → is_kind image 5 0 ≡ true → ⊥
+header_kind image header is = absurd (omega (arith, (is_kind-parts image 5 0 is).1, header-kind (page_at image 0) header))
+
+header_none : (image : Image) → is_header (first_page image) ≡ true → not_kind image 5 0 ≡ Some (NotDatabase 0)
+header_none image header = by (is_kind image 5 0) refl
+  where
+    by : (t : Bool) → is_kind image 5 0 ≡ t → not_kind image 5 0 ≡ Some (NotDatabase 0)
+    by false e = ap (λ (t : Bool). when (not t) (NotDatabase 0)) e
+    by true e = absurd (header_kind image header e)
+
+pub no_data_first : (image : Image) (owner p : ℕ) → is_header (first_page image) ≡ true → p ≡ 0 → not_data image owner p ≡ Some (NotDatabase p)
+no_data_first image owner p header e =
+    ap (λ (n : ℕ). not_data image owner n) e ∙ kind_fails image owner 0 (NotDatabase 0) (header_none image header) ∙ ap (λ (n : ℕ). Some (NotDatabase n)) (sym e)

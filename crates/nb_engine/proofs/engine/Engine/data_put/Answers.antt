@@ -1,0 +1,20 @@
+use Rattle.std.proofs.Common.{sym, subst}
+use Rattle.nb_fields.specs.Bytes.{with_part}
+use Rattle.nb_model.specs.Image.{page_at}
+use Rattle.nb_state.specs.Open.{Held, IsOpen}
+use Rattle.nb_alloc.specs.Data.{data_cause, put_data}
+use Rattle.nb_alloc.specs.Tries.{Tries}
+use Rattle.nb_engine.proofs.DataLaws.{data_sure}
+use Rattle.nb_engine.proofs.engine.Engine.data_put.Goals as goal
+
+pub returns-clause-sure : goal.returns-clause-sure
+returns-clause-sure g c t tells is sound kind =
+    let here = subst (λ (h : Held). IsOpen (g.H.Host.world c.args.host.now) h t) (sym c.self.view_is) is in
+    data_sure c.change_data.result _ _ t c.args.number here c.self.invariant.0 sound c.requires.low kind (c.change_data.ensures.tries t tells here).test
+
+pub returns-clause-tries : goal.returns-clause-tries
+returns-clause-tries g c t tells is =
+    let w = g.H.Host.world c.args.host.now in
+    let here = subst (λ (h : Held). IsOpen w h t) (sym c.self.view_is) is in
+    let new = g.H.Host.world c.change_data.new.host in
+    subst (λ (h : Held). Tries c.change_data.result w new h c.change_data.new.store t (data_cause t.base.image c.args.number) (put_data c.args.number (with_part c.args.at c.args.bytes.now (page_at t.base.image c.args.number)) t.base.image).strokes) c.self.view_is (c.change_data.ensures.tries t tells here)

@@ -1,6 +1,0 @@
-use Rattle.std.proofs.Common.{◌∙◌}
-use Rattle.nb_engine.proofs.SlotLaws.{byte_at}
-use Rattle.nb_engine.proofs.rows.use_of.Goals as goal
-
-pub returns : goal.returns
-returns c = c.get.ensures.value ∙ byte_at 0 c.args.slot.now
