@@ -3,7 +3,8 @@ use Rattle.std.proofs.Common.{◌≡◌, ◌≢◌, ◌⊎◌, inl, inr, ℕ, �
 use Rattle.std.specs.Prelude.{Bool, true, false, not, ◌==◌, ◌||◌, nat_lt, min, IsTrue, Option, Some, None, Result, Ok, Err, IfOk, IfSome, unwrap_or}
 use Rattle.std.proofs.lemmas.Bool.{true≢false}
 use Rattle.std.proofs.lemmas.Bool.Decides.{eqb_tells, leb_tells}
-use Rattle.nb_fields.specs.Places.{is_page_size, entries_in, scn_place, is_inventory_place, is_scn_place, is_system_place}
+use Rattle.nb_fields.specs.Places.{is_page_size, entries_in, scn_place, is_inventory_place, is_scn_place, is_system_place, most_pages}
+use Rattle.nb_fields.specs.Kinds.{data_kind, scn_kind}
 use Rattle.nb_host.specs.declared.faults.Fault.{Fault}
 use Rattle.nb_host.specs.declared.faults.Fault.TheVariants.{Refused, Device, Memory}
 use Rattle.nb_host.specs.declared.refusals.Refusal.{Refusal}
@@ -39,9 +40,9 @@ one_kind x a b p other is = by (is_kind x b p) refl
     by true e = absurd (other (sym (kind_parts x a p is).1 ∙ (kind_parts x b p e).1))
 
 -- the SCN page of an entry, in an image of the same page size
-pub entry_by : (old x : Image) (p : ℕ) → image_size x ≡ image_size old → entry_broken x p ≡ elim (has_entry old p) as (λ z. List ℕ) [ true ↦ other_kind x 10 (scn_page_of old p) | false ↦ [] ]
+pub entry_by : (old x : Image) (p : ℕ) → image_size x ≡ image_size old → entry_broken x p ≡ elim (has_entry old p) as (λ z. List ℕ) [ true ↦ other_kind x scn_kind (scn_page_of old p) | false ↦ [] ]
 unfolding has_entry
-entry_by old x p same = ap (λ (s : ℕ). elim (elim (p == 0 || is_scn_place s p) as (λ z. Bool) [ true ↦ false | false ↦ true ]) as (λ z. List ℕ) [ true ↦ other_kind x 10 (scn_place s (p / entries_in s)) | false ↦ [] ]) same
+entry_by old x p same = ap (λ (s : ℕ). elim (elim (p == 0 || is_scn_place s p) as (λ z. Bool) [ true ↦ false | false ↦ true ]) as (λ z. List ℕ) [ true ↦ other_kind x scn_kind (scn_place s (p / entries_in s)) | false ↦ [] ]) same
 
 pub other_by : (x y : Image) (kind p : ℕ) → is_kind y kind p ≡ is_kind x kind p → other_kind y kind p ≡ other_kind x kind p
 unfolding other_kind
@@ -81,8 +82,8 @@ module _ (old now next : Image) (p kind : ℕ) (b : Behind) (known : IsKnown old
       ∙ ap (λ (xs : List ℕ). elim (has_entry old b.page) as (λ z. List ℕ) [ true ↦ xs | false ↦ [] ]) (other_by now next 10 entries (same 10 entries ne)) ∙ sym (entry_by old now b.page now_size)
 
   -- or stands there
-  entry_none : (x : Image) → image_size x ≡ image_size old → is_kind x 10 entries ≡ true → entry_broken x b.page ≡ []
-  entry_none x is found = entry_by old x b.page is ∙ either_none (has_entry old b.page) (other_kind x 10 entries) (other_none x 10 entries found)
+  entry_none : (x : Image) → image_size x ≡ image_size old → is_kind x scn_kind entries ≡ true → entry_broken x b.page ≡ []
+  entry_none x is found = entry_by old x b.page is ∙ either_none (has_entry old b.page) (other_kind x scn_kind entries) (other_none x scn_kind entries found)
 
   entry_place : entries ≡ p → is_scn_place (image_size old) p ≡ true
   entry_place e = ap (is_scn_place (image_size old)) (sym e) ∙ scn_page_there (image_size old) (b.page / entries_in (image_size old)) size
@@ -101,7 +102,7 @@ module _ (old now next : Image) (p kind : ℕ) (b : Behind) (known : IsKnown old
   pub known_plain : is_system_place (image_size old) p ≡ false → kind ≡ 5 → IsKnown old next b
   known_plain plain is = record {
     kind = elim (eqb_tells b.page p) [
-      | inl w ↦ ap (is_kind next 5) w.1 ∙ subst (λ (n : ℕ). is_kind next n p ≡ true) is here ∙ sym (kept (λ lost. true≢false (sym (ap (is_system_place (image_size old)) (sym w.1) ∙ known.place lost) ∙ plain)))
+      | inl w ↦ ap (is_kind next data_kind) w.1 ∙ subst (λ (n : ℕ). is_kind next n p ≡ true) is here ∙ sym (kept (λ lost. true≢false (sym (ap (is_system_place (image_size old)) (sym w.1) ∙ known.place lost) ∙ plain)))
       | inr w ↦ same 5 b.page w.1 ∙ known.kind
     ];
     place = known.place;
@@ -124,23 +125,23 @@ module _ (old now next : Image) (p kind : ℕ) (b : Behind) (known : IsKnown old
         by true at = absurd (omega (arith, e, of_map at))
         by false at = absurd (omega (arith, e, of_entries (system_second (image_size old) p at ∙ system)))
 
-    no_data : is_kind next 5 p ≡ false
+    no_data : is_kind next data_kind p ≡ false
     no_data = one_kind next kind 5 p not_data here
 
     entry_here : entries ≡ p → entry_broken next b.page ≡ []
-    entry_here e = entry_none next next_size (ap (is_kind next 10) e ∙ subst (λ (n : ℕ). is_kind next n p ≡ true) (of_entries (entry_place e)) here)
+    entry_here e = entry_none next next_size (ap (is_kind next scn_kind) e ∙ subst (λ (n : ℕ). is_kind next n p ≡ true) (of_entries (entry_place e)) here)
 
     -- its system page stood there
     known_kept : is_kind now kind p ≡ true → IsKnown old next b
     known_kept stood = record {
       kind = elim (eqb_tells b.page p) [
-        | inl w ↦ ap (is_kind next 5) w.1 ∙ no_data ∙ sym (one_kind now kind 5 p not_data stood) ∙ ap (is_kind now 5) (sym w.1) ∙ known.kind
+        | inl w ↦ ap (is_kind next data_kind) w.1 ∙ no_data ∙ sym (one_kind now kind 5 p not_data stood) ∙ ap (is_kind now data_kind) (sym w.1) ∙ known.kind
         | inr w ↦ same 5 b.page w.1 ∙ known.kind
       ];
       place = known.place;
       entry = elim (eqb_tells entries p) [
         | inl w ↦
-            let none : entry_broken now b.page ≡ [] = entry_none now now_size (ap (is_kind now 10) w.1 ∙ subst (λ (n : ℕ). is_kind now n p ≡ true) (of_entries (entry_place w.1)) stood) in
+            let none : entry_broken now b.page ≡ [] = entry_none now now_size (ap (is_kind now scn_kind) w.1 ∙ subst (λ (n : ℕ). is_kind now n p ≡ true) (of_entries (entry_place w.1)) stood) in
             entry_here w.1 ∙ sym none ∙ known.entry
         | inr w ↦ entry_same w.1 ∙ known.entry
       ];
@@ -151,7 +152,7 @@ module _ (old now next : Image) (p kind : ℕ) (b : Behind) (known : IsKnown old
     known_made : IsKnown old next (passed p b)
     known_made = record {
       kind = elim (eqb_tells p b.page) [
-        | inl w ↦ ap (is_kind next 5) (sym w.1) ∙ no_data ∙ sym (ap not (ap (λ (t : Bool). b.lost || t) w.0 ∙ or_true b.lost))
+        | inl w ↦ ap (is_kind next data_kind) (sym w.1) ∙ no_data ∙ sym (ap not (ap (λ (t : Bool). b.lost || t) w.0 ∙ or_true b.lost))
         | inr w ↦ same 5 b.page (λ e. w.1 (sym e)) ∙ known.kind ∙ ap not (sym (ap (λ (t : Bool). b.lost || t) w.0 ∙ or_false b.lost))
       ];
       place = λ lost. elim (eqb_tells p b.page) [
@@ -225,19 +226,19 @@ gone_lost place made fresh b c is lost = ap (λ (x : Behind). x.lost) is ∙ by 
 
 -- Before the search begins.
 pub entry_absent : (x : Image) (p : ℕ) → has_entry x p ≡ false → entry_broken x p ≡ []
-entry_absent x p none = ap (λ (t : Bool). elim t as (λ z. List ℕ) [ true ↦ other_kind x 10 (scn_page_of x p) | false ↦ [] ]) none
+entry_absent x p none = ap (λ (t : Bool). elim t as (λ z. List ℕ) [ true ↦ other_kind x scn_kind (scn_page_of x p) | false ↦ [] ]) none
 
-pub entry_there : (x : Image) (p : ℕ) → is_kind x 10 (scn_page_of x p) ≡ true → entry_broken x p ≡ []
-entry_there x p is = either_none (has_entry x p) (other_kind x 10 (scn_page_of x p)) (other_none x 10 (scn_page_of x p) is)
+pub entry_there : (x : Image) (p : ℕ) → is_kind x scn_kind (scn_page_of x p) ≡ true → entry_broken x p ≡ []
+entry_there x p is = either_none (has_entry x p) (other_kind x scn_kind (scn_page_of x p)) (other_none x scn_kind (scn_page_of x p) is)
 
-pub entry_lacks : (x : Image) (p : ℕ) → has_entry x p ≡ true → is_kind x 10 (scn_page_of x p) ≡ false → entry_broken x p ≡ scn_page_of x p ∷ []
+pub entry_lacks : (x : Image) (p : ℕ) → has_entry x p ≡ true → is_kind x scn_kind (scn_page_of x p) ≡ false → entry_broken x p ≡ scn_page_of x p ∷ []
 entry_lacks x p has other =
-    ap (λ (t : Bool). elim t as (λ z. List ℕ) [ true ↦ other_kind x 10 (scn_page_of x p) | false ↦ [] ]) has ∙ other_page x 10 (scn_page_of x p) true other
+    ap (λ (t : Bool). elim t as (λ z. List ℕ) [ true ↦ other_kind x scn_kind (scn_page_of x p) | false ↦ [] ]) has ∙ other_page x scn_kind (scn_page_of x p) true other
 
-pub known_begin : (x : Image) (p entry : ℕ) → is_kind x 5 p ≡ true → entry_broken x p ≡ page_if (nat_lt 0 entry) entry → (entry ≢ 0 → entry ≡ scn_page_of x p) → IsKnown x x (record { page = p; entry = entry; lost = false })
+pub known_begin : (x : Image) (p entry : ℕ) → is_kind x data_kind p ≡ true → entry_broken x p ≡ page_if (nat_lt 0 entry) entry → (entry ≢ 0 → entry ≡ scn_page_of x p) → IsKnown x x (record { page = p; entry = entry; lost = false })
 known_begin x p entry is broken at = record { kind = is; place = λ lost. absurd (true≢false (sym lost)); entry = broken; page = at }
 
-pub known_lacking : (x : Image) (p : ℕ) (lacking : Option ℕ) → IsTrue (is_page_size (image_size x)) → is_kind x 5 p ≡ true → page_in lacking ≡ entry_broken x p → IfSome lacking (λ q. q ≡ scn_page_of x p)
+pub known_lacking : (x : Image) (p : ℕ) (lacking : Option ℕ) → IsTrue (is_page_size (image_size x)) → is_kind x data_kind p ≡ true → page_in lacking ≡ entry_broken x p → IfSome lacking (λ q. q ≡ scn_page_of x p)
     → IsKnown x x (record { page = p; entry = unwrap_or lacking 0; lost = false })
 known_lacking x p None size is broken at = known_begin x p 0 is (sym broken) (λ some. absurd (some refl))
 known_lacking x p (Some q) size is broken at =
@@ -263,7 +264,7 @@ pub judged_page : (page other : ℕ) (pages : List ℕ) (full : Bool) → judged
 unfolding first_cause lowest_broken
 judged_page page other [] true some = absurd (other_cause some)
   where
-    other_cause : Some (Full 1048576) ≡ Some (NotDatabase other) → ⊥
+    other_cause : Some (Full most_pages) ≡ Some (NotDatabase other) → ⊥
     other_cause e = cc
 judged_page page other [] false some = absurd (none_some some)
   where

@@ -5,7 +5,7 @@ use Rattle.std.proofs.lemmas.List.{replicate-append-replicate, take-append-drop,
 use Rattle.nb_fields.specs.Bytes.{bytes_of, with_part, padded}
 use Rattle.nb_fields.specs.Page.{with_payload}
 use Rattle.nb_fields.specs.Payloads.{data_payload}
-use Rattle.nb_fields.specs.Places.{is_system_place}
+use Rattle.nb_fields.specs.Places.{is_system_place, most_pages}
 use Rattle.nb_fields.proofs.NumberLemmas.{length-bytes_of}
 use Rattle.nb_fields.proofs.PartLemmas.{length-with_part}
 use Rattle.nb_model.specs.Image.{Image, image_size}
@@ -100,7 +100,7 @@ pub new_same : (tries kind : ℕ) (f g : ℕ → List ℕ) (d : Draft) → ((p :
 unfolding new_within
 new_same zero kind f g d same = refl
 new_same (suc tries) kind f g d same =
-    by (λ e. new_same tries kind f g e same) (first_not d.image (needed_at d.image (lowest_free d.image))) (lowest_free d.image == 1048576) (is_system_place (image_size d.image) (lowest_free d.image))
+    by (λ e. new_same tries kind f g e same) (first_not d.image (needed_at d.image (lowest_free d.image))) (lowest_free d.image == most_pages) (is_system_place (image_size d.image) (lowest_free d.image))
   where
     by : ((e : Draft) → new_within tries kind f e ≡ new_within tries kind g e) → (first : Option ℕ) (full system : Bool) → needed tries kind f d first full system ≡ needed tries kind g d first full system
     by again (Some q) full system = refl

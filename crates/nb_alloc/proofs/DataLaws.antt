@@ -2,6 +2,7 @@
 use Rattle.std.proofs.Common.{◌≡◌, ℕ, sym, ap, ◌∙◌, refl, arith}
 use Rattle.std.specs.Prelude.{Bool, true, false, not, ◌&&◌, ◌==◌, Some, None}
 use Rattle.nb_fields.specs.Header.{is_header}
+use Rattle.nb_fields.specs.Kinds.{data_kind}
 use Rattle.nb_host.specs.declared.refusals.Refusal.{Refusal}
 use Rattle.nb_host.specs.declared.refusals.Refusal.TheVariants.{NotDatabase}
 use Rattle.nb_model.specs.Image.{Image, page_at, first_page}
@@ -24,25 +25,25 @@ by_owner true owner r e = refl
 
 module _ (image : Image) (owner p : ℕ) where
   -- the page is past the end or of another kind
-  kind_fails : (r : Refusal) → not_kind image 5 p ≡ Some r → not_data image owner p ≡ Some r
-  kind_fails r e = by_kind (is_kind image 5 p) (owner_in (page_at image p) == owner) (NotDatabase p) r e
+  kind_fails : (r : Refusal) → not_kind image data_kind p ≡ Some r → not_data image owner p ≡ Some r
+  kind_fails r e = by_kind (is_kind image data_kind p) (owner_in (page_at image p) == owner) (NotDatabase p) r e
 
   -- it is a data page
-  module _ (kind : not_kind image 5 p ≡ None) where
+  module _ (kind : not_kind image data_kind p ≡ None) where
     pub owner_is : owner_in (page_at image p) ≡ owner → not_data image owner p ≡ None
     owner_is same =
-        by_owner (is_kind image 5 p) (owner_in (page_at image p) == owner) (NotDatabase p) kind ∙ ap (λ (t : Bool). when (not t) (NotDatabase p)) (eq_yes (owner_in (page_at image p)) owner same)
+        by_owner (is_kind image data_kind p) (owner_in (page_at image p) == owner) (NotDatabase p) kind ∙ ap (λ (t : Bool). when (not t) (NotDatabase p)) (eq_yes (owner_in (page_at image p)) owner same)
 
 -- page 0 of a database is none
-header_kind : (image : Image) → is_header (first_page image) ≡ true → is_kind image 5 0 ≡ true → ⊥
-header_kind image header is = absurd (omega (arith, (is_kind-parts image 5 0 is).1, header-kind (page_at image 0) header))
+kind_of_header : (image : Image) → is_header (first_page image) ≡ true → is_kind image data_kind 0 ≡ true → ⊥
+kind_of_header image header is = absurd (omega (arith, (is_kind-parts image data_kind 0 is).1, header-kind (page_at image 0) header))
 
-header_none : (image : Image) → is_header (first_page image) ≡ true → not_kind image 5 0 ≡ Some (NotDatabase 0)
-header_none image header = by (is_kind image 5 0) refl
+header_none : (image : Image) → is_header (first_page image) ≡ true → not_kind image data_kind 0 ≡ Some (NotDatabase 0)
+header_none image header = by (is_kind image data_kind 0) refl
   where
-    by : (t : Bool) → is_kind image 5 0 ≡ t → not_kind image 5 0 ≡ Some (NotDatabase 0)
+    by : (t : Bool) → is_kind image data_kind 0 ≡ t → not_kind image data_kind 0 ≡ Some (NotDatabase 0)
     by false e = ap (λ (t : Bool). when (not t) (NotDatabase 0)) e
-    by true e = absurd (header_kind image header e)
+    by true e = absurd (kind_of_header image header e)
 
 pub no_data_first : (image : Image) (owner p : ℕ) → is_header (first_page image) ≡ true → p ≡ 0 → not_data image owner p ≡ Some (NotDatabase p)
 no_data_first image owner p header e =

@@ -7,6 +7,7 @@ use Rattle.std.proofs.lemmas.Bool.{true≢false}
 use Rattle.std.proofs.lemmas.Bool.Decides.{eqb_tells, leb_tells}
 use Rattle.nb_fields.specs.Places.{bits_in, inventory_place}
 use Rattle.nb_fields.specs.Payloads.{bit_of}
+use Rattle.nb_fields.specs.Kinds.{inventory_kind}
 use Rattle.nb_pip.specs.Bits.{bits, AreUsed, IsLowestFree}
 use Rattle.nb_pip.proofs.BitLemmas.{get_or-bits}
 use Rattle.nb_model.specs.Image.{Page, Image, page_at, image_size}
@@ -160,11 +161,11 @@ found_none image from page before end =
 same_map : (image : Image) (size p q : ℕ) → size ≡ image_size image → p / bits_in size ≡ q / bits_in size → inventory_of image p ≡ inventory_of image q
 same_map image size p q same e = ap (λ (s : ℕ). inventory_place s (p / bits_in s)) (sym same) ∙ ap (inventory_place size) e ∙ ap (λ (s : ℕ). inventory_place s (q / bits_in s)) same
 
-map_of : (image : Image) (p q : ℕ) (map : Page) → inventory_of image q ≡ inventory_of image p → not_kind image 2 (inventory_of image p) ≡ None → map ≡ page_at image (inventory_of image p) → IsMap image q map
-map_of image p q map there kind page = record { kind = ap (λ (r : ℕ). not_kind image 2 r) there ∙ kind; page = page ∙ ap (page_at image) (sym there) }
+map_of : (image : Image) (p q : ℕ) (map : Page) → inventory_of image q ≡ inventory_of image p → not_kind image inventory_kind (inventory_of image p) ≡ None → map ≡ page_at image (inventory_of image p) → IsMap image q map
+map_of image p q map there kind page = record { kind = ap (λ (r : ℕ). not_kind image inventory_kind r) there ∙ kind; page = page ∙ ap (page_at image) (sym there) }
 
 -- the inventory page that was read for page `page` is that of the page found near
-pub map_near : (image : Image) (page free : ℕ) (map : Page) → IsFreeNear image page free → not_kind image 2 (inventory_of image page) ≡ None → map ≡ page_at image (inventory_of image page) → IsEnd image free map
+pub map_near : (image : Image) (page free : ℕ) (map : Page) → IsFreeNear image page free → not_kind image inventory_kind (inventory_of image page) ≡ None → map ≡ page_at image (inventory_of image page) → IsEnd image free map
 map_near image page free map near kind read =
     let low = near.below in
     let last : free ≡ min free (length image - 1) = omega arith in
@@ -172,7 +173,7 @@ map_near image page free map near kind read =
 
 -- and that of the last page below the length before the group after
 pub map_behind : (image : Image) (size page next : ℕ) (map : Page) → size ≡ image_size image → 0 < bits_in size → page < length image → next ≡ (page / bits_in size + 1) * bits_in size
-    → not_kind image 2 (inventory_of image page) ≡ None → map ≡ page_at image (inventory_of image page) → IsMap image (min next (length image) - 1) map
+    → not_kind image inventory_kind (inventory_of image page) ≡ None → map ≡ page_at image (inventory_of image page) → IsMap image (min next (length image) - 1) map
 map_behind image size page next map same least low behind kind read =
     let w : ℕ = bits_in size in
     let k : ℕ = page / w in

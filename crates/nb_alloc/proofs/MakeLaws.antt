@@ -1,7 +1,7 @@
 -- Making a page: its strokes and what they leave, and what is never refused where the inventories agree with the pages.
 use Rattle.std.proofs.Common.{◌≡◌, ◌≢◌, ℕ, ◌+◌, ◌-◌, ◌/◌, ◌<◌, ◌≤◌, List, [], ◌∷◌, ◌++◌, length, take, drop, replicate, refl, sym, ap, subst, ◌∙◌, arith}
 use Rattle.std.specs.Prelude.{Bool, true, false, not, ◌&&◌, ◌==◌, IsTrue, None, Result, Ok, IsErr, IsErrAnd, IfErr, max}
-use Rattle.nb_fields.specs.Kinds.{code_of}
+use Rattle.nb_fields.specs.Kinds.{code_of, inventory_kind}
 use Rattle.nb_fields.specs.declared.kinds.PageKind.{PageKind}
 use Rattle.nb_fields.specs.declared.kinds.PageKind.TheVariants.{Header, Inventory, Data, Raw, ScnInventory}
 use Rattle.nb_fields.specs.Header.{size_of}
@@ -63,9 +63,9 @@ mark_none image p is two low =
     let i : ℕ = inventory_of image p in
     let before : i < p = inventory_before (image_size image) p is.size two in
     let there : i < length image = omega (arith, before, low) in
-    let kind : kind_of (page_at image i) ≡ 2 = is.sound.sound.system.inventories i there (inventory_there (image_size image) (p / bits_in (image_size image)) is.size) in
+    let kind : kind_of (page_at image i) ≡ inventory_kind = is.sound.sound.system.inventories i there (inventory_there (image_size image) (p / bits_in (image_size image)) is.size) in
     let at : IsPlace image i = record { behind = inventory_place_some (image_size image) (p / bits_in (image_size image)) is.size; there = omega (arith, there); most = let most = is.sound.most in omega (arith, there, most) } in
-    first_next (not_kind image 2 i) (entry_cause image i ∷ []) (kind_is image 2 i there kind) ∙ first_next (entry_cause image i) [] (entry_none image i is at) ∙ first_none
+    first_next (not_kind image inventory_kind i) (entry_cause image i ∷ []) (kind_is image inventory_kind i there kind) ∙ first_next (entry_cause image i) [] (entry_none image i is at) ∙ first_none
 
 -- no inventory page is the SCN page of a page
 map_apart : (x : Image) (p q : ℕ) → IsTrue (is_page_size (image_size x)) → is_inventory_place (image_size x) q ≡ true → q ≢ scn_page_of x p
@@ -150,10 +150,10 @@ module _ (b : Base) (p kind : ℕ) (payload : List ℕ) (none : entry_cause b.im
       let read : page_at paged.image q ≡ page_at b.image q = page_other q (λ e. absurd (omega (arith, e, before))) (map_apart b.image p q is place) in
       let first : page_at paged.image 0 ≡ page_at b.image 0 = page_other 0 (λ e. absurd (omega (arith, e, five))) (λ e. absurd (omega (arith, e, two))) in
       let same : inventory_of paged.image p ≡ q = ap (λ (s : ℕ). inventory_place s (p / bits_in s)) (ap size_of first) in
-      let parts = is_kind-parts b.image 2 q (none_of (is_kind b.image 2 q) (NotDatabase q) held.kind) in
+      let parts = is_kind-parts b.image inventory_kind q (none_of (is_kind b.image inventory_kind q) (NotDatabase q) held.kind) in
       let inside : q < length paged.image = omega (arith, before, page_long) in
       record {
-        kind = ap (λ (r : ℕ). not_kind paged.image 2 r) same ∙ kind_is paged.image 2 q inside (ap kind_of read ∙ parts.1);
+        kind = ap (λ (r : ℕ). not_kind paged.image inventory_kind r) same ∙ kind_is paged.image inventory_kind q inside (ap kind_of read ∙ parts.1);
         page = held.page ∙ sym read ∙ ap (page_at paged.image) (sym same);
       }
 

@@ -7,6 +7,7 @@ use Rattle.nb_fields.specs.Places.{is_page_size, entries_in}
 use Rattle.nb_fields.specs.Page.{kind_of, stamped, generation_of}
 use Rattle.nb_fields.proofs.PartLemmas.{number_in-take}
 use Rattle.nb_fields.proofs.PlaceLemmas.{entries-least}
+use Rattle.nb_fields.specs.Kinds.{inventory_kind, scn_kind}
 use Rattle.nb_host.specs.declared.refusals.Refusal.{Refusal}
 use Rattle.nb_host.specs.declared.refusals.Refusal.TheVariants.{NotDatabase}
 use Rattle.nb_pip.specs.Bits.{with_bit as with_bit_at}
@@ -37,19 +38,19 @@ bit_generation index bit old =
 
 -- the page that a bit and then a stamp make
 pub with_it : (old written new : Page) (index bit code scn place : ℕ) → written ≡ with_bit index bit old → new ≡ stamped written code (drop 16 written) scn place → code ≡ 2
-    → new ≡ stamped old 2 (drop 16 (with_bit index bit old)) scn place
+    → new ≡ stamped old inventory_kind (drop 16 (with_bit index bit old)) scn place
 with_it old written new index bit code scn place put stamp inventory =
     let marked : Page = with_bit index bit old in
-    stamp ∙ ap (λ (k : ℕ). stamped written k (drop 16 written) scn place) inventory ∙ ap (λ (x : Page). stamped x 2 (drop 16 x) scn place) put
+    stamp ∙ ap (λ (k : ℕ). stamped written k (drop 16 written) scn place) inventory ∙ ap (λ (x : Page). stamped x inventory_kind (drop 16 x) scn place) put
     ∙ stamped-over old marked 2 (drop 16 marked) scn place (with_bit_length index bit old) (bit_generation index bit old)
 
 -- so it is that of the stroke
-pub bit_stroke-is : (image : Image) (place index bit scn : ℕ) (old new : Page) → old ≡ page_at image place → scn ≡ image_scn image → new ≡ stamped old 2 (drop 16 (with_bit index bit old)) scn place
+pub bit_stroke-is : (image : Image) (place index bit scn : ℕ) (old new : Page) → old ≡ page_at image place → scn ≡ image_scn image → new ≡ stamped old inventory_kind (drop 16 (with_bit index bit old)) scn place
     → page place new ≡ bit_stroke image place index bit
 bit_stroke-is image place index bit scn old new is now made =
     ap (λ (x : Page). page place x) made
-    ∙ ap (λ (x : Page). page place (stamped x 2 (drop 16 (with_bit index bit x)) scn place)) is
-    ∙ ap (λ (n : ℕ). page place (stamped (page_at image place) 2 (drop 16 (with_bit index bit (page_at image place))) n place)) now
+    ∙ ap (λ (x : Page). page place (stamped x inventory_kind (drop 16 (with_bit index bit x)) scn place)) is
+    ∙ ap (λ (n : ℕ). page place (stamped (page_at image place) inventory_kind (drop 16 (with_bit index bit (page_at image place))) n place)) now
 
 one_cause : (c : Cause) → first_cause (c ∷ []) ≡ c
 unfolding first_cause
@@ -61,18 +62,18 @@ module _ (b : Base) (p : ℕ) where
   place = inventory_of b.image p
 
   -- the inventory page isn't of the form
-  pub mark_other : (r : Refusal) → not_kind b.image 2 place ≡ Some r → mark_cause b.image p ≡ Some r
+  pub mark_other : (r : Refusal) → not_kind b.image inventory_kind place ≡ Some r → mark_cause b.image p ≡ Some r
   mark_other r e = first_here _ _ r e
 
-  module _ (form : not_kind b.image 2 place ≡ None) where
-    found : is_kind b.image 2 place ≡ true
-    found = none_of (is_kind b.image 2 place) (NotDatabase place) form
+  module _ (form : not_kind b.image inventory_kind place ≡ None) where
+    found : is_kind b.image inventory_kind place ≡ true
+    found = none_of (is_kind b.image inventory_kind place) (NotDatabase place) form
 
     pub there : place < length b.image
-    there = (is_kind-parts b.image 2 place found).0
+    there = (is_kind-parts b.image inventory_kind place found).0
 
-    pub plain : kind_of (page_at b.image place) ≢ 10
-    plain = λ e. absurd (omega (arith, e, (is_kind-parts b.image 2 place found).1))
+    pub plain : kind_of (page_at b.image place) ≢ scn_kind
+    plain = λ e. absurd (omega (arith, e, (is_kind-parts b.image inventory_kind place found).1))
 
     -- then the SCN page decides
     pub mark_cause-is : mark_cause b.image p ≡ entry_cause b.image place
@@ -85,15 +86,15 @@ module _ (b : Base) (p : ℕ) where
       abbrev draft : Draft
       draft = set_bit bit p (drafted b.image)
 
-      draft-is : draft ≡ put place 2 payload (drafted b.image)
+      draft-is : draft ≡ put place inventory_kind payload (drafted b.image)
       unfolding set_bit
-      draft-is = ap (λ (d : Draft). put place 2 payload d) (needs-found b.image 2 place found)
+      draft-is = ap (λ (d : Draft). put place inventory_kind payload d) (needs-found b.image 2 place found)
 
       -- the table refuses it by this alone, and asks for no page
       pub mark_form : not_of_form draft ≡ mark_cause b.image p
       mark_form = ap (λ (d : Draft). not_of_form d) draft-is ∙ by (entry_cause b.image place) refl ∙ sym mark_cause-is
         where
-          by : (c : Cause) → entry_cause b.image place ≡ c → not_of_form (put place 2 payload (drafted b.image)) ≡ entry_cause b.image place
+          by : (c : Cause) → entry_cause b.image place ≡ c → not_of_form (put place inventory_kind payload (drafted b.image)) ≡ entry_cause b.image place
           by None e = put_form b place 2 payload e ∙ sym e
           by (Some r) e = put_refused b place 2 payload r e ∙ sym e
 

@@ -5,8 +5,9 @@ use Rattle.std.proofs.Math.Nat.{div-mul-le_self, mul-div_cancel}
 use Rattle.std.proofs.lemmas.Nat.{le-div}
 use Rattle.std.proofs.lemmas.Bool.{true≢false}
 use Rattle.std.proofs.lemmas.Bool.Decides.{eqb_tells, leb_tells}
-use Rattle.nb_fields.specs.Places.{is_page_size, bits_in, inventory_place}
+use Rattle.nb_fields.specs.Places.{is_page_size, bits_in, inventory_place, most_pages}
 use Rattle.nb_fields.proofs.PlaceLemmas.{bits-least, inventory_index}
+use Rattle.nb_fields.specs.Kinds.{inventory_kind}
 use Rattle.nb_host.specs.declared.faults.Fault.{Fault}
 use Rattle.nb_host.specs.declared.faults.Fault.TheVariants.{Refused, Device, Memory}
 use Rattle.nb_host.specs.declared.refusals.Refusal.{Refusal}
@@ -48,11 +49,11 @@ pub kind_found : (image : Image) (kind p : ℕ) → not_kind image kind p ≡ No
 kind_found image kind p e = kind_none (is_kind image kind p) p e
 
 -- of inventory pages in order, one isn't of its kind, and those before it are
-one_broken : (x : Image) (size count k : ℕ) → is_kind x 2 (inventory_place size k) ≡ false → first_not x (maps_from size (suc count) k) ≡ Some (inventory_place size k)
+one_broken : (x : Image) (size count k : ℕ) → is_kind x inventory_kind (inventory_place size k) ≡ false → first_not x (maps_from size (suc count) k) ≡ Some (inventory_place size k)
 unfolding first_not maps_from
 one_broken x size count k e = ap (λ (t : Bool). elim t as (λ z. Option ℕ) [ true ↦ first_not x (maps_from size count (k + 1)) | false ↦ Some (inventory_place size k) ]) e
 
-pub first_broken : (x : Image) (size k j m : ℕ) → k ≤ j → j ≤ m → ((i : ℕ) → k ≤ i → i < j → is_kind x 2 (inventory_place size i) ≡ true) → is_kind x 2 (inventory_place size j) ≡ false
+pub first_broken : (x : Image) (size k j m : ℕ) → k ≤ j → j ≤ m → ((i : ℕ) → k ≤ i → i < j → is_kind x inventory_kind (inventory_place size i) ≡ true) → is_kind x inventory_kind (inventory_place size j) ≡ false
     → first_not x (maps_from size (m + 1 - k) k) ≡ Some (inventory_place size j)
 first_broken x size k j m low high before broken =
     let a : ℕ = j - k in
@@ -65,11 +66,11 @@ first_broken x size k j m low high before broken =
     ∙ ap (λ (i : ℕ). first_behind None (first_not x (maps_from size (suc b) i))) there
     ∙ ap (first_behind None) (one_broken x size b j broken) ∙ behind_none (Some (inventory_place size j))
 
-pub all_found : (x : Image) (size k m : ℕ) → k ≤ m → ((i : ℕ) → k ≤ i → i ≤ m → is_kind x 2 (inventory_place size i) ≡ true) → first_not x (maps_from size (m + 1 - k) k) ≡ None
+pub all_found : (x : Image) (size k m : ℕ) → k ≤ m → ((i : ℕ) → k ≤ i → i ≤ m → is_kind x inventory_kind (inventory_place size i) ≡ true) → first_not x (maps_from size (m + 1 - k) k) ≡ None
 all_found x size k m low each = maps_found x size (m + 1 - k) k (λ i from below. each i from (omega (arith, below, low)))
 
 -- Inventory pages are read one after the other, from that of page `from` on, up to that of page `page`.
-module _ (image : Image) (from page : ℕ) (size : IsTrue (is_page_size (image_size image))) (behind : from ≤ page) (before : (k : ℕ) → from / bits_in (image_size image) ≤ k → k < page / bits_in (image_size image) → is_kind image 2 (inventory_place (image_size image) k) ≡ true) where
+module _ (image : Image) (from page : ℕ) (size : IsTrue (is_page_size (image_size image))) (behind : from ≤ page) (before : (k : ℕ) → from / bits_in (image_size image) ≤ k → k < page / bits_in (image_size image) → is_kind image inventory_kind (inventory_place (image_size image) k) ≡ true) where
   abbrev w : ℕ
   w = bits_in (image_size image)
 
@@ -80,7 +81,7 @@ module _ (image : Image) (from page : ℕ) (size : IsTrue (is_page_size (image_s
   start = div_rises from page w some behind
 
   -- the first that isn't of its kind
-  pub read_broken : (r : Refusal) → AreTaken image from page → page < length image → not_kind image 2 (inventory_of image page) ≡ Some r
+  pub read_broken : (r : Refusal) → AreTaken image from page → page < length image → not_kind image inventory_kind (inventory_of image page) ≡ Some r
       → need_cause (first_not image (maps_up_to image from (free_from (length image - from) from image))) ≡ Some r
   read_broken r taken low refused =
       let parts = kind_refused image 2 (inventory_of image page) r refused in
@@ -95,13 +96,13 @@ module _ (image : Image) (from page : ℕ) (size : IsTrue (is_page_size (image_s
       ∙ ap Some (sym parts.1)
 
   -- all of them are
-  pub read_next : not_kind image 2 (inventory_of image page) ≡ None → (k : ℕ) → from / w ≤ k → k ≤ page / w → is_kind image 2 (inventory_place (image_size image) k) ≡ true
+  pub read_next : not_kind image inventory_kind (inventory_of image page) ≡ None → (k : ℕ) → from / w ≤ k → k ≤ page / w → is_kind image inventory_kind (inventory_place (image_size image) k) ≡ true
   read_next found k low high = elim (eqb_tells k (page / w)) [
-    | inl e ↦ ap (λ (i : ℕ). is_kind image 2 (inventory_place (image_size image) i)) e.1 ∙ kind_found image 2 (inventory_of image page) found
+    | inl e ↦ ap (λ (i : ℕ). is_kind image inventory_kind (inventory_place (image_size image) i)) e.1 ∙ kind_found image inventory_kind (inventory_of image page) found
     | inr e ↦ before k low (omega (arith, high, e.1))
   ]
 
-  pub read_near : (free : ℕ) → free / w ≡ page / w → not_kind image 2 (inventory_of image page) ≡ None → AreMaps image from free
+  pub read_near : (free : ℕ) → free / w ≡ page / w → not_kind image inventory_kind (inventory_of image page) ≡ None → AreMaps image from free
   read_near free same found inside k low below there = read_next found k low (omega (arith, same, le-div k free w some below))
 
   pub read_end : (p : ℕ) → (from < page → page / w * w ≡ page) → length image ≤ page → AreMaps image from p
@@ -127,7 +128,7 @@ module _ (image : Image) (from p : ℕ) (size : IsTrue (is_page_size (image_size
   rise = div_rises from p v positive found.low
 
   -- those before it
-  earlier : (i : ℕ) → from / v ≤ i → i < p / v → is_kind image 2 (inventory_place (image_size image) i) ≡ true
+  earlier : (i : ℕ) → from / v ≤ i → i < p / v → is_kind image inventory_kind (inventory_place (image_size image) i) ≡ true
   earlier i low high =
       let first = found.low in
       let most = found.high in
@@ -139,23 +140,23 @@ module _ (image : Image) (from p : ℕ) (size : IsTrue (is_page_size (image_size
         | inr w ↦ absurd (let same : p ≡ from = omega (arith, w.1, most, first) in omega (arith, low, high, ap (λ (n : ℕ). n / v) same))
       ]
 
-  pub ends_found : not_kind image 2 (inventory_of image p) ≡ None → first_not image (maps_up_to image from p) ≡ None
+  pub ends_found : not_kind image inventory_kind (inventory_of image p) ≡ None → first_not image (maps_up_to image from p) ≡ None
   ends_found none = all_found image (image_size image) (from / v) (p / v) rise (λ i low high. elim (eqb_tells i (p / v)) [
-    | inl e ↦ ap (λ (n : ℕ). is_kind image 2 (inventory_place (image_size image) n)) e.1 ∙ kind_found image 2 (inventory_of image p) none
+    | inl e ↦ ap (λ (n : ℕ). is_kind image inventory_kind (inventory_place (image_size image) n)) e.1 ∙ kind_found image inventory_kind (inventory_of image p) none
     | inr e ↦ earlier i low (omega (arith, high, e.1))
   ])
 
-  pub ends_broken : (r : Refusal) → not_kind image 2 (inventory_of image p) ≡ Some r → need_cause (first_not image (maps_up_to image from p)) ≡ Some r
+  pub ends_broken : (r : Refusal) → not_kind image inventory_kind (inventory_of image p) ≡ Some r → need_cause (first_not image (maps_up_to image from p)) ≡ Some r
   ends_broken r refused =
       let parts = kind_refused image 2 (inventory_of image p) r refused in
       ap need_cause (first_broken image (image_size image) (from / v) (p / v) (p / v) rise (omega arith) earlier parts.0) ∙ ap Some (sym parts.1)
 
   -- at the last page that a database may have
-  pub ends_last : p ≡ 1048576 → from < 1048576 → first_not image (maps_up_to image from p) ≡ None
+  pub ends_last : p ≡ most_pages → from < most_pages → first_not image (maps_up_to image from p) ≡ None
   ends_last end less =
       let first = found.low in
       let most = found.high in
-      let long : 1048576 ≤ length image = omega (arith, most, end, less) in
+      let long : most_pages ≤ length image = omega (arith, most, end, less) in
       let same : p / v ≡ 1048575 / v = ap (λ (n : ℕ). n / v) end ∙ last_map (image_size image) size in
       let whole = div-mul-le_self 1048575 v in
       all_found image (image_size image) (from / v) (p / v) rise (λ i low high.

@@ -1,7 +1,7 @@
 -- A new page: its rounds, each on the database that the round before left.
 use Rattle.std.proofs.Common.{◌≡◌, ℕ, ◌≤◌, List, [], ◌++◌, length, refl, sym, ap, subst, ◌∙◌, append_assoc}
 use Rattle.std.specs.Prelude.{true, false, None, Result, Ok, Err, IsErr, IsErrAnd}
-use Rattle.nb_fields.specs.Places.{is_system_place}
+use Rattle.nb_fields.specs.Places.{is_system_place, most_pages}
 use Rattle.nb_host.specs.World.{World}
 use Rattle.nb_host.specs.declared.faults.Fault.{Fault}
 use Rattle.nb_page.specs.Quiet.{Quiet}
@@ -77,7 +77,7 @@ pub record SoFar (kind : ℕ) (payload : ℕ → List ℕ) (old now : World) (a 
   pub strokes_are : strokes ≡ done ++ rest_strokes
   pub rest : Rest kind payload (after_strokes t done).base.image place rest_strokes number
 
-pub so_far_begun : (kind : ℕ) (payload : ℕ → List ℕ) (w : World) (a : Held) (t : Trail) (place : ℕ) (map : Page) → Quiet w w → IsOpen w a t → length t.base.image ≤ 1048576 → place ≡ lowest_free t.base.image
+pub so_far_begun : (kind : ℕ) (payload : ℕ → List ℕ) (w : World) (a : Held) (t : Trail) (place : ℕ) (map : Page) → Quiet w w → IsOpen w a t → length t.base.image ≤ most_pages → place ≡ lowest_free t.base.image
     → HoldsMap t.base.image place map → IsSearchable t.base.image → draft_cause (new_of kind payload t.base.image).0 ≡ None
     → SoFar kind payload w w a a t place (new_of kind payload t.base.image).0.strokes (new_of kind payload t.base.image).1 map
 so_far_begun kind payload w a t place map quiet is most at holds may free = record {

@@ -3,6 +3,7 @@ use Rattle.std.proofs.Common.{◌∙◌, ◌≡◌, ◌≢◌, ℕ, ◌<◌, Lis
 use Rattle.std.specs.Prelude.{None, Result, Ok, IfErr}
 use Rattle.nb_fields.specs.Places.{entries_in}
 use Rattle.nb_fields.specs.Page.{kind_of}
+use Rattle.nb_fields.specs.Kinds.{inventory_kind, scn_kind}
 use Rattle.nb_host.specs.World.{World}
 use Rattle.nb_host.specs.declared.faults.Fault.{Fault}
 use Rattle.nb_model.specs.Image.{Page, Image, page_at, image_size}
@@ -31,7 +32,7 @@ pub seen_after : (t : Trail) (xs : List Stroke) (P : Base → Type 0) → P (bas
 seen_after t xs P is = subst P (sym (after_base t xs)) is
 
 -- The entry of a page was raised, which left the page and the length.
-module _ (old mid : World) (a b : Held) (t : Trail) (p : ℕ) (plain : kind_of (page_at t.base.image p) ≢ 10) (some : 0 < entries_in (image_size t.base.image))
+module _ (old mid : World) (a b : Held) (t : Trail) (p : ℕ) (plain : kind_of (page_at t.base.image p) ≢ scn_kind) (some : 0 < entries_in (image_size t.base.image))
     (first : Tries {T = Unit {0}} (Ok tt) old mid a b t (entry_cause t.base.image p) (raise_strokes t.base.image p)) where
   abbrev image : Image
   image = t.base.image
@@ -61,7 +62,7 @@ bit_at result mid new b c read place at index number bit there same writes u ope
     (writes u opened (is ∙ ap (λ (q : ℕ). page_at u.base.image q) (sym there)))
 
 -- The raise of an entry and then the write of a bit write that bit.
-pub mark_tries : {T : Type 0} (result : Result T Fault) (old new : World) (a b : Held) (t : Trail) (p bit : ℕ) → not_kind t.base.image 2 (inventory_of t.base.image p) ≡ None → 0 < entries_in (image_size t.base.image)
+pub mark_tries : {T : Type 0} (result : Result T Fault) (old new : World) (a b : Held) (t : Trail) (p bit : ℕ) → not_kind t.base.image inventory_kind (inventory_of t.base.image p) ≡ None → 0 < entries_in (image_size t.base.image)
     → Tries result old new a b t (entry_cause t.base.image (inventory_of t.base.image p)) (raise_strokes t.base.image (inventory_of t.base.image p) ++ mark_stroke t.base.image p bit ∷ [])
     → Tries result old new a b t (mark_cause t.base.image p) (mark_strokes t.base.image p bit)
 mark_tries result old new a b t p bit form some tries =

@@ -2,7 +2,8 @@
 use Rattle.std.proofs.Common.{◌≡◌, ◌≢◌, ℕ, ◌-◌, List, [], ◌∷◌, ◌++◌, length, refl, sym, ap, ◌∙◌}
 use Rattle.std.specs.Prelude.{Bool, true, false, not, ◌==◌, ◌&&◌, nat_lt, IsTrue, Option, Some, None}
 use Rattle.std.proofs.lemmas.Bool.{true≢false}
-use Rattle.nb_fields.specs.Places.{is_page_size, is_inventory_place, is_scn_place, is_system_place}
+use Rattle.nb_fields.specs.Places.{is_page_size, is_inventory_place, is_scn_place, is_system_place, most_pages}
+use Rattle.nb_fields.specs.Kinds.{scn_kind}
 use Rattle.nb_host.specs.declared.refusals.Refusal.{Refusal}
 use Rattle.nb_host.specs.declared.refusals.Refusal.TheVariants.{NotDatabase, Full}
 use Rattle.nb_model.specs.Image.{Image, image_size}
@@ -21,9 +22,9 @@ use Rattle.nb_alloc.proofs.PlaceTests.{system_second}
 pub entry_made : (x : Image) (made q : ℕ) → scn_page_of x q ≡ made → need_cause (first_not x (entry_on x made q)) ≡ None
 entry_made x made q same = ap (λ (t : Bool). need_cause (first_not x (elim t as (λ z. List Need) [ true ↦ [] | false ↦ entry_page x q ]))) (eq_yes (scn_page_of x q) made same) ∙ ap need_cause (first_none x)
 
-entry_is : (x : Image) (q : ℕ) (t : Bool) → has_entry x q ≡ t → entry_page x q ≡ elim t as (λ z. List Need) [ true ↦ record { kind = 10; page = scn_page_of x q } ∷ [] | false ↦ [] ]
+entry_is : (x : Image) (q : ℕ) (t : Bool) → has_entry x q ≡ t → entry_page x q ≡ elim t as (λ z. List Need) [ true ↦ record { kind = scn_kind; page = scn_page_of x q } ∷ [] | false ↦ [] ]
 unfolding entry_page
-entry_is x q t e = ap (λ (u : Bool). elim u as (λ z. List Need) [ true ↦ record { kind = 10; page = scn_page_of x q } ∷ [] | false ↦ [] ]) e
+entry_is x q t e = ap (λ (u : Bool). elim u as (λ z. List Need) [ true ↦ record { kind = scn_kind; page = scn_page_of x q } ∷ [] | false ↦ [] ]) e
 
 entry_asked : (x : Image) (made q : ℕ) → scn_page_of x q ≢ made → entry_on x made q ≡ entry_page x q
 entry_asked x made q other = ap (λ (t : Bool). elim t as (λ z. List Need) [ true ↦ [] | false ↦ entry_page x q ]) (eq_no (scn_page_of x q) made other)
@@ -31,15 +32,15 @@ entry_asked x made q other = ap (λ (t : Bool). elim t as (λ z. List Need) [ tr
 pub entry_none : (x : Image) (made q : ℕ) → scn_page_of x q ≢ made → has_entry x q ≡ false → need_cause (first_not x (entry_on x made q)) ≡ None
 entry_none x made q other none = ap (λ (ns : List Need). need_cause (first_not x ns)) (entry_asked x made q other ∙ entry_is x q false none) ∙ ap need_cause (first_none x)
 
-one_need : (x : Image) (p : ℕ) (t : Bool) → is_kind x 10 p ≡ t → need_cause (first_not x (record { kind = 10; page = p } ∷ [])) ≡ when (not t) (NotDatabase p)
+one_need : (x : Image) (p : ℕ) (t : Bool) → is_kind x scn_kind p ≡ t → need_cause (first_not x (record { kind = scn_kind; page = p } ∷ [])) ≡ when (not t) (NotDatabase p)
 unfolding first_not
 one_need x p true e = ap (λ (u : Bool). need_cause (elim u as (λ z. Option ℕ) [ true ↦ None | false ↦ Some p ])) e
 one_need x p false e = ap (λ (u : Bool). need_cause (elim u as (λ z. Option ℕ) [ true ↦ None | false ↦ Some p ])) e
 
-pub entry_tested : (x : Image) (made q : ℕ) → scn_page_of x q ≢ made → has_entry x q ≡ true → need_cause (first_not x (entry_on x made q)) ≡ not_kind x 10 (scn_page_of x q)
+pub entry_tested : (x : Image) (made q : ℕ) → scn_page_of x q ≢ made → has_entry x q ≡ true → need_cause (first_not x (entry_on x made q)) ≡ not_kind x scn_kind (scn_page_of x q)
 entry_tested x made q other has =
     ap (λ (ns : List Need). need_cause (first_not x ns)) (entry_asked x made q other ∙ entry_is x q true has)
-    ∙ one_need x (scn_page_of x q) (is_kind x 10 (scn_page_of x q)) refl
+    ∙ one_need x (scn_page_of x q) (is_kind x scn_kind (scn_page_of x q)) refl
 
 -- that of an inventory page: asked for before, or now
 pub map_by : (x : Image) (from made p : ℕ) (t : Bool) → (nat_lt 5 from && inventory_of x p == inventory_of x (from - 1)) ≡ t
@@ -69,10 +70,10 @@ module _ (x : Image) (from made fresh p : ℕ) (at : p ≡ next_place x from fre
   abbrev asks : Bool → List Need
   asks t = elim t [ true ↦ [] | false ↦ map_entry_on x from made p ++ own_entry_on x made p ]
 
-  cause_is : way_cause x from made fresh ≡ first_cause (need_cause (first_behind maps (first_not x (asks (p == 1048576)))) ∷ when (p == 1048576) (Full 1048576) ∷ [])
+  cause_is : way_cause x from made fresh ≡ first_cause (need_cause (first_behind maps (first_not x (asks (p == most_pages)))) ∷ when (p == most_pages) (Full most_pages) ∷ [])
   cause_is =
-      ap (λ (n : ℕ). first_cause (need_cause (first_not x (needed_on x from made fresh n)) ∷ when (n == 1048576) (Full 1048576) ∷ [])) (sym at)
-      ∙ ap (λ (o : Option ℕ). first_cause (need_cause o ∷ when (p == 1048576) (Full 1048576) ∷ [])) (first_append x (maps_on x from fresh p) (asks (p == 1048576)))
+      ap (λ (n : ℕ). first_cause (need_cause (first_not x (needed_on x from made fresh n)) ∷ when (n == most_pages) (Full most_pages) ∷ [])) (sym at)
+      ∙ ap (λ (o : Option ℕ). first_cause (need_cause o ∷ when (p == most_pages) (Full most_pages) ∷ [])) (first_append x (maps_on x from fresh p) (asks (p == most_pages)))
 
   some_first : (o rest : Option ℕ) (r : Refusal) (c : Cause) → need_cause o ≡ Some r → first_cause (need_cause (first_behind o rest) ∷ c ∷ []) ≡ Some r
   some_first (Some q) rest r c e = ap (λ (y : Option ℕ). first_cause (need_cause y ∷ c ∷ [])) (behind_some q rest) ∙ first_here (Some (NotDatabase q)) (c ∷ []) r e
@@ -89,23 +90,23 @@ module _ (x : Image) (from made fresh p : ℕ) (at : p ≡ next_place x from fre
       some_none q h = cc
 
   pub way_maps : (r : Refusal) → need_cause maps ≡ Some r → way_cause x from made fresh ≡ Some r
-  way_maps r e = cause_is ∙ some_first maps (first_not x (asks (p == 1048576))) r (when (p == 1048576) (Full 1048576)) e
+  way_maps r e = cause_is ∙ some_first maps (first_not x (asks (p == most_pages))) r (when (p == most_pages) (Full most_pages)) e
 
   module _ (none : need_cause maps ≡ None) where
-    rest_is : way_cause x from made fresh ≡ first_cause (need_cause (first_not x (asks (p == 1048576))) ∷ when (p == 1048576) (Full 1048576) ∷ [])
+    rest_is : way_cause x from made fresh ≡ first_cause (need_cause (first_not x (asks (p == most_pages))) ∷ when (p == most_pages) (Full most_pages) ∷ [])
     rest_is =
-        cause_is ∙ ap (λ (o : Option ℕ). first_cause (need_cause (first_behind o (first_not x (asks (p == 1048576)))) ∷ when (p == 1048576) (Full 1048576) ∷ [])) (need_none maps none)
-        ∙ ap (λ (o : Option ℕ). first_cause (need_cause o ∷ when (p == 1048576) (Full 1048576) ∷ [])) (behind_none (first_not x (asks (p == 1048576))))
+        cause_is ∙ ap (λ (o : Option ℕ). first_cause (need_cause (first_behind o (first_not x (asks (p == most_pages)))) ∷ when (p == most_pages) (Full most_pages) ∷ [])) (need_none maps none)
+        ∙ ap (λ (o : Option ℕ). first_cause (need_cause o ∷ when (p == most_pages) (Full most_pages) ∷ [])) (behind_none (first_not x (asks (p == most_pages))))
 
-    pub way_full : p ≡ 1048576 → way_cause x from made fresh ≡ Some (Full 1048576)
+    pub way_full : p ≡ most_pages → way_cause x from made fresh ≡ Some (Full most_pages)
     way_full end =
-        rest_is ∙ ap (λ (t : Bool). first_cause (need_cause (first_not x (asks t)) ∷ when t (Full 1048576) ∷ [])) (eq_yes p 1048576 end)
-        ∙ first_next (need_cause (first_not x [])) (Some (Full 1048576) ∷ []) (ap need_cause (first_none x)) ∙ first_here (Some (Full 1048576)) [] (Full 1048576) refl
+        rest_is ∙ ap (λ (t : Bool). first_cause (need_cause (first_not x (asks t)) ∷ when t (Full most_pages) ∷ [])) (eq_yes p most_pages end)
+        ∙ first_next (need_cause (first_not x [])) (Some (Full most_pages) ∷ []) (ap need_cause (first_none x)) ∙ first_here (Some (Full most_pages)) [] (Full most_pages) refl
 
-    module _ (other : p ≢ 1048576) where
+    module _ (other : p ≢ most_pages) where
       asked_is : way_cause x from made fresh ≡ first_cause (need_cause (first_behind (first_not x (map_entry_on x from made p)) (first_not x (own_entry_on x made p))) ∷ None ∷ [])
       asked_is =
-          rest_is ∙ ap (λ (t : Bool). first_cause (need_cause (first_not x (asks t)) ∷ when t (Full 1048576) ∷ [])) (eq_no p 1048576 other)
+          rest_is ∙ ap (λ (t : Bool). first_cause (need_cause (first_not x (asks t)) ∷ when t (Full most_pages) ∷ [])) (eq_no p most_pages other)
           ∙ ap (λ (o : Option ℕ). first_cause (need_cause o ∷ None ∷ [])) (first_append x (map_entry_on x from made p) (own_entry_on x made p))
 
       pub way_map_entry : (r : Refusal) → need_cause (first_not x (map_entry_on x from made p)) ≡ Some r → way_cause x from made fresh ≡ Some r

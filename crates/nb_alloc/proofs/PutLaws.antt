@@ -5,8 +5,9 @@ use Rattle.std.proofs.lemmas.Bool.{and_parts, and_left, or_left, or_right, or_fr
 use Rattle.std.proofs.lemmas.Bool.Decides.{leb_tells}
 use Rattle.std.proofs.lemmas.List.{length-set}
 use Rattle.nb_fields.specs.Bytes.{bytes_of, with_part}
-use Rattle.nb_fields.specs.Places.{entries_in, scn_place, is_scn_place}
+use Rattle.nb_fields.specs.Places.{entries_in, scn_place, is_scn_place, most_pages}
 use Rattle.nb_fields.specs.Page.{kind_of, stamped}
+use Rattle.nb_fields.specs.Kinds.{scn_kind}
 use Rattle.nb_host.specs.declared.refusals.Refusal.{Refusal}
 use Rattle.nb_host.specs.declared.refusals.Refusal.TheVariants.{NotDatabase, Full}
 use Rattle.nb_model.specs.Image.{Page, Image, page_at, image_size, image_scn, with_page}
@@ -47,20 +48,20 @@ none_of false r e = cc
 -- what holds where the SCN entry of a page has to be raised and may be
 pub record MayRaise (image : Image) (p : ℕ) : Type 0 where
   pub has : has_entry image p ≡ true
-  pub is : is_kind image 10 (scn_page_of image p) ≡ true
+  pub is : is_kind image scn_kind (scn_page_of image p) ≡ true
   pub low : scn_page_of image p < length image
-  pub kind : kind_of (page_at image (scn_page_of image p)) ≡ 10
+  pub kind : kind_of (page_at image (scn_page_of image p)) ≡ scn_kind
   pub below : scn_entry image p < image_scn image
 
 pub may_raise : (image : Image) (p : ℕ) → entry_cause image p ≡ None → must_raise image p ≡ true → MayRaise image p
 may_raise image p none must =
     let both = and_parts (has_entry image p) (nat_lt (scn_entry image p) (image_scn image)) must in
-    let is : is_kind image 10 (scn_page_of image p) ≡ true = none_of (is_kind image 10 (scn_page_of image p)) (NotDatabase (scn_page_of image p)) (sym (there both.0) ∙ none) in
-    let parts = is_kind-parts image 10 (scn_page_of image p) is in
+    let is : is_kind image scn_kind (scn_page_of image p) ≡ true = none_of (is_kind image scn_kind (scn_page_of image p)) (NotDatabase (scn_page_of image p)) (sym (there both.0) ∙ none) in
+    let parts = is_kind-parts image scn_kind (scn_page_of image p) is in
     record { has = both.0; is = is; low = parts.0; kind = parts.1; below = ltb-true (scn_entry image p) (image_scn image) both.1 }
   where
-    there : has_entry image p ≡ true → entry_cause image p ≡ not_kind image 10 (scn_page_of image p)
-    there e = ap (λ (t : Bool). elim t as (λ z. Cause) [ true ↦ not_kind image 10 (scn_page_of image p) | false ↦ None ]) e
+    there : has_entry image p ≡ true → entry_cause image p ≡ not_kind image scn_kind (scn_page_of image p)
+    there e = ap (λ (t : Bool). elim t as (λ z. Cause) [ true ↦ not_kind image scn_kind (scn_page_of image p) | false ↦ None ]) e
 
 -- what stands after the head of the SCN page then
 abbrev raised_payload : Image → ℕ → List ℕ
@@ -79,7 +80,7 @@ pub record Keeps (image : Image) (p : ℕ) (after : Image) : Type 0 where
   pub first : page_at after 0 ≡ page_at image 0
   pub same : page_at after p ≡ page_at image p
 
-pub one_raise_keeps : (b : Base) (p : ℕ) → kind_of (page_at b.image p) ≢ 10 → 0 < entries_in (image_size b.image) → MayRaise b.image p → Keeps b.image p (on_base (raise_stroke b.image p) b).image
+pub one_raise_keeps : (b : Base) (p : ℕ) → kind_of (page_at b.image p) ≢ scn_kind → 0 < entries_in (image_size b.image) → MayRaise b.image p → Keeps b.image p (on_base (raise_stroke b.image p) b).image
 one_raise_keeps b p plain some may =
     let q : ℕ = scn_page_of b.image p in
     let low : q ≤ length b.image = omega (arith, may.low) in
@@ -91,7 +92,7 @@ one_raise_keeps b p plain some may =
       same = stroke_other b q p _ low other;
     }
 
-pub raise_keeps : (b : Base) (p : ℕ) → entry_cause b.image p ≡ None → kind_of (page_at b.image p) ≢ 10 → 0 < entries_in (image_size b.image) → Keeps b.image p (base_after b (raise_strokes b.image p)).image
+pub raise_keeps : (b : Base) (p : ℕ) → entry_cause b.image p ≡ None → kind_of (page_at b.image p) ≢ scn_kind → 0 < entries_in (image_size b.image) → Keeps b.image p (base_after b (raise_strokes b.image p)).image
 unfolding base_after
 raise_keeps b p none plain some = by (must_raise b.image p) refl
   where
@@ -130,10 +131,10 @@ other-with image p size same some is = entry_by image p false (or_from (p == 0) 
 
 -- a page without an entry is never refused for it, nor raised
 pub no_entry_cause : (image : Image) (p : ℕ) → has_entry image p ≡ false → entry_cause image p ≡ None
-no_entry_cause image p e = ap (λ (t : Bool). elim t as (λ z. Cause) [ true ↦ not_kind image 10 (scn_page_of image p) | false ↦ None ]) e
+no_entry_cause image p e = ap (λ (t : Bool). elim t as (λ z. Cause) [ true ↦ not_kind image scn_kind (scn_page_of image p) | false ↦ None ]) e
 
-pub entry_cause-is : (image : Image) (p : ℕ) → has_entry image p ≡ true → entry_cause image p ≡ not_kind image 10 (scn_page_of image p)
-entry_cause-is image p e = ap (λ (t : Bool). elim t as (λ z. Cause) [ true ↦ not_kind image 10 (scn_page_of image p) | false ↦ None ]) e
+pub entry_cause-is : (image : Image) (p : ℕ) → has_entry image p ≡ true → entry_cause image p ≡ not_kind image scn_kind (scn_page_of image p)
+entry_cause-is image p e = ap (λ (t : Bool). elim t as (λ z. Cause) [ true ↦ not_kind image scn_kind (scn_page_of image p) | false ↦ None ]) e
 
 pub not_raised : (image : Image) (p : ℕ) → has_entry image p ≡ false → must_raise image p ≡ false
 not_raised image p e = and_left (has_entry image p) (nat_lt (scn_entry image p) (image_scn image)) e
@@ -173,7 +174,7 @@ module _ (image : Image) (p : ℕ) where
   unfolding raised
   raised-one e = ap (λ (t : Bool). elim t as (λ z. Draft) [ true ↦ entry_raised p (needs 10 q before) | false ↦ before ]) e
 
-  needs-broken : is_kind image 10 q ≡ false → needs 10 q before ≡ refused
+  needs-broken : is_kind image scn_kind q ≡ false → needs 10 q before ≡ refused
   unfolding needs
   needs-broken e = ap (λ (t : Bool). elim t as (λ z. Draft) [ true ↦ before | false ↦ refused ]) e
 
@@ -217,18 +218,18 @@ written_draft b p none must =
     let old : old_page q b.image ≡ page_at b.image q = old_page-is q b.image may.low in
     let one : raise_strokes b.image p ≡ raise_stroke b.image p ∷ [] = raised_once b.image p must in
     record {
-      strokes = ap (λ (x : Page). page q (stamped x 10 payload (image_scn b.image) q) ∷ []) old ∙ sym one;
+      strokes = ap (λ (x : Page). page q (stamped x scn_kind payload (image_scn b.image) q) ∷ []) old ∙ sym one;
       broken = refl;
       full = refl;
-      image = ap (λ (x : Page). with_page q (merged_page q (stamped x 10 payload (image_scn b.image) q) b.image) b.image) old
-          ∙ sym (one_stroke b q (stamped (page_at b.image q) 10 payload (image_scn b.image) q)) ∙ ap (λ (ss : List Stroke). (base_after b ss).image) (sym one);
+      image = ap (λ (x : Page). with_page q (merged_page q (stamped x scn_kind payload (image_scn b.image) q) b.image) b.image) old
+          ∙ sym (one_stroke b q (stamped (page_at b.image q) scn_kind payload (image_scn b.image) q)) ∙ ap (λ (ss : List Stroke). (base_after b ss).image) (sym one);
     }
 
 pub draft_raised : (b : Base) (p : ℕ) → entry_cause b.image p ≡ None → Raises b p (raised p (drafted b.image))
 draft_raised b p none = by (has_entry b.image p) (nat_lt (scn_entry b.image p) (image_scn b.image)) refl refl
   where
-    is : (has_entry b.image p ≡ true) → is_kind b.image 10 (scn_page_of b.image p) ≡ true
-    is e = none_of (is_kind b.image 10 (scn_page_of b.image p)) (NotDatabase (scn_page_of b.image p)) (sym (entry_cause-is b.image p e) ∙ none)
+    is : (has_entry b.image p ≡ true) → is_kind b.image scn_kind (scn_page_of b.image p) ≡ true
+    is e = none_of (is_kind b.image scn_kind (scn_page_of b.image p)) (NotDatabase (scn_page_of b.image p)) (sym (entry_cause-is b.image p e) ∙ none)
 
     by : (has low : Bool) → has_entry b.image p ≡ has → nat_lt (scn_entry b.image p) (image_scn b.image) ≡ low → Raises b p (raised p (drafted b.image))
     by false low e f = subst (Raises b p) (sym (raised-none b.image p e)) (kept_draft b p (not_raised b.image p e))
@@ -271,7 +272,7 @@ module _ (b : Base) (p kind : ℕ) (payload : List ℕ) where
   made_full = refl
 
   -- its strokes
-  pub put_strokes : p < length b.image → kind_of (page_at b.image p) ≢ 10 → 0 < entries_in (image_size b.image) → entry_cause b.image p ≡ None
+  pub put_strokes : p < length b.image → kind_of (page_at b.image p) ≢ scn_kind → 0 < entries_in (image_size b.image) → entry_cause b.image p ≡ None
       → made.strokes ≡ raise_strokes b.image p ++ put_stroke b.image p kind payload ∷ []
   put_strokes low plain some none =
       let d = draft_raised b p none in
@@ -286,11 +287,11 @@ module _ (b : Base) (p kind : ℕ) (payload : List ℕ) where
   put_form none = ap lowest_broken (made_broken ∙ (draft_raised b p none).broken) ∙ none_broken
 
   pub put_room : entry_cause b.image p ≡ None → no_room made ≡ None
-  put_room none = ap (λ (t : Bool). when t (Full 1048576)) (made_full ∙ (draft_raised b p none).full)
+  put_room none = ap (λ (t : Bool). when t (Full most_pages)) (made_full ∙ (draft_raised b p none).full)
 
   -- or its SCN page isn't of the form
   pub put_refused : (r : Refusal) → entry_cause b.image p ≡ Some r → not_of_form made ≡ Some r
-  put_refused r cause = by (has_entry b.image p) (is_kind b.image 10 q) refl refl
+  put_refused r cause = by (has_entry b.image p) (is_kind b.image scn_kind q) refl refl
     where
       q : ℕ
       q = scn_page_of b.image p
@@ -298,7 +299,7 @@ module _ (b : Base) (p kind : ℕ) (payload : List ℕ) where
       none_some : None ≡ Some r → ⊥
       none_some e = cc
 
-      by : (has is : Bool) → has_entry b.image p ≡ has → is_kind b.image 10 q ≡ is → not_of_form made ≡ Some r
+      by : (has is : Bool) → has_entry b.image p ≡ has → is_kind b.image scn_kind q ≡ is → not_of_form made ≡ Some r
       by false is e f = absurd (none_some (sym (no_entry_cause b.image p e) ∙ cause))
       by true true e f = absurd (none_some (ap (λ (t : Bool). when (not t) (NotDatabase q)) (sym f) ∙ sym (entry_cause-is b.image p e) ∙ cause))
       by true false e f =

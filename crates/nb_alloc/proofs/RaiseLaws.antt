@@ -7,6 +7,7 @@ use Rattle.nb_fields.specs.Page.{head_of, page_of, with_payload, stamped, genera
 use Rattle.nb_fields.specs.Payloads.{text_payload, entry_of}
 use Rattle.nb_fields.proofs.NumberLemmas.{length-bytes_of}
 use Rattle.nb_fields.proofs.PartLemmas.{length-with_part, number_in-with_part_other}
+use Rattle.nb_fields.specs.Kinds.{raw_kind, scn_kind}
 use Rattle.nb_page.proofs.StampLemmas.{stamped-with_payload}
 use Rattle.nb_model.specs.Image.{Page, Image, page_at, image_size, image_scn}
 use Rattle.nb_model.specs.Strokes.{page}
@@ -22,18 +23,18 @@ stamped-some old kind payload scn number other = rw other refl
 
 -- the page that a text and then a stamp make
 pub texted : (old written new : Page) (text : List ℕ) (code scn p : ℕ) → written ≡ with_payload old (text_payload text) → new ≡ stamped written code (drop 16 written) scn p → code ≡ 8
-    → length text ≤ 200 → 1024 ≤ length old → new ≡ stamped old 8 (text_payload text) scn p
+    → length text ≤ 200 → 1024 ≤ length old → new ≡ stamped old raw_kind (text_payload text) scn p
 unfolding text_payload
 texted old written new text code scn p put stamp raw short long =
-    stamp ∙ ap (λ (k : ℕ). stamped written k (drop 16 written) scn p) raw ∙ ap (λ (x : Page). stamped x 8 (drop 16 x) scn p) put
+    stamp ∙ ap (λ (k : ℕ). stamped written k (drop 16 written) scn p) raw ∙ ap (λ (x : Page). stamped x raw_kind (drop 16 x) scn p) put
     ∙ stamped-with_payload old 8 (text_payload text) scn p (omega (arith, length-append (bytes_of 2 (length text)) text, length-bytes_of 2 (length text), short, long))
 
 -- so it is that of the stroke
 pub raw_page : (image : Image) (old written new : Page) (text : List ℕ) (code scn p : ℕ) → written ≡ with_payload old (text_payload text) → new ≡ stamped written code (drop 16 written) scn p → code ≡ 8
-    → length text ≤ 200 → 1024 ≤ length old → old ≡ page_at image p → scn ≡ image_scn image → new ≡ stamped (page_at image p) 8 (text_payload text) (image_scn image) p
+    → length text ≤ 200 → 1024 ≤ length old → old ≡ page_at image p → scn ≡ image_scn image → new ≡ stamped (page_at image p) raw_kind (text_payload text) (image_scn image) p
 raw_page image old written new text code scn p put stamp raw short long is now =
     texted old written new text code scn p put stamp raw short long
-    ∙ ap (λ (x : Page). stamped x 8 (text_payload text) scn p) is ∙ ap (λ n. stamped (page_at image p) 8 (text_payload text) n p) now
+    ∙ ap (λ (x : Page). stamped x raw_kind (text_payload text) scn p) is ∙ ap (λ n. stamped (page_at image p) raw_kind (text_payload text) n p) now
 
 -- a stamp goes by the old generation and length
 pub stamped-over : (old other : Page) (kind : ℕ) (payload : List ℕ) (scn number : ℕ) → length other ≡ length old → generation_of other ≡ generation_of old
@@ -44,14 +45,14 @@ stamped-over old other kind payload scn number long generation =
 
 -- the page that a raised entry and then a stamp make
 pub entered : (old raised new : Page) (index scn code place : ℕ) → raised ≡ with_part (entry_place index) (bytes_of 4 scn) old → new ≡ stamped raised code (drop 16 raised) scn place → code ≡ 10
-    → index < entries_in (length old) → new ≡ stamped old 10 (drop 16 (with_part (32 + 4 * index) (bytes_of 4 scn) old)) scn place
+    → index < entries_in (length old) → new ≡ stamped old scn_kind (drop 16 (with_part (32 + 4 * index) (bytes_of 4 scn) old)) scn place
 entered old raised new index scn code place put stamp inventory inside =
     let with_entry : Page = with_part (32 + 4 * index) (bytes_of 4 scn) old in
     let four : length (bytes_of 4 scn) ≡ 4 = length-bytes_of 4 scn in
     let room : 32 + 4 * index + 4 ≤ length old = omega (arith, inside) in
     let long : length with_entry ≡ length old = length-with_part (32 + 4 * index) (bytes_of 4 scn) old (omega (arith, room, four)) in
     let generation : generation_of with_entry ≡ generation_of old = number_in-with_part_other (32 + 4 * index) 4 4 4 (bytes_of 4 scn) old four room (inr (omega arith)) in
-    stamp ∙ ap (λ (k : ℕ). stamped raised k (drop 16 raised) scn place) inventory ∙ ap (λ (x : Page). stamped x 10 (drop 16 x) scn place) put
+    stamp ∙ ap (λ (k : ℕ). stamped raised k (drop 16 raised) scn place) inventory ∙ ap (λ (x : Page). stamped x scn_kind (drop 16 x) scn place) put
     ∙ stamped-over old with_entry 10 (drop 16 with_entry) scn place long generation
 
 -- the page at which the entry of page p stands, and the entry's place there
@@ -70,7 +71,7 @@ entry-is image size p index old same number long inside is =
 -- so the raise is that of the stroke
 pub raise_stroke-is : (image : Image) (size p k index place scn : ℕ) (old new : Page) → size ≡ image_size image → k ≡ p / entries_in size → index ≡ p % entries_in size → place ≡ scn_place size k
     → size ≡ length old → index < entries_in size → old ≡ page_at image (scn_page_of image p) → scn ≡ image_scn image → scn_entry image p < image_scn image
-    → (slice_index (entries old) index < scn → new ≡ stamped old 10 (drop 16 (with_part (32 + 4 * index) (bytes_of 4 scn) old)) scn place) → page place new ≡ raise_stroke image p
+    → (slice_index (entries old) index < scn → new ≡ stamped old scn_kind (drop 16 (with_part (32 + 4 * index) (bytes_of 4 scn) old)) scn place) → page place new ≡ raise_stroke image p
 raise_stroke-is image size p k index place scn old new same cover number at long inside is now below made =
     let q : ℕ = scn_page_of image p in
     let old_entry : slice_index (entries old) index ≡ scn_entry image p = entry-is image size p index old same number long inside is in
@@ -78,7 +79,7 @@ raise_stroke-is image size p k index place scn old new same cover number at long
     let there : place ≡ q = scn_page-is image size k p place same cover at in
     let entry : index ≡ p % entries_in (image_size image) = number ∙ ap (λ n. p % entries_in n) same in
     ap (λ (x : Page). page place x) (made low)
-    ∙ ap (λ n. page n (stamped old 10 (drop 16 (with_part (32 + 4 * index) (bytes_of 4 scn) old)) scn n)) there
-    ∙ ap (λ (x : Page). page q (stamped x 10 (drop 16 (with_part (32 + 4 * index) (bytes_of 4 scn) x)) scn q)) is
-    ∙ ap (λ n. page q (stamped (page_at image q) 10 (drop 16 (with_part (32 + 4 * n) (bytes_of 4 scn) (page_at image q))) scn q)) entry
-    ∙ ap (λ n. page q (stamped (page_at image q) 10 (drop 16 (with_part (32 + 4 * entry_number image p) (bytes_of 4 n) (page_at image q))) n q)) now
+    ∙ ap (λ n. page n (stamped old scn_kind (drop 16 (with_part (32 + 4 * index) (bytes_of 4 scn) old)) scn n)) there
+    ∙ ap (λ (x : Page). page q (stamped x scn_kind (drop 16 (with_part (32 + 4 * index) (bytes_of 4 scn) x)) scn q)) is
+    ∙ ap (λ n. page q (stamped (page_at image q) scn_kind (drop 16 (with_part (32 + 4 * n) (bytes_of 4 scn) (page_at image q))) scn q)) entry
+    ∙ ap (λ n. page q (stamped (page_at image q) scn_kind (drop 16 (with_part (32 + 4 * entry_number image p) (bytes_of 4 n) (page_at image q))) n q)) now

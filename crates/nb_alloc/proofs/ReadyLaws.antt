@@ -18,6 +18,7 @@ use Rattle.nb_model.specs.Way.{maps_up_to}
 use Rattle.nb_model.proofs.FirstFree.{free_from_is}
 use Rattle.nb_model.proofs.PlaceOrder.{div_rises}
 use Rattle.nb_fields.proofs.PlaceLemmas.{bits-least}
+use Rattle.nb_fields.specs.Kinds.{inventory_kind}
 use Rattle.nb_base.specs.Takes.{IsNoRefusal}
 use Rattle.nb_model.proofs.NewSound.{inventory_before}
 use Rattle.nb_model.proofs.SoundLaws.{scn_page_there, scn_place_some}
@@ -41,9 +42,9 @@ entry_ready x p has = by (has_entry x p) refl
     by true e = entry_cause-is x p e ∙ ap (λ (t : Bool). when (not t) (NotDatabase (scn_page_of x p))) (has e)
 
 -- so are its inventory page and the SCN page of that
-pub mark_ready : (x : Image) (p : ℕ) → is_kind x 2 (inventory_of x p) ≡ true → HasItsEntry x (inventory_of x p) → mark_cause x p ≡ None
+pub mark_ready : (x : Image) (p : ℕ) → is_kind x inventory_kind (inventory_of x p) ≡ true → HasItsEntry x (inventory_of x p) → mark_cause x p ≡ None
 mark_ready x p map entry =
-    first_next (not_kind x 2 (inventory_of x p)) (entry_cause x (inventory_of x p) ∷ []) (ap (λ (t : Bool). when (not t) (NotDatabase (inventory_of x p))) map)
+    first_next (not_kind x inventory_kind (inventory_of x p)) (entry_cause x (inventory_of x p) ∷ []) (ap (λ (t : Bool). when (not t) (NotDatabase (inventory_of x p))) map)
     ∙ first_next (entry_cause x (inventory_of x p)) [] (entry_ready x (inventory_of x p) entry) ∙ first_none
 
 -- they are so after a page that is put there
@@ -58,7 +59,7 @@ mark_put x p kind payload shaped ready own five below room =
     let long = on.long in
     let longer : length x ≤ length y = omega (arith, long) in
     mark_ready y p
-    (subst (λ (q : ℕ). is_kind y 2 q ≡ true) (sym same) (kind_moves x y 2 i longer (on.kinds i (λ e. absurd (omega (arith, e, before)))) ready.map))
+    (subst (λ (q : ℕ). is_kind y inventory_kind q ≡ true) (sym same) (kind_moves x y 2 i longer (on.kinds i (λ e. absurd (omega (arith, e, before)))) ready.map))
     (subst (HasItsEntry y) (sym same)
     (scn_page_moves x y i on.size (kind_moves x y 10 (scn_page_of x i) longer (on.kinds (scn_page_of x i) (λ e. absurd (omega (arith, e, entry_before))))) ready.map_entry))
 
@@ -141,7 +142,7 @@ module _ (image : Image) (p : ℕ) where
   abbrev after : Image
   after = (round image p).image
 
-  pub next_map : GoesOn image p → not_kind after 2 (inventory_of after (behind image p)) ≡ None
+  pub next_map : GoesOn image p → not_kind after inventory_kind (inventory_of after (behind image p)) ≡ None
   next_map on = ap (λ (t : Bool). when (not t) (NotDatabase (inventory_of after (behind image p)))) (on.maps (behind image p / bits_in (image_size after)) (omega arith))
 
   pub next_maps : IsTrue (is_page_size (image_size after)) → GoesOn image p → need_cause (first_not after (maps_up_to after (p + 1) (behind image p))) ≡ None

@@ -3,7 +3,8 @@ use Rattle.std.proofs.Common.{◌≡◌, ◌≢◌, inl, inr, ℕ, zero, suc, �
 use Rattle.std.specs.Prelude.{Bool, true, false, ◌==◌, Option, Some, None}
 use Rattle.std.proofs.lemmas.Bool.{true≢false}
 use Rattle.std.proofs.lemmas.Bool.Decides.{eqb_tells}
-use Rattle.nb_fields.specs.Places.{bits_in, inventory_place, is_system_place}
+use Rattle.nb_fields.specs.Places.{bits_in, inventory_place, is_system_place, most_pages}
+use Rattle.nb_fields.specs.Kinds.{inventory_kind}
 use Rattle.nb_host.specs.declared.refusals.Refusal.TheVariants.{NotDatabase, Full}
 use Rattle.nb_model.specs.Image.{Image, image_size}
 use Rattle.nb_model.specs.Strokes.{Stroke}
@@ -23,16 +24,16 @@ pub record Tried (image : Image) (left : ℕ) : Type 0 where
   pub rest : ℕ
   pub left_is : left ≡ suc rest
   pub none : first_not image (needed_at image (lowest_free image)) ≡ None
-  pub page : (lowest_free image == 1048576) ≡ false
+  pub page : (lowest_free image == most_pages) ≡ false
 
 pub tried : (kind : ℕ) (payload : ℕ → List ℕ) (image : Image) (left : ℕ) → draft_cause (new_within left kind payload (drafted image)).0 ≡ None → Tried image left
 unfolding new_within
-tried kind payload image zero clear = absurd (cause_some (Full 1048576) (sym (full_cause image) ∙ clear))
-tried kind payload image (suc left) clear = by (first_not image (needed_at image (lowest_free image))) (lowest_free image == 1048576) refl refl
+tried kind payload image zero clear = absurd (cause_some (Full most_pages) (sym (full_cause image) ∙ clear))
+tried kind payload image (suc left) clear = by (first_not image (needed_at image (lowest_free image))) (lowest_free image == most_pages) refl refl
   where
-    by : (o : Option ℕ) (t : Bool) → first_not image (needed_at image (lowest_free image)) ≡ o → (lowest_free image == 1048576) ≡ t → Tried image (suc left)
+    by : (o : Option ℕ) (t : Bool) → first_not image (needed_at image (lowest_free image)) ≡ o → (lowest_free image == most_pages) ≡ t → Tried image (suc left)
     by (Some q) t e f = absurd (cause_some (NotDatabase q) (sym (ap (λ (y : Draft × ℕ). draft_cause y.0) (try_stops image kind payload left q e) ∙ stopped_cause image q) ∙ clear))
-    by None true e f = absurd (cause_some (Full 1048576) (sym (ap (λ (y : Draft × ℕ). draft_cause y.0) (try_full image kind payload left e f) ∙ full_cause image) ∙ clear))
+    by None true e f = absurd (cause_some (Full most_pages) (sym (ap (λ (y : Draft × ℕ). draft_cause y.0) (try_full image kind payload left e f) ∙ full_cause image) ∙ clear))
     by None false e f = record { rest = left; left_is = refl; none = e; page = f }
 
 -- What is left to make of it, where its search comes to that place next.
@@ -40,13 +41,13 @@ pub record Rest (kind : ℕ) (payload : ℕ → List ℕ) (image : Image) (place
   pub left : ℕ
   pub shaped : IsShaped image
   pub long : 5 ≤ length image
-  pub most : length image ≤ 1048576
+  pub most : length image ≤ most_pages
   pub at : lowest_free image ≡ place
   pub clear : draft_cause (new_within left kind payload (drafted image)).0 ≡ None
   pub strokes_are : (new_within left kind payload (drafted image)).0.strokes ≡ strokes
   pub number_is : (new_within left kind payload (drafted image)).1 ≡ number
 
-pub all_left : (kind : ℕ) (payload : ℕ → List ℕ) (image : Image) (place : ℕ) → IsSearchable image → length image ≤ 1048576 → place ≡ lowest_free image → draft_cause (new_of kind payload image).0 ≡ None
+pub all_left : (kind : ℕ) (payload : ℕ → List ℕ) (image : Image) (place : ℕ) → IsSearchable image → length image ≤ most_pages → place ≡ lowest_free image → draft_cause (new_of kind payload image).0 ≡ None
     → Rest kind payload image place (new_of kind payload image).0.strokes (new_of kind payload image).1
 all_left kind payload image place may most at clear = record { left = length image + 4; shaped = may.shaped; long = may.long; most = most; at = sym at; clear = clear; strokes_are = refl; number_is = refl }
 
@@ -54,8 +55,8 @@ all_left kind payload image place may most at clear = record { left = length ima
 pub record Here (image : Image) (place : ℕ) : Type 0 where
   pub five : 5 ≤ place
   pub there : place ≤ length image
-  pub below : place < 1048576
-  pub maps : (k : ℕ) → k ≤ place / bits_in (image_size image) → is_kind image 2 (inventory_place (image_size image) k) ≡ true
+  pub below : place < most_pages
+  pub maps : (k : ℕ) → k ≤ place / bits_in (image_size image) → is_kind image inventory_kind (inventory_place (image_size image) k) ≡ true
   pub ready : IsReady image place
 
 pub here : (kind : ℕ) (payload : ℕ → List ℕ) (image : Image) (place : ℕ) (strokes : List Stroke) (number : ℕ) → Rest kind payload image place strokes number → Here image place
@@ -76,8 +77,8 @@ here kind payload image place strokes number rest = subst (Here image) rest.at (
     all : Met image (lowest_free image)
     all = met image (lowest_free image) try.none
 
-    other : lowest_free image ≢ 1048576
-    other = elim (eqb_tells (lowest_free image) 1048576) [ inl w ↦ absurd (true≢false (sym w.0 ∙ try.page)) | inr w ↦ w.1 ]
+    other : lowest_free image ≢ most_pages
+    other = elim (eqb_tells (lowest_free image) most_pages) [ inl w ↦ absurd (true≢false (sym w.0 ∙ try.page)) | inr w ↦ w.1 ]
 
 -- a round at a system place
 pub record Onward (kind : ℕ) (payload : ℕ → List ℕ) (image : Image) (place : ℕ) (strokes : List Stroke) (number : ℕ) : Type 0 where

@@ -5,6 +5,8 @@ use Rattle.std.proofs.lemmas.Bool.{true≢false}
 use Rattle.std.proofs.lemmas.List.{append-nil}
 use Rattle.nb_fields.specs.Bytes.{bytes_of, with_part}
 use Rattle.nb_fields.specs.Payloads.{data_payload}
+use Rattle.nb_fields.specs.Places.{most_pages}
+use Rattle.nb_fields.specs.Kinds.{data_kind, scn_kind}
 use Rattle.nb_host.specs.declared.faults.Fault.{Fault}
 use Rattle.nb_host.specs.declared.faults.Fault.TheVariants.{Refused, Device, Memory}
 use Rattle.nb_host.specs.declared.refusals.Refusal.{Refusal}
@@ -73,7 +75,7 @@ judged_clear d none = by d.broken d.full refl refl none
     by [] false a b e = (a, b)
     by [] true a b e = absurd (full_none e)
       where
-        full_none : Some (Full 1048576) ≡ None → ⊥
+        full_none : Some (Full most_pages) ≡ None → ⊥
         full_none h = cc
     by (p ∷ ps) full a b e = absurd (page_none e)
       where
@@ -145,8 +147,8 @@ twice_judged S T result fault image from made fresh before after first second pa
 -- with the page that is written after them
 pub behind_judged : (d : Draft) (old : Image) (b : Behind) (number : ℕ) → b.page ≡ number → IsKnown old d.image b → judged (page_if b.lost b.page ++ (page_if (nat_lt 0 b.entry) b.entry ++ d.broken)) d.full ≡ behind_cause d number
 behind_judged d old b number is known =
-    ap (λ (ps : List ℕ). judged (ps ++ (page_if (nat_lt 0 b.entry) b.entry ++ d.broken)) d.full) (sym (other_page d.image 5 b.page b.lost known.kind))
-    ∙ ap (λ (ps : List ℕ). judged (other_kind d.image 5 b.page ++ (ps ++ d.broken)) d.full) (sym known.entry) ∙ ap (behind_cause d) is
+    ap (λ (ps : List ℕ). judged (ps ++ (page_if (nat_lt 0 b.entry) b.entry ++ d.broken)) d.full) (sym (other_page d.image data_kind b.page b.lost known.kind))
+    ∙ ap (λ (ps : List ℕ). judged (other_kind d.image data_kind b.page ++ (ps ++ d.broken)) d.full) (sym known.entry) ∙ ap (behind_cause d) is
 
 -- The pages that a page's write finds not to be of their kind.
 entry_raised_broken : (p : ℕ) (d : Draft) → (entry_raised p d).broken ≡ d.broken
@@ -169,7 +171,7 @@ raised_broken : (p : ℕ) (d : Draft) → (raised p d).broken ≡ entry_broken d
 unfolding raised
 raised_broken p d = by (has_entry d.image p)
   where
-    by : (t : Bool) → (elim t as (λ z. Draft) [ true ↦ entry_raised p (needs 10 (scn_page_of d.image p) d) | false ↦ d ]).broken ≡ elim t as (λ z. List ℕ) [ true ↦ other_kind d.image 10 (scn_page_of d.image p) | false ↦ [] ] ++ d.broken
+    by : (t : Bool) → (elim t as (λ z. Draft) [ true ↦ entry_raised p (needs 10 (scn_page_of d.image p) d) | false ↦ d ]).broken ≡ elim t as (λ z. List ℕ) [ true ↦ other_kind d.image scn_kind (scn_page_of d.image p) | false ↦ [] ] ++ d.broken
     by true = entry_raised_broken p (needs 10 (scn_page_of d.image p) d) ∙ needs_broken 10 (scn_page_of d.image p) d
     by false = refl
 
@@ -178,10 +180,10 @@ unfolding put written wrote
 put_broken p kind payload d = raised_broken p d
 
 -- so a draft with a page written after it isn't made
-wants_judged : (p : ℕ) (payload : List ℕ) (d : Draft) → draft_cause (wants d.image 5 p (put p 5 payload d)) ≡ behind_cause d p
+wants_judged : (p : ℕ) (payload : List ℕ) (d : Draft) → draft_cause (wants d.image 5 p (put p data_kind payload d)) ≡ behind_cause d p
 wants_judged p payload d =
-    ap (λ (ps : List ℕ). judged (other_kind d.image 5 p ++ ps) (put p 5 payload d).full) (put_broken p 5 payload d)
-    ∙ ap (judged (other_kind d.image 5 p ++ (entry_broken d.image p ++ d.broken))) (put_full p 5 payload d)
+    ap (λ (ps : List ℕ). judged (other_kind d.image data_kind p ++ ps) (put p data_kind payload d).full) (put_broken p data_kind payload d)
+    ∙ ap (judged (other_kind d.image data_kind p ++ (entry_broken d.image p ++ d.broken))) (put_full p data_kind payload d)
 
 pub grown_judged : (chain : Chain) (pages slots : List ℕ) (d : Draft) → draft_cause (grown chain pages slots d).0 ≡ behind_cause (new_page 5 (λ p. data_payload 0 (owner_of chain) slots) d).0 (last_of pages)
 unfolding grown
@@ -196,7 +198,7 @@ slot_judged p slot bytes d = wants_judged p (drop 16 (with_part (32 + 256 * slot
 -- Nothing keeps a draft from being made, nor page p from being written after it.
 pub record IsFreeBehind (d : Draft) (p : ℕ) : Type 0 where
   pub clear : draft_cause d ≡ None
-  pub kind : is_kind d.image 5 p ≡ true
+  pub kind : is_kind d.image data_kind p ≡ true
   pub entry : entry_cause d.image p ≡ None
 
 judged_empty : (pages : List ℕ) (full : Bool) → judged pages full ≡ None → (pages ≡ []) × (full ≡ false)
@@ -204,7 +206,7 @@ unfolding first_cause lowest_broken
 judged_empty [] false none = (refl, refl)
 judged_empty [] true none = absurd (full_none none)
   where
-    full_none : Some (Full 1048576) ≡ None → ⊥
+    full_none : Some (Full most_pages) ≡ None → ⊥
     full_none h = cc
 judged_empty (p ∷ ps) full none = absurd (page_none none)
   where
@@ -232,7 +234,7 @@ none_broken x kind p none = by (is_kind x kind p) refl none
 pub no_entry_broken : (x : Image) (p : ℕ) → entry_broken x p ≡ [] → entry_cause x p ≡ None
 no_entry_broken x p none = by (has_entry x p) refl none
   where
-    by : (t : Bool) → has_entry x p ≡ t → elim t as (λ z. List ℕ) [ true ↦ other_kind x 10 (scn_page_of x p) | false ↦ [] ] ≡ [] → entry_cause x p ≡ None
+    by : (t : Bool) → has_entry x p ≡ t → elim t as (λ z. List ℕ) [ true ↦ other_kind x scn_kind (scn_page_of x p) | false ↦ [] ] ≡ [] → entry_cause x p ≡ None
     by false e h = no_entry_cause x p e
     by true e h = entry_cause-is x p e ∙ ap (λ (t : Bool). when (not t) (NotDatabase (scn_page_of x p))) (none_broken x 10 (scn_page_of x p) h)
 
@@ -242,8 +244,8 @@ nothing_judged = refl
 
 pub free_behind : (d : Draft) (p : ℕ) → behind_cause d p ≡ None → IsFreeBehind d p
 free_behind d p none =
-    let all = judged_empty (other_kind d.image 5 p ++ (entry_broken d.image p ++ d.broken)) d.full none in
-    let page = both_empty (other_kind d.image 5 p) (entry_broken d.image p ++ d.broken) all.0 in
+    let all = judged_empty (other_kind d.image data_kind p ++ (entry_broken d.image p ++ d.broken)) d.full none in
+    let page = both_empty (other_kind d.image data_kind p) (entry_broken d.image p ++ d.broken) all.0 in
     let entry = both_empty (entry_broken d.image p) d.broken page.1 in
     record {
       clear = ap (λ (ps : List ℕ). judged ps d.full) entry.1 ∙ ap (λ (t : Bool). judged [] t) all.1 ∙ nothing_judged;
@@ -306,12 +308,12 @@ entry_lowest x p = by (has_entry x p) refl
     at false = refl
 
     by : (t : Bool) → has_entry x p ≡ t → lowest_broken (entry_broken x p) ≡ entry_cause x p
-    by false e = ap (λ (t : Bool). lowest_broken (elim t as (λ z. List ℕ) [ true ↦ other_kind x 10 (scn_page_of x p) | false ↦ [] ])) e ∙ sym (no_entry_cause x p e)
-    by true e = ap (λ (t : Bool). lowest_broken (elim t as (λ z. List ℕ) [ true ↦ other_kind x 10 (scn_page_of x p) | false ↦ [] ])) e ∙ at (is_kind x 10 (scn_page_of x p)) ∙ sym (entry_cause-is x p e)
+    by false e = ap (λ (t : Bool). lowest_broken (elim t as (λ z. List ℕ) [ true ↦ other_kind x scn_kind (scn_page_of x p) | false ↦ [] ])) e ∙ sym (no_entry_cause x p e)
+    by true e = ap (λ (t : Bool). lowest_broken (elim t as (λ z. List ℕ) [ true ↦ other_kind x scn_kind (scn_page_of x p) | false ↦ [] ])) e ∙ at (is_kind x scn_kind (scn_page_of x p)) ∙ sym (entry_cause-is x p e)
 
 pub slot_alone : (image : Image) (p slot : ℕ) (bytes : Slot) → draft_cause (put_slot p slot bytes (drafted image)) ≡ entry_cause image p
 unfolding put_slot
 slot_alone image p slot bytes =
     let payload : List ℕ = drop 16 (with_part (32 + 256 * slot) bytes (page_at image p)) in
-    ap (λ (ps : List ℕ). judged ps (put p 5 payload (drafted image)).full) (put_broken p 5 payload (drafted image) ∙ append-nil (entry_broken image p))
-    ∙ ap (judged (entry_broken image p)) (put_full p 5 payload (drafted image)) ∙ ap (λ (c : Cause). first_cause (c ∷ None ∷ [])) (entry_lowest image p) ∙ none_behind (entry_cause image p)
+    ap (λ (ps : List ℕ). judged ps (put p data_kind payload (drafted image)).full) (put_broken p data_kind payload (drafted image) ∙ append-nil (entry_broken image p))
+    ∙ ap (judged (entry_broken image p)) (put_full p data_kind payload (drafted image)) ∙ ap (λ (c : Cause). first_cause (c ∷ None ∷ [])) (entry_lowest image p) ∙ none_behind (entry_cause image p)

@@ -7,6 +7,7 @@ use Rattle.std.proofs.lemmas.List.{length-take, take_at}
 use Rattle.nb_fields.specs.Places.{bits_in, inventory_place}
 use Rattle.nb_fields.specs.Page.{kind_of}
 use Rattle.nb_fields.specs.Payloads.{bit_of, text_length, text_of}
+use Rattle.nb_fields.specs.Kinds.{inventory_kind, raw_kind}
 use Rattle.nb_host.specs.declared.refusals.Refusal.{Refusal}
 use Rattle.nb_host.specs.declared.refusals.Refusal.TheVariants.{NotDatabase, PageRange, NotAllocated, SystemPage, Access, TextLong}
 use Rattle.nb_page.specs.declared.page.PageHead.{PageHead}
@@ -85,15 +86,15 @@ inventory_place_is image size p place k at number same =
 
 -- The inventory page of page p was read and is of the form, and the bit of page p there is that one.
 pub record ReadsBit (image : Image) (p : ℕ) (map : Page) (bit : ℕ) : Type 0 where
-  pub form : not_kind image 2 (inventory_of image p) ≡ None
+  pub form : not_kind image inventory_kind (inventory_of image p) ≡ None
   pub page : map ≡ page_at image (inventory_of image p)
   pub number : bit ≡ bit_number image p
   pub inside : bit < bits_in (length map)
 
 pub reads_bit : (image : Image) (size p place : ℕ) (map : Page) (bit : ℕ) → place ≡ inventory_of image p → size ≡ image_size image → length map ≡ size
-    → not_kind image 2 place ≡ None → map ≡ page_at image place → bit ≡ p % bits_in size → bit < bits_in size → ReadsBit image p map bit
+    → not_kind image inventory_kind place ≡ None → map ≡ page_at image place → bit ≡ p % bits_in size → bit < bits_in size → ReadsBit image p map bit
 reads_bit image size p place map bit there same long form page number inside = record {
-  form = ap (λ (q : ℕ). not_kind image 2 q) (sym there) ∙ form;
+  form = ap (λ (q : ℕ). not_kind image inventory_kind q) (sym there) ∙ form;
   page = page ∙ ap (page_at image) there;
   number = number ∙ ap (λ (n : ℕ). p % bits_in n) same;
   inside = subst (λ (n : ℕ). bit < bits_in n) (sym long) inside;
@@ -121,13 +122,13 @@ module _ (image : Image) (p : ℕ) where
       eq_no _ 1 (λ e. absurd (omega (arith, e, read)))
 
   abbrev untaken : List Cause
-  untaken = not_kind image 2 (inventory_of image p) ∷ when (is_free_page image p) (NotAllocated p) ∷ []
+  untaken = not_kind image inventory_kind (inventory_of image p) ∷ when (is_free_page image p) (NotAllocated p) ∷ []
 
   abbrev system : Cause
-  system = when (not (kind_of (page_at image p) == 8)) (SystemPage p)
+  system = when (not (kind_of (page_at image p) == raw_kind)) (SystemPage p)
 
   -- why page p isn't taken, and where it is
-  pub taken_other : (r : Refusal) → not_kind image 2 (inventory_of image p) ≡ Some r → not_taken image p ≡ Some r
+  pub taken_other : (r : Refusal) → not_kind image inventory_kind (inventory_of image p) ≡ Some r → not_taken image p ≡ Some r
   taken_other r e = first_here _ _ r e
 
   pub taken_free : (map : Page) (bit : ℕ) → ReadsBit image p map bit → get_or (bits map) bit 0 ≢ 0 → not_taken image p ≡ Some (NotAllocated p)
@@ -148,10 +149,10 @@ module _ (image : Image) (p : ℕ) where
   pub raw_untaken : p < length image → (r : Refusal) → not_taken image p ≡ Some r → not_raw image p ≡ Some r
   raw_untaken low r e = not_raw-below low ∙ first_front untaken (system ∷ []) r e
 
-  pub raw_system : p < length image → not_taken image p ≡ None → kind_of (page_at image p) ≢ 8 → not_raw image p ≡ Some (SystemPage p)
+  pub raw_system : p < length image → not_taken image p ≡ None → kind_of (page_at image p) ≢ raw_kind → not_raw image p ≡ Some (SystemPage p)
   raw_system low taken other = not_raw-below low ∙ first_rest untaken (system ∷ []) taken ∙ first_here system [] _ (applies _ _ (ap not (eq_no _ 8 other)))
 
-  pub raw_is : p < length image → not_taken image p ≡ None → kind_of (page_at image p) ≡ 8 → not_raw image p ≡ None
+  pub raw_is : p < length image → not_taken image p ≡ None → kind_of (page_at image p) ≡ raw_kind → not_raw image p ≡ None
   raw_is low taken same = not_raw-below low ∙ first_rest untaken (system ∷ []) taken ∙ first_next system [] (rests _ _ (ap not (eq_yes _ 8 same))) ∙ first_none
 
 -- a text is no longer than the length before it

@@ -7,13 +7,14 @@ use Rattle.nb_change.proofs.ResultLaws.{passed_on}
 use Rattle.nb_state.specs.Does.{Tested}
 use Rattle.std.proofs.lemmas.Bool.{true≢false, eqb-true}
 use Rattle.std.proofs.lemmas.Bool.Decides.{eqb_tells, leb_tells}
-use Rattle.nb_fields.specs.Places.{is_page_size, bits_in, inventory_place, is_inventory_place, is_scn_place, is_system_place}
+use Rattle.nb_fields.specs.Places.{is_page_size, bits_in, inventory_place, is_inventory_place, is_scn_place, is_system_place, most_pages}
 use Rattle.nb_host.specs.declared.refusals.Refusal.{Refusal}
 use Rattle.nb_host.specs.declared.refusals.Refusal.TheVariants.{NotDatabase, Full}
 use Rattle.nb_model.specs.Image.{Image, image_size}
 use Rattle.nb_model.specs.Forms.{Draft, drafted, no_page, is_kind, is_free_page, inventory_of, put, take_page, lowest_free, free_from, system_kind, first_not, maps_from, needed_at, new_within, new_page}
 use Rattle.nb_model.specs.Causes.{when, first_cause, lowest_broken}
 use Rattle.nb_fields.proofs.PlaceLemmas.{bits-least}
+use Rattle.nb_fields.specs.Kinds.{inventory_kind, scn_kind}
 use Rattle.nb_model.proofs.DraftJoin.{joined_new}
 use Rattle.nb_model.proofs.NewSound.{plain_place, places_apart}
 use Rattle.nb_model.proofs.ReadLaws.{eq_yes}
@@ -41,7 +42,7 @@ pub stopped_cause : (x : Image) (q : ℕ) → draft_cause (record (drafted x) { 
 unfolding first_cause lowest_broken
 stopped_cause x q = refl
 
-pub full_cause : (x : Image) → draft_cause (no_page (drafted x)) ≡ Some (Full 1048576)
+pub full_cause : (x : Image) → draft_cause (no_page (drafted x)) ≡ Some (Full most_pages)
 unfolding first_cause lowest_broken
 full_cause x = refl
 
@@ -59,7 +60,7 @@ search_begins old start from made fresh way =
       rests = λ kind payload. record { cause = refl; image = refl; number = refl };
     }
 
-module _ (old start now : Image) (first from made fresh left : ℕ) (s : Searches old start now first from made fresh (suc left)) (most : length old ≤ 1048576) (p : ℕ) (at : p ≡ next_place old from fresh) where
+module _ (old start now : Image) (first from made fresh left : ℕ) (s : Searches old start now first from made fresh (suc left)) (most : length old ≤ most_pages) (p : ℕ) (at : p ≡ next_place old from fresh) where
   abbrev size : ℕ
   size = image_size old
 
@@ -93,19 +94,19 @@ module _ (old start now : Image) (first from made fresh left : ℕ) (s : Searche
   search_stops q kind payload e = (s.rests kind payload).cause ∙ ap (λ (x : Draft × ℕ). draft_cause x.0) (try_stops now kind payload left q (none_now (Some q) e)) ∙ stopped_cause now q
 
   -- or where no page is left.
-  pub search_full : (kind : ℕ) (payload : ℕ → List ℕ) → first_not old (needed_on old from made fresh p) ≡ None → p ≡ 1048576 → draft_cause (new_page kind payload (drafted start)).0 ≡ Some (Full 1048576)
+  pub search_full : (kind : ℕ) (payload : ℕ → List ℕ) → first_not old (needed_on old from made fresh p) ≡ None → p ≡ most_pages → draft_cause (new_page kind payload (drafted start)).0 ≡ Some (Full most_pages)
   search_full kind payload e end =
-      (s.rests kind payload).cause ∙ ap (λ (x : Draft × ℕ). draft_cause x.0) (try_full now kind payload left (none_now None e) (ap (λ (n : ℕ). n == 1048576) lowest ∙ yes end)) ∙ full_cause now
+      (s.rests kind payload).cause ∙ ap (λ (x : Draft × ℕ). draft_cause x.0) (try_full now kind payload left (none_now None e) (ap (λ (n : ℕ). n == most_pages) lowest ∙ yes end)) ∙ full_cause now
     where
-      yes : p ≡ 1048576 → (p == 1048576) ≡ true
-      yes e = elim (eqb_tells p 1048576) [ inl w ↦ w.0 | inr w ↦ absurd (w.1 e) ]
+      yes : p ≡ most_pages → (p == most_pages) ≡ true
+      yes e = elim (eqb_tells p most_pages) [ inl w ↦ w.0 | inr w ↦ absurd (w.1 e) ]
 
   -- Then the image is as it was.
   pub stops_image : (q kind : ℕ) (payload : ℕ → List ℕ) → first_not old (needed_on old from made fresh p) ≡ Some q → (new_page kind payload (drafted start)).0.image ≡ now
   stops_image q kind payload e = (s.rests kind payload).image ∙ ap (λ (x : Draft × ℕ). x.0.image) (try_stops now kind payload left q (none_now (Some q) e))
 
-  pub full_image : (kind : ℕ) (payload : ℕ → List ℕ) → first_not old (needed_on old from made fresh p) ≡ None → p ≡ 1048576 → (new_page kind payload (drafted start)).0.image ≡ now
-  full_image kind payload e end = (s.rests kind payload).image ∙ ap (λ (x : Draft × ℕ). x.0.image) (try_full now kind payload left (none_now None e) (eq_yes (lowest_free now) 1048576 (lowest ∙ end)))
+  pub full_image : (kind : ℕ) (payload : ℕ → List ℕ) → first_not old (needed_on old from made fresh p) ≡ None → p ≡ most_pages → (new_page kind payload (drafted start)).0.image ≡ now
+  full_image kind payload e end = (s.rests kind payload).image ∙ ap (λ (x : Draft × ℕ). x.0.image) (try_full now kind payload left (none_now None e) (eq_yes (lowest_free now) most_pages (lowest ∙ end)))
 
   size_is : IsTrue (is_page_size size)
   size_is = subst (λ (n : ℕ). IsTrue (is_page_size n)) way.size way.shaped.size
@@ -113,9 +114,9 @@ module _ (old start now : Image) (first from made fresh left : ℕ) (s : Searche
   five_p : 5 ≤ p
   five_p = let five = way.five in omega (arith, five, from_p)
 
-  module _ (none : first_not old (needed_on old from made fresh p) ≡ None) (other : p ≢ 1048576) where
-    no : (lowest_free now == 1048576) ≡ false
-    no = ap (λ (n : ℕ). n == 1048576) lowest ∙ elim (eqb_tells p 1048576) [ inl w ↦ absurd (other w.1) | inr w ↦ w.0 ]
+  module _ (none : first_not old (needed_on old from made fresh p) ≡ None) (other : p ≢ most_pages) where
+    no : (lowest_free now == most_pages) ≡ false
+    no = ap (λ (n : ℕ). n == most_pages) lowest ∙ elim (eqb_tells p most_pages) [ inl w ↦ absurd (other w.1) | inr w ↦ w.0 ]
 
     all_met : Met now p
     all_met = met now p (same ∙ none)
@@ -123,22 +124,22 @@ module _ (old start now : Image) (first from made fresh left : ℕ) (s : Searche
     ready : IsReady now p
     ready = all_met.ready other
 
-    tested : (k : ℕ) → k ≤ p / bits_in size → is_kind now 2 (inventory_place size k) ≡ true
-    tested k le = subst (λ (n : ℕ). is_kind now 2 (inventory_place n k) ≡ true) way.size (all_met.maps k (subst (λ (n : ℕ). k ≤ p / bits_in n) (sym way.size) le))
+    tested : (k : ℕ) → k ≤ p / bits_in size → is_kind now inventory_kind (inventory_place size k) ≡ true
+    tested k le = subst (λ (n : ℕ). is_kind now inventory_kind (inventory_place n k) ≡ true) way.size (all_met.maps k (subst (λ (n : ℕ). k ≤ p / bits_in n) (sym way.size) le))
 
     before : (q : ℕ) → from ≤ q → q < p → is_free_page now q ≡ false
     before q low high = let five = way.five in found.before q (omega (arith, low, five)) high
 
-    scn_same : is_scn_place size p ≡ true → is_kind now 10 p ≡ is_kind old 10 p
+    scn_same : is_scn_place size p ≡ true → is_kind now scn_kind p ≡ is_kind old scn_kind p
     scn_same at = let low = way.made_before in way.entries p at (omega (arith, low, from_p))
 
-    map_same : is_inventory_place size p ≡ true → is_kind now 2 p ≡ is_kind old 2 p
+    map_same : is_inventory_place size p ≡ true → is_kind now inventory_kind p ≡ is_kind old inventory_kind p
     map_same at =
         let place : inventory_place size ((p + 1) / bits_in size) ≡ p = map_place_is size p is_size at in
         let low = way.fresh_before in
-        ap (is_kind now 2) (sym place)
+        ap (is_kind now inventory_kind) (sym place)
         ∙ way.ahead ((p + 1) / bits_in size) (div_rises from (p + 1) (bits_in size) (omega (arith, bits-least size is_size)) (omega (arith, from_p))) (λ e. absurd (omega (arith, e, place, low, from_p)))
-        ∙ ap (is_kind old 2) place
+        ∙ ap (is_kind old inventory_kind) place
       where
         is_size : IsTrue (is_page_size size)
         is_size = subst (λ (n : ℕ). IsTrue (is_page_size n)) way.size way.shaped.size
@@ -278,15 +279,15 @@ search_left old start now first from made fresh zero s = absurd (let enough = s.
 search_left old start now first from made fresh (suc left) s = (left, refl)
 
 -- at the last page that a database may have a new page needs the inventory pages alone
-needs_last : (x : Image) {size : ℕ} → first_not x (maps_from size (1048576 / bits_in size + 1) 0) ≡ None → size ≡ image_size x → first_not x (needed_at x 1048576) ≡ None
+needs_last : (x : Image) {size : ℕ} → first_not x (maps_from size (most_pages / bits_in size + 1) 0) ≡ None → size ≡ image_size x → first_not x (needed_at x most_pages) ≡ None
 unfolding needed_at
 needs_last x {size} none same =
-    first_append x (maps_from (image_size x) (1048576 / bits_in (image_size x) + 1) 0) []
-    ∙ ap (λ (o : Option ℕ). first_behind o (first_not x [])) (subst (λ (n : ℕ). first_not x (maps_from n (1048576 / bits_in n + 1) 0) ≡ None) same none)
+    first_append x (maps_from (image_size x) (most_pages / bits_in (image_size x) + 1) 0) []
+    ∙ ap (λ (o : Option ℕ). first_behind o (first_not x [])) (subst (λ (n : ℕ). first_not x (maps_from n (most_pages / bits_in n + 1) 0) ≡ None) same none)
     ∙ behind_none (first_not x []) ∙ first_none x
 
 -- Where the search ends at the last page that a database may have, no page is left.
-module _ (old start now : Image) (first from made fresh tries : ℕ) (s : Searches old start now first from made fresh tries) (most : length old ≤ 1048576) (end : from ≡ 1048576) where
+module _ (old start now : Image) (first from made fresh tries : ℕ) (s : Searches old start now first from made fresh tries) (most : length old ≤ most_pages) (end : from ≡ most_pages) where
   end_way : IsOnTheWay old now from made fresh
   end_way = s.way
 
@@ -299,10 +300,10 @@ module _ (old start now : Image) (first from made fresh tries : ℕ) (s : Search
   end_is_size : IsTrue (is_page_size end_size)
   end_is_size = subst (λ (n : ℕ). IsTrue (is_page_size n)) end_way.size end_way.shaped.size
 
-  end_at : next_place old from fresh ≡ 1048576
+  end_at : next_place old from fresh ≡ most_pages
   end_at = by (inventory_of old from == fresh)
     where
-      by : (t : Bool) → (elim t as (λ z. ℕ) [ true ↦ from | false ↦ free_from (length old - from) from old ]) ≡ 1048576
+      by : (t : Bool) → (elim t as (λ z. ℕ) [ true ↦ from | false ↦ free_from (length old - from) from old ]) ≡ most_pages
       by true = end
       by false =
           let none : length old - from ≡ 0 = omega (arith, most, end) in
@@ -311,13 +312,13 @@ module _ (old start now : Image) (first from made fresh tries : ℕ) (s : Search
           let high = found.high in
           omega (arith, low, high, none, end)
 
-  each : (k : ℕ) → 0 ≤ k → k < 0 + (from / w + 1) → is_kind now 2 (inventory_place end_size k) ≡ true
+  each : (k : ℕ) → 0 ≤ k → k < 0 + (from / w + 1) → is_kind now inventory_kind (inventory_place end_size k) ≡ true
   each k low high = elim (leb_tells (suc k) (from / w)) [
     | inl v ↦ end_way.maps k v.1
     | inr v ↦
         let last : from / w ≡ (from - 1) / w = ap (λ (n : ℕ). n / w) end ∙ last_map end_size end_is_size ∙ ap (λ (n : ℕ). n / w) (let e : 1048575 ≡ from - 1 = omega (arith, end) in e) in
         let same : k ≡ (from - 1) / w = omega (arith, v.1, high, last) in
-        ap (λ (n : ℕ). is_kind now 2 (inventory_place end_size n)) same ∙ ap (λ (n : ℕ). is_kind now 2 (inventory_place n ((from - 1) / bits_in n))) (sym end_way.size) ∙ end_way.read (omega (arith, end))
+        ap (λ (n : ℕ). is_kind now inventory_kind (inventory_place end_size n)) same ∙ ap (λ (n : ℕ). is_kind now inventory_kind (inventory_place n ((from - 1) / bits_in n))) (sym end_way.size) ∙ end_way.read (omega (arith, end))
   ]
 
   maps_none : first_not now (maps_from end_size (from / w + 1) 0) ≡ None
@@ -329,29 +330,29 @@ module _ (old start now : Image) (first from made fresh tries : ℕ) (s : Search
       sym (needs_same old now from made fresh end_way (next_place old from fresh) (omega (arith, same)) refl)
       ∙ ap (λ (n : ℕ). first_not now (needed_at now n)) (end_at) ∙ needs_last now (ap (λ (n : ℕ). first_not now (maps_from end_size (n / w + 1) 0)) (sym end) ∙ maps_none) (sym end_way.size)
 
-  pub end_cause : way_cause old from made fresh ≡ Some (Full 1048576)
+  pub end_cause : way_cause old from made fresh ≡ Some (Full most_pages)
   end_cause =
-      ap (λ (o : Option ℕ). first_cause (need_cause o ∷ when (next_place old from fresh == 1048576) (Full 1048576) ∷ [])) end_none
-      ∙ ap (λ (n : ℕ). first_cause (None ∷ when (n == 1048576) (Full 1048576) ∷ [])) end_at
-      ∙ first_next None (Some (Full 1048576) ∷ []) refl ∙ first_here (Some (Full 1048576)) [] (Full 1048576) refl
+      ap (λ (o : Option ℕ). first_cause (need_cause o ∷ when (next_place old from fresh == most_pages) (Full most_pages) ∷ [])) end_none
+      ∙ ap (λ (n : ℕ). first_cause (None ∷ when (n == most_pages) (Full most_pages) ∷ [])) end_at
+      ∙ first_next None (Some (Full most_pages) ∷ []) refl ∙ first_here (Some (Full most_pages)) [] (Full most_pages) refl
 
 pub cause_some : (r : Refusal) → Some r ≡ None → ⊥
 cause_some r e = cc
 
 -- what the cause of a search tells
-way_none : (old : Image) (from made fresh p : ℕ) → p ≡ next_place old from fresh → way_cause old from made fresh ≡ None → (first_not old (needed_on old from made fresh p) ≡ None) × (p ≢ 1048576)
-way_none old from made fresh p at none = by (first_not old (needed_on old from made fresh p)) (p == 1048576) refl refl (subst (λ (n : ℕ). first_cause (need_cause (first_not old (needed_on old from made fresh n)) ∷ when (n == 1048576) (Full 1048576) ∷ []) ≡ None) (sym at) none)
+way_none : (old : Image) (from made fresh p : ℕ) → p ≡ next_place old from fresh → way_cause old from made fresh ≡ None → (first_not old (needed_on old from made fresh p) ≡ None) × (p ≢ most_pages)
+way_none old from made fresh p at none = by (first_not old (needed_on old from made fresh p)) (p == most_pages) refl refl (subst (λ (n : ℕ). first_cause (need_cause (first_not old (needed_on old from made fresh n)) ∷ when (n == most_pages) (Full most_pages) ∷ []) ≡ None) (sym at) none)
   where
     Q : Option ℕ → Bool → Type 0
-    Q o t = first_cause (need_cause o ∷ when t (Full 1048576) ∷ []) ≡ None
+    Q o t = first_cause (need_cause o ∷ when t (Full most_pages) ∷ []) ≡ None
 
-    by : (o : Option ℕ) (t : Bool) → first_not old (needed_on old from made fresh p) ≡ o → (p == 1048576) ≡ t → Q o t → (first_not old (needed_on old from made fresh p) ≡ None) × (p ≢ 1048576)
-    by None false e f q = (e, λ same. absurd (elim (eqb_tells p 1048576) [ inl w ↦ true≢false (sym w.0 ∙ f) | inr w ↦ w.1 same ]))
-    by None true e f q = absurd (cause_some (Full 1048576) (sym (first_next None (Some (Full 1048576) ∷ []) refl ∙ first_here (Some (Full 1048576)) [] (Full 1048576) refl) ∙ q))
-    by (Some r) t e f q = absurd (cause_some (NotDatabase r) (sym (first_here (Some (NotDatabase r)) (when t (Full 1048576) ∷ []) (NotDatabase r) refl) ∙ q))
+    by : (o : Option ℕ) (t : Bool) → first_not old (needed_on old from made fresh p) ≡ o → (p == most_pages) ≡ t → Q o t → (first_not old (needed_on old from made fresh p) ≡ None) × (p ≢ most_pages)
+    by None false e f q = (e, λ same. absurd (elim (eqb_tells p most_pages) [ inl w ↦ true≢false (sym w.0 ∙ f) | inr w ↦ w.1 same ]))
+    by None true e f q = absurd (cause_some (Full most_pages) (sym (first_next None (Some (Full most_pages) ∷ []) refl ∙ first_here (Some (Full most_pages)) [] (Full most_pages) refl) ∙ q))
+    by (Some r) t e f q = absurd (cause_some (NotDatabase r) (sym (first_here (Some (NotDatabase r)) (when t (Full most_pages) ∷ []) (NotDatabase r) refl) ∙ q))
 
 -- it comes to the next page, or is refused as the draft is
-module _ (old start now : Image) (first from made fresh tries : ℕ) (s : Searches old start now first from made fresh tries) (most : length old ≤ 1048576) where
+module _ (old start now : Image) (first from made fresh tries : ℕ) (s : Searches old start now first from made fresh tries) (most : length old ≤ most_pages) where
   more : (left : ℕ) × (tries ≡ suc left)
   more = search_left old start now first from made fresh tries s
 
@@ -364,34 +365,34 @@ module _ (old start now : Image) (first from made fresh tries : ℕ) (s : Search
       record { now = now; from = from; made_before = made; fresh_before = fresh; left = more.0; search = again; at = at; none = parts.0; other = parts.1; made_is = made_is; fresh_is = fresh_is }
 
   pub refused_at : (r : Refusal) (kind : ℕ) (payload : ℕ → List ℕ) → way_cause old from made fresh ≡ Some r → draft_cause (new_page kind payload (drafted start)).0 ≡ Some r
-  refused_at r kind payload e = by (first_not old (needed_on old from made fresh (next_place old from fresh))) (next_place old from fresh == 1048576) refl refl e
+  refused_at r kind payload e = by (first_not old (needed_on old from made fresh (next_place old from fresh))) (next_place old from fresh == most_pages) refl refl e
     where
-      by : (o : Option ℕ) (t : Bool) → first_not old (needed_on old from made fresh (next_place old from fresh)) ≡ o → (next_place old from fresh == 1048576) ≡ t
-          → first_cause (need_cause o ∷ when t (Full 1048576) ∷ []) ≡ Some r → draft_cause (new_page kind payload (drafted start)).0 ≡ Some r
+      by : (o : Option ℕ) (t : Bool) → first_not old (needed_on old from made fresh (next_place old from fresh)) ≡ o → (next_place old from fresh == most_pages) ≡ t
+          → first_cause (need_cause o ∷ when t (Full most_pages) ∷ []) ≡ Some r → draft_cause (new_page kind payload (drafted start)).0 ≡ Some r
       by (Some q) t is end c =
-          search_stops old start now first from made fresh more.0 again most (next_place old from fresh) refl q kind payload is ∙ sym (first_here (Some (NotDatabase q)) (when t (Full 1048576) ∷ []) (NotDatabase q) refl) ∙ c
+          search_stops old start now first from made fresh more.0 again most (next_place old from fresh) refl q kind payload is ∙ sym (first_here (Some (NotDatabase q)) (when t (Full most_pages) ∷ []) (NotDatabase q) refl) ∙ c
       by None true is end c =
-          search_full old start now first from made fresh more.0 again most (next_place old from fresh) refl kind payload is (eqb-true (next_place old from fresh) 1048576 end)
-          ∙ sym (first_next None (Some (Full 1048576) ∷ []) refl ∙ first_here (Some (Full 1048576)) [] (Full 1048576) refl) ∙ c
+          search_full old start now first from made fresh more.0 again most (next_place old from fresh) refl kind payload is (eqb-true (next_place old from fresh) most_pages end)
+          ∙ sym (first_next None (Some (Full most_pages) ∷ []) refl ∙ first_here (Some (Full most_pages)) [] (Full most_pages) refl) ∙ c
       by None false is end c = absurd (none_is (sym (first_next None (None ∷ []) refl ∙ first_next None [] refl ∙ first_none_cause) ∙ c))
         where
           none_is : None ≡ Some r → ⊥
           none_is h = cc
 
   pub refused_image : (r : Refusal) (kind : ℕ) (payload : ℕ → List ℕ) → way_cause old from made fresh ≡ Some r → (new_page kind payload (drafted start)).0.image ≡ now
-  refused_image r kind payload e = by (first_not old (needed_on old from made fresh (next_place old from fresh))) (next_place old from fresh == 1048576) refl refl e
+  refused_image r kind payload e = by (first_not old (needed_on old from made fresh (next_place old from fresh))) (next_place old from fresh == most_pages) refl refl e
     where
-      by : (o : Option ℕ) (t : Bool) → first_not old (needed_on old from made fresh (next_place old from fresh)) ≡ o → (next_place old from fresh == 1048576) ≡ t
-          → first_cause (need_cause o ∷ when t (Full 1048576) ∷ []) ≡ Some r → (new_page kind payload (drafted start)).0.image ≡ now
+      by : (o : Option ℕ) (t : Bool) → first_not old (needed_on old from made fresh (next_place old from fresh)) ≡ o → (next_place old from fresh == most_pages) ≡ t
+          → first_cause (need_cause o ∷ when t (Full most_pages) ∷ []) ≡ Some r → (new_page kind payload (drafted start)).0.image ≡ now
       by (Some q) t is end c = stops_image old start now first from made fresh more.0 again most (next_place old from fresh) refl q kind payload is
-      by None true is end c = full_image old start now first from made fresh more.0 again most (next_place old from fresh) refl kind payload is (eqb-true (next_place old from fresh) 1048576 end)
+      by None true is end c = full_image old start now first from made fresh more.0 again most (next_place old from fresh) refl kind payload is (eqb-true (next_place old from fresh) most_pages end)
       by None false is end c = absurd (none_is (sym (first_next None (None ∷ []) refl ∙ first_next None [] refl ∙ first_none_cause) ∙ c))
         where
           none_is : None ≡ Some r → ⊥
           none_is h = cc
 
 -- At a page that isn't the place of a system page the search ends.
-module _ (old start : Image) (first place made fresh : ℕ) (h : AtPlace old start first place made fresh) (most : length old ≤ 1048576) where
+module _ (old start : Image) (first place made fresh : ℕ) (h : AtPlace old start first place made fresh) (most : length old ≤ most_pages) where
   module _ (plain : is_system_place (image_size old) place ≡ false) (kind : ℕ) (payload : ℕ → List ℕ) (short : length (payload place) ≤ 1008) where
     pub found_at : draft_cause (new_page kind payload (drafted start)).0 ≡ None
     found_at = search_found old start h.now first h.from h.made_before h.fresh_before h.left h.search most place h.at h.none h.other plain kind payload short
@@ -418,13 +419,13 @@ pub goes_begin : (old start : Image) (from made fresh : ℕ) (b : Behind) → Is
 goes_begin old start from made fresh b way = record { now = start; tries = length start + 4; search = search_begins old start from made fresh way; known = λ k. k }
 
 -- it comes to the next page,
-pub goes_at : (old start : Image) (first from made fresh : ℕ) (before after : Behind) → GoesTo old start first from made fresh before after → length old ≤ 1048576 → (place m f : ℕ) → place ≡ next_place old from fresh → way_cause old from made fresh ≡ None
+pub goes_at : (old start : Image) (first from made fresh : ℕ) (before after : Behind) → GoesTo old start first from made fresh before after → length old ≤ most_pages → (place m f : ℕ) → place ≡ next_place old from fresh → way_cause old from made fresh ≡ None
     → IsMadeBehind old place made m → IsFreshBehind old place fresh f → AtKnown old start first place m f before after
 unfolding at_place
 goes_at old start first from made fresh before after s most place m f at none made_is fresh_is = record { at = at_place old start s.now first from made fresh s.tries s.search most place m f at none made_is fresh_is; known = s.known }
 
 -- it goes on after the place of a system page,
-pub goes_on : (old start : Image) (first place made fresh : ℕ) (before after : Behind) → AtKnown old start first place made fresh before after → length old ≤ 1048576 → is_system_place (image_size old) place ≡ true
+pub goes_on : (old start : Image) (first place made fresh : ℕ) (before after : Behind) → AtKnown old start first place made fresh before after → length old ≤ most_pages → is_system_place (image_size old) place ≡ true
     → GoesTo old start first (place + 1) made fresh before (gone place made fresh after)
 goes_on old start first place made fresh before after k most system =
     let h : AtPlace old start first place made fresh = k.at in
@@ -436,7 +437,7 @@ goes_on old start first place made fresh before after k most system =
     }
 
 -- it ends with a page,
-pub goes_found : (old start : Image) (first place made fresh : ℕ) (before after : Behind) → AtKnown old start first place made fresh before after → length old ≤ 1048576 → is_system_place (image_size old) place ≡ false
+pub goes_found : (old start : Image) (first place made fresh : ℕ) (before after : Behind) → AtKnown old start first place made fresh before after → length old ≤ most_pages → is_system_place (image_size old) place ≡ false
     → Finds old start (place + 1) made fresh before after
 goes_found old start first place made fresh before after k most plain =
     let h : AtPlace old start first place made fresh = k.at in
@@ -449,7 +450,7 @@ goes_found old start first place made fresh before after k most plain =
     }
 
 -- or is refused.
-pub goes_refused : (old start : Image) (first from made fresh : ℕ) (before after : Behind) → GoesTo old start first from made fresh before after → length old ≤ 1048576 → (r : Refusal) → way_cause old from made fresh ≡ Some r → Refuses old start before after r
+pub goes_refused : (old start : Image) (first from made fresh : ℕ) (before after : Behind) → GoesTo old start first from made fresh before after → length old ≤ most_pages → (r : Refusal) → way_cause old from made fresh ≡ Some r → Refuses old start before after r
 goes_refused old start first from made fresh before after s most r e =
     let now : Image = s.now in
     let from_now : Searches old now now from from made fresh (length now + 4) = search_begins old now from made fresh s.search.way in
@@ -463,7 +464,7 @@ goes_refused old start first from made fresh before after s most r e =
     }
 
 pub goes_failed : (S T : Type 0) (result : Result T Fault) (fault : Fault) (old start : Image) (first from made fresh a b d : ℕ) (before after : Behind) → IsErr result × IsErrAnd result (λ f. f ≡ fault)
-    → GoesTo old start first from made fresh before after → length old ≤ 1048576 → Tested {T = S} (Err fault) (way_cause old from made fresh) → EndsBy result old start a b d before after
+    → GoesTo old start first from made fresh before after → length old ≤ most_pages → Tested {T = S} (Err fault) (way_cause old from made fresh) → EndsBy result old start a b d before after
 goes_failed S T result fault old start first from made fresh a b d before after passed s most tested =
     subst (λ (x : Result T Fault). EndsBy x old start a b d before after) (sym (passed_on result fault passed)) (by fault tested)
   where

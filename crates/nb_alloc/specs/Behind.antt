@@ -1,6 +1,7 @@
 -- A page that is written after a search for new pages: the page of a slot, or the last of a chain.
 use Rattle.std.specs.Prelude.{◌≡◌, ◌≢◌, ℕ, List, [], ◌∷◌, ◌++◌, Bool, true, false, not, ◌==◌, ◌||◌, nat_lt, Option, Some, None, Result, Ok, Err}
-use Rattle.nb_fields.specs.Places.{is_system_place}
+use Rattle.nb_fields.specs.Places.{is_system_place, most_pages}
+use Rattle.nb_fields.specs.Kinds.{inventory_kind, data_kind, scn_kind}
 use Rattle.nb_host.specs.declared.faults.Fault.{Fault}
 use Rattle.nb_host.specs.declared.faults.Fault.TheVariants.{Refused, Device, Memory}
 use Rattle.nb_host.specs.declared.refusals.Refusal.TheVariants.{Full}
@@ -12,19 +13,19 @@ use Rattle.nb_alloc.specs.declared.behind.Behind.{Behind}
 
 -- why new pages aren't made: these pages aren't of their kind, or no page is left
 abbrev pub judged : List ℕ → (full : Bool) → Cause
-judged pages full = first_cause (lowest_broken pages ∷ when full (Full 1048576) ∷ [])
+judged pages full = first_cause (lowest_broken pages ∷ when full (Full most_pages) ∷ [])
 
 -- the SCN page of page p, where page p has an entry and that isn't of its kind
 abbrev pub entry_broken : Image → ℕ → List ℕ
-entry_broken image p = elim (has_entry image p) [ true ↦ other_kind image 10 (scn_page_of image p) | false ↦ [] ]
+entry_broken image p = elim (has_entry image p) [ true ↦ other_kind image scn_kind (scn_page_of image p) | false ↦ [] ]
 
 -- the pages that aren't of their kind of those that change where page p is given back: its inventory page, and the SCN page of that
 abbrev pub give_broken : Image → ℕ → List ℕ
-give_broken image p = entry_broken image (inventory_of image p) ++ other_kind image 2 (inventory_of image p)
+give_broken image p = entry_broken image (inventory_of image p) ++ other_kind image inventory_kind (inventory_of image p)
 
 -- why a draft isn't made after which page p, a data page, is written
 abbrev pub behind_cause : Draft → ℕ → Cause
-behind_cause d p = judged (other_kind d.image 5 p ++ (entry_broken d.image p ++ d.broken)) d.full
+behind_cause d p = judged (other_kind d.image data_kind p ++ (entry_broken d.image p ++ d.broken)) d.full
 
 -- the page, if there is one
 abbrev pub page_in : Option ℕ → List ℕ
@@ -37,7 +38,7 @@ page_if counts p = elim counts [ true ↦ p ∷ [] | false ↦ [] ]
 
 -- What is known of the page: a search that began at one image has come to another.
 pub record IsKnown (old now : Image) (b : Behind) : Type 0 where
-  pub kind : is_kind now 5 b.page ≡ not b.lost
+  pub kind : is_kind now data_kind b.page ≡ not b.lost
   pub place : b.lost ≡ true → is_system_place (image_size old) b.page ≡ true
   pub entry : entry_broken now b.page ≡ page_if (nat_lt 0 b.entry) b.entry
   pub page : b.entry ≢ 0 → b.entry ≡ scn_page_of old b.page

@@ -1,6 +1,7 @@
 -- Data pages: what is read, made, written and given back of them.
 use Rattle.std.specs.Prelude.{ℕ, List, [], ◌∷◌, drop, Option, Some, None, Bool, not, ◌&&◌, ◌==◌}
 use Rattle.nb_fields.specs.Payloads.{data_payload}
+use Rattle.nb_fields.specs.Kinds.{data_kind}
 use Rattle.nb_host.specs.declared.refusals.Refusal.TheVariants.{NotDatabase}
 use Rattle.nb_model.specs.Image.{Page, Image, page_at}
 use Rattle.nb_model.specs.Forms.{Draft, drafted, is_kind, put, new_page}
@@ -12,7 +13,7 @@ use Rattle.nb_alloc.specs.Make.{new_of}
 
 -- page p is a data page of that owner
 abbrev pub is_data : Image → (owner p : ℕ) → Bool
-is_data image owner p = is_kind image 5 p && owner_in (page_at image p) == owner
+is_data image owner p = is_kind image data_kind p && owner_in (page_at image p) == owner
 
 abbrev pub not_data : Image → (owner p : ℕ) → Cause
 not_data image owner p = when (not (is_data image owner p)) (NotDatabase p)
@@ -36,11 +37,11 @@ second_data first second image = new_page 5 second (new_page 5 first (drafted im
 
 -- page p becomes a data page with what these bytes have after the head
 abbrev pub put_data : (p : ℕ) → Page → Image → Draft
-put_data p page image = put p 5 (drop 16 page) (drafted image)
+put_data p page image = put p data_kind (drop 16 page) (drafted image)
 
 -- why it doesn't: it is no data page yet, or its SCN page isn't of its kind
 abbrev pub data_cause : Image → ℕ → Cause
-data_cause image p = first_cause (not_kind image 5 p ∷ entry_cause image p ∷ [])
+data_cause image p = first_cause (not_kind image data_kind p ∷ entry_cause image p ∷ [])
 
 -- why a draft of new pages isn't made: the database is too short for it, or what it needs isn't of its kind, or no page is left
 abbrev pub unmade : Image → Draft → Cause

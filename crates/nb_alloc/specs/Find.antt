@@ -1,6 +1,7 @@
 -- The search for a free page, and for the place of a new page.
 use Rattle.std.specs.Prelude.{◌≡◌, ℕ, ◌-◌, ◌*◌, ◌/◌, ◌<◌, ◌≤◌, length, min, true, false, Option, Some, None, Result, Ok, Err}
 use Rattle.nb_fields.specs.Places.{bits_in, inventory_place, is_system_place}
+use Rattle.nb_fields.specs.Kinds.{inventory_kind}
 use Rattle.nb_host.specs.declared.faults.Fault.{Fault}
 use Rattle.nb_host.specs.declared.faults.Fault.TheVariants.{Refused, Device, Memory}
 use Rattle.nb_host.specs.declared.refusals.Refusal.TheVariants.{NotDatabase}
@@ -22,7 +23,7 @@ pub record IsFreeNear (image : Image) (from p : ℕ) : Type 0 where
 
 -- the inventory page of page p is of its kind, and is that map
 pub record IsMap (image : Image) (p : ℕ) (map : Page) : Type 0 where
-  pub kind : not_kind image 2 (inventory_of image p) ≡ None
+  pub kind : not_kind image inventory_kind (inventory_of image p) ≡ None
   pub page : map ≡ page_at image (inventory_of image p)
 
 -- A search ended at page p: that map is the inventory page of page p, or of the last page, if p is the length.
@@ -51,4 +52,4 @@ RefusedFor (Err Memory) cause = Unit
 
 -- the inventory pages from that of one page on, of pages up to another, are of their kind
 abbrev pub AreMaps : Image → (from p : ℕ) → Type 0
-AreMaps image from p = from < length image → (k : ℕ) → from / bits_in (image_size image) ≤ k → k * bits_in (image_size image) ≤ p → k * bits_in (image_size image) < length image → is_kind image 2 (inventory_place (image_size image) k) ≡ true
+AreMaps image from p = from < length image → (k : ℕ) → from / bits_in (image_size image) ≤ k → k * bits_in (image_size image) ≤ p → k * bits_in (image_size image) < length image → is_kind image inventory_kind (inventory_place (image_size image) k) ≡ true

@@ -1,7 +1,7 @@
 -- What making a new page does of an open database.
 use Rattle.std.specs.Prelude.{◌≡◌, ◌<◌, ◌≤◌, ℕ, ◌+◌, ◌-◌, ◌*◌, ◌/◌, List, [], ◌∷◌, ◌++◌, length, Bool, true, false, None, IsTrue}
 use Rattle.nb_fields.specs.Bytes.{bytes_of, with_part}
-use Rattle.nb_fields.specs.Places.{is_page_size, bits_in, inventory_place}
+use Rattle.nb_fields.specs.Places.{is_page_size, bits_in, inventory_place, most_pages}
 use Rattle.nb_fields.specs.Page.{stamped}
 use Rattle.nb_fields.specs.Payloads.{text_payload}
 use Rattle.nb_model.specs.Image.{Page, Image, image_size, image_scn}
@@ -57,7 +57,7 @@ pub record IsSupplied (image : Image) (p : ℕ) : Type 0 where
 
 -- After a system page that is made at page p the search goes on to a page that is left, by inventory pages of their kind.
 pub record GoesOn (image : Image) (p : ℕ) : Type 0 where
-  pub below : behind image p < 1048576
+  pub below : behind image p < most_pages
   pub maps : (k : ℕ) → k ≤ behind image p / bits_in (image_size (round image p).image) → is_kind (round image p).image 2 (inventory_place (image_size (round image p).image) k) ≡ true
 
 -- The search goes on after that place to the lowest free page, or the length. The map is the inventory page of that page, unless a system

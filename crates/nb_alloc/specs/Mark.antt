@@ -1,5 +1,6 @@
 -- A bit of an inventory page is written.
 use Rattle.std.specs.Prelude.{ℕ, List, [], ◌∷◌, drop, Bool, true, false}
+use Rattle.nb_fields.specs.Kinds.{inventory_kind}
 use Rattle.nb_model.specs.Image.{Image, page_at}
 use Rattle.nb_model.specs.Strokes.{Stroke}
 use Rattle.nb_model.specs.Forms.{drafted, set_bit, with_bit, inventory_of, bit_number}
@@ -12,7 +13,7 @@ bit_for free = elim free [ true ↦ 1 | false ↦ 0 ]
 
 -- the inventory page of page p isn't of the form, or the SCN page of that inventory page isn't
 abbrev pub mark_cause : Image → ℕ → Cause
-mark_cause image p = first_cause (not_kind image 2 (inventory_of image p) ∷ entry_cause image (inventory_of image p) ∷ [])
+mark_cause image p = first_cause (not_kind image inventory_kind (inventory_of image p) ∷ entry_cause image (inventory_of image p) ∷ [])
 
 -- an inventory page is written with one bit so
 abbrev pub bit_stroke : Image → (place index bit : ℕ) → Stroke

@@ -3,6 +3,7 @@ use Rattle.std.specs.Prelude.{◌≡◌, ℕ, ◌+◌, ◌*◌, List, [], ◌∷
 use Rattle.nb_fields.specs.Bytes.{bytes_of, with_part}
 use Rattle.nb_fields.specs.Page.{stamped}
 use Rattle.nb_fields.specs.Payloads.{text_payload}
+use Rattle.nb_fields.specs.Kinds.{inventory_kind, scn_kind}
 use Rattle.nb_host.specs.declared.faults.Fault.{Fault}
 use Rattle.nb_host.specs.declared.refusals.Refusal.TheVariants.{NotAllocated}
 use Rattle.nb_model.specs.Image.{Page, Image, page_at, image_scn}
@@ -13,11 +14,11 @@ use Rattle.nb_state.specs.Does.{Tested}
 
 -- page p, which is below the length, isn't taken, or nothing says so
 abbrev pub not_taken : Image → ℕ → Cause
-not_taken image p = first_cause (not_kind image 2 (inventory_of image p) ∷ when (is_free_page image p) (NotAllocated p) ∷ [])
+not_taken image p = first_cause (not_kind image inventory_kind (inventory_of image p) ∷ when (is_free_page image p) (NotAllocated p) ∷ [])
 
 -- page p has an SCN entry, and its SCN page isn't of the form
 abbrev pub entry_cause : Image → ℕ → Cause
-entry_cause image p = elim (has_entry image p) [ true ↦ not_kind image 10 (scn_page_of image p) | false ↦ None ]
+entry_cause image p = elim (has_entry image p) [ true ↦ not_kind image scn_kind (scn_page_of image p) | false ↦ None ]
 
 -- the SCN entry of page p, if it has one, is below the current SCN
 abbrev pub must_raise : Image → ℕ → Bool
@@ -27,7 +28,7 @@ must_raise image p = has_entry image p && nat_lt (scn_entry image p) (image_scn 
 abbrev pub raise_stroke : Image → ℕ → Stroke
 raise_stroke image p =
     let q : ℕ = scn_page_of image p in
-    page q (stamped (page_at image q) 10 (drop 16 (with_part (32 + 4 * entry_number image p) (bytes_of 4 (image_scn image)) (page_at image q))) (image_scn image) q)
+    page q (stamped (page_at image q) scn_kind (drop 16 (with_part (32 + 4 * entry_number image p) (bytes_of 4 (image_scn image)) (page_at image q))) (image_scn image) q)
 
 -- it is where it has to be raised
 abbrev pub raise_strokes : Image → ℕ → List Stroke

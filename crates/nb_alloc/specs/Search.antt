@@ -1,6 +1,6 @@
 -- How a search for new pages goes, on a database that nothing was written to yet: from image to image after what it went past.
 use Rattle.std.specs.Prelude.{◌≡◌, ◌≢◌, ℕ, suc, ◌+◌, ◌<◌, ◌≤◌, List, length, true, Some, None, Result, Ok, Err}
-use Rattle.nb_fields.specs.Places.{is_system_place}
+use Rattle.nb_fields.specs.Places.{is_system_place, most_pages}
 use Rattle.nb_host.specs.declared.faults.Fault.{Fault}
 use Rattle.nb_host.specs.declared.faults.Fault.TheVariants.{Refused, Device, Memory}
 use Rattle.nb_host.specs.declared.refusals.Refusal.{Refusal}
@@ -44,7 +44,7 @@ pub record AtPlace (old start : Image) (first place made fresh : ℕ) : Type 0 w
   pub search : Searches old start now first from made_before fresh_before (suc left)
   pub at : place ≡ next_place old from fresh_before
   pub none : first_not old (needed_on old from made_before fresh_before place) ≡ None
-  pub other : place ≢ 1048576
+  pub other : place ≢ most_pages
   pub made_is : IsMadeBehind old place made_before made
   pub fresh_is : IsFreshBehind old place fresh_before fresh
 

@@ -1,6 +1,8 @@
 // A page that is written after a search for new pages: the page of a slot, or the last of a chain. The search may make a system page where it
 // stands, or the SCN page with its entry, so whether it may be written is known once the search has ended.
 ghost use Rattle.std.specs.Prelude.{◌≡◌, ◌≢◌, ◌<◌, ◌++◌, ◌∷◌, ◌==◌, ◌||◌, ℕ, List, [], Bool, true, false, Some, None, IsTrue, IfErr, IfOk, OnOk, IfSome, Ok, length, nat_lt};
+ghost use Rattle.nb_fields.specs.Places.{most_pages};
+ghost use Rattle.nb_fields.specs.Kinds.{data_kind};
 ghost use Rattle.nb_host.specs.declared.faults.Fault.TheVariants.{Memory};
 ghost use Rattle.nb_host.specs.Causes.{CountsDevice, CountsFault};
 ghost use Rattle.nb_page.specs.Quiet.{Quiet};
@@ -51,8 +53,8 @@ impl Behind {
         requires map_room { length map.old ≡ store.old.files.page_size }
         requires scn_room { length scn_page.old ≡ store.old.files.page_size }
         requires low { 0 < number }
-        requires number { number < 1048576 }
-        ensures known { (t : Trail) → IsTrue H.tells → IsOpen (H.world host.old) store.old t → is_kind t.base.image 5 number ≡ true → IfOk result (IsKnown t.base.image t.base.image) }
+        requires number { number < most_pages }
+        ensures known { (t : Trail) → IsTrue H.tells → IsOpen (H.world host.old) store.old t → is_kind t.base.image data_kind number ≡ true → IfOk result (IsKnown t.base.image t.base.image) }
         ensures page { IfOk result (λ b. b.page ≡ number) }
         ensures map_room { length map.new ≡ length map.old }
         ensures scn_room { length scn_page.new ≡ length scn_page.old }
@@ -112,7 +114,7 @@ pub fn find_lacking<H: Host>(
     requires map_room { length map.old ≡ store.old.files.page_size }
     requires scn_room { length scn_page.old ≡ store.old.files.page_size }
     requires low { 0 < number }
-    requires number { number < 1048576 }
+    requires number { number < most_pages }
     ensures value { (t : Trail) → IsTrue H.tells → IsOpen (H.world host.old) store.old t → IfOk result (λ lacking. page_in lacking ≡ entry_broken t.base.image number) }
     ensures place { (t : Trail) → IsTrue H.tells → IsOpen (H.world host.old) store.old t → IfOk result (λ lacking. IfSome lacking (λ p. p ≡ scn_page_of t.base.image number)) }
     ensures map_room { length map.new ≡ length map.old }

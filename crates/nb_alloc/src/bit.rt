@@ -1,6 +1,8 @@
 // The bit of a page is written into its inventory page, whose SCN entry is raised first where that is below the current SCN.
 ghost use Rattle.std.specs.Prelude.{◌≡◌, ◌≢◌, ◌+◌, ◌/◌, ◌<◌, ◌≤◌, [], ◌∷◌, IsTrue, IfErr, Err, None, length};
-ghost use Rattle.nb_fields.specs.Places.{bits_in, inventory_place};
+ghost use Rattle.nb_fields.specs.Places.{bits_in, inventory_place, most_pages};
+ghost use Rattle.nb_fields.specs.States.{stalled_state};
+ghost use Rattle.nb_fields.specs.Kinds.{inventory_kind};
 ghost use Rattle.nb_host.specs.declared.faults.Fault.TheVariants.{Memory};
 ghost use Rattle.nb_host.specs.Causes.{CountsDevice, CountsRun};
 ghost use Rattle.nb_host.specs.Faults.{as_answer};
@@ -32,7 +34,7 @@ fn write_bit<H: Host>(
 ) -> Result<(), RunError>
     requires room { length map.old ≡ store.old.files.page_size }
     requires low { 0 < place }
-    requires high { place < 1048576 }
+    requires high { place < most_pages }
     requires inside { place < store.old.files.count }
     requires index { index < bits_in store.old.files.page_size }
     ensures makes { (t : Trail) → IsTrue H.tells → IsOpen (H.world host.old) store.old t → map.old ≡ page_at t.base.image place
@@ -41,7 +43,7 @@ fn write_bit<H: Host>(
     ensures room { length map.new ≡ length map.old }
     ensures reads { (H.world host.new).reads ≡ (H.world host.old).reads }
     ensures cause { CountsRun result (H.faults host.old) (H.faults host.new) }
-    ensures takes_none { store.old.files.state ≢ 1 → IfErr result (λ error. error ≢ RunError.Memory) }
+    ensures takes_none { store.old.files.state ≢ stalled_state → IfErr result (λ error. error ≢ RunError.Memory) }
     ensures on_memory { (t : Trail) → IsTrue H.tells → IsOpen (H.world host.old) store.old t → result ≡ Err RunError.Memory
         → Strikes (H.world host.old) (H.world host.new) (name_of store.old) t [] × IsOpen (H.world host.new) store.new t }
 {
@@ -61,17 +63,17 @@ pub(crate) fn put_map<H: Host>(
 ) -> Result<(), Fault>
     requires map_room { length map.old ≡ store.old.files.page_size }
     requires scn_room { length scn_page.old ≡ store.old.files.page_size }
-    requires number { number < 1048576 }
+    requires number { number < most_pages }
     requires inside { inventory_place store.old.files.page_size (number / bits_in store.old.files.page_size) < store.old.files.count }
     ensures tries { (t : Trail) → IsTrue H.tells → IsOpen (H.world host.old) store.old t
-        → not_kind t.base.image 2 (inventory_of t.base.image number) ≡ None → map.old ≡ page_at t.base.image (inventory_of t.base.image number)
+        → not_kind t.base.image inventory_kind (inventory_of t.base.image number) ≡ None → map.old ≡ page_at t.base.image (inventory_of t.base.image number)
         → Tries result (H.world host.old) (H.world host.new) store.old store.new t (mark_cause t.base.image number) (mark_strokes t.base.image number (bit_for free)) }
     ensures goes { Goes store.old store.new }
     ensures map_room { length map.new ≡ length map.old }
     ensures scn_room { length scn_page.new ≡ length scn_page.old }
     ensures once { IsTrue H.tells → (H.world host.new).reads ≤ (H.world host.old).reads + 1 }
     ensures cause { CountsDevice result (H.faults host.old) (H.faults host.new) }
-    ensures takes_none { store.old.files.state ≢ 1 → IfErr result (λ fault. fault ≢ Memory) }
+    ensures takes_none { store.old.files.state ≢ stalled_state → IfErr result (λ fault. fault ≢ Memory) }
     ensures on_memory { (t : Trail) → IsTrue H.tells → IsOpen (H.world host.old) store.old t → result ≡ Err Memory
         → StopsBehind (H.world host.old) (H.world host.new) store.old store.new t (raise_strokes t.base.image (inventory_of t.base.image number)) }
 {
@@ -98,7 +100,7 @@ pub fn mark<H: Host>(
 ) -> Result<(), Fault>
     requires map_room { length map.old ≡ store.old.files.page_size }
     requires scn_room { length scn_page.old ≡ store.old.files.page_size }
-    requires number { number < 1048576 }
+    requires number { number < most_pages }
     ensures tries { (t : Trail) → IsTrue H.tells → IsOpen (H.world host.old) store.old t
         → Tries result (H.world host.old) (H.world host.new) store.old store.new t (mark_cause t.base.image number) (mark_strokes t.base.image number (bit_for free)) }
     ensures goes { Goes store.old store.new }
@@ -106,7 +108,7 @@ pub fn mark<H: Host>(
     ensures scn_room { length scn_page.new ≡ length scn_page.old }
     ensures once { IsTrue H.tells → (H.world host.new).reads ≤ (H.world host.old).reads + 2 }
     ensures cause { CountsDevice result (H.faults host.old) (H.faults host.new) }
-    ensures takes_none { store.old.files.state ≢ 1 → IfErr result (λ fault. fault ≢ Memory) }
+    ensures takes_none { store.old.files.state ≢ stalled_state → IfErr result (λ fault. fault ≢ Memory) }
     ensures on_memory { (t : Trail) → IsTrue H.tells → IsOpen (H.world host.old) store.old t → result ≡ Err Memory
         → StopsBehind (H.world host.old) (H.world host.new) store.old store.new t (raise_strokes t.base.image (inventory_of t.base.image number)) }
 {

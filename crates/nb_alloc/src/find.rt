@@ -1,6 +1,7 @@
 // The search for a free page, which reads inventory pages one after the other. Nothing changes.
 ghost use Rattle.std.specs.Prelude.{◌≡◌, ◌≢◌, ◌+◌, ◌-◌, ◌*◌, ◌/◌, ◌<◌, ◌≤◌, true, IsTrue, IfErr, IfOk, OnOk, IfSome, MatchOption, length};
-ghost use Rattle.nb_fields.specs.Places.{is_page_size, bits_in, is_system_place};
+ghost use Rattle.nb_fields.specs.Places.{is_page_size, bits_in, is_system_place, most_pages};
+ghost use Rattle.nb_fields.specs.Kinds.{inventory_kind};
 ghost use Rattle.nb_host.specs.declared.faults.Fault.TheVariants.{Memory};
 ghost use Rattle.nb_host.specs.Causes.{CountsDevice};
 ghost use Rattle.nb_page.specs.Quiet.{Quiet};
@@ -26,7 +27,7 @@ pub const FIRST_TO_GIVE: u32 = 5;
 /// The first page after those that have their bits in one inventory page with page `number`.
 fn behind_bits(page_size: u32, number: u32) -> u32
     requires size { IsTrue (is_page_size page_size) }
-    requires number { number < 1048576 }
+    requires number { number < most_pages }
     ensures { result ≡ (number / bits_in page_size + 1) * bits_in page_size }
 {
     let (_, bit) = covers(page_size, number);
@@ -37,7 +38,7 @@ fn behind_bits(page_size: u32, number: u32) -> u32
 /// Whether a system page stands at page `number`.
 pub(crate) fn is_system_place(page_size: u32, number: u32) -> bool
     requires size { IsTrue (is_page_size page_size) }
-    requires number { number < 1048576 }
+    requires number { number < most_pages }
     ensures { result ≡ is_system_place page_size number }
 {
     nb_pip::is_place(page_size, number) || nb_scn::is_place(page_size, number)
@@ -47,7 +48,7 @@ pub(crate) fn is_system_place(page_size: u32, number: u32) -> bool
 /// the inventory page of the page before is the last that it read.
 fn was_read(page_size: u32, from: u32, number: u32, count: u32) -> bool
     requires size { IsTrue (is_page_size page_size) }
-    requires number { number < 1048576 }
+    requires number { number < most_pages }
     ensures { (image : Image) (map : Page) → page_size ≡ image_size image → count ≡ length image → EndsAt image from number map → result ≡ true → IsMap image number map }
 {
     let (_, bit) = covers(page_size, number);
@@ -64,8 +65,8 @@ fn free_near<H: Host>(
 ) -> Result<Option<u32>, Fault>
     requires room { length map.old ≡ store.old.files.page_size }
     requires from { from < store.old.files.count }
-    requires most { from < 1048576 }
-    ensures reads { (t : Trail) → IsTrue H.tells → IsOpen (H.world host.old) store.old t → Reads result t.base.image (not_kind t.base.image 2 (inventory_of t.base.image from)) (inventory_of t.base.image from) map.new }
+    requires most { from < most_pages }
+    ensures reads { (t : Trail) → IsTrue H.tells → IsOpen (H.world host.old) store.old t → Reads result t.base.image (not_kind t.base.image inventory_kind (inventory_of t.base.image from)) (inventory_of t.base.image from) map.new }
     ensures found { (t : Trail) → IsTrue H.tells → IsOpen (H.world host.old) store.old t
         → IfOk result (λ found. MatchOption found (AreTaken t.base.image from ((from / bits_in store.old.files.page_size + 1) * bits_in store.old.files.page_size)) (IsFreeNear t.base.image from)) }
     ensures not_before { IfOk result (λ found. IfSome found (λ page. from ≤ page)) }
@@ -102,13 +103,13 @@ pub(crate) fn next_free<H: Host>(
     map: &mut InventoryPage,
 ) -> Result<u32, Fault>
     requires room { length map.old ≡ store.old.files.page_size }
-    requires from { from ≤ 1048576 }
+    requires from { from ≤ most_pages }
     ensures value { (t : Trail) → IsTrue H.tells → IsOpen (H.world host.old) store.old t → IfOk result (λ page. page ≡ free_from (length t.base.image - from) from t.base.image) }
     ensures map { (t : Trail) → IsTrue H.tells → IsOpen (H.world host.old) store.old t → IfOk result (λ page. EndsAt t.base.image from page map.new) }
     ensures refused { (t : Trail) → IsTrue H.tells → IsOpen (H.world host.old) store.old t → RefusedFor result (need_cause (first_not t.base.image (maps_up_to t.base.image from (free_from (length t.base.image - from) from t.base.image)))) }
     ensures maps { (t : Trail) → IsTrue H.tells → IsOpen (H.world host.old) store.old t → IfOk result (λ page. AreMaps t.base.image from page) }
     ensures not_before { IfOk result (λ page. from ≤ page) }
-    ensures most { IfOk result (λ page. page ≤ 1048576) }
+    ensures most { IfOk result (λ page. page ≤ most_pages) }
     ensures within { from ≤ store.old.files.count → IfOk result (λ page. page ≤ store.old.files.count) }
     ensures room { length map.new ≡ length map.old }
     ensures open { (t : Trail) → IsTrue H.tells → IsOpen (H.world host.old) store.old t → IsOpen (H.world host.new) store.new t }
@@ -141,8 +142,8 @@ pub(crate) fn hold_map<H: Host>(
     map: &mut InventoryPage,
 ) -> Result<(), Fault>
     requires room { length map.old ≡ store.old.files.page_size }
-    requires number { number < 1048576 }
-    ensures test { (t : Trail) → IsTrue H.tells → IsOpen (H.world host.old) store.old t → EndsAt t.base.image from number map.old → Tested result (not_kind t.base.image 2 (inventory_of t.base.image number)) }
+    requires number { number < most_pages }
+    ensures test { (t : Trail) → IsTrue H.tells → IsOpen (H.world host.old) store.old t → EndsAt t.base.image from number map.old → Tested result (not_kind t.base.image inventory_kind (inventory_of t.base.image number)) }
     ensures map { (t : Trail) → IsTrue H.tells → IsOpen (H.world host.old) store.old t → EndsAt t.base.image from number map.old → OnOk result (IsMap t.base.image number map.new) }
     ensures room { length map.new ≡ length map.old }
     ensures open { (t : Trail) → IsTrue H.tells → IsOpen (H.world host.old) store.old t → IsOpen (H.world host.new) store.new t }

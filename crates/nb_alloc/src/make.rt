@@ -2,7 +2,8 @@
 ghost use Rattle.std.specs.Prelude.{◌≡◌, ◌≢◌, ℕ, ◌+◌, ◌-◌, ◌*◌, ◌<◌, ◌≤◌, List, true, false, None, IsTrue, IfErr, IfOk, OnOk, length};
 ghost use Rattle.nb_fields.specs.Kinds.{code_of};
 ghost use Rattle.nb_fields.specs.Page.{with_payload};
-ghost use Rattle.nb_fields.specs.Places.{is_page_size, is_system_place};
+ghost use Rattle.nb_fields.specs.Places.{is_page_size, is_system_place, most_pages};
+ghost use Rattle.nb_fields.specs.States.{stalled_state};
 ghost use Rattle.nb_host.specs.Causes.{CountsDevice, CountsFault};
 ghost use Rattle.nb_host.specs.declared.faults.Fault.TheVariants.{Memory};
 ghost use Rattle.nb_page.specs.Quiet.{Quiet};
@@ -31,7 +32,7 @@ use nb_state::Store;
 /// What stands at a system place.
 fn system_kind(page_size: u32, place: u32) -> PageKind
     requires size { IsTrue (is_page_size page_size) }
-    requires place { place < 1048576 }
+    requires place { place < most_pages }
     ensures { (image : Image) → page_size ≡ image_size image → code_of result ≡ system_kind image place }
 {
     if nb_pip::is_place(page_size, place) {
@@ -44,7 +45,7 @@ fn system_kind(page_size: u32, place: u32) -> PageKind
 /// Fills a page, but for its head, as that of a system place: all bits free, or each entry the current SCN.
 fn fill_system(page: &mut [u8], place: u32, scn: u32)
     requires size { IsTrue (is_page_size (length page.old)) }
-    requires place { place < 1048576 }
+    requires place { place < most_pages }
     ensures { (image : Image) → length page.old ≡ image_size image → scn ≡ image_scn image → page.new ≡ with_payload page.old (system_payload image place) }
 {
     let size = page.len() as u32;
@@ -120,7 +121,7 @@ pub fn put_page<H: Host>(
     requires room { length page.old ≡ store.old.files.page_size }
     requires scn_room { length scn_page.old ≡ store.old.files.page_size }
     requires low { 0 < number }
-    requires high { number < 1048576 }
+    requires high { number < most_pages }
     requires inside { number ≤ store.old.files.count }
     ensures tries { (t : Trail) (payload : List ℕ) → IsTrue H.tells → IsOpen (H.world host.old) store.old t
         → 16 + length payload ≤ length (old_page number t.base.image) → page.old ≡ with_payload (old_page number t.base.image) payload
@@ -130,7 +131,7 @@ pub fn put_page<H: Host>(
     ensures scn_room { length scn_page.new ≡ length scn_page.old }
     ensures once { IsTrue H.tells → (H.world host.new).reads ≤ (H.world host.old).reads + 1 }
     ensures cause { CountsDevice result (H.faults host.old) (H.faults host.new) }
-    ensures takes_none { store.old.files.state ≢ 1 → IfErr result (λ fault. fault ≢ Memory) }
+    ensures takes_none { store.old.files.state ≢ stalled_state → IfErr result (λ fault. fault ≢ Memory) }
 {
     stamp(page, kind.code(), store.scn(), number);
     raise_entry(store, host, number, scn_page)?;
@@ -150,7 +151,7 @@ fn make_system<H: Host>(
     requires room { length page.old ≡ store.old.files.page_size }
     requires scn_room { length scn_page.old ≡ store.old.files.page_size }
     requires low { 0 < place }
-    requires high { place < 1048576 }
+    requires high { place < most_pages }
     requires inside { place ≤ store.old.files.count }
     ensures tries { (t : Trail) → IsTrue H.tells → IsOpen (H.world host.old) store.old t
         → Tries result (H.world host.old) (H.world host.new) store.old store.new t (system_cause t.base.image place) (system_strokes t.base.image place) }
@@ -159,7 +160,7 @@ fn make_system<H: Host>(
     ensures scn_room { length scn_page.new ≡ length scn_page.old }
     ensures once { IsTrue H.tells → (H.world host.new).reads ≤ (H.world host.old).reads + 2 }
     ensures cause { CountsDevice result (H.faults host.old) (H.faults host.new) }
-    ensures takes_none { store.old.files.state ≢ 1 → IfErr result (λ fault. fault ≢ Memory) }
+    ensures takes_none { store.old.files.state ≢ stalled_state → IfErr result (λ fault. fault ≢ Memory) }
 {
     let kind = system_kind(store.page_size(), place);
     if has_page(store, host, place, kind, page)? {
@@ -209,7 +210,7 @@ fn make_page<H: Host>(
     requires room { length page.old ≡ store.old.files.page_size }
     requires scn_room { length scn_page.old ≡ store.old.files.page_size }
     requires low { 0 < number }
-    requires high { number < 1048576 }
+    requires high { number < most_pages }
     requires inside { number ≤ store.old.files.count }
     requires short { length payload.now ≤ 1008 }
     requires owner { own ≡ true → 8 ≤ length payload.now }
@@ -220,7 +221,7 @@ fn make_page<H: Host>(
     ensures scn_room { length scn_page.new ≡ length scn_page.old }
     ensures once { IsTrue H.tells → (H.world host.new).reads ≤ (H.world host.old).reads + 2 }
     ensures cause { CountsDevice result (H.faults host.old) (H.faults host.new) }
-    ensures takes_none { store.old.files.state ≢ 1 → IfErr result (λ fault. fault ≢ Memory) }
+    ensures takes_none { store.old.files.state ≢ stalled_state → IfErr result (λ fault. fault ≢ Memory) }
 {
     take_old(store, host, number, page)?;
     put_content(page, payload, own, number);
@@ -242,7 +243,7 @@ fn take_place<H: Host>(
     requires map_room { length map.old ≡ store.old.files.page_size }
     requires scn_room { length scn_page.old ≡ store.old.files.page_size }
     requires low { 5 ≤ place }
-    requires high { place < 1048576 }
+    requires high { place < most_pages }
     requires inside { place ≤ store.old.files.count }
     ensures makes { (t : Trail) → IsTrue H.tells → IsOpen (H.world host.old) store.old t → IsSupplied t.base.image place → is_system_place (image_size t.base.image) place ≡ true
         → Tries result (H.world host.old) (H.world host.new) store.old store.new t None (round t.base.image place).strokes }
@@ -252,7 +253,7 @@ fn take_place<H: Host>(
     ensures scn_room { length scn_page.new ≡ length scn_page.old }
     ensures once { IsTrue H.tells → (H.world host.new).reads ≤ (H.world host.old).reads + 4 }
     ensures cause { CountsDevice result (H.faults host.old) (H.faults host.new) }
-    ensures takes_none { store.old.files.state ≢ 1 → IfErr result (λ fault. fault ≢ Memory) }
+    ensures takes_none { store.old.files.state ≢ stalled_state → IfErr result (λ fault. fault ≢ Memory) }
 {
     make_system(store, host, place, page, scn_page)?;
     mark(store, host, place, false, map, scn_page)
@@ -276,7 +277,7 @@ fn take_new<H: Host>(
     requires map_room { length map.old ≡ store.old.files.page_size }
     requires scn_room { length scn_page.old ≡ store.old.files.page_size }
     requires low { 5 ≤ number }
-    requires high { number < 1048576 }
+    requires high { number < most_pages }
     requires inside { number ≤ store.old.files.count }
     requires short { length payload.now ≤ 1008 }
     requires owner { own ≡ true → 8 ≤ length payload.now }
@@ -288,7 +289,7 @@ fn take_new<H: Host>(
     ensures scn_room { length scn_page.new ≡ length scn_page.old }
     ensures once { IsTrue H.tells → (H.world host.new).reads ≤ (H.world host.old).reads + 3 }
     ensures cause { CountsDevice result (H.faults host.old) (H.faults host.new) }
-    ensures takes_none { store.old.files.state ≢ 1 → IfErr result (λ fault. fault ≢ Memory) }
+    ensures takes_none { store.old.files.state ≢ stalled_state → IfErr result (λ fault. fault ≢ Memory) }
 {
     make_page(store, host, number, kind, payload, own, page, scn_page)?;
     put_map(store, host, number, false, map, scn_page)
@@ -311,21 +312,21 @@ fn pass_place<H: Host>(
     requires map_room { length map.old ≡ store.old.files.page_size }
     requires scn_room { length scn_page.old ≡ store.old.files.page_size }
     requires low { 5 ≤ place }
-    requires high { place < 1048576 }
+    requires high { place < most_pages }
     requires inside { place ≤ store.old.files.count }
     ensures makes { (t : Trail) → IsTrue H.tells → IsOpen (H.world host.old) store.old t → IsSupplied t.base.image place → GoesOn t.base.image place → is_system_place (image_size t.base.image) place ≡ true
         → Tries result (H.world host.old) (H.world host.new) store.old store.new t None (round t.base.image place).strokes }
     ensures onward { (t : Trail) → IsTrue H.tells → IsOpen (H.world host.old) store.old t → IsSupplied t.base.image place → is_system_place (image_size t.base.image) place ≡ true
         → IfOk result (λ next. IsOnward (round t.base.image place).image place next map.new) }
     ensures later { IfOk result (λ next. place < next) }
-    ensures most { IfOk result (λ next. next < 1048576) }
+    ensures most { IfOk result (λ next. next < most_pages) }
     ensures within { IfOk result (λ next. next ≤ store.new.files.count) }
     ensures goes { Goes store.old store.new }
     ensures map_room { length map.new ≡ length map.old }
     ensures scn_room { length scn_page.new ≡ length scn_page.old }
     ensures once { IsTrue H.tells → IfOk result (λ next. (H.world host.new).reads ≤ (H.world host.old).reads + 5 + (next - place)) }
     ensures cause { CountsDevice result (H.faults host.old) (H.faults host.new) }
-    ensures takes_none { store.old.files.state ≢ 1 → IfErr result (λ fault. fault ≢ Memory) }
+    ensures takes_none { store.old.files.state ≢ stalled_state → IfErr result (λ fault. fault ≢ Memory) }
 {
     take_place(store, host, place, page, map, scn_page)?;
     let next = next_free(store, host, place + 1, map)?;
@@ -360,7 +361,7 @@ pub fn make_new<H: Host>(
     requires map_room { length map.old ≡ store.old.files.page_size }
     requires scn_room { length scn_page.old ≡ store.old.files.page_size }
     requires low { 5 ≤ first }
-    requires high { first < 1048576 }
+    requires high { first < most_pages }
     requires inside { first ≤ store.old.files.count }
     requires short { length payload.now ≤ 1008 }
     requires owner { own ≡ true → 8 ≤ length payload.now }
@@ -370,14 +371,14 @@ pub fn make_new<H: Host>(
     ensures value { (t : Trail) → IsTrue H.tells → IsOpen (H.world host.old) store.old t → first ≡ lowest_free t.base.image → HoldsMap t.base.image first map.old
         → IsSearchable t.base.image → draft_cause (new_of (code_of kind) (content own payload.now) t.base.image).0 ≡ None → IfOk result (λ number. number ≡ (new_of (code_of kind) (content own payload.now) t.base.image).1) }
     ensures least { IfOk result (λ number. 5 ≤ number) }
-    ensures most { IfOk result (λ number. number < 1048576) }
+    ensures most { IfOk result (λ number. number < most_pages) }
     ensures added { IfOk result (λ number. number < store.new.files.count) }
     ensures goes { Goes store.old store.new }
     ensures map_room { length map.new ≡ length map.old }
     ensures scn_room { length scn_page.new ≡ length scn_page.old }
     ensures once { IsTrue H.tells → IfOk result (λ number. (H.world host.new).reads ≤ (H.world host.old).reads + 3 + 6 * (number - first)) }
     ensures cause { CountsDevice result (H.faults host.old) (H.faults host.new) }
-    ensures takes_none { store.old.files.state ≢ 1 → IfErr result (λ fault. fault ≢ Memory) }
+    ensures takes_none { store.old.files.state ≢ stalled_state → IfErr result (λ fault. fault ≢ Memory) }
 {
     let page_size = store.page_size();
     // Contracts ask for its range.

@@ -3,6 +3,7 @@ ghost use Rattle.std.specs.Prelude.{◌≡◌, ◌≢◌, ◌↔◌, ◌+◌, �
 ghost use Rattle.nb_fields.specs.Bytes.{bytes_of, with_part, is_zeros};
 ghost use Rattle.nb_fields.specs.Page.{stamped};
 ghost use Rattle.nb_fields.specs.Places.{is_page_size, entries_in, bits_in};
+ghost use Rattle.nb_fields.specs.Kinds.{inventory_kind, scn_kind};
 ghost use Rattle.nb_host.specs.declared.faults.Fault.TheVariants.{Memory};
 ghost use Rattle.nb_host.specs.Causes.{CountsDevice};
 ghost use Rattle.nb_page.specs.Quiet.{Quiet};
@@ -65,7 +66,7 @@ impl ScnPage {
         place: u32,
     ) -> Result<(), Fault>
         requires room { length self.old ≡ store.old.files.page_size }
-        ensures reads { (t : Trail) → IsTrue H.tells → IsOpen (H.world host.old) store.old t → Reads result t.base.image (not_kind t.base.image 10 place) place self.new }
+        ensures reads { (t : Trail) → IsTrue H.tells → IsOpen (H.world host.old) store.old t → Reads result t.base.image (not_kind t.base.image scn_kind place) place self.new }
         ensures below { OnOk result (place < store.old.files.count) }
         ensures room { length self.new ≡ length self.old }
         ensures open { (t : Trail) → IsTrue H.tells → IsOpen (H.world host.old) store.old t → IsOpen (H.world host.new) store.new t }
@@ -95,7 +96,7 @@ impl ScnPage {
     /// Raises entry `index`, where it is below, to `scn`, and stamps the page, which stands at `place`.
     pub(crate) fn raise(&mut self, index: u32, scn: u32, place: u32)
         requires { index < entries_in (length self.old) }
-        ensures page { slice_index (entries self.old) index < scn → self.new ≡ stamped self.old 10 (drop 16 (with_part (32 + 4 * index) (bytes_of 4 scn) self.old)) scn place }
+        ensures page { slice_index (entries self.old) index < scn → self.new ≡ stamped self.old scn_kind (drop 16 (with_part (32 + 4 * index) (bytes_of 4 scn) self.old)) scn place }
         ensures some { is_zeros self.new ≡ false }
         ensures room { length self.new ≡ length self.old }
     {
@@ -145,7 +146,7 @@ impl InventoryPage {
         place: u32,
     ) -> Result<(), Fault>
         requires room { length self.old ≡ store.old.files.page_size }
-        ensures reads { (t : Trail) → IsTrue H.tells → IsOpen (H.world host.old) store.old t → Reads result t.base.image (not_kind t.base.image 2 place) place self.new }
+        ensures reads { (t : Trail) → IsTrue H.tells → IsOpen (H.world host.old) store.old t → Reads result t.base.image (not_kind t.base.image inventory_kind place) place self.new }
         ensures below { OnOk result (place < store.old.files.count) }
         ensures room { length self.new ≡ length self.old }
         ensures open { (t : Trail) → IsTrue H.tells → IsOpen (H.world host.old) store.old t → IsOpen (H.world host.new) store.new t }
@@ -183,7 +184,7 @@ impl InventoryPage {
     /// Sets bit `index` to free, or to taken, and stamps the page, which stands at `place`.
     pub(crate) fn set(&mut self, index: u32, free: bool, scn: u32, place: u32)
         requires { index < bits_in (length self.old) }
-        ensures page { self.new ≡ stamped self.old 2 (drop 16 (with_bit index (bit_for free) self.old)) scn place }
+        ensures page { self.new ≡ stamped self.old inventory_kind (drop 16 (with_bit index (bit_for free) self.old)) scn place }
         ensures some { is_zeros self.new ≡ false }
         ensures room { length self.new ≡ length self.old }
     {
@@ -208,7 +209,7 @@ fn set_bit(map: &mut [u8], index: u32, free: bool)
 fn put_bit(map: &mut [u8], index: u32, free: bool, scn: u32, place: u32)
     requires size { IsTrue (is_page_size (length map.old)) }
     requires index { index < bits_in (length map.old) }
-    ensures page { map.new ≡ stamped map.old 2 (drop 16 (with_bit index (bit_for free) map.old)) scn place }
+    ensures page { map.new ≡ stamped map.old inventory_kind (drop 16 (with_bit index (bit_for free) map.old)) scn place }
     ensures some { is_zeros map.new ≡ false }
 {
     set_bit(map, index, free);
@@ -219,7 +220,7 @@ fn put_bit(map: &mut [u8], index: u32, free: bool, scn: u32, place: u32)
 fn put_entry(page: &mut [u8], index: u32, scn: u32, place: u32)
     requires size { IsTrue (is_page_size (length page.old)) }
     requires index { index < entries_in (length page.old) }
-    ensures page { slice_index (entries page.old) index < scn → page.new ≡ stamped page.old 10 (drop 16 (with_part (32 + 4 * index) (bytes_of 4 scn) page.old)) scn place }
+    ensures page { slice_index (entries page.old) index < scn → page.new ≡ stamped page.old scn_kind (drop 16 (with_part (32 + 4 * index) (bytes_of 4 scn) page.old)) scn place }
     ensures some { is_zeros page.new ≡ false }
 {
     nb_scn::raise(page, index, scn);

@@ -1,6 +1,7 @@
 // A raw page is written, its SCN entry first where that is below the current SCN.
 ghost use Rattle.std.specs.Prelude.{◌≡◌, ◌≢◌, ◌+◌, ◌/◌, ◌<◌, ◌≤◌, [], ◌∷◌, true, IsTrue, IfOk, IfErr, Err, None, length};
-ghost use Rattle.nb_fields.specs.Places.{is_page_size, entries_in, scn_place};
+ghost use Rattle.nb_fields.specs.Places.{is_page_size, entries_in, scn_place, most_pages};
+ghost use Rattle.nb_fields.specs.States.{stalled_state};
 ghost use Rattle.nb_host.specs.declared.faults.Fault.TheVariants.{Memory};
 ghost use Rattle.nb_host.specs.Causes.{CountsDevice, CountsRun};
 ghost use Rattle.nb_host.specs.Faults.{as_answer};
@@ -30,7 +31,7 @@ pub(crate) fn must_raise<H: Host>(
     scn_page: &mut ScnPage,
 ) -> Result<bool, Fault>
     requires room { length scn_page.old ≡ store.old.files.page_size }
-    requires number { number < 1048576 }
+    requires number { number < most_pages }
     ensures tells { (t : Trail) → IsTrue H.tells → IsOpen (H.world host.old) store.old t → TellsRaise result t.base.image number scn_page.new }
     ensures below { IfOk result (λ must. must ≡ true → scn_place store.old.files.page_size (number / entries_in store.old.files.page_size) < store.old.files.count) }
     ensures room { length scn_page.new ≡ length scn_page.old }
@@ -58,7 +59,7 @@ fn raise<H: Host>(
     scn_page: &mut ScnPage,
 ) -> Result<(), RunError>
     requires room { length scn_page.old ≡ store.old.files.page_size }
-    requires number { number < 1048576 }
+    requires number { number < most_pages }
     requires inside { scn_place store.old.files.page_size (number / entries_in store.old.files.page_size) < store.old.files.count }
     ensures makes { (t : Trail) → IsTrue H.tells → IsOpen (H.world host.old) store.old t → entry_cause t.base.image number ≡ None → must_raise t.base.image number ≡ true
         → scn_page.old ≡ page_at t.base.image (scn_page_of t.base.image number)
@@ -67,7 +68,7 @@ fn raise<H: Host>(
     ensures room { length scn_page.new ≡ length scn_page.old }
     ensures reads { (H.world host.new).reads ≡ (H.world host.old).reads }
     ensures cause { CountsRun result (H.faults host.old) (H.faults host.new) }
-    ensures takes_none { store.old.files.state ≢ 1 → IfErr result (λ error. error ≢ RunError.Memory) }
+    ensures takes_none { store.old.files.state ≢ stalled_state → IfErr result (λ error. error ≢ RunError.Memory) }
     ensures on_memory { (t : Trail) → IsTrue H.tells → IsOpen (H.world host.old) store.old t → result ≡ Err RunError.Memory
         → Strikes (H.world host.old) (H.world host.new) (name_of store.old) t [] × IsOpen (H.world host.new) store.new t }
 {
@@ -89,14 +90,14 @@ pub fn raise_entry<H: Host>(
     scn_page: &mut ScnPage,
 ) -> Result<(), Fault>
     requires room { length scn_page.old ≡ store.old.files.page_size }
-    requires number { number < 1048576 }
+    requires number { number < most_pages }
     ensures tries { (t : Trail) → IsTrue H.tells → IsOpen (H.world host.old) store.old t
         → Tries result (H.world host.old) (H.world host.new) store.old store.new t (entry_cause t.base.image number) (raise_strokes t.base.image number) }
     ensures goes { Goes store.old store.new }
     ensures room { length scn_page.new ≡ length scn_page.old }
     ensures once { IsTrue H.tells → (H.world host.new).reads ≤ (H.world host.old).reads + 1 }
     ensures cause { CountsDevice result (H.faults host.old) (H.faults host.new) }
-    ensures takes_none { store.old.files.state ≢ 1 → IfErr result (λ fault. fault ≢ Memory) }
+    ensures takes_none { store.old.files.state ≢ stalled_state → IfErr result (λ fault. fault ≢ Memory) }
     ensures on_memory { (t : Trail) → IsTrue H.tells → IsOpen (H.world host.old) store.old t → result ≡ Err Memory
         → Strikes (H.world host.old) (H.world host.new) (name_of store.old) t [] × IsOpen (H.world host.new) store.new t }
 {
@@ -119,7 +120,7 @@ pub fn write_raw<H: Host>(
     requires size { IsTrue (is_page_size (length page.old)) }
     requires room { length page.old ≡ store.old.files.page_size }
     requires low { 0 < number }
-    requires high { number < 1048576 }
+    requires high { number < most_pages }
     requires inside { number < store.old.files.count }
     requires short { length text.now ≤ 200 }
     ensures makes { (t : Trail) → IsTrue H.tells → IsOpen (H.world host.old) store.old t → page.old ≡ page_at t.base.image number
@@ -127,7 +128,7 @@ pub fn write_raw<H: Host>(
     ensures goes { Goes store.old store.new }
     ensures reads { (H.world host.new).reads ≡ (H.world host.old).reads }
     ensures cause { CountsRun result (H.faults host.old) (H.faults host.new) }
-    ensures takes_none { store.old.files.state ≢ 1 → IfErr result (λ error. error ≢ RunError.Memory) }
+    ensures takes_none { store.old.files.state ≢ stalled_state → IfErr result (λ error. error ≢ RunError.Memory) }
     ensures on_memory { (t : Trail) → IsTrue H.tells → IsOpen (H.world host.old) store.old t → result ≡ Err RunError.Memory
         → Strikes (H.world host.old) (H.world host.new) (name_of store.old) t [] × IsOpen (H.world host.new) store.new t }
 {

@@ -1,7 +1,7 @@
 // Pages of an open database are read, and tested as far as a statement needs it. Nothing changes.
 ghost use Rattle.std.specs.Prelude.{◌≡◌, ◌≢◌, ◌+◌, ◌<◌, ◌≤◌, IsTrue, IfErr, OnOk, length};
 ghost use Rattle.nb_fields.specs.Kinds.{code_of};
-ghost use Rattle.nb_fields.specs.Places.{is_page_size};
+ghost use Rattle.nb_fields.specs.Places.{is_page_size, most_pages};
 ghost use Rattle.nb_host.specs.declared.faults.Fault.TheVariants.{Memory};
 ghost use Rattle.nb_host.specs.Causes.{CountsDevice};
 ghost use Rattle.nb_page.specs.Quiet.{Quiet};
@@ -68,7 +68,7 @@ pub fn take_data<H: Host>(
     requires room { length into.old ≡ store.old.files.page_size }
     ensures reads { (t : Trail) → IsTrue H.tells → IsOpen (H.world host.old) store.old t → Reads result t.base.image (not_data t.base.image owner number) number into.new }
     ensures low { OnOk result (0 < number) }
-    ensures high { OnOk result (number < 1048576) }
+    ensures high { OnOk result (number < most_pages) }
     ensures below { OnOk result (number < store.old.files.count) }
     ensures open { (t : Trail) → IsTrue H.tells → IsOpen (H.world host.old) store.old t → IsOpen (H.world host.new) store.new t }
     ensures same { but_pages store.new ≡ but_pages store.old }
@@ -98,7 +98,7 @@ fn check_taken<H: Host>(
     map: &mut InventoryPage,
 ) -> Result<(), Fault>
     requires room { length map.old ≡ store.old.files.page_size }
-    requires number { number < 1048576 }
+    requires number { number < most_pages }
     ensures test { (t : Trail) → IsTrue H.tells → IsOpen (H.world host.old) store.old t → Tested result (not_taken t.base.image number) }
     ensures room { length map.new ≡ length map.old }
     ensures open { (t : Trail) → IsTrue H.tells → IsOpen (H.world host.old) store.old t → IsOpen (H.world host.new) store.new t }
@@ -133,7 +133,7 @@ pub fn take_raw<H: Host>(
     requires page_room { length page.old ≡ store.old.files.page_size }
     requires map_room { length map.old ≡ store.old.files.page_size }
     ensures reads { (t : Trail) → IsTrue H.tells → IsOpen (H.world host.old) store.old t → Reads result t.base.image (not_raw t.base.image number) number page.new }
-    ensures below { OnOk result (number < 1048576) }
+    ensures below { OnOk result (number < most_pages) }
     ensures inside { OnOk result (number < store.old.files.count) }
     ensures room { length map.new ≡ length map.old }
     ensures open { (t : Trail) → IsTrue H.tells → IsOpen (H.world host.old) store.old t → IsOpen (H.world host.new) store.new t }

@@ -1,6 +1,7 @@
 // The tests before new pages, on a database to which nothing was written yet. Nothing changes.
 ghost use Rattle.std.specs.Prelude.{◌≡◌, ◌≢◌, ◌+◌, ◌-◌, ◌*◌, ◌/◌, ◌<◌, ◌≤◌, ℕ, List, true, false, IsTrue, IfErr, IfOk, OnOk, length};
-ghost use Rattle.nb_fields.specs.Places.{bits_in};
+ghost use Rattle.nb_fields.specs.Places.{bits_in, most_pages};
+ghost use Rattle.nb_fields.specs.Kinds.{data_kind};
 ghost use Rattle.nb_host.specs.declared.faults.Fault.TheVariants.{Memory};
 ghost use Rattle.nb_host.specs.Causes.{CountsDevice};
 ghost use Rattle.nb_page.specs.Quiet.{Quiet};
@@ -39,7 +40,7 @@ pub fn check_new<H: Host>(
     ensures value { (t : Trail) → IsTrue H.tells → IsOpen (H.world host.old) store.old t → IfOk result (λ page. page ≡ lowest_free t.base.image) }
     ensures map { (t : Trail) → IsTrue H.tells → IsOpen (H.world host.old) store.old t → IfOk result (λ page. HoldsMap t.base.image page map.new) }
     ensures least { IfOk result (λ page. 5 ≤ page) }
-    ensures below { IfOk result (λ page. page < 1048576) }
+    ensures below { IfOk result (λ page. page < most_pages) }
     ensures within { 5 ≤ store.old.files.count → IfOk result (λ page. page ≤ store.old.files.count) }
     ensures map_room { length map.new ≡ length map.old }
     ensures scn_room { length scn_page.new ≡ length scn_page.old }
@@ -80,7 +81,7 @@ fn find_rooms<H: Host>(
     ensures value { (t : Trail) → IsTrue H.tells → IsOpen (H.world host.old) store.old t → IfOk result (λ page. page ≡ lowest_free t.base.image) }
     ensures map { (t : Trail) → IsTrue H.tells → IsOpen (H.world host.old) store.old t → pages ≡ 1 → IfOk result (λ page. HoldsMap t.base.image page map.new) }
     ensures least { IfOk result (λ page. 5 ≤ page) }
-    ensures below { IfOk result (λ page. page < 1048576) }
+    ensures below { IfOk result (λ page. page < most_pages) }
     ensures within { 5 ≤ store.old.files.count → IfOk result (λ page. page ≤ store.old.files.count) }
     ensures page { behind.new.page ≡ behind.old.page }
     ensures map_room { length map.new ≡ length map.old }
@@ -122,17 +123,17 @@ pub fn check_rooms<H: Host>(
     requires some { 1 ≤ pages }
     requires few { pages ≤ 2 }
     requires low { 0 < number }
-    requires high { number < 1048576 }
-    ensures one { (t : Trail) (first : ℕ → List ℕ) → IsTrue H.tells → IsOpen (H.world host.old) store.old t → IsSearchable t.base.image → IsShort first → is_kind t.base.image 5 number ≡ true → pages ≡ 1
+    requires high { number < most_pages }
+    ensures one { (t : Trail) (first : ℕ → List ℕ) → IsTrue H.tells → IsOpen (H.world host.old) store.old t → IsSearchable t.base.image → IsShort first → is_kind t.base.image data_kind number ≡ true → pages ≡ 1
         → Tested result (behind_cause (new_of 5 first t.base.image).0 number) }
-    ensures two { (t : Trail) (first second : ℕ → List ℕ) → IsTrue H.tells → IsOpen (H.world host.old) store.old t → IsSearchable t.base.image → IsShort first → IsShort second → is_kind t.base.image 5 number ≡ true → pages ≡ 2
+    ensures two { (t : Trail) (first second : ℕ → List ℕ) → IsTrue H.tells → IsOpen (H.world host.old) store.old t → IsSearchable t.base.image → IsShort first → IsShort second → is_kind t.base.image data_kind number ≡ true → pages ≡ 2
         → Tested result (behind_cause (second_data first second t.base.image).0 number) }
-    ensures still { (t : Trail) (first : ℕ → List ℕ) → IsTrue H.tells → IsOpen (H.world host.old) store.old t → IsSearchable t.base.image → IsShort first → is_kind t.base.image 5 number ≡ true → pages ≡ 2
+    ensures still { (t : Trail) (first : ℕ → List ℕ) → IsTrue H.tells → IsOpen (H.world host.old) store.old t → IsSearchable t.base.image → IsShort first → is_kind t.base.image data_kind number ≡ true → pages ≡ 2
         → OnOk result (is_kind (new_of 5 first t.base.image).0.image 5 number ≡ true) }
     ensures value { (t : Trail) → IsTrue H.tells → IsOpen (H.world host.old) store.old t → IfOk result (λ page. page ≡ lowest_free t.base.image) }
     ensures map { (t : Trail) → IsTrue H.tells → IsOpen (H.world host.old) store.old t → pages ≡ 1 → IfOk result (λ page. HoldsMap t.base.image page map.new) }
     ensures least { IfOk result (λ page. 5 ≤ page) }
-    ensures below { IfOk result (λ page. page < 1048576) }
+    ensures below { IfOk result (λ page. page < most_pages) }
     ensures within { 5 ≤ store.old.files.count → IfOk result (λ page. page ≤ store.old.files.count) }
     ensures map_room { length map.new ≡ length map.old }
     ensures scn_room { length scn_page.new ≡ length scn_page.old }

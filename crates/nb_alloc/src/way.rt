@@ -1,6 +1,6 @@
 // The search for new pages, told before the first of them is made. Nothing changes.
 ghost use Rattle.std.specs.Prelude.{◌≡◌, ◌≢◌, ℕ, ◌+◌, ◌-◌, ◌*◌, ◌/◌, ◌<◌, ◌≤◌, ◌==◌, ◌&&◌, nat_lt, true, false, IsTrue, IfErr, IfOk, OnOk, length};
-ghost use Rattle.nb_fields.specs.Places.{is_page_size, bits_in, inventory_place, is_system_place};
+ghost use Rattle.nb_fields.specs.Places.{is_page_size, bits_in, inventory_place, is_system_place, most_pages};
 ghost use Rattle.nb_host.specs.declared.faults.Fault.TheVariants.{Memory};
 ghost use Rattle.nb_host.specs.Causes.{CountsDevice, CountsFault};
 ghost use Rattle.nb_page.specs.Quiet.{Quiet};
@@ -62,12 +62,12 @@ fn find_place<H: Host>(
     map: &mut InventoryPage,
 ) -> Result<u32, Fault>
     requires room { length map.old ≡ store.old.files.page_size }
-    requires from { way.now.from < 1048576 }
+    requires from { way.now.from < most_pages }
     ensures test { (t : Trail) → IsTrue H.tells → IsOpen (H.world host.old) store.old t → Tested result (need_cause (first_not t.base.image (maps_on t.base.image way.now.from way.now.fresh (next_place t.base.image way.now.from way.now.fresh)))) }
     ensures value { (t : Trail) → IsTrue H.tells → IsOpen (H.world host.old) store.old t → IfOk result (λ page. page ≡ next_place t.base.image way.now.from way.now.fresh) }
-    ensures map { (t : Trail) → IsTrue H.tells → IsOpen (H.world host.old) store.old t → inventory_of t.base.image way.now.from ≢ way.now.fresh → IfOk result (λ page. page < 1048576 → IsMap t.base.image page map.new) }
+    ensures map { (t : Trail) → IsTrue H.tells → IsOpen (H.world host.old) store.old t → inventory_of t.base.image way.now.from ≢ way.now.fresh → IfOk result (λ page. page < most_pages → IsMap t.base.image page map.new) }
     ensures later { IfOk result (λ page. way.now.from ≤ page) }
-    ensures most { IfOk result (λ page. page ≤ 1048576) }
+    ensures most { IfOk result (λ page. page ≤ most_pages) }
     ensures within { way.now.from ≤ store.old.files.count → IfOk result (λ page. page ≤ store.old.files.count) }
     ensures room { length map.new ≡ length map.old }
     ensures open { (t : Trail) → IsTrue H.tells → IsOpen (H.world host.old) store.old t → IsOpen (H.world host.new) store.new t }
@@ -103,7 +103,7 @@ fn check_unless<H: Host>(
 ) -> Result<(), Fault>
     requires room { length scn_page.old ≡ store.old.files.page_size }
     requires low { 0 < number }
-    requires number { number < 1048576 }
+    requires number { number < most_pages }
     ensures test { (t : Trail) → IsTrue H.tells → IsOpen (H.world host.old) store.old t → Tested result (need_cause (first_not t.base.image (entry_on t.base.image made number))) }
     ensures room { length scn_page.new ≡ length scn_page.old }
     ensures open { (t : Trail) → IsTrue H.tells → IsOpen (H.world host.old) store.old t → IsOpen (H.world host.new) store.new t }
@@ -128,7 +128,7 @@ fn check_unless<H: Host>(
 /// Whether a search that goes on at page `from` was at a page before whose bit is in the inventory page `place`.
 fn was_asked(page_size: u32, from: u32, place: u32) -> bool
     requires size { IsTrue (is_page_size page_size) }
-    requires from { from ≤ 1048576 }
+    requires from { from ≤ most_pages }
     ensures { result ≡ (nat_lt 5 from && place == inventory_place page_size ((from - 1) / bits_in page_size)) }
 {
     if from <= FIRST_TO_GIVE {
@@ -150,8 +150,8 @@ fn check_map_entry<H: Host>(
 ) -> Result<(), Fault>
     requires room { length scn_page.old ≡ store.old.files.page_size }
     requires low { 5 ≤ number }
-    requires number { number < 1048576 }
-    requires from { way.now.from < 1048576 }
+    requires number { number < most_pages }
+    requires from { way.now.from < most_pages }
     ensures test { (t : Trail) → IsTrue H.tells → IsOpen (H.world host.old) store.old t → Tested result (need_cause (first_not t.base.image (map_entry_on t.base.image way.now.from way.now.made number))) }
     ensures room { length scn_page.new ≡ length scn_page.old }
     ensures open { (t : Trail) → IsTrue H.tells → IsOpen (H.world host.old) store.old t → IsOpen (H.world host.new) store.new t }
@@ -197,7 +197,7 @@ pub fn is_there<H: Host>(
 ) -> Result<bool, HostFault>
     requires map_room { length map.old ≡ store.old.files.page_size }
     requires scn_room { length scn_page.old ≡ store.old.files.page_size }
-    requires place { place < 1048576 }
+    requires place { place < most_pages }
     ensures value { (t : Trail) → IsTrue H.tells → IsOpen (H.world host.old) store.old t → IfOk result (λ there. there ≡ is_kind t.base.image (system_kind t.base.image place) place) }
     ensures map_room { length map.new ≡ length map.old }
     ensures scn_room { length scn_page.new ≡ length scn_page.old }
@@ -229,7 +229,7 @@ fn pass<H: Host>(
     requires map_room { length map.old ≡ store.old.files.page_size }
     requires scn_room { length scn_page.old ≡ store.old.files.page_size }
     requires low { 0 < place }
-    requires place { place < 1048576 }
+    requires place { place < most_pages }
     requires system { is_system_place store.old.files.page_size place ≡ true }
     ensures test { (t : Trail) → IsTrue H.tells → IsOpen (H.world host.old) store.old t → Tested result (need_cause (first_not t.base.image (own_entry_on t.base.image way.old.made place))) }
     ensures made { (t : Trail) → IsTrue H.tells → IsOpen (H.world host.old) store.old t → OnOk result (IsMadeBehind t.base.image place way.old.made way.new.made) }
@@ -273,7 +273,7 @@ fn visit<H: Host>(
     requires map_room { length map.old ≡ store.old.files.page_size }
     requires scn_room { length scn_page.old ≡ store.old.files.page_size }
     requires low { 5 ≤ way.old.from }
-    requires from { way.old.from < 1048576 }
+    requires from { way.old.from < most_pages }
     ensures test { (t : Trail) → IsTrue H.tells → IsOpen (H.world host.old) store.old t → Tested result (way_cause t.base.image way.old.from way.old.made way.old.fresh) }
     ensures value { (t : Trail) → IsTrue H.tells → IsOpen (H.world host.old) store.old t → IfOk result (λ page. page ≡ next_place t.base.image way.old.from way.old.fresh) }
     ensures made { (t : Trail) → IsTrue H.tells → IsOpen (H.world host.old) store.old t → IfOk result (λ page. IsMadeBehind t.base.image page way.old.made way.new.made) }
@@ -281,7 +281,7 @@ fn visit<H: Host>(
     ensures map { (t : Trail) → IsTrue H.tells → IsOpen (H.world host.old) store.old t → inventory_of t.base.image way.old.from ≢ way.old.fresh → IfOk result (λ page. HoldsMap t.base.image page map.new) }
     ensures from { IfOk result (λ page. way.new.from ≡ page + 1) }
     ensures later { IfOk result (λ page. way.old.from ≤ page) }
-    ensures below { IfOk result (λ page. page < 1048576) }
+    ensures below { IfOk result (λ page. page < most_pages) }
     ensures within { way.old.from ≤ store.old.files.count → IfOk result (λ page. page ≤ store.old.files.count) }
     ensures map_room { length map.new ≡ length map.old }
     ensures scn_room { length scn_page.new ≡ length scn_page.old }
@@ -325,13 +325,13 @@ fn go_on<H: Host>(
     requires map_room { length map.old ≡ store.old.files.page_size }
     requires scn_room { length scn_page.old ≡ store.old.files.page_size }
     requires least { 5 ≤ first }
-    requires below { first < 1048576 }
+    requires below { first < most_pages }
     requires from { way.old.from ≡ first + 1 }
     ensures ends { (t : Trail) (start : Image) (begun : ℕ) (before : Behind) → IsTrue H.tells → IsOpen (H.world host.old) store.old t → AtKnown t.base.image start begun first way.old.made way.old.fresh before behind.old
         → EndsBy result t.base.image start way.new.from way.new.made way.new.fresh before behind.new }
     ensures map { (t : Trail) → IsTrue H.tells → IsOpen (H.world host.old) store.old t → HoldsMap t.base.image first map.old → OnOk result (HoldsMap t.base.image first map.new) }
     ensures further { OnOk result (5 ≤ way.new.from) }
-    ensures most { OnOk result (way.new.from ≤ 1048576) }
+    ensures most { OnOk result (way.new.from ≤ most_pages) }
     ensures page { behind.new.page ≡ behind.old.page }
     ensures lost { behind.old.lost ≡ true → behind.new.lost ≡ true }
     ensures map_room { length map.new ≡ length map.old }
@@ -376,16 +376,16 @@ pub(crate) fn find_room<H: Host>(
     requires map_room { length map.old ≡ store.old.files.page_size }
     requires scn_room { length scn_page.old ≡ store.old.files.page_size }
     requires low { 5 ≤ way.old.from }
-    requires most { way.old.from ≤ 1048576 }
+    requires most { way.old.from ≤ most_pages }
     ensures ends { (t : Trail) (start : Image) → IsTrue H.tells → IsOpen (H.world host.old) store.old t → IsOnTheWay t.base.image start way.old.from way.old.made way.old.fresh
         → EndsBy result t.base.image start way.new.from way.new.made way.new.fresh behind.old behind.new }
     ensures value { (t : Trail) → IsTrue H.tells → IsOpen (H.world host.old) store.old t → IfOk result (λ first. first ≡ next_place t.base.image way.old.from way.old.fresh) }
     ensures map { (t : Trail) → IsTrue H.tells → IsOpen (H.world host.old) store.old t → inventory_of t.base.image way.old.from ≢ way.old.fresh → IfOk result (λ first. HoldsMap t.base.image first map.new) }
     ensures least { IfOk result (λ first. 5 ≤ first) }
-    ensures below { IfOk result (λ first. first < 1048576) }
+    ensures below { IfOk result (λ first. first < most_pages) }
     ensures within { way.old.from ≤ store.old.files.count → IfOk result (λ first. first ≤ store.old.files.count) }
     ensures further { OnOk result (5 ≤ way.new.from) }
-    ensures most { OnOk result (way.new.from ≤ 1048576) }
+    ensures most { OnOk result (way.new.from ≤ most_pages) }
     ensures page { behind.new.page ≡ behind.old.page }
     ensures lost { behind.old.lost ≡ true → behind.new.lost ≡ true }
     ensures map_room { length map.new ≡ length map.old }

@@ -7,10 +7,11 @@ use Rattle.std.proofs.lemmas.Bool.Decides.{leb_tells, eqb_tells}
 use Rattle.std.proofs.lemmas.List.{get_or-append_right, get_or_append_left, take-take, take_more}
 use Rattle.nb_fields.specs.Bytes.{is_zeros, number_in}
 use Rattle.nb_fields.specs.Header.{is_header, state_of, size_of}
-use Rattle.nb_fields.specs.Places.{is_page_size}
+use Rattle.nb_fields.specs.Places.{is_page_size, most_pages}
 use Rattle.nb_fields.proofs.HeaderLemmas.{is_header-take}
 use Rattle.nb_fields.proofs.PartLemmas.{number_in-take}
 use Rattle.nb_fields.proofs.SizeLemmas.{size_facts}
+use Rattle.nb_fields.specs.States.{applying_state}
 use Rattle.nb_host.specs.Files.{File}
 use Rattle.nb_host.specs.declared.faults.Fault.{Fault}
 use Rattle.nb_host.specs.declared.faults.Fault.TheVariants.{Refused, Device, Memory}
@@ -64,10 +65,10 @@ headed bytes e = rw (e, not_database) refl
 
 -- the tests of the length, one by one
 module _ (len size : ℕ) where
-  pub parted : len % size ≢ 0 → length_cause len size ≡ Some (NotDatabase (min (len / size) 1048576))
+  pub parted : len % size ≢ 0 → length_cause len size ≡ Some (NotDatabase (min (len / size) most_pages))
   parted h = first_here _ _ _ (applies _ _ (ap (λ (t : Bool). not t || nat_lt (len / size) 5) (eq_no (len % size) 0 h)))
 
-  pub too_few : len / size < 5 → length_cause len size ≡ Some (NotDatabase (min (len / size) 1048576))
+  pub too_few : len / size < 5 → length_cause len size ≡ Some (NotDatabase (min (len / size) most_pages))
   too_few h = first_here _ _ _ (applies _ _ (last (len % size == 0) (lt_yes (len / size) 5 h)))
     where
       last : (t : Bool) {b : Bool} → b ≡ true → (not t || b) ≡ true
@@ -77,25 +78,25 @@ module _ (len size : ℕ) where
   whole_test : len % size ≡ 0 → 5 ≤ len / size → (not (len % size == 0) || nat_lt (len / size) 5) ≡ false
   whole_test h k = ap (λ (t : Bool). not t || nat_lt (len / size) 5) (eq_yes (len % size) 0 h) ∙ lt_no (len / size) 5 k
 
-  pub too_many : len % size ≡ 0 → 5 ≤ len / size → 1048576 < len / size → length_cause len size ≡ Some (NotDatabase 1048576)
-  too_many h k most = first_next _ _ (rests _ _ (whole_test h k)) ∙ first_here _ _ _ (applies _ _ (lt_yes 1048576 (len / size) most))
+  pub too_many : len % size ≡ 0 → 5 ≤ len / size → most_pages < len / size → length_cause len size ≡ Some (NotDatabase most_pages)
+  too_many h k most = first_next _ _ (rests _ _ (whole_test h k)) ∙ first_here _ _ _ (applies _ _ (lt_yes most_pages (len / size) most))
 
-  pub fits : len % size ≡ 0 → 5 ≤ len / size → len / size ≤ 1048576 → length_cause len size ≡ None
-  fits h k most = first_next _ _ (rests _ _ (whole_test h k)) ∙ first_next _ _ (rests _ _ (lt_no 1048576 (len / size) most)) ∙ first_none
+  pub fits : len % size ≡ 0 → 5 ≤ len / size → len / size ≤ most_pages → length_cause len size ≡ None
+  fits h k most = first_next _ _ (rests _ _ (whole_test h k)) ∙ first_next _ _ (rests _ _ (lt_no most_pages (len / size) most)) ∙ first_none
 
 -- the causes of a file, one by one
 module _ (bytes : List ℕ) where
   pub start_broken : (r : Refusal) → not_database bytes ≡ Some r → start_cause bytes ≡ Some r
   start_broken r e = first_here _ _ r e
 
-  pub start_unfinished : not_database bytes ≡ None → state_of bytes ≡ 3 → start_cause bytes ≡ Some Unfinished
+  pub start_unfinished : not_database bytes ≡ None → state_of bytes ≡ applying_state → start_cause bytes ≡ Some Unfinished
   start_unfinished e applying = first_next _ _ e ∙ first_here _ _ _ (applies _ _ (eq_yes (state_of bytes) 3 applying))
 
-  pub start_is : not_database bytes ≡ None → state_of bytes ≢ 3 → start_cause bytes ≡ None
+  pub start_is : not_database bytes ≡ None → state_of bytes ≢ applying_state → start_cause bytes ≡ None
   start_is e other = first_next _ _ e ∙ first_next _ _ (rests _ _ (eq_no (state_of bytes) 3 other)) ∙ first_none
 
   -- after a form the state decides
-  pub start_rest : (r : Refusal) → not_database bytes ≡ None → start_cause bytes ≡ Some r → (state_of bytes ≡ 3) × (r ≡ Unfinished)
+  pub start_rest : (r : Refusal) → not_database bytes ≡ None → start_cause bytes ≡ Some r → (state_of bytes ≡ applying_state) × (r ≡ Unfinished)
   start_rest r none e = elim (eqb_tells (state_of bytes) 3) [
     | inl w ↦ (w.1, some_same (sym e ∙ start_unfinished none w.1))
     | inr w ↦ absurd (none_some (sym (start_is none w.1) ∙ e))
@@ -115,7 +116,7 @@ module _ (bytes : List ℕ) where
       none size is =
           let wide = (size_facts size is).at_least in
           let none : length bytes / size ≡ 0 = div-eq_of_lt (omega (arith, wide, short)) in
-          too_few (length bytes) size (omega (arith, none)) ∙ ap (λ (k : ℕ). Some (NotDatabase (min k 1048576))) none
+          too_few (length bytes) size (omega (arith, none)) ∙ ap (λ (k : ℕ). Some (NotDatabase (min k most_pages))) none
 
 -- a length that is refused after a header
 pub length_refused : (bytes : List ℕ) (size : ℕ) (fault : Fault) → is_header bytes ≡ true → size ≡ size_of bytes → Tested {T = ℕ} (Err fault) (length_cause (length bytes) size) → Tested {T = ℕ} (Err fault) (start_cause bytes)

@@ -4,6 +4,7 @@ use Rattle.std.specs.Prelude.{Bool, true, false, IsTrue, Option, Result, OnOk}
 use Rattle.std.proofs.lemmas.Bool.Decides.{leb_tells}
 use Rattle.std.proofs.lemmas.List.{get_or_append_left}
 use Rattle.nb_fields.specs.Header.{is_header, size_of, scn_of, guid_of}
+use Rattle.nb_fields.specs.States.{stalled_state}
 use Rattle.nb_host.specs.Files.{File, Files, bytes_of, with_file, with_page as with_page_at}
 use Rattle.nb_host.specs.World.{World}
 use Rattle.nb_host.specs.Crash.{PageLeft}
@@ -74,7 +75,7 @@ module _ (image : Image) (m : File) (h : HasImage image m) (state : ℕ) (guid :
   next_fits zero e = (scn_some, scn_below)
   next_fits (suc k) e = let top = room.other (omega (arith, e)) in (omega (arith, scn_some), omega (arith, top))
 
-  next_room : state ≡ 1 → next_scn state (image_scn image) < 4294967295
+  next_room : state ≡ stalled_state → next_scn state (image_scn image) < 4294967295
   next_room e = let top = room.stalled e in ap_lt (next_stalled state e) (omega (arith, top))
     where
       next_stalled : (s : ℕ) → s ≡ 1 → next_scn s (image_scn image) ≡ image_scn image + 1

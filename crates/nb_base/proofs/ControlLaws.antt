@@ -11,6 +11,7 @@ use Rattle.nb_fields.specs.Table.{page_in, slot_place}
 use Rattle.nb_fields.proofs.HeaderLemmas.{is_header-long}
 use Rattle.nb_fields.proofs.NumberLemmas.{length-bytes_of}
 use Rattle.nb_fields.proofs.PartLemmas.{length-with_part, number_in-with_part, number_in-with_part_other, number_in-take}
+use Rattle.nb_fields.specs.States.{normal_state, stalled_state}
 use Rattle.nb_model.specs.Image.{Page, Image, page_at, first_page}
 use Rattle.nb_model.specs.Strokes.{controlled, with_control}
 use Rattle.nb_model.specs.Owner.{entry_for, behind_entries, slot_page, main_page, owned_page, owned}
@@ -100,14 +101,14 @@ module _ (state scn : ℕ) (guid : List ℕ) (sixteen : length guid ≡ 16) (p :
   marked_same : is_marked (controlled state scn guid p) ≡ is_marked p
   unfolding is_marked
   marked_same =
-      let a = controlled-other 0 1 (inr (omega arith)) (inr (omega arith)) (inr (omega arith)) (inr (omega arith)) (inr (omega arith)) in
+      let a = controlled-other normal_state 1 (inr (omega arith)) (inr (omega arith)) (inr (omega arith)) (inr (omega arith)) (inr (omega arith)) in
       let b = controlled-other 12 4 (inl (omega arith)) (inl (omega arith)) (inr (omega arith)) (inr (omega arith)) (inr (omega arith)) in
       let c = controlled-other 16 4 (inl (omega arith)) (inl (omega arith)) (inr (omega arith)) (inr (omega arith)) (inr (omega arith)) in
       let d = controlled-other 20 2 (inl (omega arith)) (inl (omega arith)) (inr (omega arith)) (inr (omega arith)) (inr (omega arith)) in
       rw (a, is_marked) (rw (b, is_marked) (rw (c, is_marked) (rw (d, is_marked) refl)))
 
   -- the header keeps its form
-  pub controlled-header : is_header p ≡ true → state ≤ 3 → 1 ≤ scn → scn < 4294967296 → (state ≡ 1 → scn < 4294967295) → is_header (controlled state scn guid p) ≡ true
+  pub controlled-header : is_header p ≡ true → state ≤ 3 → 1 ≤ scn → scn < 4294967296 → (state ≡ stalled_state → scn < 4294967295) → is_header (controlled state scn guid p) ≡ true
   controlled-header header low some most room =
       let page : Page = controlled state scn guid p in
       is_header-long page (omega (arith, controlled-length, long))
@@ -117,9 +118,9 @@ module _ (state scn : ℕ) (guid : List ℕ) (sixteen : length guid ≡ 16) (p :
       le_yes : (a b : ℕ) → a ≤ b → nat_le a b ≡ true
       le_yes a b h = elim (leb_tells a b) [ inl w ↦ w.0 | inr w ↦ absurd (omega (arith, w.1, h)) ]
 
-      open_room : (not (state == 1) || nat_lt scn 4294967295) ≡ true
+      open_room : (not (state == stalled_state) || nat_lt scn 4294967295) ≡ true
       open_room = elim (eqb_tells state 1) [
-        | inl w ↦ by_room (state == 1) (nat_lt scn 4294967295) (le_yes (suc scn) 4294967295 (room w.1))
+        | inl w ↦ by_room (state == stalled_state) (nat_lt scn 4294967295) (le_yes (suc scn) 4294967295 (room w.1))
         | inr w ↦ ap (λ (t : Bool). not t || nat_lt scn 4294967295) w.0
       ]
         where

@@ -5,6 +5,7 @@ use Rattle.std.specs.Result.{IsErrAnd}
 use Rattle.std.proofs.lemmas.Result.{err_from_is_err_and}
 use Rattle.nb_fields.specs.Places.{is_page_size}
 use Rattle.nb_fields.specs.Fresh.{fresh}
+use Rattle.nb_fields.specs.States.{normal_state}
 use Rattle.nb_host.specs.Files.{Files}
 use Rattle.nb_host.specs.World.{World}
 use Rattle.nb_host.specs.declared.faults.Fault.{Fault}
@@ -53,7 +54,7 @@ failed result old new name image gives so_far reads taken =
     subst (λ (r : Result ℕ Fault). CreatesFile r old new name image) (sym (error.1 ∙ ap Err error.2)) (record { answer = tt; left = so_far; reads = reads; taken = taken })
 
 -- what is held of a new database agrees with it
-pub created : (size raw : ℕ) → IsTrue (is_page_size size) → raw ≤ 65535 → (long : ℕ) → long ≡ size → (old new : World) (name : List ℕ) (held : Held) → held.name ≡ name → held.page_size ≡ size → held.state ≡ 0 → held.forced ≡ true → held.entries ≡ [] → held.drafted ≡ 0
+pub created : (size raw : ℕ) → IsTrue (is_page_size size) → raw ≤ 65535 → (long : ℕ) → long ≡ size → (old new : World) (name : List ℕ) (held : Held) → held.name ≡ name → held.page_size ≡ size → held.state ≡ normal_state → held.forced ≡ true → held.entries ≡ [] → held.drafted ≡ 0
     → CreatesFile (Ok held.count) old new name (fresh long raw) → GaveNothing old new → Creates (Ok held) old new name (fresh size raw)
 created size raw is few long same old new name held named sized normal forced none none_drafted file gave =
     let image : Image = fresh size raw in

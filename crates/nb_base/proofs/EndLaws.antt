@@ -1,6 +1,7 @@
 -- The end of the stalled state and of the merge: what a crash leaves at each moment, and what is open after.
 use Rattle.std.proofs.Common.{◌≡◌, ◌≢◌, inr, ℕ, List, [], ◌∷◌, length, refl, sym, ap, subst, ◌∙◌, arith}
 use Rattle.std.specs.Prelude.{None, Ok}
+use Rattle.nb_fields.specs.States.{normal_state, stalled_state, merge_state}
 use Rattle.nb_host.specs.Files.{File, Files}
 use Rattle.nb_host.specs.World.{World}
 use Rattle.nb_host.specs.Crash.{Leaves, IsDurable}
@@ -69,15 +70,15 @@ module _ (old : World) (held : Held) (t : Trail) (is : IsOpen old held t) (reads
   seen = record { left = is.left; shows = is.shows }
 
   -- The stalled state ends.
-  module _ (stalled : held.state ≡ 1) where
-    one : image_state g0.main ≡ 1
+  module _ (stalled : held.state ≡ stalled_state) where
+    one : image_state g0.main ≡ stalled_state
     one = state ∙ stalled
 
     -- the main file is frozen, whatever a crash leaves
     frozen_main : (m d : File) → StandsFirmOn held.name t m d → HasImage g0.main m
     frozen_main m d o =
         let h : Holds o.base m d = holds held.name o.base m d o.opens in
-        let state : image_state h.main ≡ 1 =
+        let state : image_state h.main ≡ stalled_state =
         sym (base-state o.base m d h) ∙ mixed_state (bases_of t) t.base o.base.image o.left.mixed ∙ base-state t.base m0 d0 g0 ∙ one in
         let same : h.main ≡ g0.main = sym (h.frozen.stalled state) ∙ o.left.rest.frozen ∙ g0.frozen.stalled one in
         subst (λ (x : Image). HasImage x m) same (of_main h.main m h.has)
@@ -92,7 +93,7 @@ module _ (old : World) (held : Held) (t : Trail) (is : IsOpen old held t) (reads
     end_room = record { stalled = λ e. absurd (omega (arith, e)); other = λ some. header-room _ g0.has.laid.header one }
 
     module _ (mid new : World) (so_far : Changes old mid (OfFiles held.name) (StandsFirm held.name t)) (durable : IsDurable mid (delta_name held.name) (old.files (delta_name held.name)))
-        (block : Changes mid new (Only held.name) (ControlLeft held.name (h0 old held t is).main (in_state 2 None (h0 old held t is).main))) where
+        (block : Changes mid new (Only held.name) (ControlLeft held.name (h0 old held t is).main (in_state merge_state None (h0 old held t is).main))) where
       beside : (files : Files) → ((m : List ℕ) → m ≢ held.name → Leaves mid m (files m)) → files (delta_name held.name) ≡ d0
       beside files others = durable_is mid (delta_name held.name) d0 durable (files (delta_name held.name)) (others (delta_name held.name) (delta_apart held.name))
 
@@ -100,23 +101,23 @@ module _ (old : World) (held : Held) (t : Trail) (is : IsOpen old held t) (reads
       stays files others was =
           last_firm held.name t files (ap (owner held.name (files held.name)) (beside files others) ∙ shows held.name t.base (files held.name) d0 (same_main t.base m0 d0 (files held.name) g0 (to_main g0.main (files held.name) was)))
 
-      goes : (files : Files) → ((m : List ℕ) → m ≢ held.name → Leaves mid m (files m)) → HasImage (in_state 2 None g0.main) (files held.name) → Holds (on_base ends t.base) (files held.name) (files (delta_name held.name))
+      goes : (files : Files) → ((m : List ℕ) → m ≢ held.name → Leaves mid m (files m)) → HasImage (in_state merge_state None g0.main) (files held.name) → Holds (on_base ends t.base) (files held.name) (files (delta_name held.name))
       goes files others put = subst (λ (d : File). Holds (on_base ends t.base) (files held.name) d) (sym (beside files others)) (ended_holds t.base m0 d0 g0 one (files held.name) put)
 
       pub end_struck : StrikesFirm old new held.name t (ends ∷ [])
-      end_struck = struck old mid new held.name t ends g0.main (in_state 2 None g0.main) so_far block stays goes (ends-settles t)
+      end_struck = struck old mid new held.name t ends g0.main (in_state merge_state None g0.main) so_far block stays goes (ends-settles t)
 
-      pub end_open : IsImageOf new held.name (in_state 2 None (h0 old held t is).main) → ((m : List ℕ) → Leaves mid m (mid.files m)) → (now : Held) → now.name ≡ held.name → now.page_size ≡ held.page_size → now.state ≡ 2
+      pub end_open : IsImageOf new held.name (in_state merge_state None (h0 old held t is).main) → ((m : List ℕ) → Leaves mid m (mid.files m)) → (now : Held) → now.name ≡ held.name → now.page_size ≡ held.page_size → now.state ≡ merge_state
           → now.forced ≡ held.forced → now.count ≡ held.count → now.entries ≡ held.entries → now.drafted ≡ 0 → IsOpen new now (after_stroke ends t)
       end_open image read now named sized two forced count entries none_drafted =
           let sixteen : length (Rattle.nb_model.specs.Image.image_guid g0.main) ≡ 16 = kept_sixteen g0.main m0 g0.has in
-          struck_open old mid new held.name t ends g0.main (in_state 2 None g0.main) so_far block stays goes (ends-settles t) image read now named
+          struck_open old mid new held.name t ends g0.main (in_state merge_state None g0.main) so_far block stays goes (ends-settles t) image read now named
           (sized ∙ size ∙ sym (in_state-size g0.main m0 g0.has 2 None (omega arith) sixteen)) (two ∙ sym (in_state-state g0.main m0 g0.has 2 None (omega arith) sixteen))
           (forced ∙ is.agrees.forced ∙ sym (ended_forced t.base is.agrees.header)) (count ∙ is.agrees.count ∙ sym (ended_length t.base)) (λ stalled. absurd (omega (arith, two, stalled))) (entries ∙ is.agrees.entries ∙ sym (ended_entries t.base)) none_drafted
 
   -- The merge is finished.
-  module _ (merges : held.state ≡ 2) (merged : AreMerged old held (length held.entries)) where
-    two : image_state g0.main ≡ 2
+  module _ (merges : held.state ≡ merge_state) (merged : AreMerged old held (length held.entries)) where
+    two : image_state g0.main ≡ merge_state
     two = state ∙ merges
 
     alone : trimmed t.base.image ≡ g0.main
@@ -133,32 +134,32 @@ module _ (old : World) (held : Held) (t : Trail) (is : IsOpen old held t) (reads
         record { base = o.base; opens = shows held.name o.base m d (same_main o.base m0 d m h (subst (λ (x : Image). HasMain x m) same (to_main g0.main m was))); left = o.left }
 
     module _ (mid new : World) (so_far : Changes old mid (OfFiles held.name) (StandsFirm held.name t)) (still : IsStill old mid)
-        (block : Changes mid new (Only held.name) (ControlLeft held.name (h0 old held t is).main (in_state 0 None (h0 old held t is).main))) where
+        (block : Changes mid new (Only held.name) (ControlLeft held.name (h0 old held t is).main (in_state normal_state None (h0 old held t is).main))) where
       rests : (files : Files) → ((m : List ℕ) → m ≢ held.name → Leaves mid m (files m)) → HasImage g0.main (files held.name) → StandsFirm held.name t files
       rests files others was =
           let d : File = files (delta_name held.name) in
           stood (files held.name) d (with_delta old reads held.name t seen d (left_before old mid _ still.left (delta_name held.name) d tt (others (delta_name held.name) (delta_apart held.name)))) was
 
-      ends_in : (files : Files) → HasImage (in_state 0 None g0.main) (files held.name) → Holds (on_base finish t.base) (files held.name) (files (delta_name held.name))
+      ends_in : (files : Files) → HasImage (in_state normal_state None g0.main) (files held.name) → Holds (on_base finish t.base) (files held.name) (files (delta_name held.name))
       ends_in files put = finished_holds t.base m0 d0 g0 two alone (files held.name) (files (delta_name held.name)) put
 
       pub finish_struck : StrikesFirm old new held.name t (finish ∷ [])
-      finish_struck = struck old mid new held.name t finish g0.main (in_state 0 None g0.main) so_far block rests (λ files others put. ends_in files put) (finish-settles t)
+      finish_struck = struck old mid new held.name t finish g0.main (in_state normal_state None g0.main) so_far block rests (λ files others put. ends_in files put) (finish-settles t)
 
       -- then the difference file goes
-      module _ (last : World) (image : IsImageOf new held.name (in_state 0 None (h0 old held t is).main)) (gone : File → Type 0) (removed : Changes new last (Only (delta_name held.name)) (Remade new (delta_name held.name) gone)) where
+      module _ (last : World) (image : IsImageOf new held.name (in_state normal_state None (h0 old held t is).main)) (gone : File → Type 0) (removed : Changes new last (Only (delta_name held.name)) (Remade new (delta_name held.name) gone)) where
         pub removed_struck : StrikesFirm old last held.name t (finish ∷ [])
         removed_struck =
             composed_within old new last (OfFiles held.name) (Only (delta_name held.name)) (OfFiles held.name) _ _ _ finish_struck removed (λ m one. one) (λ m is. inr is) (λ files others r. r)
             (λ files others r. inr (stands_after held.name finish t (files held.name) (files (delta_name held.name)) (finish-settles t) (ends_in files (image.left (files held.name) (others held.name (main_apart held.name))))))
 
-        pub finish_open : (now : Held) → now.name ≡ held.name → now.page_size ≡ held.page_size → now.state ≡ 0 → now.forced ≡ held.forced → now.count ≡ length (trimmed t.base.image) → now.entries ≡ [] → now.drafted ≡ 0 → IsOpen last now (after_stroke finish t)
+        pub finish_open : (now : Held) → now.name ≡ held.name → now.page_size ≡ held.page_size → now.state ≡ normal_state → now.forced ≡ held.forced → now.count ≡ length (trimmed t.base.image) → now.entries ≡ [] → now.drafted ≡ 0 → IsOpen last now (after_stroke finish t)
         finish_open now named sized zero forced count entries none_drafted =
             let sixteen : length (Rattle.nb_model.specs.Image.image_guid g0.main) ≡ 16 = kept_sixteen g0.main m0 g0.has in
             let here : Holds (on_base finish t.base) (last.files held.name) (last.files (delta_name held.name)) =
-            ends_in last.files (subst (λ (x : File). HasImage (in_state 0 None g0.main) x) (sym (removed.others_read held.name (main_apart held.name))) image.reads) in
-            let one : here.main ≡ in_state 0 None g0.main = one_main here.main (in_state 0 None g0.main) (last.files held.name) here.has
-            (to_main (in_state 0 None g0.main) (last.files held.name) (subst (λ (x : File). HasImage (in_state 0 None g0.main) x) (sym (removed.others_read held.name (main_apart held.name))) image.reads)) in
+            ends_in last.files (subst (λ (x : File). HasImage (in_state normal_state None g0.main) x) (sym (removed.others_read held.name (main_apart held.name))) image.reads) in
+            let one : here.main ≡ in_state normal_state None g0.main = one_main here.main (in_state normal_state None g0.main) (last.files held.name) here.has
+            (to_main (in_state normal_state None g0.main) (last.files held.name) (subst (λ (x : File). HasImage (in_state normal_state None g0.main) x) (sym (removed.others_read held.name (main_apart held.name))) image.reads)) in
             subst (λ (n : List ℕ). IsOpen last (record now { name = n }) (after_stroke finish t)) (sym named) (record {
               left = λ files left. stands_after held.name finish t (files held.name) (files (delta_name held.name)) (finish-settles t)
                   (ends_in files (image.left (files held.name) (left_before new last _ removed.others held.name (files held.name) (main_apart held.name) (left held.name))));

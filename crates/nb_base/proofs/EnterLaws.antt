@@ -5,6 +5,7 @@ use Rattle.std.proofs.lemmas.Bool.Decides.{eqb_tells, leb_tells}
 use Rattle.std.proofs.lemmas.List.{append-nil}
 use Rattle.nb_fields.specs.Header.{state_of, size_of}
 use Rattle.nb_fields.specs.Table.{page_in, slot_place}
+use Rattle.nb_fields.specs.States.{stalled_state}
 use Rattle.nb_host.specs.Files.{File, Files, bytes_of, with_file}
 use Rattle.nb_host.specs.World.{World}
 use Rattle.nb_host.specs.Crash.{Leaves, IsDurable}
@@ -94,13 +95,13 @@ module _ (w : World) (reads : (n : List ℕ) → Leaves w n (w.files n)) (held :
   abbrev is : IsSlotted f t waits goes.reads.base
   is = goes.reads.is
 
-  one : image_state t.base.image ≡ 1
+  one : image_state t.base.image ≡ stalled_state
   one = sym goes.agrees.state ∙ goes.stalled
 
   hr : Holds goes.reads.base (w.files held.name) (w.files (delta_name held.name))
   hr = holds name r (w.files name) d goes.reads.opens
 
-  main_one : image_state hr.main ≡ 1
+  main_one : image_state hr.main ≡ stalled_state
   main_one = sym (base-state r (w.files name) d hr) ∙ ap state_of is.first ∙ one
 
   main_size : image_size hr.main ≡ held.page_size
@@ -135,7 +136,7 @@ module _ (w : World) (reads : (n : List ℕ) → Leaves w n (w.files n)) (held :
     h_size : image_size h.main ≡ held.page_size
     h_size = sym (base-size r m d h) ∙ ap size_of is.first ∙ sym goes.agrees.page_size
 
-    h_one : image_state h.main ≡ 1
+    h_one : image_state h.main ≡ stalled_state
     h_one = sym (base-state r m d h) ∙ ap state_of is.first ∙ one
 
     abbrev all : List ℕ
@@ -263,7 +264,7 @@ module _ (w : World) (reads : (n : List ℕ) → Leaves w n (w.files n)) (held :
       h : Holds s.base (before held.name) (before (delta_name held.name))
       h = holds name s.base m d_ s.opens
 
-      h_one : image_state h.main ≡ 1
+      h_one : image_state h.main ≡ stalled_state
       h_one = sym (base-state s.base m d_ h) ∙ ap state_of s.is.first ∙ one
 
       h_size : image_size h.main ≡ held.page_size

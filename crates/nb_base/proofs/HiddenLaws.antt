@@ -1,6 +1,8 @@
 -- A page is written into the main file where an entry hides it: what is seen stays, at each moment. The page may be zeros.
 use Rattle.std.proofs.Common.{◌≡◌, ◌≢◌, ⊎_elim, ℕ, ◌*◌, ◌<◌, ◌≤◌, [], List, length, take, refl, sym, ap, subst, ◌∙◌, inl, inr, arith}
 use Rattle.std.specs.Prelude.{Bool, Some, IsTrue, Ok, Result}
+use Rattle.nb_fields.specs.Places.{most_pages}
+use Rattle.nb_fields.specs.States.{stalled_state, merge_state}
 use Rattle.nb_host.specs.Files.{File, Files, bytes_of, with_file, with_page as with_page_at}
 use Rattle.nb_host.specs.World.{World}
 use Rattle.nb_host.specs.Crash.{PageLeft}
@@ -34,18 +36,18 @@ use Rattle.nb_base.proofs.WriteLaws.{delta_apart}
 pub record MayHide (t : Trail) (p : ℕ) (bytes : Page) : Type 0 where
   pub fits : Fits p bytes t.base.image
   pub long : length bytes ≡ image_size t.base.image
-  pub below : p < 1048576
+  pub below : p < most_pages
 
 pub hides : (t : Trail) (p : ℕ) (bytes : Page) → IsWrite t p bytes → MayHide t p bytes
 hides t p bytes is = record { fits = is.fits; long = is.long; below = is.below }
 
-module _ (t : Trail) (p : ℕ) (bytes : Page) (is : MayHide t p bytes) (merges : image_state t.base.image ≡ 2) where
+module _ (t : Trail) (p : ℕ) (bytes : Page) (is : MayHide t p bytes) (merges : image_state t.base.image ≡ merge_state) where
   -- What one outcome holds.
   module _ (b : Base) (left : IsFirm t b) (m d : File) (h : Holds b m d) where
     main_size : image_size h.main ≡ image_size t.base.image
     main_size = sym (base-size b m d h) ∙ size_left t p bytes is.fits b left
 
-    not_stalled : image_state h.main ≢ 1
+    not_stalled : image_state h.main ≢ stalled_state
     not_stalled e = absurd (omega (arith, sym (base-state b m d h) ∙ state_left t p bytes is.fits b left ∙ merges, e))
 
     front_main : p ≡ 0 → take 64 bytes ≡ take 64 (page_at h.main 0)

@@ -7,6 +7,7 @@ use Rattle.std.proofs.lemmas.Bool.Decides.{eqb_tells, leb_tells}
 use Rattle.std.proofs.lemmas.List.{take-append-drop, append-nil}
 use Rattle.nb_fields.specs.Places.{is_scn_place}
 use Rattle.nb_fields.specs.Header.{state_of, size_of}
+use Rattle.nb_fields.specs.States.{stalled_state, merge_state}
 use Rattle.nb_model.specs.Image.{Page, Image, page_at, first_page, image_size, image_state, is_forced, with_page}
 use Rattle.nb_model.specs.Account.{Base}
 use Rattle.nb_model.specs.Strokes.{Stroke, page, on_base, merged_page, noted}
@@ -37,14 +38,14 @@ module _ (b : Base) (p : ℕ) (bytes : Page) where
   unfolding on_base
   stroke-frozen = refl
 
-  pub stroke-stalled : image_state b.image ≡ 1 → (on_base (page p bytes) b).diverted ≡ noted p b.diverted
+  pub stroke-stalled : image_state b.image ≡ stalled_state → (on_base (page p bytes) b).diverted ≡ noted p b.diverted
   unfolding on_base
   stroke-stalled is = elim (eqb_tells (image_state b.image) 1) [
     | inl w ↦ ap (λ (t : Bool). elim t as (λ z. List ℕ) [ true ↦ noted p b.diverted | false ↦ b.diverted ]) w.0
     | inr w ↦ absurd (w.1 is)
   ]
 
-  pub stroke-other : image_state b.image ≢ 1 → (on_base (page p bytes) b).diverted ≡ b.diverted
+  pub stroke-other : image_state b.image ≢ stalled_state → (on_base (page p bytes) b).diverted ≡ b.diverted
   unfolding on_base
   stroke-other ne = elim (eqb_tells (image_state b.image) 1) [
     | inl w ↦ absurd (ne w.1)
@@ -193,7 +194,7 @@ module _ (t : Trail) (p : ℕ) (bytes : Page) (fits : Fits p bytes t.base.image)
     ]
 
     abbrev Keeps : Type 0
-    Keeps = image_state now ≡ 1 → ((k : ℕ) × (entry_for p b.diverted ≡ Some k)) ⊎ (b.diverted ≡ t.base.diverted)
+    Keeps = image_state now ≡ stalled_state → ((k : ℕ) × (entry_for p b.diverted ≡ Some k)) ⊎ (b.diverted ≡ t.base.diverted)
 
     -- its entries are the first ones
     put_diverted : Keeps → (rest : List ℕ) × ((on_base s t.base).diverted ≡ (on_base s b).diverted ++ rest)
@@ -229,7 +230,7 @@ module _ (t : Trail) (p : ℕ) (bytes : Page) (fits : Fits p bytes t.base.image)
                 frozen = stroke-frozen b p bytes ∙ left.rest.frozen ∙ sym (stroke-frozen t.base p bytes);
                 diverted = put_diverted keeps;
                 merging = λ m.
-                    let merges : image_state now ≡ 2 = sym later_state ∙ ap (λ (x : Base). image_state x.image) (trail_base s t) ∙ m in
+                    let merges : image_state now ≡ merge_state = sym later_state ∙ ap (λ (x : Base). image_state x.image) (trail_base s t) ∙ m in
                     stroke-other b p bytes (λ e. absurd (omega (arith, e, merges, state_left))) ∙ left.rest.merging merges ∙ sym (stroke-other t.base p bytes (λ e. absurd (omega (arith, e, merges))));
                 whole = λ none. absurd (some_base t.earlier t.base none);
               };
@@ -251,7 +252,7 @@ module _ (t : Trail) (p : ℕ) (bytes : Page) (fits : Fits p bytes t.base.image)
             frozen = left.rest.frozen ∙ sym (stroke-frozen t.base p bytes);
             diverted = stays_diverted;
             merging = λ m.
-                let merges : image_state now ≡ 2 = sym later_state ∙ ap (λ (x : Base). image_state x.image) (trail_base s t) ∙ m in
+                let merges : image_state now ≡ merge_state = sym later_state ∙ ap (λ (x : Base). image_state x.image) (trail_base s t) ∙ m in
                 left.rest.merging merges ∙ sym (stroke-other t.base p bytes (λ e. absurd (omega (arith, e, merges))));
             whole = λ none. absurd (some_base t.earlier t.base none);
           };

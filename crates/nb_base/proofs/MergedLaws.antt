@@ -7,6 +7,7 @@ use Rattle.std.proofs.lemmas.Bool.Decides.{eqb_tells}
 use Rattle.nb_fields.specs.Places.{is_page_size}
 use Rattle.nb_fields.specs.Table.{page_in}
 use Rattle.nb_fields.proofs.SizeLemmas.{size_facts}
+use Rattle.nb_fields.specs.States.{merge_state}
 use Rattle.nb_host.specs.Files.{File, Files, bytes_of, with_file, with_page as with_page_at}
 use Rattle.nb_host.specs.World.{World}
 use Rattle.nb_delta.specs.Slots.{HasTable, SlotPut, slot_page}
@@ -96,7 +97,7 @@ module _ (held : Held) (old new : Files) (image : Image) (p : ℕ) (bytes : Page
   }
 
 -- A page write in the merge state, with the main file's page and, where it has an entry, its slot.
-module _ (old new : World) (held : Held) (t : Trail) (p : ℕ) (bytes : Page) (is : IsWrite t p bytes) (seen : IsSeen old held.name t) (merges : image_state t.base.image ≡ 2)
+module _ (old new : World) (held : Held) (t : Trail) (p : ℕ) (bytes : Page) (is : IsWrite t p bytes) (seen : IsSeen old held.name t) (merges : image_state t.base.image ≡ merge_state)
     (entries : t.base.diverted ≡ held.entries) (size : held.page_size ≡ image_size t.base.image) (sized : IsTrue (is_page_size held.page_size))
     (put : new.files held.name ≡ with_page_at (old.files held.name) (p * length bytes) bytes) where
   abbrev h : Holds t.base (old.files held.name) (old.files (delta_name held.name))
@@ -107,7 +108,7 @@ module _ (old new : World) (held : Held) (t : Trail) (p : ℕ) (bytes : Page) (i
 
   apart : IsDistinct nat_eq held.entries
   apart =
-      let state : image_state h.main ≡ 2 = sym (base-state t.base (old.files held.name) (old.files (delta_name held.name)) h) ∙ merges in
+      let state : image_state h.main ≡ merge_state = sym (base-state t.base (old.files held.name) (old.files (delta_name held.name)) h) ∙ merges in
       table_apart held.page_size (old.files (delta_name held.name)) held.entries sized
       (subst (λ (x : List ℕ). HasTable held.page_size (old.files (delta_name held.name)) x) entries (subst (λ n. HasTable n (old.files (delta_name held.name)) t.base.diverted) size_is (h.entries.some (omega (arith, state)))))
 
@@ -140,7 +141,7 @@ merged_held w a b k name size entries merged =
     merged_ j low inside = record { later = (merged j low inside).later; same = (merged j low inside).same }
 
 -- The same by what each call of a write tells.
-module _ (old : World) (held : Held) (t : Trail) (p : ℕ) (bytes : Page) (is : IsWrite t p bytes) (seen : IsSeen old held.name t) (merges : image_state t.base.image ≡ 2)
+module _ (old : World) (held : Held) (t : Trail) (p : ℕ) (bytes : Page) (is : IsWrite t p bytes) (seen : IsSeen old held.name t) (merges : image_state t.base.image ≡ merge_state)
     (entries : t.base.diverted ≡ held.entries) (name dname : List ℕ) (size : ℕ) (named : held.name ≡ name) (sized : held.page_size ≡ size) (beside : dname ≡ delta_name name)
     (long : length bytes ≡ size) (is_size : IsTrue (is_page_size (length bytes))) where
   size_same : held.page_size ≡ image_size t.base.image

@@ -7,6 +7,8 @@ use Rattle.std.proofs.lemmas.List.{drop_at, length-take-le}
 use Rattle.nb_fields.specs.Header.{size_of}
 use Rattle.std.proofs.lemmas.Bool.{true≢false}
 use Rattle.nb_fields.specs.Table.{page_in, slot_place}
+use Rattle.nb_fields.specs.Places.{most_pages}
+use Rattle.nb_fields.specs.States.{merge_state}
 use Rattle.nb_host.specs.Files.{File, Files, bytes_of, with_file, with_page as with_page_at}
 use Rattle.nb_host.specs.World.{World}
 use Rattle.nb_host.specs.Calls.{IsStill}
@@ -63,8 +65,8 @@ pub struck_joined : (old mid new : World) (name : List ℕ) (t : Trail) → Stri
 struck_joined old mid new name t first second = composed old mid new (OfFiles name) (StandsFirm name t) (StandsFirm name t) (StandsFirm name t) first second (λ files stands. stands) (λ files stands. stands)
 
 -- An entry of a database that is open, in the merge state.
-module _ (old : World) (held : Held) (t : Trail) (is : IsOpen old held t) (merges : held.state ≡ 2) (k : ℕ) (inside : k < length held.entries) (are : AreEntries held.entries)
-    (number : ℕ) (names : number ≡ get_or held.entries k 0) (below : number < 1048576) (page : Page)
+module _ (old : World) (held : Held) (t : Trail) (is : IsOpen old held t) (merges : held.state ≡ merge_state) (k : ℕ) (inside : k < length held.entries) (are : AreEntries held.entries)
+    (number : ℕ) (names : number ≡ get_or held.entries k 0) (below : number < most_pages) (page : Page)
     (long : length page ≡ held.page_size) where
   abbrev g : Holds t.base (old.files held.name) (old.files (delta_name held.name))
   g = h0 old held t is
@@ -79,7 +81,7 @@ module _ (old : World) (held : Held) (t : Trail) (is : IsOpen old held t) (merge
   low : number < length t.base.image
   low = let last = named number t.base.diverted k its_entry in omega (arith, last, base-length t.base _ _ g)
 
-  pub two : image_state t.base.image ≡ 2
+  pub two : image_state t.base.image ≡ merge_state
   two = sym is.agrees.state ∙ merges
 
   -- what was read of it

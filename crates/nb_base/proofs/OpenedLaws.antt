@@ -4,6 +4,7 @@ use Rattle.std.specs.Prelude.{true, false, ◌==◌, Some, None, Result, Ok, Err
 use Rattle.std.proofs.lemmas.Bool.Decides.{eqb_tells}
 use Rattle.nb_fields.specs.Header.{state_of, size_of}
 use Rattle.nb_fields.specs.Table.{table_of}
+use Rattle.nb_fields.specs.States.{normal_state, stalled_state}
 use Rattle.nb_host.specs.Files.{File, Files, bytes_of}
 use Rattle.nb_host.specs.World.{World}
 use Rattle.nb_host.specs.Crash.{LeavesAll, IsDurable}
@@ -30,7 +31,7 @@ use Rattle.nb_model.proofs.MainLaws.{some_page}
 use Rattle.nb_base.proofs.OwnedLaws.{Holds, owned-alone, frozen_in, bytes-state, bytes-size, shows, base-header, base-state, base-size, base-length}
 
 -- in the normal state the difference file isn't looked at
-pub holds_whatever : (b : Base) (m d e : File) (h : Holds b m d) → image_state h.main ≡ 0 → Holds b m e
+pub holds_whatever : (b : Base) (m d e : File) (h : Holds b m d) → image_state h.main ≡ normal_state → Holds b m e
 holds_whatever b m d e h normal = record {
   main = h.main;
   has = h.has;
@@ -121,7 +122,7 @@ module _ (name bytes : List ℕ) (start : Start) (is : IsStart bytes start) wher
     abbrev pub read_base : Base
     read_base = record {
       image = owned (image_size (image_in bytes)) (image_in bytes) (bytes_of d) known.entries;
-      frozen = elim (image_state (image_in bytes) == 1) as (λ z. Image) [ true ↦ image_in bytes | false ↦ [] ];
+      frozen = elim (image_state (image_in bytes) == stalled_state) as (λ z. Image) [ true ↦ image_in bytes | false ↦ [] ];
       diverted = known.entries;
     }
 

@@ -5,6 +5,7 @@ use Rattle.std.proofs.Math.Nat.{mul-div_cancel}
 use Rattle.nb_fields.specs.Header.{size_of}
 use Rattle.nb_fields.specs.Places.{is_page_size, slots_in}
 use Rattle.nb_fields.proofs.SizeLemmas.{size_facts}
+use Rattle.nb_fields.specs.States.{normal_state}
 use Rattle.nb_host.specs.Files.{File}
 use Rattle.nb_host.specs.declared.faults.Fault.{Fault}
 use Rattle.nb_delta.specs.Known.{Known}
@@ -19,7 +20,7 @@ none_read (Ok d) state size reads = omega arith
 none_read (Err fault) state size reads = tt
 
 -- and in the others the table is
-pub table_read : (result : Result Known Fault) (state size old new : ℕ) → state ≢ 0 → IfOk result (λ d. new ≡ old + length d.entries / slots_in size + 1) → IfOk result (λ d. new ≤ old + table_reads state size d.entries)
+pub table_read : (result : Result Known Fault) (state size old new : ℕ) → state ≢ normal_state → IfOk result (λ d. new ≡ old + length d.entries / slots_in size + 1) → IfOk result (λ d. new ≤ old + table_reads state size d.entries)
 table_read (Ok d) zero size old new some is = absurd (some refl)
 table_read (Ok d) (suc k) size old new some is = omega (arith, is)
 table_read (Err fault) state size old new some is = tt

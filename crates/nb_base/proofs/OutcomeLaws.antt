@@ -2,6 +2,7 @@
 use Rattle.std.proofs.Common.{◌≡◌, ◌≢◌, ◌⊎◌, inl, inr, ⊎_elim, ℕ, ◌*◌, ◌<◌, ◌≤◌, List, [], ◌∷◌, ◌++◌, length, refl, sym, ap, subst, ◌∙◌, arith, length-append}
 use Rattle.std.specs.Prelude.{false, Option, Some, None, Result, Ok}
 use Rattle.nb_fields.specs.Table.{page_in, slot_place, table_of}
+use Rattle.nb_fields.specs.States.{stalled_state}
 use Rattle.nb_host.specs.Files.{File, bytes_of, with_page as with_page_at}
 use Rattle.nb_host.specs.Crash.{PageLeft}
 use Rattle.nb_delta.specs.Slots.{HasTable, SlotStep, SlotPut, Adds, AddStep, slot_page}
@@ -59,11 +60,11 @@ module _ (name : List ℕ) (t : Trail) (p : ℕ) (bytes : Page) (is : IsWrite t 
   stands_same : (o_base : Base) → IsFirm t o_base → (m d : File) → Holds o_base m d → StandsFirmOn name t m d
   stands_same b left m d h = record { base = b; opens = shows name b m d h; left = left }
 
-  stands_later : (b : Base) (left : IsFirm t b) → (image_state now ≡ 1 → ((k : ℕ) × (entry_for p b.diverted ≡ Some k)) ⊎ (b.diverted ≡ t.base.diverted)) → (m d : File) → Holds (on_base s b) m d → StandsFirmOn name (after_stroke s t) m d
+  stands_later : (b : Base) (left : IsFirm t b) → (image_state now ≡ stalled_state → ((k : ℕ) × (entry_for p b.diverted ≡ Some k)) ⊎ (b.diverted ≡ t.base.diverted)) → (m d : File) → Holds (on_base s b) m d → StandsFirmOn name (after_stroke s t) m d
   stands_later b left keeps m d h = record { base = on_base s b; opens = shows name (on_base s b) m d h; left = put_left t p bytes is.fits b left keeps }
 
   -- The page is written into the main file, and no entry names it.
-  module _ (other : image_state now ≢ 1) (none : entry_for p t.base.diverted ≡ None) (m d c : File) where
+  module _ (other : image_state now ≢ stalled_state) (none : entry_for p t.base.diverted ≡ None) (m d c : File) where
     pub stands_main : StandsFirmOn name t m d → PageLeft (p * length bytes) bytes m c → StandsFirmOn name t c d ⊎ StandsFirmOn name (after_stroke s t) c d
     stands_main o step =
         let h : Holds o.base m d = holds name o.base m d o.opens in
@@ -129,13 +130,13 @@ module _ (name : List ℕ) (t : Trail) (p : ℕ) (bytes : Page) (is : IsWrite t 
     shows_slot_put o put = shows name (on_base s t.base) m c (put_holds t.base (itself_firm t) refl (holds name t.base m d o) put) ∙ ap (λ (x : Base). Ok x) (sym (trail_base s t))
 
   -- An entry is added. Of the main file each outcome holds the frozen image.
-  module _ (stalled : image_state now ≡ 1) (none : entry_for p t.base.diverted ≡ None) (seen reads : File) (shown : owner name seen reads ≡ Ok t.base) (m d c : File) where
+  module _ (stalled : image_state now ≡ stalled_state) (none : entry_for p t.base.diverted ≡ None) (seen reads : File) (shown : owner name seen reads ≡ Ok t.base) (m d c : File) where
     added_holds : StandsFirmOn name t m d → Adds (image_size now) t.base.diverted p bytes reads c → Holds (on_base s t.base) m c
     added_holds o adds =
         let h : Holds o.base m d = holds name o.base m d o.opens in
         let i : Holds t.base seen reads = holds name t.base seen reads shown in
-        let state : image_state h.main ≡ 1 = main-state t p bytes is o.base o.left m d h ∙ stalled in
-        let state_i : image_state i.main ≡ 1 = sym (base-state t.base seen reads i) ∙ stalled in
+        let state : image_state h.main ≡ stalled_state = main-state t p bytes is o.base o.left m d h ∙ stalled in
+        let state_i : image_state i.main ≡ stalled_state = sym (base-state t.base seen reads i) ∙ stalled in
         let same : i.main ≡ h.main = sym (i.frozen.stalled state_i) ∙ sym o.left.rest.frozen ∙ h.frozen.stalled state in
         let size : image_size h.main ≡ image_size now = main-size t p bytes is o.base o.left m d h in
         let image : t.base.image ≡ owned (image_size h.main) h.main (bytes_of reads) t.base.diverted = i.image ∙ ap (λ (x : Image). owned (image_size x) x (bytes_of reads) t.base.diverted) same in

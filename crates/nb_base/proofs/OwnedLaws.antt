@@ -5,6 +5,7 @@ use Rattle.std.proofs.lemmas.Bool.Decides.{leb_tells, eqb_tells}
 use Rattle.std.proofs.lemmas.List.{ext_get_or, length-drop, length-replicate, length-take-le}
 use Rattle.nb_fields.specs.Header.{is_header, state_of, size_of}
 use Rattle.nb_fields.specs.Table.{table_of, page_in, slot_place}
+use Rattle.nb_fields.specs.States.{normal_state, stalled_state}
 use Rattle.nb_host.specs.Files.{File, bytes_of}
 use Rattle.nb_host.specs.declared.refusals.Refusal.{Refusal}
 use Rattle.nb_host.specs.declared.refusals.Refusal.TheVariants.{BadDelta, Unfinished}
@@ -327,13 +328,13 @@ module _ (size : ℕ) (main : Image) (delta new : List ℕ) where
 
 -- The difference file's table is this one; in the normal state it isn't looked at, and there is none.
 pub record HasEntries (state size : ℕ) (delta : File) (table : List ℕ) : Type 0 where
-  pub none : state ≡ 0 → table ≡ []
+  pub none : state ≡ normal_state → table ≡ []
   pub some : 0 < state → HasTable size delta table
 
 -- the frozen image, by the state
 pub record IsFrozen (state : ℕ) (main frozen : Image) : Type 0 where
-  pub stalled : state ≡ 1 → frozen ≡ main
-  pub other : state ≢ 1 → frozen ≡ []
+  pub stalled : state ≡ stalled_state → frozen ≡ main
+  pub other : state ≢ stalled_state → frozen ≡ []
 
 -- What two files hold of a database. The state and the page size are those of the main file's header.
 pub record Holds (b : Base) (m d : File) : Type 0 where
@@ -356,7 +357,7 @@ err_ok : {r : Refusal} {b : Base} → Err r ≡ Ok b → ⊥
 err_ok h = cc
 
 -- the frozen image by a test of the state
-pub frozen_in : (state : ℕ) (main : Image) → IsFrozen state main (elim (state == 1) as (λ z. Image) [ true ↦ main | false ↦ [] ])
+pub frozen_in : (state : ℕ) (main : Image) → IsFrozen state main (elim (state == stalled_state) as (λ z. Image) [ true ↦ main | false ↦ [] ])
 frozen_in state main = elim (eqb_tells state 1) [
   | inl w ↦ record { stalled = λ e. ap (λ (t : Bool). elim t as (λ z. Image) [ true ↦ main | false ↦ [] ]) w.0; other = λ ne. absurd (ne w.1) }
   | inr w ↦ record { stalled = λ e. absurd (w.1 e); other = λ ne. ap (λ (t : Bool). elim t as (λ z. Image) [ true ↦ main | false ↦ [] ]) w.0 }
@@ -394,9 +395,9 @@ module _ (name : List ℕ) (b : Base) (bytes : List ℕ) (d : File) (formed : no
   has_bytes = record { bytes = bytes; there = refl; laid = laid bytes formed }
 
   -- the normal state
-  holds_normal : state_of bytes ≡ 0 → base_of main_ ≡ b → Holds b (Some bytes) d
+  holds_normal : state_of bytes ≡ normal_state → base_of main_ ≡ b → Holds b (Some bytes) d
   holds_normal normal is =
-      let state : image_state main_ ≡ 0 = bytes-state bytes formed ∙ normal in
+      let state : image_state main_ ≡ normal_state = bytes-state bytes formed ∙ normal in
       let table : b.diverted ≡ [] = sym (ap (λ (x : Base). x.diverted) is) in
       record {
         main = main_;
@@ -502,7 +503,7 @@ shows name b m d h = ap (λ (f : File). owner name f d) h.has.there ∙ owner-fo
 
     by : (s : ℕ) → state_of bytes ≡ s → (f : File) → d ≡ f → owner_in (state_of bytes) name bytes d ≡ Ok b
     by zero at f there =
-        let normal : image_state h.main ≡ 0 = state ∙ at in
+        let normal : image_state h.main ≡ normal_state = state ∙ at in
         let image : image_in bytes ≡ b.image = image_is ∙ owned-alone (image_size h.main) h.main (bytes_of d) ∙ ap (λ (t : List ℕ). owned (image_size h.main) h.main (bytes_of d) t) (sym (h.entries.none normal)) ∙ sym h.image in
         ap (λ n. owner_in n name bytes d) at ∙ owner_in-normal name bytes d
         ∙ ap (λ (x : Base). Ok x) (same_base (base_of (image_in bytes)) b image (sym (h.frozen.other (λ e. absurd (omega (arith, e, normal))))) (sym (h.entries.none normal)))

@@ -6,6 +6,7 @@ use Rattle.std.proofs.lemmas.List.{take_all, get_or_append_left, get_or-append_r
 use Rattle.nb_fields.specs.Bytes.{is_zeros}
 use Rattle.nb_fields.specs.Header.{size_of}
 use Rattle.nb_fields.specs.Table.{page_in, slot_place}
+use Rattle.nb_fields.specs.States.{stalled_state}
 use Rattle.nb_host.specs.Files.{File, Files, bytes_of}
 use Rattle.nb_delta.specs.Known.{Known}
 use Rattle.nb_host.specs.Calls.{ReadsPage, ReadsBytes}
@@ -149,7 +150,7 @@ pub record ReadsFrozen (files : Files) (name : List ℕ) (size : ℕ) (b : Base)
   pub sized : size_of bytes ≡ size
   pub page : main_page size (image_in bytes) p ≡ page_at b.frozen p
 
-pub frozen_reads : (files : Files) (name : List ℕ) (size : ℕ) (b : Base) (p : ℕ) → ShowsIn name b files → size ≡ image_size b.image → image_state b.image ≡ 1 → p < length b.frozen → ReadsFrozen files name size b p
+pub frozen_reads : (files : Files) (name : List ℕ) (size : ℕ) (b : Base) (p : ℕ) → ShowsIn name b files → size ≡ image_size b.image → image_state b.image ≡ stalled_state → p < length b.frozen → ReadsFrozen files name size b p
 frozen_reads files name size b p opens sized stalled low =
     let d : File = files (delta_name name) in
     let h : Holds b (files name) d = holds name b (files name) d opens in

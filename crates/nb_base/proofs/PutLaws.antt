@@ -1,6 +1,7 @@
 -- A page that waited goes out: what one outcome holds then, what a crash leaves, and what reads.
 use Rattle.std.proofs.Common.{◌≡◌, ◌≢◌, ◌⊎◌, inl, inr, ⊎_elim, ℕ, ◌*◌, List, length, refl, sym, ap, subst, ◌∙◌, arith}
 use Rattle.std.specs.Prelude.{Bool, IsTrue, None, Ok, Result}
+use Rattle.nb_fields.specs.States.{stalled_state}
 use Rattle.nb_host.specs.Files.{File, Files, with_file, with_page as with_page_at}
 use Rattle.nb_host.specs.World.{World}
 use Rattle.nb_host.specs.Crash.{PageLeft}
@@ -27,7 +28,7 @@ module _ (b : Base) (p : ℕ) (bytes : Page) (may : MayPut b p bytes) where
   put_write : IsWrite (settled b) p bytes
   put_write = record { fits = record { low = omega (arith, may.low); front = λ first. absurd (omega (arith, first, may.some)) }; long = may.long; below = may.below; other = may.other }
 
-  main_state : image_state b.image ≢ 1
+  main_state : image_state b.image ≢ stalled_state
   main_state stalled = absurd (omega (arith, stalled, may.normal))
 
   no_entry : (m d : File) (h : Holds b m d) → entry_for p b.diverted ≡ None

@@ -5,6 +5,7 @@ use Rattle.std.proofs.lemmas.Bool.{true≢false, cases_eq}
 use Rattle.std.proofs.lemmas.Bool.Decides.{eqb_tells}
 use Rattle.nb_fields.specs.Places.{is_scn_place}
 use Rattle.nb_fields.specs.Header.{state_of, size_of}
+use Rattle.nb_fields.specs.States.{stalled_state}
 use Rattle.nb_host.specs.Files.{File, bytes_of}
 use Rattle.nb_host.specs.World.{World}
 use Rattle.nb_host.specs.Moments.{IsTimely}
@@ -41,7 +42,7 @@ pub entry_inside : (b : Base) (m d : File) (h : Holds b m d) (p k : ℕ) → ent
 entry_inside b m d h p k at = let last = named p b.diverted k at in omega (arith, last, base-length b m d h)
 
 -- The page that is seen is written where an entry names it.
-module _ (t : Trail) (p k : ℕ) (b : Base) (some : 1 ≤ p) (inside : p < length b.image) (stalled : image_state t.base.image ≡ 1) (first : first_page b.image ≡ first_page t.base.image) (at : entry_for p b.diverted ≡ Some k) where
+module _ (t : Trail) (p k : ℕ) (b : Base) (some : 1 ≤ p) (inside : p < length b.image) (stalled : image_state t.base.image ≡ stalled_state) (first : first_page b.image ≡ first_page t.base.image) (at : entry_for p b.diverted ≡ Some k) where
   pub slot_table : (on_base (page p (page_at t.base.image p)) b).diverted ≡ b.diverted
   slot_table = stroke-stalled b p (page_at t.base.image p) (ap state_of first ∙ stalled) ∙ noted-there p b.diverted k at
 
@@ -52,7 +53,7 @@ module _ (t : Trail) (p k : ℕ) (b : Base) (some : 1 ≤ p) (inside : p < lengt
   slot_there = put_other b p (page_at t.base.image p) some inside
 
 -- On the way it is rewritten then.
-module _ (f t : Trail) (p k : ℕ) (b : Base) (some : 1 ≤ p) (stalled : image_state t.base.image ≡ 1) (at : entry_for p b.diverted ≡ Some k) (way : IsOnTheWay f t b) where
+module _ (f t : Trail) (p k : ℕ) (b : Base) (some : 1 ≤ p) (stalled : image_state t.base.image ≡ stalled_state) (at : entry_for p b.diverted ≡ Some k) (way : IsOnTheWay f t b) where
   abbrev own : Page
   own = page_at t.base.image p
 
@@ -93,7 +94,7 @@ module _ (f t : Trail) (p k : ℕ) (b : Base) (some : 1 ≤ p) (stalled : image_
   }
 
 -- The way begins where the files are behind.
-pub way_stalled : (f t : Trail) (b : Base) (m d : File) → Holds b m d → IsBehind f t → image_state t.base.image ≡ 1 → IsFirm f b → IsOnTheWay f t b
+pub way_stalled : (f t : Trail) (b : Base) (m d : File) → Holds b m d → IsBehind f t → image_state t.base.image ≡ stalled_state → IsFirm f b → IsOnTheWay f t b
 way_stalled f t b m d h is stalled left = record {
   long = left.mixed.long ∙ is.long;
   first = left.mixed.first ∙ is.first;
@@ -106,11 +107,11 @@ way_stalled f t b m d h is stalled left = record {
 }
 
 -- What is to be known of the pages that wait.
-module _ (w : World) (held : Held) (f t : Trail) (waits : ℕ → Bool) (seen : IsSeen w held.name f) (behind : IsBehind f t) (agrees : Agrees held t.base) (stalled : held.state ≡ 1) (unsettled : t.earlier ≢ [])
+module _ (w : World) (held : Held) (f t : Trail) (waits : ℕ → Bool) (seen : IsSeen w held.name f) (behind : IsBehind f t) (agrees : Agrees held t.base) (stalled : held.state ≡ stalled_state) (unsettled : t.earlier ≢ [])
     (drafted : length t.base.diverted ≡ length f.base.diverted + held.drafted) (clean : (p : ℕ) → waits p ≡ false → page_at f.base.image p ≡ page_at t.base.image p)
     (drafts : (p k : ℕ) → entry_for p t.base.diverted ≡ Some k → length f.base.diverted ≤ k → waits p ≡ true)
     (each : (p : ℕ) → waits p ≡ true → (1 ≤ p) × (p < length t.base.image) × ((k : ℕ) × (entry_for p t.base.diverted ≡ Some k))) where
-  is_stalled : image_state t.base.image ≡ 1
+  is_stalled : image_state t.base.image ≡ stalled_state
   is_stalled = sym agrees.state ∙ stalled
 
   pub goes_in : GoesIn w held f t waits
@@ -145,7 +146,7 @@ module _ (w new : World) (held : Held) (f t : Trail) (waits : ℕ → Bool) (goe
   abbrev way : Base → Type 0
   way = IsOnTheWay f t
 
-  is_one : image_state t.base.image ≡ 1
+  is_one : image_state t.base.image ≡ stalled_state
   is_one = sym goes.agrees.state ∙ goes.stalled
 
   size_of_base : (b : Base) → first_page b.image ≡ first_page t.base.image → held.page_size ≡ image_size b.image

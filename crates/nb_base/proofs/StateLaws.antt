@@ -4,6 +4,7 @@ use Rattle.std.specs.Prelude.{Option, Some, None}
 use Rattle.nb_fields.specs.Bytes.{part}
 use Rattle.nb_fields.specs.Header.{size_of, state_of}
 use Rattle.nb_fields.proofs.PartLemmas.{length-part, part-take}
+use Rattle.nb_fields.specs.States.{normal_state, stalled_state, merge_state}
 use Rattle.nb_host.specs.Files.{File, bytes_of}
 use Rattle.nb_delta.specs.Slots.{HasTable}
 use Rattle.nb_model.specs.Image.{Image, first_page, image_size, image_state, image_scn, image_guid, is_forced, trimmed}
@@ -25,12 +26,12 @@ abbrev pub same_main : (b : Base) (m d c : File) (h : Holds b m d) → HasMain h
 same_main b m d c h has = record { main = h.main; has = has; opened = h.opened; entries = h.entries; image = h.image; frozen = h.frozen }
 
 -- in the normal state the image is the main file's
-pub normal_image : (b : Base) (m d : File) (h : Holds b m d) → image_state h.main ≡ 0 → b.image ≡ h.main
+pub normal_image : (b : Base) (m d : File) (h : Holds b m d) → image_state h.main ≡ normal_state → b.image ≡ h.main
 normal_image b m d h normal =
     h.image ∙ ap (λ (t : List ℕ). owned (image_size h.main) h.main (bytes_of d) t) (h.entries.none normal) ∙ sym (owned-alone (image_size h.main) h.main (bytes_of d))
 
 -- what is held agrees with what the files hold
-pub agrees_by : (held : Held) (b : Base) (m d : File) (h : Holds b m d) → held.page_size ≡ image_size h.main → held.state ≡ image_state h.main → held.forced ≡ is_forced b.image → held.count ≡ length b.image → (held.state ≡ 1 → held.main_count ≡ length h.main) → held.entries ≡ b.diverted
+pub agrees_by : (held : Held) (b : Base) (m d : File) (h : Holds b m d) → held.page_size ≡ image_size h.main → held.state ≡ image_state h.main → held.forced ≡ is_forced b.image → held.count ≡ length b.image → (held.state ≡ stalled_state → held.main_count ≡ length h.main) → held.entries ≡ b.diverted
     → Agrees held b
 agrees_by held b m d h sized stated forced count main_count entries = record {
   header = base-header b m d h;
@@ -65,11 +66,11 @@ pub kept_sixteen : (image : Image) (m : File) → HasMain image m → length (im
 kept_sixteen image m has = let far = header-long (first_page image) has.laid.header in length-part 32 16 (first_page image) (omega (arith, far))
 
 -- The strokes as they compute.
-begin-base : (guid : List ℕ) (ask : Option Ask) (b : Base) → on_base (begin guid ask) b ≡ record { image = in_state 1 (Some guid) b.image; frozen = in_state 1 (Some guid) b.image; diverted = [] }
+begin-base : (guid : List ℕ) (ask : Option Ask) (b : Base) → on_base (begin guid ask) b ≡ record { image = in_state stalled_state (Some guid) b.image; frozen = in_state stalled_state (Some guid) b.image; diverted = [] }
 unfolding on_base
 begin-base guid ask b = refl
 
-ends-base : (b : Base) → on_base ends b ≡ record b { image = in_state 2 None b.image; frozen = [] }
+ends-base : (b : Base) → on_base ends b ≡ record b { image = in_state merge_state None b.image; frozen = [] }
 unfolding on_base
 ends-base b = refl
 
@@ -82,16 +83,16 @@ module _ (b : Base) (m d : File) (h : Holds b m d) where
   guid_same = sym (part-take 64 32 16 (first_page b.image) (omega arith)) ∙ ap (part 32 16) (base-front b m d h) ∙ part-take 64 32 16 (first_page h.main) (omega arith)
 
   -- A backup begins: the main file is frozen, and the difference file is empty.
-  module _ (guid : List ℕ) (ask : Option Ask) (sixteen : length guid ≡ 16) (normal : image_state h.main ≡ 0) (c e : File) (put : HasImage (in_state 1 (Some guid) h.main) c) (empty : HasTable (image_size h.main) e []) where
+  module _ (guid : List ℕ) (ask : Option Ask) (sixteen : length guid ≡ 16) (normal : image_state h.main ≡ normal_state) (c e : File) (put : HasImage (in_state stalled_state (Some guid) h.main) c) (empty : HasTable (image_size h.main) e []) where
     abbrev now : Image
-    now = in_state 1 (Some guid) h.main
+    now = in_state stalled_state (Some guid) h.main
 
-    stalled : image_state (in_state 1 (Some guid) h.main) ≡ 1
+    stalled : image_state (in_state stalled_state (Some guid) h.main) ≡ stalled_state
     stalled = in_state-state h.main m h.has 1 (Some guid) (omega arith) sixteen
 
     pub begun_holds : Holds (on_base (begin guid ask) b) c e
     begun_holds =
-        let same : on_base (begin guid ask) b ≡ record { image = now; frozen = now; diverted = [] } = begin-base guid ask b ∙ ap (λ (x : Image). record { image = in_state 1 (Some guid) x; frozen = in_state 1 (Some guid) x; diverted = [] }) (normal_image b m d h normal) in
+        let same : on_base (begin guid ask) b ≡ record { image = now; frozen = now; diverted = [] } = begin-base guid ask b ∙ ap (λ (x : Image). record { image = in_state stalled_state (Some guid) x; frozen = in_state stalled_state (Some guid) x; diverted = [] }) (normal_image b m d h normal) in
         subst (λ (x : Base). Holds x c e) (sym same) (record {
           main = now;
           has = to_main now c put;
@@ -102,21 +103,21 @@ module _ (b : Base) (m d : File) (h : Holds b m d) where
         })
 
   -- The stalled state ends.
-  module _ (stalled : image_state h.main ≡ 1) (c : File) (put : HasImage (in_state 2 None h.main) c) where
+  module _ (stalled : image_state h.main ≡ stalled_state) (c : File) (put : HasImage (in_state merge_state None h.main) c) where
     abbrev main : Image
-    main = in_state 2 None h.main
+    main = in_state merge_state None h.main
 
-    merges : image_state (in_state 2 None h.main) ≡ 2
+    merges : image_state (in_state merge_state None h.main) ≡ merge_state
     merges = in_state-state h.main m h.has 2 None (omega arith) (kept_sixteen h.main m h.has)
 
-    size : image_size (in_state 2 None h.main) ≡ image_size h.main
+    size : image_size (in_state merge_state None h.main) ≡ image_size h.main
     size = in_state-size h.main m h.has 2 None (omega arith) (kept_sixteen h.main m h.has)
 
-    image_is : in_state 2 None b.image ≡ owned (image_size (in_state 2 None h.main)) (in_state 2 None h.main) (bytes_of d) b.diverted
+    image_is : in_state merge_state None b.image ≡ owned (image_size (in_state merge_state None h.main)) (in_state merge_state None h.main) (bytes_of d) b.diverted
     image_is =
-        ap (λ n. with_control 2 (n + 1) (image_guid b.image) b.image) scn_same ∙ ap (λ (g : List ℕ). with_control 2 (image_scn h.main + 1) g b.image) guid_same ∙ ap (with_control 2 (image_scn h.main + 1) (image_guid h.main)) h.image
-        ∙ sym (owned-control 2 (image_scn h.main + 1) (image_guid h.main) (image_size h.main) h.main (bytes_of d) b.diverted (main-some b m d h) (main-long b m d h) (kept_sixteen h.main m h.has))
-        ∙ ap (λ n. owned n (in_state 2 None h.main) (bytes_of d) b.diverted) (sym size)
+        ap (λ n. with_control merge_state (n + 1) (image_guid b.image) b.image) scn_same ∙ ap (λ (g : List ℕ). with_control merge_state (image_scn h.main + 1) g b.image) guid_same ∙ ap (with_control merge_state (image_scn h.main + 1) (image_guid h.main)) h.image
+        ∙ sym (owned-control merge_state (image_scn h.main + 1) (image_guid h.main) (image_size h.main) h.main (bytes_of d) b.diverted (main-some b m d h) (main-long b m d h) (kept_sixteen h.main m h.has))
+        ∙ ap (λ n. owned n (in_state merge_state None h.main) (bytes_of d) b.diverted) (sym size)
 
     pub ended_holds : Holds (on_base ends b) c d
     ended_holds = subst (λ (x : Base). Holds x c d) (sym (ends-base b)) (record {
@@ -129,17 +130,17 @@ module _ (b : Base) (m d : File) (h : Holds b m d) where
     })
 
   -- The merge is finished: the main file alone has the image, but for pages of zeros at its end.
-  module _ (merges : image_state h.main ≡ 2) (alone : trimmed b.image ≡ h.main) (c e : File) (put : HasImage (in_state 0 None h.main) c) where
+  module _ (merges : image_state h.main ≡ merge_state) (alone : trimmed b.image ≡ h.main) (c e : File) (put : HasImage (in_state normal_state None h.main) c) where
     abbrev last : Image
-    last = in_state 0 None h.main
+    last = in_state normal_state None h.main
 
-    normal : image_state (in_state 0 None h.main) ≡ 0
+    normal : image_state (in_state normal_state None h.main) ≡ normal_state
     normal = in_state-state h.main m h.has 0 None (omega arith) (kept_sixteen h.main m h.has)
 
-    pub finished_image : with_control 0 (image_scn b.image) (image_guid b.image) (trimmed b.image) ≡ in_state 0 None h.main
+    pub finished_image : with_control normal_state (image_scn b.image) (image_guid b.image) (trimmed b.image) ≡ in_state normal_state None h.main
     finished_image =
-        ap (λ n. with_control 0 n (image_guid b.image) (trimmed b.image)) scn_same ∙ ap (λ (g : List ℕ). with_control 0 (image_scn h.main) g (trimmed b.image)) guid_same
-        ∙ ap (with_control 0 (image_scn h.main) (image_guid h.main)) alone
+        ap (λ n. with_control normal_state n (image_guid b.image) (trimmed b.image)) scn_same ∙ ap (λ (g : List ℕ). with_control normal_state (image_scn h.main) g (trimmed b.image)) guid_same
+        ∙ ap (with_control normal_state (image_scn h.main) (image_guid h.main)) alone
 
     pub finished_holds : Holds (on_base finish b) c e
     finished_holds = subst (λ (x : Base). Holds x c e) (sym (finish_base b)) (record {

@@ -2,6 +2,7 @@
 use Rattle.std.proofs.Common.{◌≡◌, ◌≢◌, ◌⊎◌, inl, inr, ⊎_elim, ℕ, ◌*◌, ◌<◌, ◌≤◌, List, length, take, refl, sym, ap, subst, ◌∙◌, arith}
 use Rattle.std.specs.Prelude.{Option, Some, None}
 use Rattle.nb_fields.specs.Table.{page_in, slot_place}
+use Rattle.nb_fields.specs.States.{stalled_state}
 use Rattle.nb_host.specs.Files.{File, bytes_of, with_page as with_page_at}
 use Rattle.nb_host.specs.Crash.{PageLeft}
 use Rattle.nb_delta.specs.Slots.{HasTable, slot_page}
@@ -20,7 +21,7 @@ none_some : {k : ℕ} → None ≡ Some k → ⊥
 none_some h = cc
 
 -- Another main file with the same header, in the normal and the merge state.
-pub main_moved : (b new : Base) (m d c : File) (h : Holds b m d) (main : Image) → image_state h.main ≢ 1 → HasMain main c → take 64 (first_page main) ≡ take 64 (first_page h.main)
+pub main_moved : (b new : Base) (m d c : File) (h : Holds b m d) (main : Image) → image_state h.main ≢ stalled_state → HasMain main c → take 64 (first_page main) ≡ take 64 (first_page h.main)
     → new.diverted ≡ b.diverted → new.frozen ≡ b.frozen → new.image ≡ owned (image_size h.main) main (bytes_of d) b.diverted → Holds new c d
 main_moved b new m d c h main other has front diverted frozen image =
     let state : image_state main ≡ image_state h.main = same-number (first_page main) (first_page h.main) front 22 2 (omega arith) in
@@ -84,7 +85,7 @@ module _ (t : Trail) (p : ℕ) (bytes : Page) (is : IsWrite t p bytes) where
     new_front = front_stays (image_size h.main) h.main (bytes_of d) b.diverted p bytes (main-some b m d h) (main-long b m d h) front_main
 
     -- which shows it where no entry names it
-    shows_main : image_state now ≢ 1 → entry_for p b.diverted ≡ None → (c : File) → HasMain (written_at (image_size h.main) (p, bytes) h.main) c → Holds (on_base s b) c d
+    shows_main : image_state now ≢ stalled_state → entry_for p b.diverted ≡ None → (c : File) → HasMain (written_at (image_size h.main) (p, bytes) h.main) c → Holds (on_base s b) c d
     shows_main other none c has =
         let low : p ≤ length (owned (image_size h.main) h.main (bytes_of d) b.diverted) = omega (arith, (fits_left t p bytes is.fits b left).low, ap length h.image) in
         main_moved b (on_base s b) m d c h new_main (λ e. other (sym main-state ∙ e)) has new_front
@@ -92,14 +93,14 @@ module _ (t : Trail) (p : ℕ) (bytes : Page) (is : IsWrite t p bytes) where
         (put_is t p bytes is.fits b left ∙ ap (λ (x : Image). with_page p bytes x) h.image
         ∙ sym (main_shows (image_size h.main) h.main (bytes_of d) b.diverted p bytes (main-some b m d h) (main-long b m d h) front_main none low))
 
-    pub holds_main : image_state now ≢ 1 → entry_for p b.diverted ≡ None → (c : File) → c ≡ with_page_at m (p * length bytes) bytes → Holds (on_base s b) c d
+    pub holds_main : image_state now ≢ stalled_state → entry_for p b.diverted ≡ None → (c : File) → c ≡ with_page_at m (p * length bytes) bytes → Holds (on_base s b) c d
     holds_main other none c put = shows_main other none c (main_put h.main m c p bytes h.has may put)
 
-    same_main : image_state now ≢ 1 → (c : File) → HasMain h.main c → Holds b c d
+    same_main : image_state now ≢ stalled_state → (c : File) → HasMain h.main c → Holds b c d
     same_main other c has = main_moved b b m d c h h.main (λ e. other (sym main-state ∙ e)) has refl refl refl h.image
 
     -- what a crash leaves of the write
-    pub left_main : image_state now ≢ 1 → entry_for p b.diverted ≡ None → (c : File) → PageLeft (p * length bytes) bytes m c → Holds b c d ⊎ Holds (on_base s b) c d
+    pub left_main : image_state now ≢ stalled_state → entry_for p b.diverted ≡ None → (c : File) → PageLeft (p * length bytes) bytes m c → Holds b c d ⊎ Holds (on_base s b) c d
     left_main other none c step = ⊎_elim (λ has. inl (same_main other c has)) (λ has. inr (shows_main other none c has)) (main_written h.main m c p bytes h.has may step)
 
     -- Of the difference file the table and the slots of the entries stay.

@@ -1,6 +1,7 @@
 -- The control strokes: what a crash leaves at each moment, and what is open after.
 use Rattle.std.proofs.Common.{◌≡◌, ◌≢◌, inl, inr, ⊎_elim, ℕ, ◌<◌, List, [], ◌∷◌, length, refl, sym, ap, subst, ◌∙◌, arith}
 use Rattle.std.specs.Prelude.{true, Option, Some, Ok}
+use Rattle.nb_fields.specs.States.{normal_state, stalled_state}
 use Rattle.nb_host.specs.Files.{File, Files}
 use Rattle.nb_host.specs.World.{World}
 use Rattle.nb_host.specs.Crash.{Leaves, IsDurable}
@@ -70,7 +71,7 @@ module _ (old mid new : World) (name : List ℕ) (t : Trail) (s : Stroke) (befor
     here : Holds (on_base s t.base) (new.files name) (new.files (delta_name name))
     here = go new.files (λ m other. subst (λ (f : File). Leaves mid m f) (sym (block.others_read m other)) (reads m)) is.reads
 
-    pub struck_open : (held : Held) → held.name ≡ name → held.page_size ≡ image_size after → held.state ≡ image_state after → held.forced ≡ is_forced (on_base s t.base).image → held.count ≡ length (on_base s t.base).image → (held.state ≡ 1 → held.main_count ≡ length after)
+    pub struck_open : (held : Held) → held.name ≡ name → held.page_size ≡ image_size after → held.state ≡ image_state after → held.forced ≡ is_forced (on_base s t.base).image → held.count ≡ length (on_base s t.base).image → (held.state ≡ stalled_state → held.main_count ≡ length after)
         → held.entries ≡ (on_base s t.base).diverted → held.drafted ≡ 0 → IsOpen new held (after_stroke s t)
     struck_open held named sized stated forced count main_count entries none_drafted =
         let one : here.main ≡ after = one_main here.main after (new.files name) here.has (to_main after (new.files name) is.reads) in
@@ -108,12 +109,12 @@ module _ (old : World) (held : Held) (t : Trail) (is : IsOpen old held t) where
   }
 
   -- A backup begins.
-  module _ (guid : List ℕ) (ask : Option Ask) (sixteen : length guid ≡ 16) (normal : held.state ≡ 0) where
-    zero : image_state h0.main ≡ 0
+  module _ (guid : List ℕ) (ask : Option Ask) (sixteen : length guid ≡ 16) (normal : held.state ≡ normal_state) where
+    zero : image_state h0.main ≡ normal_state
     zero = main_state ∙ normal
 
     abbrev frozen : Image
-    frozen = in_state 1 (Some guid) h0.main
+    frozen = in_state stalled_state (Some guid) h0.main
 
     -- in the normal state the main file alone shows it
     stays : (files : Files) → HasImage h0.main (files held.name) → StandsFirm held.name t files
@@ -142,8 +143,8 @@ module _ (old : World) (held : Held) (t : Trail) (is : IsOpen old held t) where
 
     -- and then the control block
     module _ (mid new : World) (so_far : Changes old mid (OfFiles held.name) (StandsFirm held.name t)) (empty : HasTable held.page_size (mid.files (delta_name held.name)) []) (durable : IsDurable mid (delta_name held.name) (mid.files (delta_name held.name)))
-        (block : Changes mid new (Only held.name) (ControlLeft held.name h0.main (in_state 1 (Some guid) h0.main))) where
-      goes : (files : Files) → ((m : List ℕ) → m ≢ held.name → Leaves mid m (files m)) → HasImage (in_state 1 (Some guid) h0.main) (files held.name) → Holds (on_base (begin guid ask) t.base) (files held.name) (files (delta_name held.name))
+        (block : Changes mid new (Only held.name) (ControlLeft held.name h0.main (in_state stalled_state (Some guid) h0.main))) where
+      goes : (files : Files) → ((m : List ℕ) → m ≢ held.name → Leaves mid m (files m)) → HasImage (in_state stalled_state (Some guid) h0.main) (files held.name) → Holds (on_base (begin guid ask) t.base) (files held.name) (files (delta_name held.name))
       goes files others put =
           let beside : files (delta_name held.name) ≡ mid.files (delta_name held.name) = durable_is mid (delta_name held.name) _ durable (files (delta_name held.name)) (others (delta_name held.name) (delta_apart held.name)) in
           begun_holds t.base m0 d0 h0 guid ask sixteen zero (files held.name) (files (delta_name held.name)) put
@@ -152,15 +153,15 @@ module _ (old : World) (held : Held) (t : Trail) (is : IsOpen old held t) where
       pub begin_struck : StrikesFirm old new held.name t (begin guid ask ∷ [])
       begin_struck = struck old mid new held.name t (begin guid ask) h0.main frozen so_far block (λ files others was. stays files was) goes (begin-settles t guid ask)
 
-      begun_image : (on_base (begin guid ask) t.base).image ≡ in_state 1 (Some guid) h0.main
+      begun_image : (on_base (begin guid ask) t.base).image ≡ in_state stalled_state (Some guid) h0.main
       unfolding on_base
-      begun_image = ap (in_state 1 (Some guid)) (normal_image t.base m0 d0 h0 zero)
+      begun_image = ap (in_state stalled_state (Some guid)) (normal_image t.base m0 d0 h0 zero)
 
       begun_none : (on_base (begin guid ask) t.base).diverted ≡ []
       unfolding on_base
       begun_none = refl
 
-      pub begin_open : IsImageOf new held.name (in_state 1 (Some guid) h0.main) → ((m : List ℕ) → Leaves mid m (mid.files m)) → (now : Held) → now.name ≡ held.name → now.page_size ≡ held.page_size → now.state ≡ 1 → now.forced ≡ held.forced → now.count ≡ held.count
+      pub begin_open : IsImageOf new held.name (in_state stalled_state (Some guid) h0.main) → ((m : List ℕ) → Leaves mid m (mid.files m)) → (now : Held) → now.name ≡ held.name → now.page_size ≡ held.page_size → now.state ≡ stalled_state → now.forced ≡ held.forced → now.count ≡ held.count
           → now.main_count ≡ held.count → now.entries ≡ [] → now.drafted ≡ 0 → IsOpen new now (after_stroke (begin guid ask) t)
       begin_open image reads now named sized one forced count main_count none none_drafted =
           let long : length frozen ≡ length h0.main = in_state-length h0.main m0 h0.has 1 (Some guid) (omega arith) sixteen in

@@ -1,6 +1,7 @@
 -- What a crash leaves of two files that are kept for good.
 use Rattle.std.proofs.Common.{◌≡◌, ◌≢◌, ℕ, zero, suc, List, refl, sym, ap, subst, ◌∙◌, arith}
 use Rattle.std.specs.Prelude.{Ok}
+use Rattle.nb_fields.specs.States.{normal_state}
 use Rattle.nb_host.specs.Files.{File, Files, bytes_of}
 use Rattle.nb_host.specs.World.{World}
 use Rattle.nb_host.specs.Crash.{IsDurable}
@@ -15,7 +16,7 @@ use Rattle.nb_base.specs.Open.{Held, Agrees, IsOpen}
 use Rattle.nb_base.proofs.OwnedLaws.{Holds, holds, shows, base-state, owned-alone}
 
 -- in the normal state the difference file isn't looked at
-pub normal_any : (b : Base) (m d c : File) (h : Holds b m d) → image_state h.main ≡ 0 → Holds b m c
+pub normal_any : (b : Base) (m d c : File) (h : Holds b m d) → image_state h.main ≡ normal_state → Holds b m c
 normal_any b m d c h normal = record {
   main = h.main;
   has = h.has;
@@ -28,7 +29,7 @@ normal_any b m d c h normal = record {
 
 -- the main file is durable, and the difference file where it is looked at
 pub both_settled : (old new : World) (held : Held) (b : Base) → IsStill old new → Agrees held b → held.drafted ≡ 0 → ShowsIn held.name b old.files → IsDurable new held.name (new.files held.name)
-    → (held.state ≢ 0 → IsDurable new (delta_name held.name) (new.files (delta_name held.name))) → IsOpen new held (settled b)
+    → (held.state ≢ normal_state → IsDurable new (delta_name held.name) (new.files (delta_name held.name))) → IsOpen new held (settled b)
 both_settled old new held b still agrees none_drafted reads main delta = record {
   left = λ files all.
       let m : files held.name ≡ new.files held.name = durable_is new held.name (new.files held.name) main (files held.name) (all held.name) in
@@ -41,7 +42,7 @@ both_settled old new held b still agrees none_drafted reads main delta = record 
     shown : ShowsIn held.name b new.files
     shown = subst (λ (f : Files). ShowsIn held.name b f) (sym still.files) reads
 
-    any : (d : File) → (held.state ≢ 0 → d ≡ new.files (delta_name held.name)) → owner held.name (new.files held.name) d ≡ Ok b
+    any : (d : File) → (held.state ≢ normal_state → d ≡ new.files (delta_name held.name)) → owner held.name (new.files held.name) d ≡ Ok b
     any d is =
         let h : Holds b (new.files held.name) (new.files (delta_name held.name)) = holds held.name b (new.files held.name) (new.files (delta_name held.name)) shown in
         by held.state refl h

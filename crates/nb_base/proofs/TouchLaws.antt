@@ -1,6 +1,7 @@
 -- What calls touch: one call, calls one after another, and by the backup state.
 use Rattle.std.proofs.Common.{◌≡◌, ◌≢◌, inl, inr, ℕ, zero, suc, List, refl, sym, ◌∙◌, subst}
 use Rattle.std.specs.Prelude.{Bool, IsTrue, Result}
+use Rattle.nb_fields.specs.States.{normal_state, stalled_state}
 use Rattle.nb_host.specs.Files.{Files}
 use Rattle.nb_host.specs.World.{World}
 use Rattle.nb_host.specs.Calls.{WritesPage, IsStill}
@@ -52,17 +53,17 @@ pub delta_of : (old new : World) (name delta : List ℕ) → delta ≡ delta_nam
 delta_of old new name delta named is = touched_more old new (Only delta) (OfFiles name) is (λ m one. inr (one ∙ named))
 
 -- By the state: the main file but in the stalled one,
-pub main_in : (old new : World) (state : ℕ) (name : List ℕ) → state ≢ 1 → Touches old new (Only name) → WritesIn old new state name
+pub main_in : (old new : World) (state : ℕ) (name : List ℕ) → state ≢ stalled_state → Touches old new (Only name) → WritesIn old new state name
 main_in old new zero name other is = is
 main_in old new (suc zero) name other is = absurd (other refl)
 main_in old new (suc (suc later)) name other is = touched_more old new (Only name) (OfFiles name) is (λ m one. inl one)
 
 -- the difference file in the stalled one,
-pub delta_in : (old new : World) (state : ℕ) (name delta : List ℕ) → state ≡ 1 → delta ≡ delta_name name → Touches old new (Only delta) → WritesIn old new state name
+pub delta_in : (old new : World) (state : ℕ) (name delta : List ℕ) → state ≡ stalled_state → delta ≡ delta_name name → Touches old new (Only delta) → WritesIn old new state name
 delta_in old new state name delta stalled named is = subst (λ n. WritesIn old new n name) (sym stalled) (subst (λ (d : List ℕ). Touches old new (Only d)) named is)
 
 -- and both in the merge.
-pub both_in : (old new : World) (state : ℕ) (name : List ℕ) → state ≢ 0 → state ≢ 1 → Touches old new (OfFiles name) → WritesIn old new state name
+pub both_in : (old new : World) (state : ℕ) (name : List ℕ) → state ≢ normal_state → state ≢ stalled_state → Touches old new (OfFiles name) → WritesIn old new state name
 both_in old new zero name some other is = absurd (some refl)
 both_in old new (suc zero) name some other is = absurd (other refl)
 both_in old new (suc (suc later)) name some other is = is

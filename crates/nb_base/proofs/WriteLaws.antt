@@ -1,6 +1,7 @@
 -- A page is written: what a crash leaves at each moment, and what is seen once the call has answered Ok.
 use Rattle.std.proofs.Common.{◌≡◌, ◌≢◌, ◌⊎◌, inl, inr, ⊎_elim, ℕ, zero, suc, ◌*◌, ◌<◌, ◌≤◌, List, [], ◌∷◌, length, refl, sym, ap, subst, ◌∙◌, arith, length-append}
 use Rattle.std.specs.Prelude.{Bool, true, false, IsTrue, Some, None, Result, Ok, Err, IsErr, OnOk}
+use Rattle.nb_fields.specs.States.{normal_state, stalled_state, merge_state}
 use Rattle.nb_host.specs.Files.{File, Files, with_file, with_page as with_page_at}
 use Rattle.nb_host.specs.World.{World}
 use Rattle.nb_host.specs.Crash.{Leaves, IsDurable, Untouched}
@@ -83,7 +84,7 @@ module _ (name : List ℕ) (t : Trail) (p : ℕ) (bytes : Page) (is : IsWrite t 
   }
 
   -- The main file is written.
-  module _ (mid : World) (other : image_state t.base.image ≢ 1) (none : entry_for p t.base.diverted ≡ None) where
+  module _ (mid : World) (other : image_state t.base.image ≢ stalled_state) (none : entry_for p t.base.diverted ≡ None) where
     pub struck_main : {T E : Type 0} (tells : Bool) (result : Result T E) → IsTrue tells → WritesPage tells result old mid name (p * length bytes) bytes → mid.said ≡ old.said → Passes old mid → StrikesFirm old mid name t (page p bytes ∷ [])
     struck_main tells result told writes silent time =
         page_more tells result old old mid (OfFiles name) Before After name (p * length bytes) bytes told start (inl refl) writes silent time (λ files o. inl o)
@@ -138,7 +139,7 @@ module _ (name : List ℕ) (t : Trail) (p : ℕ) (bytes : Page) (is : IsWrite t 
       }
 
   -- An entry is added.
-  module _ (new : World) (stalled : image_state t.base.image ≡ 1) (none : entry_for p t.base.diverted ≡ None)
+  module _ (new : World) (stalled : image_state t.base.image ≡ stalled_state) (none : entry_for p t.base.diverted ≡ None)
       (changes : Changes old new (Only (delta_name name)) (Moved old (delta_name name) (AddStep (image_size t.base.image) t.base.diverted p bytes (old.files (delta_name name))))) where
     pub struck_add : StrikesFirm old new name t (page p bytes ∷ [])
     struck_add =
@@ -167,17 +168,17 @@ module _ (name : List ℕ) (t : Trail) (p : ℕ) (bytes : Page) (is : IsWrite t 
       }
 
 -- the table of the difference file as it reads, by what its object knows
-pub seen_table : (name : List ℕ) (t : Trail) (w : World) → IsSeen w name t → image_state t.base.image ≡ 1 → (delta : List ℕ) (size : ℕ) (entries : List ℕ) → delta ≡ delta_name name → size ≡ image_size t.base.image → t.base.diverted ≡ entries
+pub seen_table : (name : List ℕ) (t : Trail) (w : World) → IsSeen w name t → image_state t.base.image ≡ stalled_state → (delta : List ℕ) (size : ℕ) (entries : List ℕ) → delta ≡ delta_name name → size ≡ image_size t.base.image → t.base.diverted ≡ entries
     → HasTable size (w.files delta) entries
 seen_table name t w seen stalled delta size entries named size_is entries_are =
     let h : Holds t.base (w.files name) (w.files (delta_name name)) = holds name t.base (w.files name) (w.files (delta_name name)) seen.shows in
-    let state : image_state h.main ≡ 1 = sym (base-state t.base (w.files name) (w.files (delta_name name)) h) ∙ stalled in
+    let state : image_state h.main ≡ stalled_state = sym (base-state t.base (w.files name) (w.files (delta_name name)) h) ∙ stalled in
     let same : image_size h.main ≡ size = sym (base-size t.base (w.files name) (w.files (delta_name name)) h) ∙ sym size_is in
     subst (λ (d : List ℕ). HasTable size (w.files d) entries) (sym named) (subst (λ (x : List ℕ). HasTable size (w.files (delta_name name)) x) entries_are
     (subst (λ n. HasTable n (w.files (delta_name name)) t.base.diverted) same (h.entries.some (omega (arith, state)))))
 
 -- in the normal state it isn't looked at
-pub no_entries : (name : List ℕ) (t : Trail) (w : World) → IsSeen w name t → image_state t.base.image ≡ 0 → t.base.diverted ≡ []
+pub no_entries : (name : List ℕ) (t : Trail) (w : World) → IsSeen w name t → image_state t.base.image ≡ normal_state → t.base.diverted ≡ []
 no_entries name t w seen normal =
     let h : Holds t.base (w.files name) (w.files (delta_name name)) = holds name t.base (w.files name) (w.files (delta_name name)) seen.shows in
     h.entries.none (sym (base-state t.base (w.files name) (w.files (delta_name name)) h) ∙ normal)
@@ -206,7 +207,7 @@ module _ (name : List ℕ) (t : Trail) (p : ℕ) (bytes : Page) (is : IsWrite t 
         (λ kept. slot_synced name t p bytes is old timely reads seen new diverts k at (of_slot changes) put_ (subst (λ (d : List ℕ). IsDurable new d (new.files d)) named kept))
         (synced_or synced delta new must durable)
 
-  module _ (new : World) (stalled : image_state t.base.image ≡ 1) (delta : List ℕ) (size : ℕ) (entries : List ℕ) (named : delta ≡ delta_name name) (size_is : size ≡ image_size t.base.image) (entries_are : t.base.diverted ≡ entries)
+  module _ (new : World) (stalled : image_state t.base.image ≡ stalled_state) (delta : List ℕ) (size : ℕ) (entries : List ℕ) (named : delta ≡ delta_name name) (size_is : size ≡ image_size t.base.image) (entries_are : t.base.diverted ≡ entries)
       (fresh : place_of entries p ≡ None) where
     no_entry : entry_for p t.base.diverted ≡ None
     no_entry = ap (entry_for p) entries_are ∙ sym (place-entry p entries) ∙ fresh
@@ -234,10 +235,10 @@ module _ (name : List ℕ) (t : Trail) (p : ℕ) (bytes : Page) (is : IsWrite t 
 
 -- In the merge state a stroke keeps the state and the entries.
 module _ (t : Trail) (p : ℕ) (bytes : Page) where
-  pub merges_later : IsWrite t p bytes → image_state t.base.image ≡ 2 → image_state (after_stroke (page p bytes) t).base.image ≡ 2
+  pub merges_later : IsWrite t p bytes → image_state t.base.image ≡ merge_state → image_state (after_stroke (page p bytes) t).base.image ≡ 2
   merges_later is merges = later_state t p bytes is.fits ∙ merges
 
-  pub entry_later : image_state t.base.image ≡ 2 → (k : ℕ) → entry_for p t.base.diverted ≡ Some k → entry_for p (after_stroke (page p bytes) t).base.diverted ≡ Some k
+  pub entry_later : image_state t.base.image ≡ merge_state → (k : ℕ) → entry_for p t.base.diverted ≡ Some k → entry_for p (after_stroke (page p bytes) t).base.diverted ≡ Some k
   entry_later merges k at = ap (λ (b : Base). entry_for p b.diverted) (trail_base (page p bytes) t) ∙ ap (entry_for p) (stroke-other t.base p bytes (λ e. absurd (omega (arith, e, merges)))) ∙ at
 
 -- What a call took, passed on as a failure, and from a world that is the same.
@@ -267,7 +268,7 @@ pub none_at : (p k : ℕ) (entries : List ℕ) → entries ≡ [] → entry_for 
 none_at p k entries none at = none_some (sym (entry_none p) ∙ ap (entry_for p) (sym none) ∙ at)
 
 -- where an entry names a page, but not in the stalled state, the state is the merge state
-pub merges_where : (name : List ℕ) (t : Trail) (w : World) → IsSeen w name t → image_state t.base.image ≢ 1 → (p k : ℕ) → entry_for p t.base.diverted ≡ Some k → image_state t.base.image ≡ 2
+pub merges_where : (name : List ℕ) (t : Trail) (w : World) → IsSeen w name t → image_state t.base.image ≢ stalled_state → (p k : ℕ) → entry_for p t.base.diverted ≡ Some k → image_state t.base.image ≡ merge_state
 merges_where name t w seen other p k at =
     let h : Holds t.base (w.files name) (w.files (delta_name name)) = holds name t.base (w.files name) (w.files (delta_name name)) seen.shows in
     let state : image_state t.base.image ≡ image_state h.main = base-state t.base (w.files name) (w.files (delta_name name)) h in
@@ -278,5 +279,5 @@ merges_where name t w seen other p k at =
     last (suc zero) low a b = absurd (b refl)
     last (suc (suc s)) low a b = omega (arith, low)
 
-    by : (s : ℕ) → s ≤ 2 → (s ≡ 0 → t.base.diverted ≡ []) → image_state t.base.image ≡ s → image_state t.base.image ≡ 2
+    by : (s : ℕ) → s ≤ 2 → (s ≡ 0 → t.base.diverted ≡ []) → image_state t.base.image ≡ s → image_state t.base.image ≡ merge_state
     by s opened none is = is ∙ last s opened (λ e. none_at p k t.base.diverted (none e) at) (λ e. other (is ∙ e))

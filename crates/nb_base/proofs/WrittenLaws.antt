@@ -5,7 +5,7 @@ use Rattle.std.proofs.lemmas.Bool.{true≢false, and_parts}
 use Rattle.std.proofs.lemmas.Bool.Decides.{leb_tells, eqb_tells}
 use Rattle.std.proofs.lemmas.List.{drop_all, get_or_append_left, get_or-append_right, length-take-le, length-drop, length-replicate, replicate-append-replicate}
 use Rattle.nb_fields.specs.Bytes.{is_zeros}
-use Rattle.nb_fields.specs.Places.{is_page_size}
+use Rattle.nb_fields.specs.Places.{is_page_size, most_pages}
 use Rattle.nb_fields.specs.Header.{is_header, size_of}
 use Rattle.nb_host.specs.Files.{File, bytes_of, padded, put_at, with_page as with_page_at}
 use Rattle.nb_host.specs.Crash.{PageLeft}
@@ -52,14 +52,14 @@ main_sizes image bytes l p low = Rattle.nb_model.proofs.SoundLaws.all_at (λ pag
 
 -- A page that may be laid there, zeros or not: its length, and that page 0 has a header of the same page size.
 pub record MayLay (p : ℕ) (page : Page) (image : Image) : Type 0 where
-  pub below : p < 1048576
+  pub below : p < most_pages
   pub long : length page ≡ image_size image
   pub header : p ≡ 0 → is_header page ≡ true
   pub size : p ≡ 0 → size_of page ≡ image_size image
 
 -- A page that may be written there: one that isn't zeros.
 pub record MayWrite (p : ℕ) (page : Page) (image : Image) : Type 0 where
-  pub below : p < 1048576
+  pub below : p < most_pages
   pub long : length page ≡ image_size image
   pub other : is_zeros page ≡ false
   pub header : p ≡ 0 → is_header page ≡ true
@@ -304,10 +304,10 @@ page_left image after file c p page h may done (inr (inr (k, fits, grown))) =
     let wide : 1024 ≤ image_size image = laid-wide image h.bytes l in
     let same : k * length page ≡ k * image_size image = ap (λ x. k * x) may.long in
     let place : p * length page ≡ p * image_size image = ap (λ x. p * x) may.long in
-    let all : (p + 1) * image_size image ≤ 1048576 * image_size image = mul-le-mul_right (image_size image) (omega (arith, may.below)) in
+    let all : (p + 1) * image_size image ≤ most_pages * image_size image = mul-le-mul_right (image_size image) (omega (arith, may.below)) in
     let pages : List Page = image ++ l.rest in
     let long : length h.bytes ≡ length pages * image_size image = ap length l.is ∙ length-joined (image_size image) pages l.sizes in
-    let most : (length pages + k) * image_size image ≤ 1048576 * image_size image = omega (arith, fits, long, same, place, all, suc-mul p (image_size image), may.long, ap (λ (x : File). length (bytes_of x)) h.there, add-mul (length pages) k (image_size image)) in
+    let most : (length pages + k) * image_size image ≤ most_pages * image_size image = omega (arith, fits, long, same, place, all, suc-mul p (image_size image), may.long, ap (λ (x : File). length (bytes_of x)) h.there, add-mul (length pages) k (image_size image)) in
     let is : c ≡ Some (h.bytes ++ replicate (k * image_size image) 0) = grown ∙ ap (λ (x : File). Some (bytes_of x ++ replicate (k * length page) 0)) h.there ∙ ap (λ n. Some (h.bytes ++ replicate n 0)) same in
     inl (record { bytes = h.bytes ++ replicate (k * image_size image) 0; there = is; laid = laid_grown k image h.bytes l (le_of_mul-le-mul_right {k = image_size image} most (omega arith)) })
 

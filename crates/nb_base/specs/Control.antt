@@ -1,5 +1,6 @@
 -- The control block of a main file, and what a crash leaves while it is written.
 use Rattle.std.specs.Prelude.{◌≡◌, ◌⊎◌, ℕ, zero, suc, ◌+◌, ◌<◌, List, Option, Some, None}
+use Rattle.nb_fields.specs.States.{stalled_state}
 use Rattle.nb_host.specs.Files.{File, Files}
 use Rattle.nb_host.specs.World.{World}
 use Rattle.nb_host.specs.Crash.{Leaves}
@@ -23,7 +24,7 @@ in_state state guid image = with_control state (next_scn state (image_scn image)
 
 -- the SCN has room for the new state: in the stalled state it isn't the greatest
 pub record HasRoom (state scn : ℕ) : Type 0 where
-  pub stalled : state ≡ 1 → scn < 4294967294
+  pub stalled : state ≡ stalled_state → scn < 4294967294
   pub other : 0 < state → scn < 4294967295
 
 -- the file is there, has the form of a main file, and holds this image

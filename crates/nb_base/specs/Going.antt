@@ -1,6 +1,8 @@
 -- Pages that waited go into their slots in the stalled state, and after them the drafted entries into the table of the difference file.
 use Rattle.std.specs.Prelude.{◌≡◌, ◌≢◌, ◌⊎◌, ℕ, ◌+◌, ◌<◌, ◌≤◌, List, [], ◌∷◌, ◌++◌, length, Bool, false, Some, None}
 use Rattle.nb_fields.specs.Bytes.{is_zeros}
+use Rattle.nb_fields.specs.Places.{most_pages}
+use Rattle.nb_fields.specs.States.{stalled_state}
 use Rattle.nb_host.specs.Files.{File, Files}
 use Rattle.nb_host.specs.World.{World}
 use Rattle.nb_host.specs.Crash.{LeavesAll}
@@ -27,7 +29,7 @@ pub record HasPageIn (size k : ℕ) (page : Page) (file : File) : Type 0 where
 pub record MaySlot (t : Trail) (p : ℕ) (bytes : Page) : Type 0 where
   pub some : 1 ≤ p
   pub low : p < length t.base.image
-  pub below : p < 1048576
+  pub below : p < most_pages
   pub long : length bytes ≡ image_size t.base.image
   pub other : is_zeros bytes ≡ false
   pub named : (k : ℕ) × (entry_for p t.base.diverted ≡ Some k)
@@ -50,7 +52,7 @@ pub record GoesIn (w : World) (held : Held) (f t : Trail) (waits : ℕ → Bool)
   pub reads : StandsAs held.name (IsSlotted f t waits) w.files
   pub slots : (p k : ℕ) → entry_for p t.base.diverted ≡ Some k → length f.base.diverted ≤ k → waits p ≡ false → HasPageIn held.page_size k (page_at t.base.image p) (w.files (delta_name held.name))
   pub agrees : Agrees held t.base
-  pub stalled : held.state ≡ 1
+  pub stalled : held.state ≡ stalled_state
   pub behind : IsBehind f t
   pub drafted : length t.base.diverted ≡ length f.base.diverted + held.drafted
   pub inside : (p k : ℕ) → entry_for p t.base.diverted ≡ Some k → length f.base.diverted ≤ k → (1 ≤ p) × (p < length t.base.image)

@@ -2,6 +2,7 @@
 use Rattle.std.specs.Prelude.{◌≡◌, ◌⊎◌, ℕ, ◌<◌, ◌≤◌, List, length, take, drop, slice_index, Bool, true}
 use Rattle.nb_fields.specs.Header.{is_header}
 use Rattle.nb_fields.specs.Table.{page_in, slot_place}
+use Rattle.nb_fields.specs.States.{stalled_state}
 use Rattle.nb_host.specs.Files.{Files, bytes_of}
 use Rattle.nb_host.specs.World.{World}
 use Rattle.nb_host.specs.Crash.{LeavesAll}
@@ -43,7 +44,7 @@ pub record Agrees (held : Held) (b : Base) : Type 0 where
   pub forced : held.forced ≡ is_forced b.image
   pub count : held.count ≡ length b.image
   -- in the stalled state the main file is frozen
-  pub main_count : held.state ≡ 1 → held.main_count ≡ length b.frozen
+  pub main_count : held.state ≡ stalled_state → held.main_count ≡ length b.frozen
   pub entries : held.entries ≡ b.diverted
 
 -- Whatever a crash now leaves is what may be left of what was seen, what reads is what was seen last, and what is held agrees with it. No

@@ -1,6 +1,8 @@
 -- A page that waited goes into the file that owns it, and isn't synced.
 use Rattle.std.specs.Prelude.{◌≡◌, ◌⊎◌, ℕ, ◌<◌, ◌≤◌, List, length, false}
 use Rattle.nb_fields.specs.Bytes.{is_zeros}
+use Rattle.nb_fields.specs.Places.{most_pages}
+use Rattle.nb_fields.specs.States.{normal_state}
 use Rattle.nb_host.specs.Files.{Files}
 use Rattle.nb_host.specs.World.{World}
 use Rattle.nb_host.specs.Crash.{LeavesAll}
@@ -11,10 +13,10 @@ use Rattle.nb_model.specs.Trail.{ShowsIn}
 
 -- a page that may wait, of a database in the normal state
 pub record MayPut (b : Base) (p : ℕ) (bytes : Page) : Type 0 where
-  pub normal : image_state b.image ≡ 0
+  pub normal : image_state b.image ≡ normal_state
   pub some : 1 ≤ p
   pub low : p < length b.image
-  pub below : p < 1048576
+  pub below : p < most_pages
   pub long : length bytes ≡ image_size b.image
   pub other : is_zeros bytes ≡ false
 

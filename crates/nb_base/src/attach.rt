@@ -2,7 +2,7 @@
 ghost use Rattle.std.specs.Prelude.{◌≡◌, ◌+◌, ◌*◌, ◌<◌, ◌≤◌, ℕ, List, IsTrue, Some, None, IfOk, OnOk, length, take, drop, max};
 ghost use Rattle.nb_fields.specs.Bytes.{is_zeros};
 ghost use Rattle.nb_fields.specs.Header.{size_of};
-ghost use Rattle.nb_fields.specs.Places.{is_page_size};
+ghost use Rattle.nb_fields.specs.Places.{is_page_size, most_pages};
 ghost use Rattle.nb_host.specs.Causes.{CountsDevice, CountsFault};
 ghost use Rattle.nb_host.specs.Crash.{IsDurable};
 ghost use Rattle.nb_delta.specs.Attaching.{IsFor};
@@ -43,7 +43,7 @@ fn count_pages(len: u64, page_size: u32) -> Result<u32, Fault>
     ensures test { Tested result (length_cause len page_size) }
     ensures whole { IfOk result (λ pages. len ≡ pages * page_size) }
     ensures least { IfOk result (λ pages. 5 ≤ pages) }
-    ensures most { IfOk result (λ pages. pages ≤ 1048576) }
+    ensures most { IfOk result (λ pages. pages ≤ most_pages) }
     ensures cause { (faults : ℕ) → CountsDevice result faults faults }
 {
     let size = u64::from(page_size);
@@ -66,7 +66,7 @@ fn start_of(first: &[u8], len: u64) -> Result<Start, Fault>
     ensures size { IfOk result (λ start. IsTrue (is_page_size start.page_size)) }
     ensures opened { IfOk result (λ start. start.state ≤ 2) }
     ensures least { IfOk result (λ start. 5 ≤ start.pages) }
-    ensures most { IfOk result (λ start. start.pages ≤ 1048576) }
+    ensures most { IfOk result (λ start. start.pages ≤ most_pages) }
     ensures cause { (faults : ℕ) → CountsDevice result faults faults }
 {
     if first.len() < header::LENGTH {
@@ -93,7 +93,7 @@ pub(crate) fn read_start<H: Host>(host: &mut H, name: &Name) -> Result<Start, Fa
     ensures size { IfOk result (λ start. IsTrue (is_page_size start.page_size)) }
     ensures opened { IfOk result (λ start. start.state ≤ 2) }
     ensures least { IfOk result (λ start. 5 ≤ start.pages) }
-    ensures most { IfOk result (λ start. start.pages ≤ 1048576) }
+    ensures most { IfOk result (λ start. start.pages ≤ most_pages) }
     ensures quiet { Quiet (H.world host.old) (H.world host.new) }
     ensures reads { IsTrue H.tells → (H.world host.new).reads ≤ (H.world host.old).reads + 1 }
     ensures cause { CountsDevice result (H.faults host.old) (H.faults host.new) }
@@ -180,9 +180,9 @@ pub(crate) fn count_with<H: Host>(
     delta: &mut Delta,
     main_count: u32,
 ) -> Result<u32, HostFault>
-    requires { main_count ≤ 1048576 }
+    requires { main_count ≤ most_pages }
     ensures count { IfOk result (λ count. count ≡ max main_count (behind_entries delta.old.entries)) }
-    ensures most { IfOk result (λ count. count ≤ 1048576) }
+    ensures most { IfOk result (λ count. count ≤ most_pages) }
     ensures same { delta.new ≡ delta.old }
     ensures no_call { host.new ≡ host.old }
     ensures cause { CountsFault result (H.faults host.old) (H.faults host.new) }

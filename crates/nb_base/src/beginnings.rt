@@ -1,6 +1,6 @@
 // A database is made, so that a crash leaves no half of one, and opened.
 ghost use Rattle.std.specs.Prelude.{◌≡◌, ◌≢◌, ◌+◌, ◌≤◌, ◌<◌, IsTrue, OnOk, IfOk, IfErr, length};
-ghost use Rattle.nb_fields.specs.Places.{is_page_size};
+ghost use Rattle.nb_fields.specs.Places.{is_page_size, most_pages};
 ghost use Rattle.nb_fields.specs.Fresh.{fresh, fresh_count};
 ghost use Rattle.nb_host.specs.Causes.{CountsDevice, CountsFault};
 ghost use Rattle.nb_host.specs.declared.faults.Fault.TheVariants.{Memory};
@@ -59,7 +59,7 @@ fn create_file<H: Host>(host: &mut H, name: &Name, page: &mut [u8], raw: u32) ->
     requires raw { raw ≤ 65535 }
     ensures creates { IsTrue H.tells → CreatesFile result (H.world host.old) (H.world host.new) name.now (fresh (length page.old) raw) }
     ensures gave { GaveNothing (H.world host.old) (H.world host.new) }
-    ensures count { IfOk result (λ count. count ≤ 1048576) }
+    ensures count { IfOk result (λ count. count ≤ most_pages) }
     ensures cause { CountsDevice result (H.faults host.old) (H.faults host.new) }
     ensures takes_none { IfErr result (λ fault. fault ≢ Memory) }
 {

@@ -1,7 +1,8 @@
 // The calls that change the backup state, and the merge.
 ghost use Rattle.std.specs.Prelude.{◌≡◌, ◌<◌, ◌≤◌, ◌+◌, [], ◌∷◌, length, slice_index, IsTrue, OnOk, Option, None};
 ghost use Rattle.nb_fields.specs.Header.{scn_of, guid_of};
-ghost use Rattle.nb_fields.specs.Places.{is_page_size};
+ghost use Rattle.nb_fields.specs.Places.{is_page_size, most_pages};
+ghost use Rattle.nb_fields.specs.States.{normal_state, stalled_state, merge_state};
 ghost use Rattle.nb_host.specs.Causes.{CountsFault};
 ghost use Rattle.nb_change.specs.Changes.{Changes, Only};
 ghost use Rattle.nb_change.specs.Gave.{GaveNothing};
@@ -87,11 +88,11 @@ impl TwoFiles {
     /// Begins a backup with that GUID: the main file is kept for good and frozen, and an empty difference file is made. Its state is
     /// then 1, and its SCN one higher.
     pub fn begin<H: Host>(&mut self, host: &mut H, guid: &[u8; 16]) -> Result<(), HostFault>
-        requires normal { self.old.state ≡ 0 }
+        requires normal { self.old.state ≡ normal_state }
         ensures takes { (t : Trail) (ask : Option Ask) → IsTrue H.tells → IsOpen (H.world host.old) self.old t → image_scn t.base.image < 4294967294
             → TakesFirm result (H.world host.old) (H.world host.new) self.old.name (IsOpen (H.world host.new) self.new) t (begin_stroke guid.now ask ∷ []) }
         ensures gave { GaveNothing (H.world host.old) (H.world host.new) }
-        ensures state { OnOk result (self.new.state ≡ 1) }
+        ensures state { OnOk result (self.new.state ≡ stalled_state) }
         ensures name { self.new.name ≡ self.old.name }
         ensures page_size { self.new.page_size ≡ self.old.page_size }
         ensures cause { CountsFault result (H.faults host.old) (H.faults host.new) }
@@ -107,12 +108,12 @@ impl TwoFiles {
     /// Ends the stalled state: from now on the pages of the difference file may be merged back. Its state is then 2, and its SCN one
     /// higher.
     pub fn end<H: Host>(&mut self, host: &mut H) -> Result<(), HostFault>
-        requires stalled { self.old.state ≡ 1 }
+        requires stalled { self.old.state ≡ stalled_state }
         requires none_waits { self.old.drafted ≡ 0 }
         ensures takes { (t : Trail) → IsTrue H.tells → IsOpen (H.world host.old) self.old t
             → TakesFirm result (H.world host.old) (H.world host.new) self.old.name (IsOpen (H.world host.new) self.new) t (ends ∷ []) }
         ensures gave { GaveNothing (H.world host.old) (H.world host.new) }
-        ensures state { OnOk result (self.new.state ≡ 2) }
+        ensures state { OnOk result (self.new.state ≡ merge_state) }
         ensures name { self.new.name ≡ self.old.name }
         ensures page_size { self.new.page_size ≡ self.old.page_size }
         ensures entries { self.new.entries ≡ self.old.entries }
@@ -127,7 +128,7 @@ impl TwoFiles {
     /// Writes the page of entry `k` from its slot into the main file, zeros past its end and all. It changes no page of the database, and
     /// nothing else in its files, whatever they hold.
     pub fn merge_entry<H: Host>(&mut self, host: &mut H, k: u32) -> Result<(), HostFault>
-        requires merge { self.old.state ≡ 2 }
+        requires merge { self.old.state ≡ merge_state }
         requires inside { k < length self.old.entries }
         ensures takes { (t : Trail) → IsTrue H.tells → IsOpen (H.world host.old) self.old t
             → TakesFirm result (H.world host.old) (H.world host.new) self.old.name (IsOpen (H.world host.new) self.new) t [] }
@@ -150,12 +151,12 @@ impl TwoFiles {
     /// Ends the merge, once every entry is equal in both files: its state is 0 again, pages of zeros at its end are pages no longer, and the
     /// difference file is removed. A crash may bring that back, which no opening in the normal state looks at.
     pub fn finish<H: Host>(&mut self, host: &mut H) -> Result<(), HostFault>
-        requires merge { self.old.state ≡ 2 }
+        requires merge { self.old.state ≡ merge_state }
         ensures takes { (t : Trail) → IsTrue H.tells → IsOpen (H.world host.old) self.old t → AreMerged (H.world host.old) self.old (length self.old.entries)
             → TakesFirm result (H.world host.old) (H.world host.new) self.old.name (IsOpen (H.world host.new) self.new) t (finish_stroke ∷ []) }
         ensures gone { IsTrue H.tells → OnOk result ((H.world host.new).files (delta_name self.old.name) ≡ None) }
         ensures gave { GaveNothing (H.world host.old) (H.world host.new) }
-        ensures state { OnOk result (self.new.state ≡ 0) }
+        ensures state { OnOk result (self.new.state ≡ normal_state) }
         ensures name { self.new.name ≡ self.old.name }
         ensures page_size { self.new.page_size ≡ self.old.page_size }
         ensures cause { CountsFault result (H.faults host.old) (H.faults host.new) }
@@ -167,13 +168,13 @@ impl TwoFiles {
 
     /// Ends the merge, where the database has so many pages without those of zeros at its end.
     fn finish_with<H: Host>(&mut self, host: &mut H, count: u32) -> Result<(), HostFault>
-        requires merge { self.old.state ≡ 2 }
-        requires most { count ≤ 1048576 }
+        requires merge { self.old.state ≡ merge_state }
+        requires most { count ≤ most_pages }
         ensures takes { (t : Trail) → IsTrue H.tells → IsOpen (H.world host.old) self.old t → AreMerged (H.world host.old) self.old (length self.old.entries) → count ≡ length (trimmed t.base.image)
             → TakesFirm result (H.world host.old) (H.world host.new) self.old.name (IsOpen (H.world host.new) self.new) t (finish_stroke ∷ []) }
         ensures gone { IsTrue H.tells → OnOk result ((H.world host.new).files (delta_name self.old.name) ≡ None) }
         ensures gave { GaveNothing (H.world host.old) (H.world host.new) }
-        ensures state { OnOk result (self.new.state ≡ 0) }
+        ensures state { OnOk result (self.new.state ≡ normal_state) }
         ensures count { OnOk result (self.new.count ≡ count) }
         ensures name { self.new.name ≡ self.old.name }
         ensures page_size { self.new.page_size ≡ self.old.page_size }

@@ -1,6 +1,7 @@
 ghost use Rattle.std.specs.Prelude.{◌≡◌, ◌≢◌, ◌↔◌, ◌<◌, ◌≤◌, ◌+◌, ℕ, [], ◌∷◌, length, IsTrue, IfErr, OnOk, false, not, ◌==◌};
 ghost use Rattle.nb_fields.specs.Bytes.{is_zeros, number_in};
-ghost use Rattle.nb_fields.specs.Places.{is_page_size};
+ghost use Rattle.nb_fields.specs.Places.{is_page_size, most_pages};
+ghost use Rattle.nb_fields.specs.States.{stalled_state, merge_state};
 ghost use Rattle.nb_host.specs.Calls.{IsSilent};
 ghost use Rattle.nb_host.specs.Causes.{CountsFault, CountsRun};
 ghost use Rattle.nb_change.specs.Gave.{GaveNothing};
@@ -29,7 +30,7 @@ use std::marker::Model;
 /// Whether a page that is written goes to the difference file alone.
 fn is_diverted(state: u16) -> bool
     requires { state ≤ 2 }
-    ensures { IsTrue result ↔ state ≡ 1 }
+    ensures { IsTrue result ↔ state ≡ stalled_state }
 {
     case_of(state, Event::Write) == Case::Delta
 }
@@ -52,7 +53,8 @@ pub struct TwoFiles {
 
 impl Model for TwoFiles {
     ghost use Rattle.std.specs.Prelude.{◌≡◌, ◌≢◌, ◌≤◌, IsTrue, length, vec_len};
-    ghost use Rattle.nb_fields.specs.Places.{is_page_size};
+    ghost use Rattle.nb_fields.specs.Places.{is_page_size, most_pages};
+    ghost use Rattle.nb_fields.specs.States.{stalled_state};
     ghost use Rattle.nb_model.specs.Owner.{delta_name};
     ghost use Rattle.nb_base.specs.Open.{Held};
 
@@ -60,14 +62,14 @@ impl Model for TwoFiles {
 
     ghost view = { λ f. record { name = f.name; page_size = f.delta.page_size; state = f.state; forced = f.forced; count = f.count; main_count = f.main_count; entries = f.delta.entries; drafted = f.delta.drafted } };
 
-    ghost invariant = { λ f. IsTrue (is_page_size f.delta.page_size) × (f.count ≤ 1048576) × (f.main_count ≤ 1048576) × (vec_len f.page ≡ f.delta.page_size) × (length f.name ≤ 94) × (f.delta.name ≡ delta_name f.name) × (f.state ≢ 1 → f.delta.drafted ≡ 0) × (f.state ≤ 2) };
+    ghost invariant = { λ f. IsTrue (is_page_size f.delta.page_size) × (f.count ≤ most_pages) × (f.main_count ≤ most_pages) × (vec_len f.page ≡ f.delta.page_size) × (length f.name ≤ 94) × (f.delta.name ≡ delta_name f.name) × (f.state ≢ stalled_state → f.delta.drafted ≡ 0) × (f.state ≤ 2) };
 }
 
 impl TwoFiles {
     /// How many pages the database has.
     pub fn count(&self) -> u32
         ensures value { result ≡ self.now.count }
-        ensures most { result ≤ 1048576 }
+        ensures most { result ≤ most_pages }
     {
         self.count
     }
@@ -99,7 +101,7 @@ impl TwoFiles {
     /// How many pages the difference file holds; none in the normal state.
     pub fn delta_count(&self) -> u32
         ensures value { result ≡ length self.now.entries }
-        ensures most { result ≤ 1048576 }
+        ensures most { result ≤ most_pages }
     {
         self.delta.count()
     }
@@ -107,7 +109,7 @@ impl TwoFiles {
     /// How many pages the main file has, as it is frozen in the stalled state.
     pub fn main_count(&self) -> u32
         ensures value { result ≡ self.now.main_count }
-        ensures most { result ≤ 1048576 }
+        ensures most { result ≤ most_pages }
     {
         self.main_count
     }
@@ -141,25 +143,25 @@ impl TwoFiles {
     /// It wants memory in the stalled state alone, and then nothing has changed.
     pub fn write<H: Host>(&mut self, host: &mut H, number: u32, page: &[u8]) -> Result<(), RunError>
         requires size { length page.now ≡ self.old.page_size }
-        requires most { number < 1048576 }
+        requires most { number < most_pages }
         requires some { is_zeros page.now ≡ false }
         requires none_waits { self.old.drafted ≡ 0 }
         ensures takes { (t : Trail) → IsTrue H.tells → IsOpen (H.world host.old) self.old t → Fits number page.now t.base.image
             → TakesFirm result (H.world host.old) (H.world host.new) self.old.name (IsOpen (H.world host.new) self.new) t (page_stroke number page.now ∷ []) }
         ensures touches { (t : Trail) → IsTrue H.tells → IsOpen (H.world host.old) self.old t → WritesIn (H.world host.old) (H.world host.new) self.old.state self.old.name }
-        ensures merged { (t : Trail) (k : ℕ) → IsTrue H.tells → IsOpen (H.world host.old) self.old t → Fits number page.now t.base.image → self.old.state ≡ 2
+        ensures merged { (t : Trail) (k : ℕ) → IsTrue H.tells → IsOpen (H.world host.old) self.old t → Fits number page.now t.base.image → self.old.state ≡ merge_state
             → AreMerged (H.world host.old) self.old k → OnOk result (AreMerged (H.world host.new) self.new k) }
         ensures longer { self.old.count ≤ self.new.count }
         ensures added { OnOk result (number < self.new.count) }
         ensures gave { GaveNothing (H.world host.old) (H.world host.new) }
         ensures reads { (H.world host.new).reads ≡ (H.world host.old).reads }
         ensures state { self.new.state ≡ self.old.state }
-        ensures entries { self.old.state ≡ 2 → self.new.entries ≡ self.old.entries }
+        ensures entries { self.old.state ≡ merge_state → self.new.entries ≡ self.old.entries }
         ensures name { self.new.name ≡ self.old.name }
         ensures page_size { self.new.page_size ≡ self.old.page_size }
         ensures cause { CountsRun result (H.faults host.old) (H.faults host.new) }
         ensures on_memory { result ≡ Err RunError.Memory → (self.new ≡ self.old) × (host.new ≡ host.old) }
-        ensures takes_none { self.old.state ≢ 1 → IfErr result (λ error. error ≢ RunError.Memory) }
+        ensures takes_none { self.old.state ≢ stalled_state → IfErr result (λ error. error ≢ RunError.Memory) }
     {
         let synced = is_synced(self.forced, self.page.len() as u32, self.count, number);
         self.put(host, number, page, synced)?;
@@ -189,23 +191,23 @@ impl TwoFiles {
         synced: bool,
     ) -> Result<(), RunError>
         requires size { length page.now ≡ self.old.page_size }
-        requires most { number < 1048576 }
+        requires most { number < most_pages }
         requires none_waits { self.old.drafted ≡ 0 }
         ensures takes { (t : Trail) → IsTrue H.tells → IsOpen (H.world host.old) self.old t → IsWrite t number page.now → synced ≡ must_sync t.base.image number
             → TakesFirm result (H.world host.old) (H.world host.new) self.old.name (IsSeen (H.world host.new) self.old.name) t (page_stroke number page.now ∷ []) }
         ensures touches { (t : Trail) → IsTrue H.tells → IsOpen (H.world host.old) self.old t → WritesIn (H.world host.old) (H.world host.new) self.old.state self.old.name }
-        ensures merged { (t : Trail) (k : ℕ) → IsTrue H.tells → IsOpen (H.world host.old) self.old t → IsWrite t number page.now → self.old.state ≡ 2
+        ensures merged { (t : Trail) (k : ℕ) → IsTrue H.tells → IsOpen (H.world host.old) self.old t → IsWrite t number page.now → self.old.state ≡ merge_state
             → AreMerged (H.world host.old) self.old k → OnOk result (AreMerged (H.world host.new) self.old k) }
         ensures known { OnOk result (self.new ≡ record self.old { entries = noted_in self.old.state number self.old.entries }) }
         ensures state { self.new.state ≡ self.old.state }
-        ensures entries { self.old.state ≡ 2 → self.new.entries ≡ self.old.entries }
+        ensures entries { self.old.state ≡ merge_state → self.new.entries ≡ self.old.entries }
         ensures name { self.new.name ≡ self.old.name }
         ensures page_size { self.new.page_size ≡ self.old.page_size }
         ensures count { self.new.count ≡ self.old.count }
         ensures log { IsSilent (H.world host.old) (H.world host.new) }
         ensures cause { CountsRun result (H.faults host.old) (H.faults host.new) }
         ensures on_memory { result ≡ Err RunError.Memory → (self.new ≡ self.old) × (host.new ≡ host.old) }
-        ensures takes_none { self.old.state ≢ 1 → IfErr result (λ error. error ≢ RunError.Memory) }
+        ensures takes_none { self.old.state ≢ stalled_state → IfErr result (λ error. error ≢ RunError.Memory) }
     {
         if is_diverted(self.state) {
             write_stalled(host, &mut self.delta, number, page, synced)?;
@@ -247,7 +249,7 @@ impl TwoFiles {
         into: &mut [u8],
     ) -> Result<(), HostFault>
         requires size { length into.old ≡ self.old.page_size }
-        ensures page { (b : Base) → IsTrue H.tells → ShowsIn self.old.name b (H.world host.old).files → self.old.page_size ≡ image_size b.image → image_state b.image ≡ 1 → number < length b.frozen
+        ensures page { (b : Base) → IsTrue H.tells → ShowsIn self.old.name b (H.world host.old).files → self.old.page_size ≡ image_size b.image → image_state b.image ≡ stalled_state → number < length b.frozen
             → OnOk result (into.new ≡ page_at b.frozen number) }
         ensures open { (t : Trail) → IsTrue H.tells → IsOpen (H.world host.old) self.old t → IsOpen (H.world host.new) self.new t }
         ensures same { self.new ≡ self.old }

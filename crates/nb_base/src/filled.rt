@@ -1,6 +1,7 @@
 // How many pages a database has without those of zeros at its end, which the normal state doesn't count.
 ghost use Rattle.std.specs.Prelude.{◌≡◌, ◌<◌, ◌≤◌, length, IsTrue, IfOk};
 ghost use Rattle.nb_fields.specs.Bytes.{is_zeros};
+ghost use Rattle.nb_fields.specs.Places.{most_pages};
 ghost use Rattle.nb_host.specs.Causes.{CountsFault};
 ghost use Rattle.nb_page.specs.Quiet.{Quiet};
 ghost use Rattle.nb_model.specs.Image.{page_at, trimmed};
@@ -46,7 +47,7 @@ impl TwoFiles {
     /// isn't zeros: then nothing is read.
     pub(crate) fn count_filled<H: Host>(&mut self, host: &mut H) -> Result<u32, HostFault>
         ensures count { (t : Trail) → IsTrue H.tells → IsOpen (H.world host.old) self.old t → IfOk result (λ count. count ≡ length (trimmed t.base.image)) }
-        ensures most { IfOk result (λ count. count ≤ 1048576) }
+        ensures most { IfOk result (λ count. count ≤ most_pages) }
         ensures same { self.new ≡ self.old }
         ensures quiet { Quiet (H.world host.old) (H.world host.new) }
         ensures cause { CountsFault result (H.faults host.old) (H.faults host.new) }

@@ -1,5 +1,7 @@
 // Pages that waited go into their slots in the stalled state, and after them the drafted entries into the table.
 ghost use Rattle.std.specs.Prelude.{◌≡◌, ◌≢◌, ◌<◌, ℕ, Bool, false, length, IsTrue, IfErr, OnOk, OnErr};
+ghost use Rattle.nb_fields.specs.Places.{most_pages};
+ghost use Rattle.nb_fields.specs.States.{stalled_state};
 ghost use Rattle.nb_host.specs.Causes.{CountsFault};
 ghost use Rattle.nb_host.specs.declared.faults.RunError.TheVariants.{Memory};
 ghost use Rattle.nb_change.specs.Changes.{Only, Changes};
@@ -16,7 +18,7 @@ impl TwoFiles {
     /// How many of the entries are drafted.
     pub fn drafted(&self) -> u32
         ensures value { result ≡ self.now.drafted }
-        ensures stalled { self.now.state ≢ 1 → result ≡ 0 }
+        ensures stalled { self.now.state ≢ stalled_state → result ≡ 0 }
     {
         self.delta.drafted()
     }
@@ -24,8 +26,8 @@ impl TwoFiles {
     /// Gives page `number` an entry in the stalled state, unless it has one. The entry is drafted, and no call is made. Where it wants
     /// memory nothing has changed.
     pub fn draft<H: Host>(&mut self, host: &mut H, number: u32) -> Result<(), RunError>
-        requires stalled { self.old.state ≡ 1 }
-        requires below { number < 1048576 }
+        requires stalled { self.old.state ≡ stalled_state }
+        requires below { number < most_pages }
         ensures drafts { OnOk result (Drafts number self.old self.new) }
         ensures no_call { host.new ≡ host.old }
         ensures only_memory { IfErr result (λ error. (error ≡ Memory) × (self.new ≡ self.old)) }
@@ -67,7 +69,7 @@ impl TwoFiles {
 
     /// Keeps what stands in the slots for good, and brings the drafted entries into the table, in the stalled state. No page waits then.
     pub fn enter<H: Host>(&mut self, host: &mut H) -> Result<(), HostFault>
-        requires stalled { self.old.state ≡ 1 }
+        requires stalled { self.old.state ≡ stalled_state }
         ensures left { (f t : Trail) (waits : ℕ → Bool) → IsTrue H.tells → GoesIn (H.world host.old) self.old f t waits → ((p : ℕ) → waits p ≡ false)
             → Changes (H.world host.old) (H.world host.new) (Only (delta_name self.old.name)) (StandsIn self.old.name t) }
         ensures done { (f t : Trail) (waits : ℕ → Bool) → IsTrue H.tells → GoesIn (H.world host.old) self.old f t waits → ((p : ℕ) → waits p ≡ false)

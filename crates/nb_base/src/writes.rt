@@ -1,7 +1,8 @@
 // A page is written into the file that owns it, or into both.
 ghost use Rattle.std.specs.Prelude.{◌≡◌, ◌≢◌, ◌⊎◌, ◌++◌, ◌*◌, ◌<◌, ◌≤◌, ◌||◌, ℕ, List, [], ◌∷◌, length, IsTrue, OnOk, Some, None, nat_le};
-ghost use Rattle.nb_fields.specs.Places.{is_page_size};
+ghost use Rattle.nb_fields.specs.Places.{is_page_size, most_pages};
 ghost use Rattle.nb_fields.specs.Table.{slot_place};
+ghost use Rattle.nb_fields.specs.States.{normal_state, stalled_state, merge_state};
 ghost use Rattle.nb_host.specs.Calls.{IsSilent};
 ghost use Rattle.nb_host.specs.Files.{with_file, with_page};
 ghost use Rattle.nb_host.specs.Causes.{CountsFault, CountsRun};
@@ -28,7 +29,7 @@ use nb_host::{Host, HostFault, Name, RunError};
 /// of page 0 or of an SCN inventory page.
 pub fn is_synced(forced: bool, page_size: u32, count: u32, number: u32) -> bool
     requires size { IsTrue (is_page_size page_size) }
-    requires most { number < 1048576 }
+    requires most { number < most_pages }
     ensures { result ≡ (forced || is_kept_place page_size number || nat_le count number) }
 {
     forced || number == 0 || is_scn_place(page_size, number) || count <= number
@@ -43,7 +44,7 @@ pub fn write_main<H: Host>(
     synced: bool,
 ) -> Result<(), HostFault>
     requires size { IsTrue (is_page_size (length page.now)) }
-    ensures takes { (t : Trail) → IsTrue H.tells → IsSeen (H.world host.old) name.now t → IsWrite t number page.now → image_state t.base.image ≢ 1 → entry_for number t.base.diverted ≡ None
+    ensures takes { (t : Trail) → IsTrue H.tells → IsSeen (H.world host.old) name.now t → IsWrite t number page.now → image_state t.base.image ≢ stalled_state → entry_for number t.base.diverted ≡ None
         → synced ≡ must_sync t.base.image number
         → TakesFirm result (H.world host.old) (H.world host.new) name.now (IsSeen (H.world host.new) name.now) t (page_stroke number page.now ∷ []) }
     ensures touches { IsTrue H.tells → Touches (H.world host.old) (H.world host.new) (Only name.now) }
@@ -66,7 +67,7 @@ pub fn write_hidden<H: Host>(
     page: &[u8],
 ) -> Result<(), HostFault>
     requires size { IsTrue (is_page_size (length page.now)) }
-    ensures takes { (t : Trail) (k : ℕ) → IsTrue H.tells → IsSeen (H.world host.old) name.now t → IsWrite t number page.now → image_state t.base.image ≡ 2 → entry_for number t.base.diverted ≡ Some k
+    ensures takes { (t : Trail) (k : ℕ) → IsTrue H.tells → IsSeen (H.world host.old) name.now t → IsWrite t number page.now → image_state t.base.image ≡ merge_state → entry_for number t.base.diverted ≡ Some k
         → TakesFirm result (H.world host.old) (H.world host.new) name.now (IsSeen (H.world host.new) name.now) t [] }
     ensures touches { IsTrue H.tells → Touches (H.world host.old) (H.world host.new) (Only name.now) }
     ensures put { IsTrue H.tells → OnOk result ((H.world host.new).files ≡ with_file (H.world host.old).files name.now (with_page ((H.world host.old).files name.now) (number * length page.now) page.now)) }
@@ -110,9 +111,9 @@ pub fn add_entry<H: Host>(
 ) -> Result<(), RunError>
     requires size { length page.now ≡ delta.old.page_size }
     requires fresh { place_of delta.old.entries number ≡ None }
-    requires below { number < 1048576 }
+    requires below { number < most_pages }
     requires none_waits { delta.old.drafted ≡ 0 }
-    ensures takes { (t : Trail) (name : List ℕ) → IsTrue H.tells → IsSeen (H.world host.old) name t → IsWrite t number page.now → image_state t.base.image ≡ 1 → t.base.diverted ≡ delta.old.entries
+    ensures takes { (t : Trail) (name : List ℕ) → IsTrue H.tells → IsSeen (H.world host.old) name t → IsWrite t number page.now → image_state t.base.image ≡ stalled_state → t.base.diverted ≡ delta.old.entries
         → delta.old.name ≡ delta_name name → synced ≡ must_sync t.base.image number
         → TakesFirm result (H.world host.old) (H.world host.new) name (IsSeen (H.world host.new) name) t (page_stroke number page.now ∷ []) }
     ensures touches { IsTrue H.tells → HasTable delta.old.page_size ((H.world host.old).files delta.old.name) delta.old.entries → Touches (H.world host.old) (H.world host.new) (Only delta.old.name) }
@@ -138,11 +139,11 @@ pub fn write_both<H: Host>(
 ) -> Result<(), HostFault>
     requires size { length page.now ≡ delta.old.page_size }
     requires page { IsTrue (is_page_size (length page.now)) }
-    ensures takes { (t : Trail) (k : ℕ) → IsTrue H.tells → IsSeen (H.world host.old) name.now t → IsWrite t number page.now → image_state t.base.image ≡ 2 → entry_for number t.base.diverted ≡ Some k
+    ensures takes { (t : Trail) (k : ℕ) → IsTrue H.tells → IsSeen (H.world host.old) name.now t → IsWrite t number page.now → image_state t.base.image ≡ merge_state → entry_for number t.base.diverted ≡ Some k
         → delta.old.name ≡ delta_name name.now → slot ≡ slot_place delta.old.page_size k → synced ≡ must_sync t.base.image number
         → TakesFirm result (H.world host.old) (H.world host.new) name.now (IsSeen (H.world host.new) name.now) t (page_stroke number page.now ∷ []) }
     // Entries that are equal in both files stay so.
-    ensures merged { (t : Trail) (held : Held) (n : ℕ) (k : ℕ) → IsTrue H.tells → IsSeen (H.world host.old) held.name t → IsWrite t number page.now → image_state t.base.image ≡ 2 → t.base.diverted ≡ held.entries
+    ensures merged { (t : Trail) (held : Held) (n : ℕ) (k : ℕ) → IsTrue H.tells → IsSeen (H.world host.old) held.name t → IsWrite t number page.now → image_state t.base.image ≡ merge_state → t.base.diverted ≡ held.entries
         → held.name ≡ name.now → held.page_size ≡ delta.old.page_size → delta.old.name ≡ delta_name name.now → entry_for number held.entries ≡ Some k → slot ≡ slot_place delta.old.page_size k → AreMerged (H.world host.old) held n → OnOk result (AreMerged (H.world host.new) held n) }
     ensures touches { IsTrue H.tells → (k : ℕ) → delta.old.name ≡ delta_name name.now → slot ≡ slot_place delta.old.page_size k → Touches (H.world host.old) (H.world host.new) (OfFiles name.now) }
     ensures same { delta.new ≡ delta.old }
@@ -163,9 +164,9 @@ pub fn write_stalled<H: Host>(
     synced: bool,
 ) -> Result<(), RunError>
     requires size { length page.now ≡ delta.old.page_size }
-    requires below { number < 1048576 }
+    requires below { number < most_pages }
     requires none_waits { delta.old.drafted ≡ 0 }
-    ensures takes { (t : Trail) (name : List ℕ) → IsTrue H.tells → IsSeen (H.world host.old) name t → IsWrite t number page.now → image_state t.base.image ≡ 1 → t.base.diverted ≡ delta.old.entries
+    ensures takes { (t : Trail) (name : List ℕ) → IsTrue H.tells → IsSeen (H.world host.old) name t → IsWrite t number page.now → image_state t.base.image ≡ stalled_state → t.base.diverted ≡ delta.old.entries
         → delta.old.name ≡ delta_name name → synced ≡ must_sync t.base.image number
         → TakesFirm result (H.world host.old) (H.world host.new) name (IsSeen (H.world host.new) name) t (page_stroke number page.now ∷ []) }
     ensures touches { IsTrue H.tells → HasTable delta.old.page_size ((H.world host.old).files delta.old.name) delta.old.entries → Touches (H.world host.old) (H.world host.new) (Only delta.old.name) }
@@ -203,14 +204,14 @@ pub fn write_plain<H: Host>(
     requires size { length page.now ≡ delta.old.page_size }
     requires page { IsTrue (is_page_size (length page.now)) }
     requires opened { state ≤ 2 }
-    requires plain { state ≢ 1 }
-    ensures takes { (t : Trail) → IsTrue H.tells → IsSeen (H.world host.old) name.now t → IsWrite t number page.now → image_state t.base.image ≢ 1 → t.base.diverted ≡ delta.old.entries
+    requires plain { state ≢ stalled_state }
+    ensures takes { (t : Trail) → IsTrue H.tells → IsSeen (H.world host.old) name.now t → IsWrite t number page.now → image_state t.base.image ≢ stalled_state → t.base.diverted ≡ delta.old.entries
         → delta.old.name ≡ delta_name name.now → synced ≡ must_sync t.base.image number
         → TakesFirm result (H.world host.old) (H.world host.new) name.now (IsSeen (H.world host.new) name.now) t (page_stroke number page.now ∷ []) }
     // Entries that are equal in both files stay so.
-    ensures merged { (t : Trail) (held : Held) (n : ℕ) → IsTrue H.tells → IsSeen (H.world host.old) held.name t → IsWrite t number page.now → image_state t.base.image ≡ 2 → t.base.diverted ≡ held.entries
+    ensures merged { (t : Trail) (held : Held) (n : ℕ) → IsTrue H.tells → IsSeen (H.world host.old) held.name t → IsWrite t number page.now → image_state t.base.image ≡ merge_state → t.base.diverted ≡ held.entries
         → held.name ≡ name.now → held.page_size ≡ delta.old.page_size → delta.old.name ≡ delta_name name.now → held.entries ≡ delta.old.entries → AreMerged (H.world host.old) held n → OnOk result (AreMerged (H.world host.new) held n) }
-    ensures touches { IsTrue H.tells → (state ≡ 0 → delta.old.entries ≡ []) → delta.old.name ≡ delta_name name.now → WritesIn (H.world host.old) (H.world host.new) state name.now }
+    ensures touches { IsTrue H.tells → (state ≡ normal_state → delta.old.entries ≡ []) → delta.old.name ≡ delta_name name.now → WritesIn (H.world host.old) (H.world host.new) state name.now }
     ensures same { delta.new ≡ delta.old }
     ensures log { IsSilent (H.world host.old) (H.world host.new) }
     ensures cause { CountsFault result (H.faults host.old) (H.faults host.new) }

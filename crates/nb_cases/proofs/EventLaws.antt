@@ -2,6 +2,7 @@
 use Rattle.std.proofs.Common.{◌≡◌, ℕ, zero, suc, List, [], ◌∷◌, refl, ap, ◌∙◌, arith}
 use Rattle.std.specs.Prelude.{Bool, true, false, not, ◌||◌, ◌==◌, Some, None, is_some}
 use Rattle.nb_fields.specs.Header.{state_of}
+use Rattle.nb_fields.specs.States.{normal_state, stalled_state, merge_state, applying_state}
 use Rattle.nb_host.specs.Files.{File}
 use Rattle.nb_host.specs.declared.refusals.Refusal.TheVariants.{DeltaPresent, WrongState as in_state}
 use Rattle.nb_model.specs.Account.{Base}
@@ -39,7 +40,7 @@ with_delta_merge name bytes delta = refl
 
 -- what is brought into the difference file
 diverted_in : (state : ℕ) (b : Base) (p : ℕ) → List ℕ
-diverted_in state b p = elim (state == 1) [ true ↦ noted p b.diverted | false ↦ b.diverted ]
+diverted_in state b p = elim (state == stalled_state) [ true ↦ noted p b.diverted | false ↦ b.diverted ]
 
 pub diverts_stalled : Diverts 1
 unfolding on_base diverted_in
@@ -58,12 +59,12 @@ module _ (image : Image) (state : ℕ) (is : image_state image ≡ state) where
   not_in : (one : ℕ) → not_state one image ≡ when (not (state == one)) (in_state state)
   not_in one = ap (λ (n : ℕ). when (not (n == one)) (in_state n)) is
 
-  to_end : none_to_end image ≡ when (state == 0) (in_state 0)
-  to_end = ap (λ (n : ℕ). when (n == 0) (in_state 0)) is
+  to_end : none_to_end image ≡ when (state == normal_state) (in_state normal_state)
+  to_end = ap (λ (n : ℕ). when (n == 0) (in_state normal_state)) is
 
 -- a copy
 fix_cause : (form : Cause) (state : ℕ) (delta : Cause) → Cause
-fix_cause form state delta = first_cause (form ∷ when (not (state == 1)) (in_state state) ∷ delta ∷ [])
+fix_cause form state delta = first_cause (form ∷ when (not (state == stalled_state)) (in_state state) ∷ delta ∷ [])
 
 module _ (state : ℕ) (name bytes : List ℕ) (delta : File) (is : IsFileIn state bytes) where
   abbrev present : Cause
@@ -73,7 +74,7 @@ module _ (state : ℕ) (name bytes : List ℕ) (delta : File) (is : IsFileIn sta
   unfolding not_fixable fix_cause
   fixed_by = ap (λ (form : Cause). fix_cause form (state_of bytes) present) is.0 ∙ ap (λ (n : ℕ). fix_cause None n present) is.1
 
-fix_other : (state : ℕ) (delta : Cause) → (state == 1) ≡ false → fix_cause None state delta ≡ Some (in_state state)
+fix_other : (state : ℕ) (delta : Cause) → (state == stalled_state) ≡ false → fix_cause None state delta ≡ Some (in_state state)
 unfolding fix_cause first_cause
 fix_other state delta other = ap (λ (t : Bool). first_cause (None ∷ when (not t) (in_state state) ∷ delta ∷ [])) other
 
@@ -84,14 +85,14 @@ fix_stalled (Some refusal) = refl
 
 -- a standby
 standby_cause : (form : Cause) (state : ℕ) → Cause
-standby_cause form state = first_cause (form ∷ when (state == 1 || state == 2) (in_state state) ∷ [])
+standby_cause form state = first_cause (form ∷ when (state == stalled_state || state == merge_state) (in_state state) ∷ [])
 
 module _ (state : ℕ) (name bytes : List ℕ) (is : IsFileIn state bytes) where
   stands : not_standby name (Some bytes) ≡ standby_cause None state
   unfolding not_standby standby_cause
   stands = ap (λ (form : Cause). standby_cause form (state_of bytes)) is.0 ∙ ap (standby_cause None) is.1
 
-  merges : (level : List ℕ) (c : Contents) → not_mergeable bytes level c ≡ elim (state == 3) as (λ t. Cause) [ true ↦ not_finishing level bytes c | false ↦ not_next level bytes c ]
+  merges : (level : List ℕ) (c : Contents) → not_mergeable bytes level c ≡ elim (state == applying_state) as (λ t. Cause) [ true ↦ not_finishing level bytes c | false ↦ not_next level bytes c ]
   unfolding not_mergeable
   merges level c = ap (λ (n : ℕ). elim (n == 3) as (λ t. Cause) [ true ↦ not_finishing level bytes c | false ↦ not_next level bytes c ]) is.1
 
@@ -99,11 +100,11 @@ stands_normal : standby_cause None 0 ≡ None
 unfolding standby_cause first_cause
 stands_normal = refl
 
-stands_stalled : standby_cause None 1 ≡ Some (in_state 1)
+stands_stalled : standby_cause None 1 ≡ Some (in_state stalled_state)
 unfolding standby_cause first_cause
 stands_stalled = refl
 
-stands_merge : standby_cause None 2 ≡ Some (in_state 2)
+stands_merge : standby_cause None 2 ≡ Some (in_state merge_state)
 unfolding standby_cause first_cause
 stands_merge = refl
 

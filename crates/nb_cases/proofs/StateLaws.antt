@@ -3,6 +3,7 @@ use Rattle.std.proofs.Common.{◌≡◌, ◌≢◌, ◌≤◌, inl, inr, ℕ, ze
 use Rattle.std.specs.Prelude.{Bool, not, ◌==◌, Some, None, Result, Ok, Err}
 use Rattle.std.proofs.lemmas.Bool.Decides.{eqb_tells}
 use Rattle.nb_fields.specs.Bytes.{number_in, number_of}
+use Rattle.nb_fields.specs.States.{normal_state, stalled_state, applying_state}
 use Rattle.nb_host.specs.declared.refusals.Refusal.{Refusal}
 use Rattle.nb_host.specs.declared.refusals.Refusal.TheVariants.{NoFile, WrongState as in_state, Unfinished as unfinished}
 use Rattle.nb_model.specs.Account.{Base, base_of}
@@ -38,9 +39,9 @@ equal n k none = elim (eqb_tells n k) [
   | inr w ↦ absurd (some_none (in_state n) (sym (ap (λ (t : Bool). when (not t) (in_state n)) w.0) ∙ none))
 ]
 
-some : (n : ℕ) → when (n == 0) (in_state 0) ≡ None → 1 ≤ n
+some : (n : ℕ) → when (n == 0) (in_state normal_state) ≡ None → 1 ≤ n
 some n none = elim (eqb_tells n 0) [
-  | inl w ↦ absurd (some_none (in_state 0) (sym (ap (λ (t : Bool). when t (in_state 0)) w.0) ∙ none))
+  | inl w ↦ absurd (some_none (in_state normal_state) (sym (ap (λ (t : Bool). when t (in_state normal_state)) w.0) ∙ none))
   | inr w ↦ omega (arith, w.1)
 ]
 
@@ -68,16 +69,16 @@ module _ (state : ℕ) (low : state ≤ 2) (case : Case) (other : case ≢ Wrong
       let is = image_is state low in
       equal state one (sym (ap (λ (n : ℕ). when (not (n == one)) (in_state n)) is) ∙ goes (not_state one) state low case says other (image_of state) is)
 
-  pub only_normal : OnOpen (not_state 0) state case → state ≡ 0
+  pub only_normal : OnOpen (not_state normal_state) state case → state ≡ normal_state
   only_normal = only_in 0
 
-  pub only_stalled : OnOpen (not_state 1) state case → state ≡ 1
+  pub only_stalled : OnOpen (not_state stalled_state) state case → state ≡ stalled_state
   only_stalled = only_in 1
 
   pub some_backup : OnOpen none_to_end state case → 1 ≤ state
   some_backup says =
       let is = image_is state low in
-      some state (sym (ap (λ (n : ℕ). when (n == 0) (in_state 0)) is) ∙ goes none_to_end state low case says other (image_of state) is)
+      some state (sym (ap (λ (n : ℕ). when (n == 0) (in_state normal_state)) is) ∙ goes none_to_end state low case says other (image_of state) is)
 
 -- ---- a page is written
 
@@ -93,7 +94,7 @@ stalled_diverts none =
     let is = image_is 1 (omega arith) in
     is_noted (sym (diverts_stalled b 0 [] is) ∙ none b 0 [] is)
 
-only_stalled_diverts : (state : ℕ) → state ≤ 2 → Diverts state → state ≡ 1
+only_stalled_diverts : (state : ℕ) → state ≤ 2 → Diverts state → state ≡ stalled_state
 only_stalled_diverts zero low diverts =
     let b : Base = base_of (image_of 0) in
     let is = image_is 0 low in
@@ -106,11 +107,11 @@ only_stalled_diverts (suc (suc zero)) low diverts =
 only_stalled_diverts (suc (suc (suc more))) low diverts = absurd (omega (arith, low))
 
 -- a page goes to the difference file alone in the stalled state
-pub diverted_stalled : (state : ℕ) → state ≤ 2 → OnWrite state Delta → state ≡ 1
+pub diverted_stalled : (state : ℕ) → state ≤ 2 → OnWrite state Delta → state ≡ stalled_state
 diverted_stalled state low says = only_stalled_diverts state low says.1
 
 -- and otherwise in another one
-pub plain_not_stalled : (state : ℕ) (case : Case) → OnWrite state case → case ≢ Delta → state ≢ 1
+pub plain_not_stalled : (state : ℕ) (case : Case) → OnWrite state case → case ≢ Delta → state ≢ stalled_state
 plain_not_stalled state case says other stalled = by case (subst (λ (n : ℕ). OnWrite n case) stalled says) other
   where
     by : (case : Case) → OnWrite 1 case → case ≢ Delta → ⊥
@@ -134,7 +135,7 @@ otherwise_refused : (name : List ℕ) → let other : Result Base Refusal = Err 
 otherwise_refused name e = cc
 
 -- it is refused as unfinished where a merge into a standby was stopped
-pub unfinished_applying : (state : ℕ) → state ≤ 3 → OnAttach state Unfinished → state ≡ 3
+pub unfinished_applying : (state : ℕ) → state ≤ 3 → OnAttach state Unfinished → state ≡ applying_state
 unfolding owner_in owner_with
 unfinished_applying zero low says = absurd (opened_refused _ (says [] [] None))
 unfinished_applying (suc zero) low says = absurd (otherwise_refused (delta_name []) (says [] [] None))
@@ -143,7 +144,7 @@ unfinished_applying (suc (suc (suc zero))) low says = refl
 unfinished_applying (suc (suc (suc (suc more)))) low says = absurd (omega (arith, low))
 
 -- and in no other state
-pub opened_not_applying : (state : ℕ) (case : Case) → OnAttach state case → case ≢ Unfinished → state ≢ 3
+pub opened_not_applying : (state : ℕ) (case : Case) → OnAttach state case → case ≢ Unfinished → state ≢ applying_state
 unfolding owner_in owner_with
 opened_not_applying state case says other applying = by case (subst (λ (n : ℕ). OnAttach n case) applying says) other
   where

@@ -2,6 +2,7 @@
 use Rattle.std.proofs.Common.{◌≡◌, ◌≢◌, ℕ, zero, suc, List, [], ◌∷◌, refl, sym, ap, ◌∙◌, arith}
 use Rattle.std.specs.Prelude.{Bool, true, false, not, ◌&&◌, Option, Some, None, is_some}
 use Rattle.std.proofs.lemmas.Bool.{true≢false, ne_eqb}
+use Rattle.nb_fields.specs.States.{normal_state, stalled_state, merge_state}
 use Rattle.nb_model.specs.Account.{Base}
 use Rattle.nb_model.specs.Image.{Page, image_state}
 use Rattle.nb_model.specs.Owner.{entry_for}
@@ -41,13 +42,13 @@ module _ (b : Base) (p : ℕ) (bytes : Page) where
   abbrev behind : Option ℕ
   behind = entry_for p (on_base (page p bytes) b).diverted
 
-  stays_normal : (t : Bool) → image_state b.image ≡ 0 → is_some (entry_for p b.diverted) ≡ t → is_some behind ≡ t
+  stays_normal : (t : Bool) → image_state b.image ≡ normal_state → is_some (entry_for p b.diverted) ≡ t → is_some behind ≡ t
   stays_normal t at is = ap (λ (table : List ℕ). is_some (entry_for p table)) (diverts_none_normal b p bytes at) ∙ is
 
-  stays_merge : (t : Bool) → image_state b.image ≡ 2 → is_some (entry_for p b.diverted) ≡ t → is_some behind ≡ t
+  stays_merge : (t : Bool) → image_state b.image ≡ merge_state → is_some (entry_for p b.diverted) ≡ t → is_some behind ≡ t
   stays_merge t at is = ap (λ (table : List ℕ). is_some (entry_for p table)) (diverts_none_merge b p bytes at) ∙ is
 
-  comes : image_state b.image ≡ 1 → is_some behind ≡ true
+  comes : image_state b.image ≡ stalled_state → is_some behind ≡ true
   comes at = ap (λ (table : List ℕ). is_some (entry_for p table)) (diverts_stalled b p bytes at) ∙ entered p b.diverted
 
 pub the_syncs : AreTheSyncs rows
@@ -115,5 +116,5 @@ the_syncs (suc (suc zero)) false false low normal = record {
 the_syncs (suc (suc (suc more))) has_entry kept low normal = absurd (omega (arith, low))
 
 -- of a page that stays without an entry the main file is synced, where the write is to be kept
-pub main_if_kept : (state : ℕ) (kept : Bool) (syncs : Syncs) → state ≢ 1 → SyncsOf state false kept syncs → syncs.main ≡ kept
+pub main_if_kept : (state : ℕ) (kept : Bool) (syncs : Syncs) → state ≢ stalled_state → SyncsOf state false kept syncs → syncs.main ≡ kept
 main_if_kept state kept syncs other is = is.main ∙ ap (λ (t : Bool). (not t && not false) && kept) (ne_eqb state 1 other)

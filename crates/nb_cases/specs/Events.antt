@@ -3,6 +3,7 @@ use Rattle.std.specs.Prelude.{◌≡◌, ◌≢◌, ◌≤◌, ℕ, List, [], �
 use Rattle.std.specs.List.{slice_index_or}
 use Rattle.nb_fields.specs.Cases.{cell}
 use Rattle.nb_fields.specs.Header.{state_of}
+use Rattle.nb_fields.specs.States.{normal_state, stalled_state, merge_state, applying_state}
 use Rattle.nb_host.specs.Files.{File}
 use Rattle.nb_host.specs.declared.refusals.Refusal.TheVariants.{DeltaPresent, WrongState as in_state, Unfinished as unfinished}
 use Rattle.nb_model.specs.Account.{Base, base_of}
@@ -49,17 +50,17 @@ OnAttach state other = ⊥
 abbrev pub OnOpen : (Image → Cause) → (state : ℕ) → Case → Type 0
 OnOpen cause state Go = (image : Image) → image_state image ≡ state → cause image ≡ None
 OnOpen cause state WrongState = (image : Image) → image_state image ≡ state → cause image ≡ Some (in_state state)
-OnOpen cause state NoCall = state ≡ 3
+OnOpen cause state NoCall = state ≡ applying_state
 OnOpen cause state other = ⊥
 
 -- there is no backup to end
 abbrev pub none_to_end : Image → Cause
-none_to_end image = when (image_state image == 0) (in_state 0)
+none_to_end image = when (image_state image == normal_state) (in_state normal_state)
 
 -- a turn of a merge, which comes in the merge state alone
 abbrev pub OnMergeTurn : (state : ℕ) → Case → Type 0
-OnMergeTurn state Go = state ≡ 2
-OnMergeTurn state NoCall = state ≢ 2
+OnMergeTurn state Go = state ≡ merge_state
+OnMergeTurn state NoCall = state ≢ merge_state
 OnMergeTurn state other = ⊥
 
 -- making a database of a copy of the frozen file
@@ -74,7 +75,7 @@ abbrev pub OnWrite : (state : ℕ) → Case → Type 0
 OnWrite state Main = IsMainAlone state × DivertsNone state
 OnWrite state Delta = IsWithDelta state × Diverts state
 OnWrite state BothOrMain = IsWithDelta state × DivertsNone state
-OnWrite state NoCall = state ≡ 3
+OnWrite state NoCall = state ≡ applying_state
 OnWrite state other = ⊥
 
 -- merging a level file into a standby
@@ -89,14 +90,14 @@ OnApply state other = ⊥
 -- what a case says of an event in a state
 abbrev pub IsTheCase : (state : ℕ) → Event → Case → Type 0
 IsTheCase state Attach case = OnAttach state case
-IsTheCase state Begin case = OnOpen (not_state 0) state case
+IsTheCase state Begin case = OnOpen (not_state normal_state) state case
 IsTheCase state End case = OnOpen none_to_end state case
 IsTheCase state MergeTurn case = OnMergeTurn state case
 IsTheCase state Fixup case = OnFixup state case
 IsTheCase state Write case = OnWrite state case
-IsTheCase state CopyTo case = OnOpen (not_state 1) state case
+IsTheCase state CopyTo case = OnOpen (not_state stalled_state) state case
 IsTheCase state Apply case = OnApply state case
-IsTheCase state Access case = OnOpen (not_state 0) state case
+IsTheCase state Access case = OnOpen (not_state normal_state) state case
 
 -- ---- the table
 

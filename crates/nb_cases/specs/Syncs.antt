@@ -1,6 +1,7 @@
 -- The syncs of a page write.
 use Rattle.std.specs.Prelude.{◌≡◌, ◌≤◌, ℕ, ◌/◌, ◌%◌, List, Option, Some, None, is_some, Bool, true, false, ◌&&◌, ◌||◌, ◌==◌, not}
 use Rattle.nb_fields.specs.Cases.{cell}
+use Rattle.nb_fields.specs.States.{normal_state, stalled_state}
 use Rattle.nb_model.specs.Account.{Base}
 use Rattle.nb_model.specs.Image.{Page, image_state}
 use Rattle.nb_model.specs.Owner.{entry_for}
@@ -9,11 +10,11 @@ use Rattle.nb_cases.specs.declared.syncs.Syncs.{Syncs}
 
 -- the page gets an entry with the write
 abbrev pub is_new : (state : ℕ) (has_entry : Bool) → Bool
-is_new state has_entry = state == 1 && not has_entry
+is_new state has_entry = state == stalled_state && not has_entry
 
 -- the page stays without one
 abbrev pub has_none : (state : ℕ) (has_entry : Bool) → Bool
-has_none state has_entry = not (state == 1) && not has_entry
+has_none state has_entry = not (state == stalled_state) && not has_entry
 
 -- Of a page that belongs to the difference file after the write the last that was written there is synced: the table where it got its
 -- entry, and the slot where it had one. Of every other page the main file is.
@@ -35,9 +36,9 @@ pub record SyncsOf (state : ℕ) (has_entry kept : Bool) (syncs : Syncs) : Type 
 
 -- the row of a state, and of whether an entry names the page
 abbrev pub row_of : (state : ℕ) (has_entry : Bool) → ℕ
-row_of state has_entry = elim (state == 0) [
+row_of state has_entry = elim (state == normal_state) [
   | true ↦ 0
-  | false ↦ elim (state == 1) [
+  | false ↦ elim (state == stalled_state) [
     | true ↦ elim has_entry [ true ↦ 1 | false ↦ 2 ]
     | false ↦ elim has_entry [ true ↦ 3 | false ↦ 4 ]
   ]
@@ -53,4 +54,4 @@ syncs_at cell = record { slot = cell % 2 == 1; table = cell / 2 % 2 == 1; main =
 
 -- each cell of a table has the syncs of its state
 abbrev pub AreTheSyncs : List (List ℕ) → Type 0
-AreTheSyncs rows = (state : ℕ) (has_entry kept : Bool) → state ≤ 2 → (state ≡ 0 → has_entry ≡ false) → SyncsOf state has_entry kept (syncs_at (cell rows (row_of state has_entry) (column_of kept)))
+AreTheSyncs rows = (state : ℕ) (has_entry kept : Bool) → state ≤ 2 → (state ≡ normal_state → has_entry ≡ false) → SyncsOf state has_entry kept (syncs_at (cell rows (row_of state has_entry) (column_of kept)))

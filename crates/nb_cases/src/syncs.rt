@@ -1,5 +1,6 @@
 // Which files a page write syncs.
 ghost use Rattle.std.specs.Prelude.{◌≡◌, ◌<◌, ◌≤◌, false};
+ghost use Rattle.nb_fields.specs.States.{normal_state};
 ghost use Rattle.nb_cases.specs.Syncs.{AreTheSyncs, IsKept, SyncsOf, column_of, row_of, syncs_at};
 ghost use Rattle.nb_model.specs.Account.{Base};
 
@@ -55,7 +56,7 @@ fn table() -> CaseTable<5, 2>
 /// good before it is answered.
 pub fn syncs_of(state: u16, has_entry: bool, kept: bool) -> Syncs
     requires state { state ≤ 2 }
-    requires normal { state ≡ 0 → has_entry ≡ false }
+    requires normal { state ≡ normal_state → has_entry ≡ false }
     ensures { SyncsOf state has_entry kept result }
 {
     let column = if kept { 0 } else { 1 };

@@ -8,6 +8,7 @@ use Rattle.nb_fields.specs.Header.{is_header, signature, state_of, size_of, scn_
 use Rattle.nb_fields.proofs.HeaderLemmas.{is_header-take}
 use Rattle.nb_fields.proofs.NumberLemmas.{number_of-lt}
 use Rattle.nb_fields.proofs.PartLemmas.{part-take, number_in-take}
+use Rattle.nb_fields.specs.States.{stalled_state}
 use Rattle.nb_host.specs.declared.faults.Fault.{Fault}
 use Rattle.nb_host.specs.declared.faults.Fault.TheVariants.{Refused}
 use Rattle.nb_host.specs.declared.refusals.Refusal.{Refusal}
@@ -62,7 +63,7 @@ module _ (name bytes : List ℕ) where
   unfolding not_whole
   unheaded e = rw (e, not_whole) refl
 
-  headed : is_header bytes ≡ true → not_whole name bytes ≡ first_cause (when (not (state_of bytes == 1)) (BadLevel name 22) ∷ when (is_bad_length bytes) (BadLevel name (length bytes)) ∷ [])
+  headed : is_header bytes ≡ true → not_whole name bytes ≡ first_cause (when (not (state_of bytes == stalled_state)) (BadLevel name 22) ∷ when (is_bad_length bytes) (BadLevel name (length bytes)) ∷ [])
   unfolding not_whole
   headed e = rw (e, not_whole) refl
 
@@ -81,11 +82,11 @@ module _ (name bytes : List ℕ) where
   unfolding first_cause by_tests
   no_test = refl
 
-  pub unstalled : is_header bytes ≡ true → state_of bytes ≢ 1 → not_whole name bytes ≡ Some (BadLevel name 22)
+  pub unstalled : is_header bytes ≡ true → state_of bytes ≢ stalled_state → not_whole name bytes ≡ Some (BadLevel name 22)
   unfolding by_tests
   unstalled e other = headed e ∙ ap (λ (b : Bool). by_tests (not b) (is_bad_length bytes)) (eq_no (state_of bytes) 1 other) ∙ first_test (is_bad_length bytes)
 
-  module _ (e : is_header bytes ≡ true) (stalled : state_of bytes ≡ 1) (size : ℕ) (same : size ≡ size_of bytes) where
+  module _ (e : is_header bytes ≡ true) (stalled : state_of bytes ≡ stalled_state) (size : ℕ) (same : size ≡ size_of bytes) where
     to_length : not_whole name bytes ≡ by_tests false (is_bad_count (length bytes) size)
     unfolding by_tests
     to_length =

@@ -1,5 +1,6 @@
 -- What is answered of the first file of a chain.
 use Rattle.std.specs.Prelude.{◌≡◌, ℕ, ◌*◌, ◌/◌, ◌%◌, List, length, take, Some, None, Result, Ok, Err, Bool, not, ◌||◌, ◌==◌, nat_lt}
+use Rattle.nb_fields.specs.Places.{most_pages}
 use Rattle.nb_host.specs.Files.{File}
 use Rattle.nb_host.specs.declared.faults.Fault.{Fault}
 use Rattle.nb_host.specs.declared.faults.Fault.TheVariants.{Refused, Device, Memory}
@@ -27,7 +28,7 @@ Tested cause (Err Memory) = ⊥
 
 -- so many bytes are no number of whole pages that a database may have
 abbrev pub is_bad_count : (len size : ℕ) → Bool
-is_bad_count len size = not (len % size == 0) || (nat_lt (len / size) 5 || nat_lt 1048576 (len / size))
+is_bad_count len size = not (len % size == 0) || (nat_lt (len / size) 5 || nat_lt most_pages (len / size))
 
 -- whole pages are the first file of a chain: this is their header, and so many they are
 pub record IsFirst (name bytes : List ℕ) (first : First) : Type 0 where

@@ -1,5 +1,5 @@
 ghost use Rattle.std.specs.Prelude.{◌≡◌, ◌≤◌, length, drop, IsTrue, IfOk};
-ghost use Rattle.nb_fields.specs.Places.{is_page_size};
+ghost use Rattle.nb_fields.specs.Places.{is_page_size, most_pages};
 ghost use Rattle.nb_page.specs.Header.{HasForm};
 ghost use Rattle.nb_page.specs.Quiet.{Quiet};
 ghost use Rattle.nb_host.specs.Causes.{CountsDevice};
@@ -88,11 +88,11 @@ pub fn check<H: Host>(alloc: Global, host: &mut H, files: &[Name]) -> Result<Cha
     ensures answer { IsTrue H.tells
         → CheckSays (H.world host.old).files files.now (H.world host.old).reads (H.world host.new).reads result }
     ensures size { IfOk result (λ chain. IsTrue (is_page_size chain.page_size)) }
-    ensures most { IfOk result (λ chain. chain.count ≤ 1048576) }
+    ensures most { IfOk result (λ chain. chain.count ≤ most_pages) }
     ensures first { IsTrue H.tells → IfOk result (λ chain. IsFirstOf (H.world host.old).files files.now chain.first) }
     ensures form { IfOk result (λ chain. HasForm chain.first.header) }
     ensures least { IfOk result (λ chain. 5 ≤ chain.first.pages) }
-    ensures pages { IfOk result (λ chain. chain.first.pages ≤ 1048576) }
+    ensures pages { IfOk result (λ chain. chain.first.pages ≤ most_pages) }
     ensures quiet { Quiet (H.world host.old) (H.world host.new) }
     ensures cause { CountsDevice result (H.faults host.old) (H.faults host.new) }
 {

@@ -1,5 +1,5 @@
 ghost use Rattle.std.specs.Prelude.{◌≡◌, ℕ, ◌+◌, ◌*◌, ◌/◌, ◌≤◌, List, true, false, Some, length, take, IsTrue, IfOk, MatchOption};
-ghost use Rattle.nb_fields.specs.Places.{is_page_size};
+ghost use Rattle.nb_fields.specs.Places.{is_page_size, most_pages};
 ghost use Rattle.nb_page.specs.Header.{header_in, HasForm};
 ghost use Rattle.nb_page.specs.Quiet.{Quiet};
 ghost use Rattle.nb_model.specs.Levels.{begins_level};
@@ -58,7 +58,7 @@ fn whole_pages(name: &Name, first: &[u8], len: u64) -> Result<First, Fault>
     ensures value { (bytes : List ℕ) → first.now ≡ take 64 bytes → IfOk result (λ file. file.header ≡ header_in bytes) }
     ensures form { IfOk result (λ file. HasForm file.header) }
     ensures least { IfOk result (λ file. 5 ≤ file.pages) }
-    ensures most { IfOk result (λ file. file.pages ≤ 1048576) }
+    ensures most { IfOk result (λ file. file.pages ≤ most_pages) }
     ensures pages { IfOk result (λ file. len ≡ file.pages * file.header.page_size) }
     ensures cause { (faults : ℕ) → CountsDevice result faults faults }
 {
@@ -101,7 +101,7 @@ pub fn read_first<H: Host>(alloc: Global, host: &mut H, name: &Name) -> Result<F
     ensures answer { IsTrue H.tells → FirstSays ((H.world host.old).files name.now) name.now result }
     ensures form { IfOk result (λ file. HasForm file.header) }
     ensures least { IfOk result (λ file. 5 ≤ file.pages) }
-    ensures most { IfOk result (λ file. file.pages ≤ 1048576) }
+    ensures most { IfOk result (λ file. file.pages ≤ most_pages) }
     ensures quiet { Quiet (H.world host.old) (H.world host.new) }
     ensures reads { IsTrue H.tells → IfOk result (λ file. (H.world host.new).reads ≤ (H.world host.old).reads + 1) }
     ensures cause { CountsDevice result (H.faults host.old) (H.faults host.new) }

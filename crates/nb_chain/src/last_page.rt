@@ -1,6 +1,6 @@
 ghost use Rattle.std.specs.Prelude.{◌≡◌, ◌+◌, ◌*◌, ◌<◌, ◌≤◌, ℕ, List, Some, IsTrue, true, false, IfOk, length, max, nat_lt};
 ghost use Rattle.nb_fields.specs.Bytes.{is_zeros, part};
-ghost use Rattle.nb_fields.specs.Places.{is_page_size};
+ghost use Rattle.nb_fields.specs.Places.{is_page_size, most_pages};
 ghost use Rattle.nb_host.specs.Causes.{CountsFault};
 ghost use Rattle.nb_page.specs.Quiet.{Quiet};
 ghost use Rattle.nb_chain.specs.Overlay.{is_blank, without_blank};
@@ -65,11 +65,11 @@ pub(crate) fn count_pages<H: Host>(
     page: &mut [u8],
 ) -> Result<u32, HostFault>
     requires size { IsTrue (is_page_size (length page.old)) }
-    requires most { pages ≤ 1048576 }
+    requires most { pages ≤ most_pages }
     ensures answer { IsTrue H.tells → (bytes : List ℕ) → (H.world host.old).files name.now ≡ Some bytes → pages * length page.old ≤ length bytes
         → IfOk result (λ count. count ≡ without_blank (is_blank bytes (length page.old) pages overlay.now) (max pages (length overlay.now))) }
     ensures reads { IsTrue H.tells → IfOk result (λ count. (H.world host.new).reads + count ≤ (H.world host.old).reads + max pages (length overlay.now) + 1) }
-    ensures most { IfOk result (λ count. count ≤ 1048576) }
+    ensures most { IfOk result (λ count. count ≤ most_pages) }
     ensures quiet { Quiet (H.world host.old) (H.world host.new) }
     ensures cause { CountsFault result (H.faults host.old) (H.faults host.new) }
 {

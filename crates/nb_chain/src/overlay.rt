@@ -1,5 +1,6 @@
 ghost use Rattle.std.specs.Prelude.{◌≡◌, ◌<◌, ◌≤◌, ◌+◌, [], length, OnOk};
 ghost use Rattle.std.specs.List.{slice_index_or};
+ghost use Rattle.nb_fields.specs.Places.{most_pages};
 ghost use Rattle.nb_chain.specs.Overlay.{mark_of, grown, noted};
 ghost use Rattle.nb_chain.specs.declared.overlay.Mark.TheVariants.{Untouched};
 
@@ -28,13 +29,14 @@ pub(crate) struct Overlay {
 
 impl Model for Overlay {
     ghost use Rattle.std.specs.Prelude.{List, length, ◌≤◌};
+    ghost use Rattle.nb_fields.specs.Places.{most_pages};
     ghost use Rattle.nb_chain.specs.declared.overlay.Mark.{Mark};
 
     ghost Value = { List Mark };
 
     ghost view = { λ o. o.marks.items };
 
-    ghost invariant = { λ o. length o.marks.items ≤ 1048576 };
+    ghost invariant = { λ o. length o.marks.items ≤ most_pages };
 }
 
 /// What is said of a page that a level file has.
@@ -62,7 +64,7 @@ impl Overlay {
     /// How many pages there are up to the last of which something is said.
     pub(crate) fn len(&self) -> u32
         ensures value { result ≡ length self.now }
-        ensures most { result ≤ 1048576 }
+        ensures most { result ≤ most_pages }
     {
         self.marks.len() as u32
     }
@@ -81,7 +83,7 @@ impl Overlay {
 
     /// Makes room for a page.
     fn grow(&mut self, page: u32) -> Result<(), AllocError>
-        requires { page < 1048576 }
+        requires { page < most_pages }
         ensures { OnOk result (self.new ≡ grown self.old page) }
     {
         let len = page as usize + 1;
@@ -94,7 +96,7 @@ impl Overlay {
     /// Notes a page that a level file has.
     #[tactic(auto, unfolding(crate::specs::Overlay::noted))]
     pub(crate) fn note(&mut self, number: u32, page: &[u8]) -> Result<(), AllocError>
-        requires { number < 1048576 }
+        requires { number < most_pages }
         ensures { OnOk result (self.new ≡ noted self.old (number, page.now)) }
     {
         self.grow(number)?;

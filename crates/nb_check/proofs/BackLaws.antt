@@ -8,6 +8,7 @@ use Rattle.std.proofs.lemmas.List.{append-nil}
 use Rattle.std.proofs.lemmas.List.Folds.{list_any-append}
 use Rattle.nb_fields.specs.Page.{kind_of}
 use Rattle.nb_fields.specs.Places.{is_system_place}
+use Rattle.nb_fields.specs.Kinds.{data_kind}
 use Rattle.nb_model.specs.Account.{Base}
 use Rattle.nb_model.specs.Chains.{History}
 use Rattle.nb_model.specs.Forms.{Draft, drafted, give_page, is_free_page}
@@ -104,7 +105,7 @@ back_first x h = record { alike = record { size = refl; same = refl; pages = λ 
 
 module _ (x : Image) (sound : IsSoundImage x) (ps : List ℕ) (y : Image) (back : IsBack x ps y) where
   -- a page of a system place is none of data
-  system_none : (z : Image) → IsSoundImage z → (q : ℕ) → q < length z → is_system_place (image_size z) q ≡ true → (kind_of (page_at z q) == 5) ≡ false
+  system_none : (z : Image) → IsSoundImage z → (q : ℕ) → q < length z → is_system_place (image_size z) q ≡ true → (kind_of (page_at z q) == data_kind) ≡ false
   unfolding is_system_place
   system_none z is q low place = elim (or_cases _ _ place) [
     | inl at ↦ (let two = is.sound.system.inventories q low at in eq_no _ 5 (λ e. omega (arith, e, two)))
@@ -112,11 +113,11 @@ module _ (x : Image) (sound : IsSoundImage x) (ps : List ℕ) (y : Image) (back 
   ]
 
   -- the kinds stay, as far as data pages go
-  data_same : (q : ℕ) → q < length x → (kind_of (page_at y q) == 5) ≡ (kind_of (page_at x q) == 5)
+  data_same : (q : ℕ) → q < length x → (kind_of (page_at y q) == data_kind) ≡ (kind_of (page_at x q) == data_kind)
   data_same q low = elim (cases_Bool (is_system_place (image_size x) q)) [
     | inl place ↦
         system_none y back.whole.sound q (let same = back.alike.same in omega (arith, low, same)) (ap (λ (s : ℕ). is_system_place s q) back.alike.size ∙ place) ∙ sym (system_none x sound q low place)
-    | inr plain ↦ ap (λ (page : Page). kind_of page == 5) (back.alike.pages q plain)
+    | inr plain ↦ ap (λ (page : Page). kind_of page == data_kind) (back.alike.pages q plain)
   ]
 
   reach : reached y ≡ reached x
@@ -130,10 +131,10 @@ module _ (x : Image) (sound : IsSoundImage x) (ps : List ℕ) (y : Image) (back 
 
   leaked_each : (q : ℕ) → q < length x → is_leaked y q ≡ without (is_leaked x) ps q
   leaked_each q low =
-      ap (λ (t : Bool). (not t && kind_of (page_at y q) == 5) && not (is_among q (reached y))) (back.bits q low)
+      ap (λ (t : Bool). (not t && kind_of (page_at y q) == data_kind) && not (is_among q (reached y))) (back.bits q low)
       ∙ ap (λ (t : Bool). (not (is_free_page x q || is_among q ps) && t) && not (is_among q (reached y))) (data_same q low)
-      ∙ ap (λ (r : List ℕ). (not (is_free_page x q || is_among q ps) && kind_of (page_at x q) == 5) && not (is_among q r)) reach
-      ∙ still (is_free_page x q) (is_among q ps) (kind_of (page_at x q) == 5) (is_among q (reached x))
+      ∙ ap (λ (r : List ℕ). (not (is_free_page x q || is_among q ps) && kind_of (page_at x q) == data_kind) && not (is_among q r)) reach
+      ∙ still (is_free_page x q) (is_among q ps) (kind_of (page_at x q) == data_kind) (is_among q (reached x))
 
   pub leaked_rest : (qs : List ℕ) → leaked x ≡ ps ++ qs → leaked y ≡ qs
   unfolding leaked

@@ -7,6 +7,7 @@ use Rattle.nb_fields.specs.Bytes.{is_zeros}
 use Rattle.nb_fields.specs.Page.{kind_of, stamp_of}
 use Rattle.nb_fields.specs.Places.{bits_in, is_inventory_place, is_scn_place}
 use Rattle.nb_fields.specs.Payloads.{bit_of}
+use Rattle.nb_fields.specs.Kinds.{inventory_kind, scn_kind}
 use Rattle.nb_pip.specs.Bits.{bits}
 use Rattle.nb_pip.proofs.BitLemmas.{get_or-bits}
 use Rattle.nb_model.specs.Image.{Page, Image, page_at, first_page, image_size, image_scn}
@@ -64,7 +65,7 @@ module _ (image : Image) (p : ℕ) where
     blank_here = ap (λ (t : Bool). t && is_zeros (page_at image p)) below
 
     abbrev other_kind : Bool
-    other_kind = (is_inventory_place (image_size image) p && not (kind_of (page_at image p) == 2)) || (is_scn_place (image_size image) p && not (kind_of (page_at image p) == 10))
+    other_kind = (is_inventory_place (image_size image) p && not (kind_of (page_at image p) == inventory_kind)) || (is_scn_place (image_size image) p && not (kind_of (page_at image p) == scn_kind))
 
     pub place_here : breaks image SystemPlace p ≡ other_kind
     unfolding breaks

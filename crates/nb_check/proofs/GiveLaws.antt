@@ -6,6 +6,7 @@ use Rattle.nb_fields.specs.Payloads.{bit_of}
 use Rattle.nb_fields.specs.Places.{bits_in, entries_in, inventory_place, is_scn_place, is_system_place}
 use Rattle.nb_fields.proofs.PlaceLemmas.{bits-least}
 use Rattle.nb_fields.proofs.SizeLemmas.{SizeFacts, size_facts}
+use Rattle.nb_fields.specs.Kinds.{inventory_kind}
 use Rattle.nb_model.specs.Account.{Base, base_of}
 use Rattle.nb_model.specs.Forms.{Draft, drafted, old_page, put, raised, give_page, is_free_page, inventory_of, bit_number, with_bit}
 use Rattle.nb_model.specs.Image.{Page, Image, page_at, image_size, image_scn}
@@ -42,8 +43,8 @@ module _ (x : Image) (h : IsWhole x) (p : ℕ) (two : 2 ≤ p) (low : p < length
   i_place : IsPlace x i
   i_place = record { behind = inventory_place_some (image_size x) (p / bits_in (image_size x)) h.fields.size; there = omega (arith, i_low); most = let most = h.sound.most in omega (arith, i_low, most) }
 
-  give_is : give_page p (drafted x) ≡ put i 2 (drop 16 row) (drafted x)
-  give_is = set_bit_is 1 p x (kind_found x 2 i i_low (h.sound.sound.system.inventories i i_low (inventory_there (image_size x) (p / bits_in (image_size x)) h.fields.size)))
+  give_is : give_page p (drafted x) ≡ put i inventory_kind (drop 16 row) (drafted x)
+  give_is = set_bit_is 1 p x (kind_found x inventory_kind i i_low (h.sound.sound.system.inventories i i_low (inventory_there (image_size x) (p / bits_in (image_size x)) h.fields.size)))
 
   pub given_size : image_size given ≡ image_size x
   given_size = bit_size x h 1 p two low
@@ -61,7 +62,7 @@ module _ (x : Image) (h : IsWhole x) (p : ℕ) (two : 2 ≤ p) (low : p < length
   i_long = all_at (λ page. length page ≡ image_size x) x h.sound.sizes i i_low
 
   -- a bit of that inventory page
-  row_bit : (j : ℕ) → bit_of (page_at (put i 2 (drop 16 row) (drafted x)).image i) j ≡ bit_of row j
+  row_bit : (j : ℕ) → bit_of (page_at (put i inventory_kind (drop 16 row) (drafted x)).image i) j ≡ bit_of row j
   row_bit j =
       let facts : SizeFacts (image_size x) = size_facts (image_size x) h.fields.size in
       let old_is : old_page i x ≡ page_at x i = old_there x i i_low in
@@ -78,7 +79,7 @@ module _ (x : Image) (h : IsWhole x) (p : ℕ) (two : 2 ≤ p) (low : p < length
   pub free_then : is_free_page given p ≡ true
   unfolding is_free_page
   free_then =
-      let bit : bit_of (page_at (put i 2 (drop 16 row) (drafted x)).image i) (bit_number x p) ≡ 1 = row_bit (bit_number x p) ∙ bit_here (bit_number x p) 1 (page_at x i) (omega arith) inside in
+      let bit : bit_of (page_at (put i inventory_kind (drop 16 row) (drafted x)).image i) (bit_number x p) ≡ 1 = row_bit (bit_number x p) ∙ bit_here (bit_number x p) 1 (page_at x i) (omega arith) inside in
       ap (λ (s : ℕ). bit_of (page_at given (inventory_place s (p / bits_in s))) (p % bits_in s) == 1) given_size
       ∙ ap (λ (d : Draft). bit_of (page_at d.image i) (bit_number x p) == 1) give_is ∙ ap (λ (n : ℕ). n == 1) bit
 
@@ -88,10 +89,10 @@ module _ (x : Image) (h : IsWhole x) (p : ℕ) (two : 2 ≤ p) (low : p < length
       ap (λ (s : ℕ). bit_of (page_at given (inventory_place s (q / bits_in s))) (q % bits_in s) == 1) given_size
       ∙ ap (λ (d : Draft). bit_of (page_at d.image (inventory_of x q)) (bit_number x q) == 1) give_is ∙ ap (λ (n : ℕ). n == 1) by
     where
-      by : bit_of (page_at (put i 2 (drop 16 row) (drafted x)).image (inventory_of x q)) (bit_number x q) ≡ bit_of (page_at x (inventory_of x q)) (bit_number x q)
+      by : bit_of (page_at (put i inventory_kind (drop 16 row) (drafted x)).image (inventory_of x q)) (bit_number x q) ≡ bit_of (page_at x (inventory_of x q)) (bit_number x q)
       by = elim (eqb_tells (inventory_of x q) i) [
         | inl w ↦
-            ap (λ (n : ℕ). bit_of (page_at (put i 2 (drop 16 row) (drafted x)).image n) (bit_number x q)) w.1 ∙ row_bit (bit_number x q)
+            ap (λ (n : ℕ). bit_of (page_at (put i inventory_kind (drop 16 row) (drafted x)).image n) (bit_number x q)) w.1 ∙ row_bit (bit_number x q)
             ∙ bit_else (bit_number x p) (bit_number x q) 1 (page_at x i) (omega arith) inside (λ e. other (one_bit (image_size x) p q h.fields.size w.1 e))
             ∙ ap (λ (n : ℕ). bit_of (page_at x n) (bit_number x q)) (sym w.1)
         | inr w ↦ ap (λ (page : Page). bit_of page (bit_number x q)) (put_inventory x h i i_place 2 (drop 16 row) (q / bits_in (image_size x)) w.1)

@@ -5,6 +5,7 @@ use Rattle.std.specs.List.{AllByRecursion, list_all}
 use Rattle.std.proofs.lemmas.Bool.{and_left, or_cases, cases_Bool, cases_lt}
 use Rattle.nb_fields.specs.Page.{kind_of}
 use Rattle.nb_fields.specs.Places.{is_system_place}
+use Rattle.nb_fields.specs.Kinds.{data_kind}
 use Rattle.nb_host.specs.Names.{same_name}
 use Rattle.nb_model.specs.Image.{Page, Image, page_at, image_size}
 use Rattle.nb_model.specs.Sound.{SoundInventory}
@@ -24,14 +25,14 @@ pub record AreAlike (x y : Image) : Type 0 where
 
 module _ (x y : Image) (alike : AreAlike x y) (sx : SoundInventory x) (sy : SoundInventory y) where
   abbrev in_by : Chain → (n : ℕ) → Page → ℕ → Bool
-  in_by chain n page p = nat_lt p n && (kind_of page == 5 && (owner_in page == owner_of chain && list_all (is_slot chain) (slots_in page)))
+  in_by chain n page p = nat_lt p n && (kind_of page == data_kind && (owner_in page == owner_of chain && list_all (is_slot chain) (slots_in page)))
 
   in_is : (chain : Chain) (z : Image) (p : ℕ) → is_in_chain chain z p ≡ in_by chain (length z) (page_at z p) p
   unfolding is_in_chain
   in_is chain z p = refl
 
   -- a system page is in no chain
-  system_kind : (z : Image) → SoundInventory z → (p : ℕ) → p < length z → is_system_place (image_size z) p ≡ true → (kind_of (page_at z p) == 5) ≡ false
+  system_kind : (z : Image) → SoundInventory z → (p : ℕ) → p < length z → is_system_place (image_size z) p ≡ true → (kind_of (page_at z p) == data_kind) ≡ false
   unfolding is_system_place
   system_kind z s p low place = elim (or_cases _ _ place) [
     | inl at ↦ (let two = s.system.inventories p low at in eq_no _ 5 (λ e. omega (arith, e, two)))

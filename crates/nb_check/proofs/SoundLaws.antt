@@ -4,7 +4,8 @@ use Rattle.std.specs.Prelude.{IsTrue, IsSome, Bool, true, false, Option, Some, N
 use Rattle.std.proofs.lemmas.Bool.{and_parts, and_from, or_parts, or_cases, cases_Bool, cases_lt, false_from_ne_true, true≢false, ltb-true, ltb-false, leb-true, leb-false, eqb-true, not_from_false}
 use Rattle.nb_fields.specs.Bytes.{is_zeros}
 use Rattle.nb_fields.specs.Page.{kind_of, stamp_of}
-use Rattle.nb_fields.specs.Places.{is_page_size, is_inventory_place, is_scn_place}
+use Rattle.nb_fields.specs.Places.{is_page_size, is_inventory_place, is_scn_place, most_pages}
+use Rattle.nb_fields.specs.Kinds.{inventory_kind, scn_kind}
 use Rattle.nb_model.specs.Image.{Image, page_at, first_page, image_size, image_scn}
 use Rattle.nb_model.specs.Forms.{inventory_of, scn_page_of, scn_entry, has_entry, is_free_page}
 use Rattle.nb_model.specs.Sound.{SoundInventory, IsSoundImage, IsOfSize}
@@ -45,7 +46,7 @@ module _ (image : Image) (valid : IsTrue (is_page_size (image_size image))) (non
   unfolding breaks
   blank p low = other_half _ _ (none_at BlankPage p) (lt_yes p (length image) low)
 
-  place : (p : ℕ) → p < length image → ((is_inventory_place (image_size image) p && not (kind_of (page_at image p) == 2)) || (is_scn_place (image_size image) p && not (kind_of (page_at image p) == 10))) ≡ false
+  place : (p : ℕ) → p < length image → ((is_inventory_place (image_size image) p && not (kind_of (page_at image p) == inventory_kind)) || (is_scn_place (image_size image) p && not (kind_of (page_at image p) == scn_kind))) ≡ false
   unfolding breaks
   place p low = other_half _ _ (none_at SystemPlace p) (lt_yes p (length image) low)
 
@@ -185,5 +186,5 @@ check_long image none =
     let there : 4 < length image = (in_chain History image 4 (first_found History image history)).0 in
     omega (arith, there)
 
-pub sound_whole : (image : Image) → IsTrue (is_page_size (image_size image)) → check_cause image ≡ None → IsOfSize (image_size image) image → length image ≤ 1048576 → IsSoundImage image
+pub sound_whole : (image : Image) → IsTrue (is_page_size (image_size image)) → check_cause image ≡ None → IsOfSize (image_size image) image → length image ≤ most_pages → IsSoundImage image
 sound_whole image valid none sizes most = record { sound = sound_facts image valid (check_parts image none).0; least = check_long image none; most = most; sizes = sizes }

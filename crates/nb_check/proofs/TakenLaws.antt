@@ -4,6 +4,7 @@ use Rattle.std.specs.Prelude.{Bool, true, false, ◌&&◌, ◌||◌, ◌==◌, n
 use Rattle.std.proofs.lemmas.Bool.{and_left, and_from, cases_lt}
 use Rattle.std.proofs.lemmas.Bool.Decides.{eqb_tells}
 use Rattle.nb_fields.specs.Page.{kind_of}
+use Rattle.nb_fields.specs.Kinds.{data_kind}
 use Rattle.nb_model.specs.Image.{Image, page_at}
 use Rattle.nb_model.specs.Forms.{is_free_page}
 use Rattle.nb_model.specs.Leaks.{is_taken_data}
@@ -41,11 +42,11 @@ module _ (image : Image) (n : ℕ) (set : List ℕ) (held : HoldsTaken image n s
 
 -- which pages are taken data pages
 module _ (image : Image) (n : ℕ) where
-  pub other_kind : kind_of (page_at image n) ≢ 5 → is_taken_data image n ≡ false
-  other_kind other = and_no_right (not (is_free_page image n)) (kind_of (page_at image n) == 5) (eq_no (kind_of (page_at image n)) 5 other)
+  pub other_kind : kind_of (page_at image n) ≢ data_kind → is_taken_data image n ≡ false
+  other_kind other = and_no_right (not (is_free_page image n)) (kind_of (page_at image n) == data_kind) (eq_no (kind_of (page_at image n)) 5 other)
 
   pub not_taken : not (is_free_page image n) ≡ false → is_taken_data image n ≡ false
-  not_taken free = and_left (not (is_free_page image n)) (kind_of (page_at image n) == 5) free
+  not_taken free = and_left (not (is_free_page image n)) (kind_of (page_at image n) == data_kind) free
 
-  pub taken_data : not (is_free_page image n) ≡ true → kind_of (page_at image n) ≡ 5 → is_taken_data image n ≡ true
-  taken_data taken five = and_from (not (is_free_page image n)) (kind_of (page_at image n) == 5) taken (eq_yes (kind_of (page_at image n)) 5 five)
+  pub taken_data : not (is_free_page image n) ≡ true → kind_of (page_at image n) ≡ data_kind → is_taken_data image n ≡ true
+  taken_data taken five = and_from (not (is_free_page image n)) (kind_of (page_at image n) == data_kind) taken (eq_yes (kind_of (page_at image n)) 5 five)

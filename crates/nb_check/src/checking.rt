@@ -1,5 +1,6 @@
 // A check of an open database, and giving back the pages that it finds leaked.
 ghost use Rattle.std.specs.Prelude.{◌≡◌, ◌≢◌, ◌+◌, ◌*◌, ◌≤◌, ℕ, List, IsTrue, IfErr, IfOk, IsSome, OnOk, Err, None, length};
+ghost use Rattle.nb_fields.specs.States.{stalled_state};
 ghost use Rattle.nb_host.specs.declared.faults.Fault.TheVariants.{Memory};
 ghost use Rattle.nb_host.specs.Causes.{CountsDevice};
 ghost use Rattle.nb_page.specs.Quiet.{Quiet};
@@ -110,7 +111,7 @@ fn give_back<H: Host>(host: &mut H, engine: &mut Engine, report: &Report) -> Res
     ensures once { (t : Trail) → IsTrue H.tells → IsOpen (H.world host.old) engine.old t → report.now ≡ leaked t.base.image
         → (H.world host.new).reads ≤ (H.world host.old).reads + 2 * length (leaked t.base.image) }
     ensures cause { CountsDevice result (H.faults host.old) (H.faults host.new) }
-    ensures takes_none { engine.old.files.state ≢ 1 → IfErr result (λ fault. fault ≢ Memory) }
+    ensures takes_none { engine.old.files.state ≢ stalled_state → IfErr result (λ fault. fault ≢ Memory) }
 {
     let count = engine.count();
     for number in 0..count {
@@ -139,7 +140,7 @@ pub fn reclaim<H: Host>(alloc: Global, host: &mut H, engine: &mut Engine) -> Res
         → OnOk result ((H.world host.new).reads ≤ (H.world host.old).reads + engine.old.files.count + 3 + length (found_pages Catalogue t.base.image) + length (reached t.base.image) + 2 * length (leaked t.base.image)) }
     ensures cause { CountsDevice result (H.faults host.old) (H.faults host.new) }
     // Outside the stalled state memory is wanted before the first page is given back, or not at all.
-    ensures on_memory { engine.old.files.state ≢ 1 → result ≡ Err Memory → Quiet (H.world host.old) (H.world host.new) }
+    ensures on_memory { engine.old.files.state ≢ stalled_state → result ≡ Err Memory → Quiet (H.world host.old) (H.world host.new) }
 {
     if engine.store().is_read_only() {
         return Err(Fault::Refused(Refusal::Access { found: 1 }));

@@ -1,7 +1,7 @@
 // The facts that sound inventories have, tested of one page.
 ghost use Rattle.std.specs.Prelude.{◌≡◌, ◌+◌, ◌-◌, ◌*◌, ◌/◌, ◌<◌, ◌≤◌, ℕ, ◌&&◌, ◌||◌, ◌==◌, not, IsTrue, Some, length};
 ghost use Rattle.nb_fields.specs.Page.{stamp_of};
-ghost use Rattle.nb_fields.specs.Places.{is_page_size, is_inventory_place, is_scn_place, bits_in};
+ghost use Rattle.nb_fields.specs.Places.{is_page_size, is_inventory_place, is_scn_place, bits_in, most_pages};
 ghost use Rattle.nb_model.specs.Image.{Image, page_at};
 ghost use Rattle.nb_model.specs.Facts.{breaks};
 ghost use Rattle.nb_check.specs.Passes.{IsOf, IsLowestAt, IsFirstBelow, IsMapOf, HasEntryOf};
@@ -62,7 +62,7 @@ fn is_other(place: bool, kind: u8, wanted: u8) -> bool
 /// Whether a system page has to stand at page `number` and that kind is another.
 fn lacks_system(size: u32, number: u32, kind: u8) -> bool
     requires size { IsTrue (is_page_size size) }
-    requires number { number < 1048576 }
+    requires number { number < most_pages }
     ensures { result ≡ ((is_inventory_place size number && not (kind == 2)) || (is_scn_place size number && not (kind == 10))) }
 {
     let map = is_other(
@@ -83,7 +83,7 @@ fn lacks_system(size: u32, number: u32, kind: u8) -> bool
 fn has_wrong_entry(extent: Extent, number: u32, stamp: u32, entries: &[u8]) -> bool
     requires size { IsTrue (is_page_size (length entries.now)) }
     requires below { number < extent.count }
-    requires most { extent.count ≤ 1048576 }
+    requires most { extent.count ≤ most_pages }
     ensures { (image : Image) → IsOf image (length entries.now) extent → stamp ≡ stamp_of (page_at image number) → HasEntryOf image number entries.now → result ≡ breaks image WrongEntry number }
 {
     let size = entries.len() as u32;
@@ -110,7 +110,7 @@ pub(crate) fn fact_at(extent: Extent, number: u32, page: &[u8], entries: &[u8]) 
     requires size { IsTrue (is_page_size (length page.now)) }
     requires entries { length entries.now ≡ length page.now }
     requires below { number < extent.count }
-    requires most { extent.count ≤ 1048576 }
+    requires most { extent.count ≤ most_pages }
     ensures { (image : Image) → IsOf image (length page.now) extent → page.now ≡ page_at image number → HasEntryOf image number entries.now → IsLowestAt image number result }
 {
     let head = read_head(page);

@@ -1,6 +1,6 @@
 // Laws on the facts of inventories and on leaked pages. Each is a function that does nothing: its contract is the law.
 ghost use Rattle.std.specs.Prelude.{◌≡◌, ◌<◌, ◌≤◌, ◌&&◌, ℕ, IsTrue, None, Some, length, false, true};
-ghost use Rattle.nb_fields.specs.Places.{is_page_size};
+ghost use Rattle.nb_fields.specs.Places.{is_page_size, most_pages};
 ghost use Rattle.nb_model.specs.Account.{Base};
 ghost use Rattle.nb_model.specs.Image.{Image, image_size};
 ghost use Rattle.nb_model.specs.RowChanges.{KeepsRows};
@@ -18,7 +18,7 @@ ghost use Rattle.nb_model.specs.Checks.{check_cause, reclaimed};
 pub fn a_sound_image_breaks_no_fact()
     ensures sound { (image : Image) → IsTrue (is_page_size (image_size image)) → unsound image ≡ None → SoundInventory image }
     ensures none { (image : Image) → IsTrue (is_page_size (image_size image)) → SoundInventory image → unsound image ≡ None }
-    ensures whole { (image : Image) → IsTrue (is_page_size (image_size image)) → check_cause image ≡ None → IsOfSize (image_size image) image → length image ≤ 1048576 → IsSoundImage image }
+    ensures whole { (image : Image) → IsTrue (is_page_size (image_size image)) → check_cause image ≡ None → IsOfSize (image_size image) image → length image ≤ most_pages → IsSoundImage image }
 {}
 
 /// The leaked pages are just those that are taken data pages which nothing reaches, and a reclaim gives them back: none is leaked after it,

@@ -1,6 +1,6 @@
 // A pass over all pages, in rising order. Nothing changes.
 ghost use Rattle.std.specs.Prelude.{◌≡◌, ◌+◌, ◌-◌, ◌*◌, ◌/◌, ◌<◌, ◌≤◌, ℕ, true, false, IsTrue, OnOk, length};
-ghost use Rattle.nb_fields.specs.Places.{is_page_size, bits_in};
+ghost use Rattle.nb_fields.specs.Places.{is_page_size, bits_in, most_pages};
 ghost use Rattle.nb_host.specs.Causes.{CountsFault};
 ghost use Rattle.nb_page.specs.Quiet.{Quiet};
 ghost use Rattle.nb_model.specs.Image.{Image, page_at};
@@ -33,7 +33,7 @@ fn look_at(found: &mut Found, extent: Extent, number: u32, page: &[u8], map: &[u
     requires map { length map.now ≡ length page.now }
     requires entries { length entries.now ≡ length page.now }
     requires below { number < extent.count }
-    requires most { extent.count ≤ 1048576 }
+    requires most { extent.count ≤ most_pages }
     requires room { extent.count ≤ room_of found.old.taken }
     ensures broken { (image : Image) → IsOf image (length page.now) extent → page.now ≡ page_at image number → HasEntryOf image number entries.now
         → IsFirstBelow image number found.old.broken → IsFirstBelow image (number + 1) found.new.broken }
@@ -128,7 +128,7 @@ fn pass_page<H: Host>(
     requires map { length map.old ≡ length page.old }
     requires entries { length entries.old ≡ length page.old }
     requires below { number < engine.old.files.count }
-    requires most { engine.old.files.count ≤ 1048576 }
+    requires most { engine.old.files.count ≤ most_pages }
     requires fits { engine.old.files.count ≤ room_of found.old.taken }
     ensures broken { (t : Trail) → IsTrue H.tells → IsOpen (H.world host.old) engine.old t → HasEntryOf t.base.image (number - 1) entries.old
         → IsFirstBelow t.base.image number found.old.broken → OnOk result (IsFirstBelow t.base.image (number + 1) found.new.broken) }
@@ -162,7 +162,7 @@ fn look_past(found: &mut Found, extent: Extent, map: &[u8], entries: &[u8])
     requires size { IsTrue (is_page_size (length map.now)) }
     requires entries { length entries.now ≡ length map.now }
     requires some { 1 < extent.count }
-    requires most { extent.count ≤ 1048576 }
+    requires most { extent.count ≤ most_pages }
     ensures broken { (image : Image) → IsOf image (length map.now) extent → IsMapOf image extent.count map.now → HasEntryOf image (extent.count - 1) entries.now
         → IsFirstBelow image extent.count found.old.broken → IsFirstBelow image ((extent.count / bits_in (length map.now) + 1) * bits_in (length map.now)) found.new.broken }
     ensures taken { found.new.taken ≡ found.old.taken }

@@ -1,5 +1,6 @@
 // A set of pages of a database.
 ghost use Rattle.std.specs.Prelude.{◌≡◌, ℕ, ◌+◌, ◌*◌, ◌<◌, ◌≤◌, ◌||◌, [], ◌∷◌, IfErr, IfOk, false, length, nat_eq};
+ghost use Rattle.nb_fields.specs.Places.{most_pages};
 ghost use Rattle.nb_host.specs.declared.faults.Fault.TheVariants.{Memory};
 ghost use Rattle.nb_check.specs.Sets.{has, room_of, IsWithout};
 
@@ -57,7 +58,7 @@ impl Model for PageSet {
 impl PageSet {
     /// An empty set, with room for the pages below `count`.
     pub(crate) fn new(alloc: Global, count: u32) -> Result<PageSet, Fault>
-        requires { count ≤ 1048576 }
+        requires { count ≤ most_pages }
         ensures empty { IfOk result (λ set. (p : ℕ) → has set p ≡ false) }
         ensures room { IfOk result (λ set. count ≤ room_of set) }
         ensures only_memory { IfErr result (λ fault. fault ≡ Memory) }
@@ -69,7 +70,7 @@ impl PageSet {
     /// How many pages it has room for.
     pub(crate) fn room(&self) -> u32
         ensures value { result ≡ room_of self.now }
-        ensures most { result ≤ 1048576 }
+        ensures most { result ≤ most_pages }
     {
         8 * self.bytes.len() as u32
     }

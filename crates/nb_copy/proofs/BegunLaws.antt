@@ -2,6 +2,7 @@
 use Rattle.std.proofs.Common.{◌≡◌, ℕ, ◌+◌, List, [], ◌∷◌, length, refl, sym, ap, ◌∙◌, arith}
 use Rattle.std.specs.Prelude.{true, Option, Err}
 use Rattle.nb_fields.specs.Header.{is_header, guid_of, state_of, size_of}
+use Rattle.nb_fields.specs.States.{stalled_state}
 use Rattle.nb_host.specs.World.{World}
 use Rattle.nb_host.specs.declared.faults.Fault.{Fault}
 use Rattle.nb_host.specs.declared.faults.Fault.TheVariants.{Refused, Device, Memory}
@@ -20,7 +21,7 @@ use Rattle.nb_state.specs.Open.{Held}
 use Rattle.nb_engine.specs.Turns.{Starts}
 use Rattle.nb_copy.specs.Starting.{BeginsFor}
 
-begun_base : (b : Base) (guid : List ℕ) (ask : Option Ask) → ◌≡◌ {A = Base} (on_base (begin guid ask) b) (record { image = with_control 1 (image_scn b.image + 1) guid b.image; frozen = with_control 1 (image_scn b.image + 1) guid b.image; diverted = [] })
+begun_base : (b : Base) (guid : List ℕ) (ask : Option Ask) → ◌≡◌ {A = Base} (on_base (begin guid ask) b) (record { image = with_control stalled_state (image_scn b.image + 1) guid b.image; frozen = with_control stalled_state (image_scn b.image + 1) guid b.image; diverted = [] })
 unfolding on_base
 begun_base b guid ask = refl
 
@@ -33,10 +34,10 @@ module _ (t : Trail) (guid : List ℕ) (ask : Option Ask) where
   abbrev begun : Base
   begun = (after_strokes t (begin guid ask ∷ [])).base
 
-  begun_is : ◌≡◌ {A = Base} begun (record { image = with_control 1 (image_scn t.base.image + 1) guid t.base.image; frozen = with_control 1 (image_scn t.base.image + 1) guid t.base.image; diverted = [] })
+  begun_is : ◌≡◌ {A = Base} begun (record { image = with_control stalled_state (image_scn t.base.image + 1) guid t.base.image; frozen = with_control stalled_state (image_scn t.base.image + 1) guid t.base.image; diverted = [] })
   begun_is = trail_base (begin guid ask) t ∙ begun_base t.base guid ask
 
-  pub begun_image : begun.image ≡ with_control 1 (image_scn t.base.image + 1) guid t.base.image
+  pub begun_image : begun.image ≡ with_control stalled_state (image_scn t.base.image + 1) guid t.base.image
   begun_image = ap (λ (b : Base). b.image) begun_is
 
   -- the image is what is frozen
@@ -47,23 +48,23 @@ module _ (t : Trail) (guid : List ℕ) (ask : Option Ask) where
   begun_long = ap length begun_image ∙ same_long 1 (image_scn t.base.image + 1) guid t.base.image
 
   module _ (header : is_header (first_page t.base.image) ≡ true) (sixteen : length guid ≡ 16) where
-    first : first_page begun.image ≡ first_page (with_control 1 (image_scn t.base.image + 1) guid t.base.image)
+    first : first_page begun.image ≡ first_page (with_control stalled_state (image_scn t.base.image + 1) guid t.base.image)
     first = ap first_page begun_image
 
     pub begun_guid : image_guid begun.image ≡ guid
     begun_guid =
-        ap guid_of (first ∙ with_control-first 1 (image_scn t.base.image + 1) guid t.base.image (some_page t.base.image header))
+        ap guid_of (first ∙ with_control-first stalled_state (image_scn t.base.image + 1) guid t.base.image (some_page t.base.image header))
         ∙ control_guid 1 (image_scn t.base.image + 1) guid (first_page t.base.image) (header-long (first_page t.base.image) header) sixteen
 
-    pub begun_state : image_state begun.image ≡ 1
+    pub begun_state : image_state begun.image ≡ stalled_state
     begun_state =
-        ap state_of (first ∙ with_control-first 1 (image_scn t.base.image + 1) guid t.base.image (some_page t.base.image header))
-        ∙ control_state 1 (image_scn t.base.image + 1) guid (first_page t.base.image) (header-long (first_page t.base.image) header) sixteen (omega arith)
+        ap state_of (first ∙ with_control-first stalled_state (image_scn t.base.image + 1) guid t.base.image (some_page t.base.image header))
+        ∙ control_state stalled_state (image_scn t.base.image + 1) guid (first_page t.base.image) (header-long (first_page t.base.image) header) sixteen (omega arith)
 
     pub begun_size : image_size begun.image ≡ image_size t.base.image
     begun_size =
-        ap size_of (first ∙ with_control-first 1 (image_scn t.base.image + 1) guid t.base.image (some_page t.base.image header))
-        ∙ control_size 1 (image_scn t.base.image + 1) guid (first_page t.base.image) (header-long (first_page t.base.image) header) sixteen
+        ap size_of (first ∙ with_control-first stalled_state (image_scn t.base.image + 1) guid t.base.image (some_page t.base.image header))
+        ∙ control_size stalled_state (image_scn t.base.image + 1) guid (first_page t.base.image) (header-long (first_page t.base.image) header) sixteen
 
 -- A begin that failed or was refused.
 pub begin_failed : (fault : Fault) (old new : World) (a b : Held) (t : Trail) (guid : List ℕ) (ask : Option Ask) (session : ℕ) (bare : LevelHead) → Starts (Err fault) old new a b t guid ask → BeginsFor (Err fault) old new a b t guid ask session bare

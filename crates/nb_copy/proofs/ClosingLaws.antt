@@ -1,6 +1,7 @@
 -- The turns of a backup: the file alone is touched, and then the two files of the database.
 use Rattle.std.proofs.Common.{◌≡◌, ◌≢◌, ◌<◌, ◌⊎◌, inl, inr, ⊎_elim, ℕ, List, [], ◌∷◌, ◌++◌, length, drop, refl, sym, ap, subst, ◌∙◌, arith, length-append, drop_at}
 use Rattle.std.specs.Prelude.{Bool, true, false, not, None, Some, Result, Ok, Err, OnOk}
+use Rattle.nb_fields.specs.States.{stalled_state}
 use Rattle.nb_host.specs.Files.{File, Files, with_file}
 use Rattle.nb_host.specs.World.{World}
 use Rattle.nb_host.specs.Crash.{Leaves, LeavesAll}
@@ -126,7 +127,7 @@ module _ (old : World) (a : Held) (t : Trail) (is : IsOpen old a t) (name whole 
 
   module _ (mid : World) (file : Changes old mid (Only name) (Remade old name (IsUnfinishedOr whole))) where
     -- the database stays open
-    pub open_other : a.files.state ≡ 1 → IsOpen mid a t
+    pub open_other : a.files.state ≡ stalled_state → IsOpen mid a t
     open_other stalled =
         open_beside old mid a t is (file.others_read (name_of a) (λ e. apart (inl (sym e)))) (file.others_read (delta_name (name_of a)) (λ e. apart (inr (sym e))))
         (λ P left files all. own P left files (λ m other. left_before old mid _ file.others m (files m) other (all m)))
@@ -187,7 +188,7 @@ goes_further w copier later frozen before filed backed same name whole count goe
 }
 
 -- A turn, after that of its file.
-module _ (old mid : World) (a b : Held) (copier : Backed) (t : Trail) (is : IsOpen old a t) (stalled : a.files.state ≡ 1) (apart : OfFiles (name_of a) copier.backing.name → ⊥) (reads : Leaves old copier.backing.name (old.files copier.backing.name)) (same : b ≡ a)
+module _ (old mid : World) (a b : Held) (copier : Backed) (t : Trail) (is : IsOpen old a t) (stalled : a.files.state ≡ stalled_state) (apart : OfFiles (name_of a) copier.backing.name → ⊥) (reads : Leaves old copier.backing.name (old.files copier.backing.name)) (same : b ≡ a)
     (file : Changes old mid (Only copier.backing.name) (Remade old copier.backing.name (IsUnfinishedOr (whole_file copier.file t.base.frozen)))) (gave : GaveNothing old mid) where
   abbrev whole : List ℕ
   whole = whole_file copier.file t.base.frozen

@@ -1,6 +1,7 @@
 -- Why no copy of the frozen file may begin, test by test.
 use Rattle.std.proofs.Common.{◌≡◌, ℕ, List, [], ◌∷◌, ap, ◌∙◌}
 use Rattle.std.specs.Prelude.{Bool, true, false, Some, None, not}
+use Rattle.nb_fields.specs.States.{stalled_state}
 use Rattle.nb_host.specs.declared.refusals.Refusal.{Refusal}
 use Rattle.nb_host.specs.declared.refusals.Refusal.TheVariants.{BackupRunning, FileExists}
 use Rattle.nb_model.specs.Image.{Image}
@@ -13,12 +14,12 @@ module _ (s : Seen) (name : List ℕ) where
   abbrev image : Image
   image = s.base.image
 
-  pub not_stalled : (r : Refusal) → not_state 1 image ≡ Some r → copy_cause s name ≡ Some r
-  not_stalled = first_here (not_state 1 image) (runs_any s.running ∷ not_free name (s.entry name) ∷ [])
+  pub not_stalled : (r : Refusal) → not_state stalled_state image ≡ Some r → copy_cause s name ≡ Some r
+  not_stalled = first_here (not_state stalled_state image) (runs_any s.running ∷ not_free name (s.entry name) ∷ [])
 
-  module _ (stalled : not_state 1 image ≡ None) where
+  module _ (stalled : not_state stalled_state image ≡ None) where
     behind : copy_cause s name ≡ first_cause (runs_any s.running ∷ not_free name (s.entry name) ∷ [])
-    behind = first_next (not_state 1 image) (runs_any s.running ∷ not_free name (s.entry name) ∷ []) stalled
+    behind = first_next (not_state stalled_state image) (runs_any s.running ∷ not_free name (s.entry name) ∷ []) stalled
 
     pub other_runs : (other : ℕ) → s.running ≡ Some other → copy_cause s name ≡ Some (BackupRunning other)
     other_runs other e = behind ∙ first_here (runs_any s.running) (not_free name (s.entry name) ∷ []) (BackupRunning other) (ap runs_any e)

@@ -2,6 +2,8 @@
 use Rattle.std.proofs.Common.{◌≡◌, ⊎_elim, inl, inr, ℕ, ◌≤◌, List, [], ◌∷◌, ◌++◌, length, replicate, refl, sym, ap, subst, ◌∙◌, arith, length-append}
 use Rattle.std.specs.Prelude.{Result, Ok, Err, Some, None}
 use Rattle.nb_fields.specs.Header.{size_of, state_of}
+use Rattle.nb_fields.specs.Places.{most_pages}
+use Rattle.nb_fields.specs.States.{stalled_state}
 use Rattle.nb_host.specs.Files.{File}
 use Rattle.nb_host.specs.World.{World}
 use Rattle.nb_host.specs.Crash.{Leaves}
@@ -44,7 +46,7 @@ all_front P (x ∷ xs) ys all = (all.0, all_front P xs ys all.1)
 -- what is frozen of a database that is open has a page at least, and no more than a database, each of the size of a page
 pub record IsFrozenOf (size : ℕ) (frozen : Image) : Type 0 where
   pub least : 1 ≤ length frozen
-  pub most : length frozen ≤ 1048576
+  pub most : length frozen ≤ most_pages
   pub sizes : IsOfSize size frozen
 
 laid_parts : (size : ℕ) (main : Image) (bytes : List ℕ) → IsLaid main bytes → image_size main ≡ size → IsFrozenOf size main
@@ -54,13 +56,13 @@ laid_parts size main bytes laid same = record {
   sizes = subst (λ (n : ℕ). IsOfSize n main) same (all_front (λ (page : Page). length page ≡ image_size main) main laid.rest laid.sizes);
 }
 
-pub frozen_parts : (w : World) (held : Held) (t : Trail) → IsOpen w held t → held.files.state ≡ 1 → IsFrozenOf held.files.page_size t.base.frozen
+pub frozen_parts : (w : World) (held : Held) (t : Trail) → IsOpen w held t → held.files.state ≡ stalled_state → IsFrozenOf held.files.page_size t.base.frozen
 frozen_parts w held t is stalled =
     let b : Base = is.files.sees.base in
     let m : File = w.files (name_of held) in
     let d : File = w.files (delta_name (name_of held)) in
     let h : Holds b m d = holds (name_of held) b m d is.files.files.shows in
-    let state : image_state h.main ≡ 1 = sym (base-state b m d h) ∙ ap state_of is.files.waits.behind.first ∙ sym is.files.agrees.state ∙ stalled in
+    let state : image_state h.main ≡ stalled_state = sym (base-state b m d h) ∙ ap state_of is.files.waits.behind.first ∙ sym is.files.agrees.state ∙ stalled in
     let size : image_size h.main ≡ held.files.page_size = sym (base-size b m d h) ∙ ap size_of is.files.waits.behind.first ∙ sym is.files.agrees.page_size in
     subst (IsFrozenOf held.files.page_size) (sym (h.frozen.stalled state) ∙ is.files.waits.behind.frozen) (laid_parts held.files.page_size h.main h.has.bytes h.has.laid size)
 
@@ -96,7 +98,7 @@ module _ (old new : World) (a b : Held) (t : Trail) (s : Seen) (session : ℕ) (
   copy_failed Device test same = record { says = tt; quiet = quiet; held = tt; started = tt }
   copy_failed Memory test same = record { says = tt; quiet = quiet; held = tt; started = tt }
 
-  pub copy_begun : (copy : Copying) → copy_cause s name ≡ None → t.base ≡ s.base → IsOpen old a t → a.files.state ≡ 1 → b ≡ record a { running = Some session } → copy.name ≡ name → copy.next ≡ 0 → copy.count ≡ a.files.main_count → copy.size ≡ a.files.page_size
+  pub copy_begun : (copy : Copying) → copy_cause s name ≡ None → t.base ≡ s.base → IsOpen old a t → a.files.state ≡ stalled_state → b ≡ record a { running = Some session } → copy.name ≡ name → copy.next ≡ 0 → copy.count ≡ a.files.main_count → copy.size ≡ a.files.page_size
       → StartsCopy (Ok copy) old new a b t name (copy_turn s session name)
   copy_begun copy none base is stalled same named first count size =
       let o = begun_is s session name none in
@@ -127,7 +129,7 @@ module _ (name whole : List ℕ) where
   made_then old mid new reads made turn = remade_twice old mid new name (IsFreeOr whole) reads (made_free old mid made) turn
 
 -- A turn of it, by what its file is.
-pub copies_file : (result : Result Progress HostFault) (old new : World) (a b : Held) (copy later : Copying) (t : Trail) → IsOpen old a t → a.files.state ≡ 1 → (OfFiles (name_of a) copy.name → ⊥) → Leaves old copy.name (old.files copy.name) → b ≡ a
+pub copies_file : (result : Result Progress HostFault) (old new : World) (a b : Held) (copy later : Copying) (t : Trail) → IsOpen old a t → a.files.state ≡ stalled_state → (OfFiles (name_of a) copy.name → ⊥) → Leaves old copy.name (old.files copy.name) → b ≡ a
     → Changes old new (Only copy.name) (Remade old copy.name (IsFreeOr (joined t.base.frozen))) → GaveNothing old new → CopyTurn result new copy later t.base.frozen → CopiesFile result old new a b copy later t
 copies_file result old new a b copy later t is stalled apart reads same changes gave answer =
     let whole : List ℕ = joined t.base.frozen in

@@ -2,7 +2,7 @@
 use Rattle.std.proofs.Common.{◌≡◌, ℕ, zero, suc, ◌+◌, ◌/◌, ◌≤◌, List, [], ◌∷◌, ◌++◌, length, refl, sym, ap, subst, arith}
 use Rattle.std.specs.Prelude.{Bool, true, false, ◌==◌, ◌-◌, nat_lt, slice_set, IsTrue, Option, Some, None}
 use Rattle.nb_fields.specs.Header.{size_of}
-use Rattle.nb_fields.specs.Places.{is_page_size, entries_in, bits_in, is_system_place}
+use Rattle.nb_fields.specs.Places.{is_page_size, entries_in, bits_in, is_system_place, most_pages}
 use Rattle.nb_model.specs.Image.{Page, Image, first_page, image_size, image_scn, with_page}
 use Rattle.nb_model.specs.Forms.{Draft, wrote, written, needs, is_kind, has_entry, scn_page_of, scn_entry, entry_written, entry_raised, raised, put, set_bit, is_free_page, free_from, lowest_free, first_not, needed_at, system_kind, system_page, new_within}
 use Rattle.nb_model.proofs.DraftLaws.{either}
@@ -101,7 +101,7 @@ module _ (f : Page) (size : IsTrue (is_page_size (size_of f))) where
       let least = lowest_least d.image in
       let some : 1 ≤ p = omega (arith, least) in
       either_need Begins (first_not d.image (needed_at d.image p)) _ _ (λ q. h)
-      (either_page Begins (p == 1048576) _ _ h
+      (either_page Begins (p == most_pages) _ _ h
       (either_page Begins (is_system_place (image_size d.image) p) _ _
       (new_begins tries kind payload _ (bit_begins 0 p _ (system_begins p d some h)))
       (bit_begins 0 p _ (put_begins p kind (payload p) d some h))))

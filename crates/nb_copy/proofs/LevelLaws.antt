@@ -3,6 +3,7 @@ use Rattle.std.proofs.Common.{◌≡◌, inl, inr, ℕ, zero, suc, ◌+◌, ◌-
 use Rattle.std.specs.Prelude.{Bool, true, false, ◌&&◌, nat_lt}
 use Rattle.std.proofs.lemmas.List.{append-nil, take_all, length-take-le}
 use Rattle.nb_fields.specs.Page.{stamp_of}
+use Rattle.nb_fields.specs.Places.{most_pages}
 use Rattle.nb_model.specs.Image.{Page, Image, Numbered, page_at}
 use Rattle.nb_model.specs.Levels.{AreRising, AreOfSize, taken_from, may_have_changed, changed_from, changed}
 use Rattle.nb_model.specs.Sound.{IsOfSize}
@@ -19,7 +20,7 @@ weaker : (n : ℕ) (rs : List Numbered) → AreRising (n + 1) rs → AreRising n
 weaker n [] is = tt
 weaker n (r ∷ rs) is = (omega (arith, is.0), is.1, is.2)
 
-changed_rise : (may : ℕ → Bool) (n scn : ℕ) (ps : Image) → n + length ps ≤ 1048576 → AreRising n (changed_from may n scn ps)
+changed_rise : (may : ℕ → Bool) (n scn : ℕ) (ps : Image) → n + length ps ≤ most_pages → AreRising n (changed_from may n scn ps)
 unfolding changed_from
 changed_rise may n scn [] low = tt
 changed_rise may n scn (p ∷ ps) low = elim (tells (may n && nat_lt scn (stamp_of p))) [

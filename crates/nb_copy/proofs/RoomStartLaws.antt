@@ -4,6 +4,7 @@ use Rattle.std.specs.Prelude.{not, ◌==◌, nat_lt, IsTrue, Some, None, Result,
 use Rattle.nb_fields.specs.Bytes.{number_in}
 use Rattle.nb_fields.specs.Header.{state_of, scn_of, size_of}
 use Rattle.nb_fields.specs.Places.{is_page_size}
+use Rattle.nb_fields.specs.States.{normal_state, stalled_state}
 use Rattle.nb_host.specs.World.{World}
 use Rattle.nb_host.specs.Crash.{Leaves}
 use Rattle.nb_host.specs.declared.faults.Fault.{Fault}
@@ -54,7 +55,7 @@ use Rattle.nb_copy.proofs.StartLaws.{early, strokes, started, struck_some, struc
 -- what a page 0 says of why no backup begins
 abbrev starting_of : Page → Cause
 starting_of p =
-    first_cause (when (not (number_in 65 1 p == 0)) (Access 1) ∷ when (not (state_of p == 0)) (WrongState (state_of p)) ∷ when (nat_lt 4294967293 (scn_of p)) (ScnExhausted (scn_of p)) ∷ [])
+    first_cause (when (not (number_in 65 1 p == 0)) (Access 1) ∷ when (not (state_of p == normal_state)) (WrongState (state_of p)) ∷ when (nat_lt 4294967293 (scn_of p)) (ScnExhausted (scn_of p)) ∷ [])
 
 -- After the tests.
 module _ (old mid : World) (a b : Held) (t : Trail) (s : Seen) (session : ℕ) (since : Since) (name : List ℕ) (runs : a.running ≡ s.running) (at : t.base ≡ s.base) (is : IsOpen old a t) (apart : OfFiles (name_of a) name → ⊥)
@@ -169,9 +170,9 @@ module _ (old mid : World) (a b : Held) (t : Trail) (s : Seen) (session : ℕ) (
     starts_here : starting_cause image ≡ None
     starts_here =
         let tests = no_first (file_cause s name) (earlier_cause since image ∷ []) none in
-        let first = no_first (read_only image) (not_state 0 image ∷ not_free name (s.entry name) ∷ []) tests.0 in
-        let second = no_first (not_state 0 image) (not_free name (s.entry name) ∷ []) first.1 in
-        first_next (read_only image) (not_state 0 image ∷ no_scn image ∷ []) first.0 ∙ first_next (not_state 0 image) (no_scn image ∷ []) second.0 ∙ first_next (no_scn image) [] may_go_on ∙ first_none
+        let first = no_first (read_only image) (not_state normal_state image ∷ not_free name (s.entry name) ∷ []) tests.0 in
+        let second = no_first (not_state normal_state image) (not_free name (s.entry name) ∷ []) first.1 in
+        first_next (read_only image) (not_state normal_state image ∷ no_scn image ∷ []) first.0 ∙ first_next (not_state normal_state image) (no_scn image ∷ []) second.0 ∙ first_next (no_scn image) [] may_go_on ∙ first_none
 
     pub starts_there : starting_cause u.base.image ≡ None
     starts_there = ap starting_of same_first ∙ starts_here
@@ -293,7 +294,7 @@ module _ (old mid : World) (a b : Held) (t : Trail) (s : Seen) (session : ℕ) (
             sized =
                 size ∙ is.files.agrees.page_size ∙ ap (λ (x : Base). image_size x.image) at ∙ sym (ap size_of same_first) ∙ sym (begun_size u guid (Some ask) u_header.header sixteen) ∙ ap image_size (sym (begun_frozen u guid (Some ask)))
 
-            now_stalled : d.files.state ≡ 1
+            now_stalled : d.files.state ≡ stalled_state
             now_stalled = begins.opened.files.agrees.state ∙ begun_state u guid (Some ask) u_header.header sixteen
 
             frozen_is : IsFrozenOf (image_size v.base.frozen) v.base.frozen

@@ -2,6 +2,7 @@
 use Rattle.std.proofs.Common.{◌≡◌, ℕ, zero, suc, ◌+◌, ◌≤◌, List, [], length, refl, sym, ap, subst, ◌∙◌, arith}
 use Rattle.std.specs.Prelude.{Option, Some, None}
 use Rattle.nb_fields.specs.Page.{kind_of}
+use Rattle.nb_fields.specs.Kinds.{data_kind}
 use Rattle.nb_model.specs.Account.{Base}
 use Rattle.nb_model.specs.Image.{Image, page_at, first_page}
 use Rattle.nb_model.specs.Trail.{Trail}
@@ -15,7 +16,7 @@ use Rattle.nb_model.proofs.DraftJoin.{join_put}
 use Rattle.nb_model.proofs.HeaderLaws.{header-size}
 use Rattle.nb_model.proofs.MainLaws.{some_page}
 use Rattle.nb_model.proofs.PutSound.{needs_image}
-use Rattle.nb_model.proofs.SoundLaws.{header_kind}
+use Rattle.nb_model.proofs.SoundLaws.{kind_of_header}
 use Rattle.nb_base.specs.Takes.{after_strokes}
 use Rattle.nb_state.proofs.MakesLaws.{after_base}
 use Rattle.nb_engine.specs.Make.{new_of}
@@ -84,7 +85,7 @@ module _ (image : Image) (h : HasHeader image) (linked : broken_at (pages_of His
   behind = by last refl
     where
       by : (n : ℕ) → last ≡ n → 1 ≤ n
-      by zero e = absurd (five_one (sym (ap (λ (p : ℕ). kind_of (page_at image p)) (sym e) ∙ data_page.kind) ∙ header_kind (first_page image) h.header))
+      by zero e = absurd (five_one (sym (ap (λ (p : ℕ). kind_of (page_at image p)) (sym e) ∙ data_page.kind) ∙ kind_of_header (first_page image) h.header))
       by (suc n) e = omega arith
 
   abbrev y : Image
@@ -96,10 +97,10 @@ module _ (image : Image) (h : HasHeader image) (linked : broken_at (pages_of His
   abbrev payload : List ℕ
   payload = linked_payload y last (new_link image).1
 
-  link_starts : Starts (first_page image) (put last 5 payload (drafted y)).image
+  link_starts : Starts (first_page image) (put last data_kind payload (drafted y)).image
   link_starts = put_begins (first_page image) (header-size (first_page image) h.header) last 5 payload (drafted y) behind y_starts
 
-  grown_image : (grows image).0.image ≡ (put last 5 payload (drafted y)).image
+  grown_image : (grows image).0.image ≡ (put last data_kind payload (drafted y)).image
   unfolding grown
   grown_image = ap (λ (d : Draft). d.image) (join_put last 5 payload (new_link image).0)
 

@@ -1,6 +1,7 @@
 -- Why no backup may begin, test by test.
 use Rattle.std.proofs.Common.{◌≡◌, ◌+◌, ℕ, zero, suc, List, [], ◌∷◌, replicate, refl, sym, ap, subst, ◌∙◌, arith}
 use Rattle.std.specs.Prelude.{Bool, true, false, min, Option, Some, None, is_none, not, nat_eq}
+use Rattle.nb_fields.specs.States.{normal_state}
 use Rattle.nb_host.specs.Names.{same_name}
 use Rattle.nb_host.specs.declared.refusals.Refusal.{Refusal}
 use Rattle.nb_host.specs.declared.refusals.Refusal.TheVariants.{Access, FileExists, NoHistory}
@@ -23,18 +24,18 @@ module _ (s : Seen) (name : List ℕ) where
   image = s.base.image
 
   pub closed : is_read_only image ≡ true → file_cause s name ≡ Some (Access 1)
-  closed e = first_here (read_only image) (not_state 0 image ∷ not_free name (s.entry name) ∷ []) (Access 1) (closed_cause image e)
+  closed e = first_here (read_only image) (not_state normal_state image ∷ not_free name (s.entry name) ∷ []) (Access 1) (closed_cause image e)
 
   module _ (may : is_read_only image ≡ false) where
-    opened : file_cause s name ≡ first_cause (not_state 0 image ∷ not_free name (s.entry name) ∷ [])
-    opened = first_next (read_only image) (not_state 0 image ∷ not_free name (s.entry name) ∷ []) (open_cause image may)
+    opened : file_cause s name ≡ first_cause (not_state normal_state image ∷ not_free name (s.entry name) ∷ [])
+    opened = first_next (read_only image) (not_state normal_state image ∷ not_free name (s.entry name) ∷ []) (open_cause image may)
 
-    pub busy : (r : Refusal) → not_state 0 image ≡ Some r → file_cause s name ≡ Some r
-    busy r e = opened ∙ first_here (not_state 0 image) (not_free name (s.entry name) ∷ []) r e
+    pub busy : (r : Refusal) → not_state normal_state image ≡ Some r → file_cause s name ≡ Some r
+    busy r e = opened ∙ first_here (not_state normal_state image) (not_free name (s.entry name) ∷ []) r e
 
-    module _ (normal : not_state 0 image ≡ None) where
+    module _ (normal : not_state normal_state image ≡ None) where
       left : file_cause s name ≡ first_cause (not_free name (s.entry name) ∷ [])
-      left = opened ∙ first_next (not_state 0 image) (not_free name (s.entry name) ∷ []) normal
+      left = opened ∙ first_next (not_state normal_state image) (not_free name (s.entry name) ∷ []) normal
 
       pub there : is_free_entry (s.entry name) ≡ false → file_cause s name ≡ Some (FileExists name)
       there e = left ∙ first_here (not_free name (s.entry name)) [] (FileExists name) (ap (λ (b : Bool). when (not b) (FileExists name)) e)

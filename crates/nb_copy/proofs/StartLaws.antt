@@ -1,6 +1,7 @@
 -- The start of a backup: tests, room in the history, and the begin.
 use Rattle.std.proofs.Common.{◌≡◌, ◌⊎◌, inl, ℕ, zero, suc, List, [], ◌∷◌, ◌++◌, length, replicate, refl, sym, ap, subst, ◌∙◌}
 use Rattle.std.specs.Prelude.{true, Option, Some, None, is_none, Err}
+use Rattle.nb_fields.specs.States.{normal_state}
 use Rattle.nb_host.specs.World.{World}
 use Rattle.nb_host.specs.declared.faults.Fault.{Fault}
 use Rattle.nb_host.specs.declared.faults.Fault.TheVariants.{Refused as RefusedFault, Device, Memory}
@@ -91,14 +92,14 @@ row_turn : (s : Seen) (session : ℕ) (name : List ℕ) (ask : Ask) (row : Optio
 unfolding starts
 row_turn s session name ask row missing =
     ap (λ (c : Cause). unless s c (started_by s session name ask))
-    (sym (at_once (read_only s.base.image) (not_state 0 s.base.image) (not_free name (s.entry name)) (broken_at (pages_of History s.base.image)) (when (is_none row) missing) (short_for (free_spot (spots History s.base.image)) s.base.image)
+    (sym (at_once (read_only s.base.image) (not_state normal_state s.base.image) (not_free name (s.entry name)) (broken_at (pages_of History s.base.image)) (when (is_none row) missing) (short_for (free_spot (spots History s.base.image)) s.base.image)
     (not_of_form (room_in s.base.image).draft) (no_room (room_in s.base.image).draft) (no_scn s.base.image)))
 
 turn_by : (s : Seen) (session : ℕ) (since : Since) (name : List ℕ) → turn_since s session since name ≡ unless s (start_cause s session since name) (started s session since name)
 unfolding backup_turn since_turn starts
 turn_by s session (Level zero) name =
     ap (λ (c : Cause). unless s c (started s session (Level zero) name))
-    (sym (none_early (read_only s.base.image) (not_state 0 s.base.image) (not_free name (s.entry name)) (broken_at (pages_of History s.base.image)) (short_for (free_spot (spots History s.base.image)) s.base.image)
+    (sym (none_early (read_only s.base.image) (not_state normal_state s.base.image) (not_free name (s.entry name)) (broken_at (pages_of History s.base.image)) (short_for (free_spot (spots History s.base.image)) s.base.image)
     (not_of_form (room_in s.base.image).draft) (no_room (room_in s.base.image).draft) (no_scn s.base.image)))
 turn_by s session (Level (suc below)) name = row_turn s session name (ask_in (Level (suc below)) s.base.image) (earlier_row (Level (suc below)) s.base.image) (NoHistory below)
 turn_by s session (Guid guid) name = row_turn s session name (ask_in (Guid guid) s.base.image) (earlier_row (Guid guid) s.base.image) (NoGuid guid)

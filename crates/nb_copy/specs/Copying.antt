@@ -1,6 +1,6 @@
 -- A file that is made with all pages of a frozen image.
 use Rattle.std.specs.Prelude.{◌≡◌, ℕ, zero, suc, ◌≤◌, List, [], ◌∷◌, length, take, drop, replicate, Some, IsTrue}
-use Rattle.nb_fields.specs.Places.{is_page_size}
+use Rattle.nb_fields.specs.Places.{is_page_size, most_pages}
 use Rattle.nb_host.specs.Files.{File}
 use Rattle.nb_host.specs.World.{World}
 use Rattle.nb_model.specs.Image.{Page, Image, first_page}
@@ -27,7 +27,7 @@ front_pages size (suc (suc k)) image = replicate size 0 ∷ take (suc k) (drop 1
 pub record IsOf (copy : Copying) (frozen : Image) : Type 0 where
   pub long : length frozen ≡ copy.count
   pub least : 1 ≤ length frozen
-  pub most : length frozen ≤ 1048576
+  pub most : length frozen ≤ most_pages
   pub sizes : IsOfSize copy.size frozen
 
 -- Its file was made: it reads as the front of what is to be written, and whatever was made since, page 0 isn't in it.
@@ -47,5 +47,5 @@ pub record IsCopier (size count next first page : ℕ) : Type 0 where
   pub is_size : IsTrue (is_page_size size)
   pub room : page ≡ size
   pub held : first ≡ size
-  pub most : count ≤ 1048576
+  pub most : count ≤ most_pages
   pub within : next ≤ count

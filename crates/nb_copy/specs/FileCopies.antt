@@ -1,5 +1,6 @@
 -- A copy of the frozen file of a stalled database, which no history names.
 use Rattle.std.specs.Prelude.{◌≡◌, ℕ, ◌≤◌, List, [], ◌∷◌, ◌++◌, replicate, Result, None, IfOk}
+use Rattle.nb_fields.specs.States.{stalled_state}
 use Rattle.nb_host.specs.Files.{Files}
 use Rattle.nb_host.specs.World.{World}
 use Rattle.nb_host.specs.declared.faults.Fault.{Fault}
@@ -23,7 +24,7 @@ use Rattle.nb_copy.specs.Turns.{CopyTurn}
 
 -- why no copy into a file of that name may begin
 abbrev pub copy_cause : Seen → (name : List ℕ) → Cause
-copy_cause s name = first_cause (not_state 1 s.base.image ∷ runs_any s.running ∷ not_free name (s.entry name) ∷ [])
+copy_cause s name = first_cause (not_state stalled_state s.base.image ∷ runs_any s.running ∷ not_free name (s.entry name) ∷ [])
 
 -- where no copy and no merge runs the account knows whether the name is free
 abbrev pub KnowsUnused : Files → Seen → (name : List ℕ) → Type 0
@@ -39,7 +40,7 @@ pub record IsCopyStarted (w : World) (held : Held) (t : Trail) (copy : Copying) 
   pub turns : turn.next ≡ replicate copy.count Copies ++ ClosesCopy name ∷ []
   pub first : copy.next ≡ 0
   pub named : copy.name ≡ name
-  pub stalled : held.files.state ≡ 1
+  pub stalled : held.files.state ≡ stalled_state
   pub goes : IsCopyingTo w copy t.base.frozen
 
 -- A copy is started, as its turn says, or it is refused. No file changes either way.

@@ -1,6 +1,6 @@
 -- A level file of 1 to 9 that is made of a frozen image.
 use Rattle.std.specs.Prelude.{◌≡◌, ℕ, ◌-◌, ◌≤◌, List, length, take, IsTrue}
-use Rattle.nb_fields.specs.Places.{is_page_size}
+use Rattle.nb_fields.specs.Places.{is_page_size, most_pages}
 use Rattle.nb_host.specs.World.{World}
 use Rattle.nb_level.specs.Heads.{head_of}
 use Rattle.nb_model.specs.Image.{Page, Image, Numbered, page_at, image_size}
@@ -31,7 +31,7 @@ whole_level copy frozen = level_bytes 102 (head_of copy.file.head) (changed copy
 pub record IsLevelOf (copy : LevelCopying) (frozen : Image) : Type 0 where
   pub long : length frozen ≡ copy.count
   pub least : 5 ≤ length frozen
-  pub most : length frozen ≤ 1048576
+  pub most : length frozen ≤ most_pages
   pub sizes : IsOfSize (image_size frozen) frozen
   pub size : copy.file.head.page_size ≡ image_size frozen
   pub formed : IsHeaded (head_of copy.file.head)
@@ -63,6 +63,6 @@ pub record IsLevelCopier (file : LevelWriting) (count next scn_page page : ℕ) 
   pub is_size : IsTrue (is_page_size file.head.page_size)
   pub scn_room : scn_page ≡ file.head.page_size
   pub room : page ≡ file.head.page_size
-  pub most : count ≤ 1048576
+  pub most : count ≤ most_pages
   pub within : next ≤ count
   pub fewer : file.written ≤ next

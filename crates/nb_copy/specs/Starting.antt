@@ -1,5 +1,6 @@
 -- The start of a backup.
 use Rattle.std.specs.Prelude.{◌≡◌, ◌⊎◌, ℕ, zero, suc, ◌<◌, ◌≤◌, List, [], ◌∷◌, ◌++◌, length, replicate, true, Option, Some, None, is_none, nat_eq, Result, OnOk, IfOk, IfErr, ◌≢◌}
+use Rattle.nb_fields.specs.States.{normal_state, stalled_state}
 use Rattle.nb_host.specs.Files.{Files}
 use Rattle.nb_host.specs.World.{World}
 use Rattle.nb_host.specs.declared.faults.Fault.{Fault}
@@ -49,7 +50,7 @@ pub record IsBackingUp (w : World) (copier : Backed) (frozen : Image) : Type 0 w
 pub record IsStarted (w : World) (held : Held) (t : Trail) (copier : Backed) (turn : Outcome) : Type 0 where
   pub turns : turn.next ≡ replicate (file_count copier.file) Copies ++ ClosesBackup copier.backing ∷ []
   pub first : file_next copier.file ≡ 0
-  pub stalled : held.files.state ≡ 1
+  pub stalled : held.files.state ≡ stalled_state
   pub below : copier.backing.page < length t.base.image
   pub goes : IsBackingUp w copier t.base.frozen
 
@@ -134,7 +135,7 @@ KnowsFree state files s name = image_state s.base.image ≡ state → is_free_na
 
 -- why no backup into a file of that name may begin
 abbrev pub file_cause : Seen → (name : List ℕ) → Cause
-file_cause s name = first_cause (read_only s.base.image ∷ not_state 0 s.base.image ∷ not_free name (s.entry name) ∷ [])
+file_cause s name = first_cause (read_only s.base.image ∷ not_state normal_state s.base.image ∷ not_free name (s.entry name) ∷ [])
 
 -- what a head says of the backup that it goes on from
 abbrev pub ask_by : LevelHead → Ask

@@ -1,5 +1,6 @@
 ghost use Rattle.std.specs.Prelude.{◌≡◌, ◌⊎◌, ◌+◌, ◌-◌, ◌<◌, ◌≤◌, ℕ, length, [], ◌∷◌, Option, Some, List, true, IsTrue, IfOk, OnOk};
 ghost use Rattle.nb_fields.specs.Places.{is_page_size};
+ghost use Rattle.nb_fields.specs.States.{normal_state, stalled_state, merge_state};
 ghost use Rattle.nb_host.specs.Causes.{CountsDevice};
 ghost use Rattle.nb_change.specs.Gave.{GaveNothing};
 ghost use Rattle.nb_page.specs.Free.{is_free_name};
@@ -62,7 +63,7 @@ impl Model for Copier {
 fn check_file<H: Host>(host: &mut H, engine: &Engine, name: &Name) -> Result<(), Fault>
     ensures test { (s : Seen) (t : Trail) → IsTrue H.tells → t.base ≡ s.base → IsOpen (H.world host.old) engine.now t → KnowsFree 0 (H.world host.old).files s name.now
         → Tested result (file_cause s name.now) }
-    ensures normal { OnOk result (engine.now.files.state ≡ 0) }
+    ensures normal { OnOk result (engine.now.files.state ≡ normal_state) }
     ensures free { IsTrue H.tells → OnOk result (is_free_name (H.world host.old).files name.now ≡ true) }
     ensures quiet { Quiet (H.world host.old) (H.world host.new) }
     ensures cause { CountsDevice result (H.faults host.old) (H.faults host.new) }
@@ -95,7 +96,7 @@ fn check_start<H: Host>(
     requires { IsNineAtMost since.now }
     ensures test { (s : Seen) (t : Trail) → IsTrue H.tells → t.base ≡ s.base → IsOpen (H.world host.old) engine.old t → KnowsFree 0 (H.world host.old).files s name.now
         → Tested result (first_cause (file_cause s name.now ∷ earlier_cause since.now t.base.image ∷ [])) }
-    ensures normal { OnOk result (engine.old.files.state ≡ 0) }
+    ensures normal { OnOk result (engine.old.files.state ≡ normal_state) }
     ensures free { IsTrue H.tells → OnOk result (is_free_name (H.world host.old).files name.now ≡ true) }
     ensures head { (t : Trail) → IsTrue H.tells → IsOpen (H.world host.old) engine.old t → IfOk result (λ head. ask_by head ≡ ask_in since.now t.base.image) }
     ensures its_level { IfOk result (λ head. IsItsLevel since.now head.level) }
@@ -105,7 +106,7 @@ fn check_start<H: Host>(
     ensures sized { IfOk result (λ head. IsTrue (is_page_size head.page_size)) }
     ensures open { (t : Trail) → IsTrue H.tells → IsOpen (H.world host.old) engine.old t → IsOpen (H.world host.new) engine.new t }
     ensures same { but_pages engine.new ≡ but_pages engine.old }
-    ensures stays { engine.old.files.state ≡ 2 → engine.new ≡ engine.old }
+    ensures stays { engine.old.files.state ≡ merge_state → engine.new ≡ engine.old }
     ensures quiet { Quiet (H.world host.old) (H.world host.new) }
     ensures cause { CountsDevice result (H.faults host.old) (H.faults host.new) }
 {
@@ -158,7 +159,7 @@ fn start_from<H: Host>(
         → KnowsFree 0 (H.world host.old).files s name.now → (name.now ≡ delta_name engine.old.files.name → ⊥) → GaveAtMost (H.world host.old) (H.world host.new) (next_guid s.given)
         → StartsBackup result (H.world host.old) (H.world host.new) engine.old engine.new t name.now (next_guid s.given) (turn_since s session since name.now) }
     ensures asks { (t : Trail) → IsTrue H.tells → IsOpen (H.world host.old) engine.old t → (guid : List ℕ) × (length guid ≡ 16) × GaveAtMost (H.world host.old) (H.world host.new) guid }
-    ensures stays { engine.old.files.state ≡ 2 → engine.new ≡ engine.old }
+    ensures stays { engine.old.files.state ≡ merge_state → engine.new ≡ engine.old }
     ensures made_first { (t : Trail) → IsTrue H.tells → IsOpen (H.world host.old) engine.old t → (name.now ≡ delta_name engine.old.files.name → ⊥)
         → (GaveNothing (H.world host.old) (H.world host.new) × Goes engine.old engine.new) ⊎ (IsMade (H.world host.new) name.now × IsNotMemory result) }
     ensures free { IsTrue H.tells → OnOk result (is_free_name (H.world host.old).files name.now ≡ true) }
@@ -207,7 +208,7 @@ impl Copier {
             → KnowsFree 0 (H.world host.old).files s name.now → (name.now ≡ delta_name engine.old.files.name → ⊥) → GaveAtMost (H.world host.old) (H.world host.new) (next_guid s.given)
             → StartsBackup result (H.world host.old) (H.world host.new) engine.old engine.new t name.now (next_guid s.given) (backup_turn s session level name.now) }
         ensures asks { (t : Trail) → IsTrue H.tells → IsOpen (H.world host.old) engine.old t → (guid : List ℕ) × (length guid ≡ 16) × GaveAtMost (H.world host.old) (H.world host.new) guid }
-        ensures stays { engine.old.files.state ≡ 2 → engine.new ≡ engine.old }
+        ensures stays { engine.old.files.state ≡ merge_state → engine.new ≡ engine.old }
 
         // However it ends, no GUID was taken and the state stays, or the file was made; the former where memory is short.
         ensures made_first { (t : Trail) → IsTrue H.tells → IsOpen (H.world host.old) engine.old t → (name.now ≡ delta_name engine.old.files.name → ⊥)
@@ -238,7 +239,7 @@ impl Copier {
             → KnowsFree 0 (H.world host.old).files s name.now → (name.now ≡ delta_name engine.old.files.name → ⊥) → GaveAtMost (H.world host.old) (H.world host.new) (next_guid s.given)
             → StartsBackup result (H.world host.old) (H.world host.new) engine.old engine.new t name.now (next_guid s.given) (since_turn s session guid.now name.now) }
         ensures asks { (t : Trail) → IsTrue H.tells → IsOpen (H.world host.old) engine.old t → (guid : List ℕ) × (length guid ≡ 16) × GaveAtMost (H.world host.old) (H.world host.new) guid }
-        ensures stays { engine.old.files.state ≡ 2 → engine.new ≡ engine.old }
+        ensures stays { engine.old.files.state ≡ merge_state → engine.new ≡ engine.old }
 
         // However it ends, no GUID was taken and the state stays, or the file was made; the former where memory is short.
         ensures made_first { (t : Trail) → IsTrue H.tells → IsOpen (H.world host.old) engine.old t → (name.now ≡ delta_name engine.old.files.name → ⊥)
@@ -319,16 +320,16 @@ impl Copier {
     /// A copier that has answered `Finished` or a fault isn't used again.
     pub fn turn<H: Host>(&mut self, host: &mut H, engine: &mut Engine) -> Result<Progress, Fault>
         requires size { self.old.page_size ≡ engine.old.files.page_size }
-        ensures turn { (s : Seen) (t : Trail) → IsTrue H.tells → t.base ≡ s.base → IsOpen (H.world host.old) engine.old t → engine.old.files.state ≡ 1 → HasItsEntry t.base.image self.old.backing.page
+        ensures turn { (s : Seen) (t : Trail) → IsTrue H.tells → t.base ≡ s.base → IsOpen (H.world host.old) engine.old t → engine.old.files.state ≡ stalled_state → HasItsEntry t.base.image self.old.backing.page
             → IsBackingUp (H.world host.old) self.old t.base.frozen → self.old.backing.page < length t.base.image → (OfFiles engine.old.files.name self.old.backing.name → ⊥)
             → GaveTimeAtMost (H.world host.old) (H.world host.new) (next_time s.given)
             → BackupTurn result (H.world host.old) (H.world host.new) engine.old engine.new self.old self.new t (next_time s.given) (close_backup s self.old.backing).strokes }
-        ensures asks { (t : Trail) → IsTrue H.tells → IsOpen (H.world host.old) engine.old t → engine.old.files.state ≡ 1 → IsBackingUp (H.world host.old) self.old t.base.frozen
+        ensures asks { (t : Trail) → IsTrue H.tells → IsOpen (H.world host.old) engine.old t → engine.old.files.state ≡ stalled_state → IsBackingUp (H.world host.old) self.old t.base.frozen
             → (OfFiles engine.old.files.name self.old.backing.name → ⊥) → (time : ℕ) × GaveTimeAtMost (H.world host.old) (H.world host.new) time }
 
         // While pages are left a turn of level 0 reads its page, and one of a level of 1 to 9 page 0, an SCN page, or what has changed since the
         // earlier backup by its SCN entry. `laws` has the sum of all turns.
-        ensures reads { (t : Trail) → IsTrue H.tells → IsOpen (H.world host.old) engine.old t → engine.old.files.state ≡ 1 → IsBackingUp (H.world host.old) self.old t.base.frozen → file_next self.old.file < file_count self.old.file
+        ensures reads { (t : Trail) → IsTrue H.tells → IsOpen (H.world host.old) engine.old t → engine.old.files.state ≡ stalled_state → IsBackingUp (H.world host.old) self.old t.base.frozen → file_next self.old.file < file_count self.old.file
             → (H.world host.new).reads ≤ (H.world host.old).reads + page_reads (asked_scn self.old.backing.ask) t.base.frozen (file_next self.old.file) }
         ensures same { self.new ≡ record self.old { file = self.new.file } }
         ensures counts { BackupCounts result self.old self.new }

@@ -1,5 +1,6 @@
 // A copy of the frozen file of a stalled database, which no history names.
 ghost use Rattle.std.specs.Prelude.{◌≡◌, ◌+◌, ◌-◌, ◌≤◌, IsTrue, IfOk, IfErr, OnOk, None, Some, Result, true};
+ghost use Rattle.nb_fields.specs.States.{stalled_state};
 ghost use Rattle.nb_host.specs.Calls.{IsSilent};
 ghost use Rattle.nb_host.specs.Causes.{CountsDevice, CountsFault};
 ghost use Rattle.nb_host.specs.declared.faults.Fault.{Fault};
@@ -47,7 +48,7 @@ impl Model for FileCopier {
 fn check_copy<H: Host>(host: &mut H, engine: &Engine, name: &Name) -> Result<(), Fault>
     ensures test { (s : Seen) (t : Trail) → IsTrue H.tells → t.base ≡ s.base → engine.now.running ≡ s.running → IsOpen (H.world host.old) engine.now t → KnowsUnused (H.world host.old).files s name.now
         → Tested result (copy_cause s name.now) }
-    ensures stalled { OnOk result (engine.now.files.state ≡ 1) }
+    ensures stalled { OnOk result (engine.now.files.state ≡ stalled_state) }
     ensures none { OnOk result (engine.now.running ≡ None) }
     ensures free { IsTrue H.tells → OnOk result (is_free_name (H.world host.old).files name.now ≡ true) }
     ensures quiet { Quiet (H.world host.old) (H.world host.new) }
@@ -139,7 +140,7 @@ impl FileCopier {
         engine: &mut Engine,
     ) -> Result<Progress, HostFault>
         requires size { self.old.size ≡ engine.old.files.page_size }
-        ensures turn { (t : Trail) → IsTrue H.tells → IsOpen (H.world host.old) engine.old t → engine.old.files.state ≡ 1 → IsCopyingTo (H.world host.old) self.old t.base.frozen
+        ensures turn { (t : Trail) → IsTrue H.tells → IsOpen (H.world host.old) engine.old t → engine.old.files.state ≡ stalled_state → IsCopyingTo (H.world host.old) self.old t.base.frozen
             → (OfFiles engine.old.files.name self.old.name → ⊥) → CopiesFile result (H.world host.old) (H.world host.new) engine.old engine.new self.old self.new t }
         ensures counts { CopyCounts result self.old self.new }
         ensures size { self.new.size ≡ self.old.size }

@@ -1,6 +1,7 @@
 // The file of a backup of any level, while it is made.
 ghost use Rattle.std.specs.Prelude.{◌≡◌, ◌+◌, ◌-◌, ◌≤◌, IsTrue, IfOk, OnOk};
-ghost use Rattle.nb_fields.specs.Places.{is_page_size};
+ghost use Rattle.nb_fields.specs.Places.{is_page_size, most_pages};
+ghost use Rattle.nb_fields.specs.States.{stalled_state};
 ghost use Rattle.nb_host.specs.Causes.{CountsFault};
 ghost use Rattle.nb_change.specs.Changes.{Changes, Only, Remade};
 ghost use Rattle.nb_change.specs.Gave.{GaveNothing};
@@ -45,7 +46,7 @@ impl FileCopy {
     /// The backup has begun with the GUID and the SCN of that head, and the frozen image has so many pages.
     pub(crate) fn start(&mut self, head: &LevelHead, count: u32)
         requires next { file_next self.old ≡ 0 }
-        requires most { count ≤ 1048576 }
+        requires most { count ≤ most_pages }
         ensures { IsStartedFile self.old self.new head.now count }
     {
         match self {
@@ -82,11 +83,11 @@ impl FileCopy {
         engine: &mut Engine,
     ) -> Result<Progress, HostFault>
         requires size { file_page_size self.old ≡ engine.old.files.page_size }
-        ensures left { (t : Trail) → IsTrue H.tells → IsOpen (H.world host.old) engine.old t → engine.old.files.state ≡ 1 → IsFileCopying (H.world host.old) self.old t.base.frozen
+        ensures left { (t : Trail) → IsTrue H.tells → IsOpen (H.world host.old) engine.old t → engine.old.files.state ≡ stalled_state → IsFileCopying (H.world host.old) self.old t.base.frozen
             → Changes (H.world host.old) (H.world host.new) (Only (file_name self.old)) (Remade (H.world host.old) (file_name self.old) (IsUnfinishedOr (whole_file self.old t.base.frozen))) }
-        ensures answer { (t : Trail) → IsTrue H.tells → IsOpen (H.world host.old) engine.old t → engine.old.files.state ≡ 1 → IsFileCopying (H.world host.old) self.old t.base.frozen
+        ensures answer { (t : Trail) → IsTrue H.tells → IsOpen (H.world host.old) engine.old t → engine.old.files.state ≡ stalled_state → IsFileCopying (H.world host.old) self.old t.base.frozen
             → FileTurn result (H.world host.new) self.old self.new t.base.frozen }
-        ensures reads { (t : Trail) → IsTrue H.tells → IsOpen (H.world host.old) engine.old t → engine.old.files.state ≡ 1 → IsFileCopying (H.world host.old) self.old t.base.frozen
+        ensures reads { (t : Trail) → IsTrue H.tells → IsOpen (H.world host.old) engine.old t → engine.old.files.state ≡ stalled_state → IsFileCopying (H.world host.old) self.old t.base.frozen
             → (H.world host.new).reads ≤ (H.world host.old).reads + page_reads (earlier_scn self.old) t.base.frozen (file_next self.old) }
         ensures same { (frozen : Image) → OnOk result (IsSameFile self.old self.new frozen) }
         ensures counts { FileCounts result self.old self.new }

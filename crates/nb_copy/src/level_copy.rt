@@ -1,5 +1,6 @@
 ghost use Rattle.std.specs.Prelude.{◌≡◌, ◌+◌, ◌-◌, ◌%◌, ◌<◌, ◌≤◌, IsTrue, IfOk, OnOk, length};
-ghost use Rattle.nb_fields.specs.Places.{is_page_size, entries_in};
+ghost use Rattle.nb_fields.specs.Places.{is_page_size, entries_in, most_pages};
+ghost use Rattle.nb_fields.specs.States.{stalled_state};
 ghost use Rattle.nb_host.specs.Causes.{CountsFault};
 ghost use Rattle.nb_change.specs.Changes.{Changes, Only, Remade};
 ghost use Rattle.nb_change.specs.Gave.{GaveNothing};
@@ -77,7 +78,7 @@ impl LevelCopy {
     /// The backup has begun with that GUID at that SCN, and the frozen image has so many pages. Its first turn is the next.
     pub fn start(&mut self, guid: &[u8; 16], scn: u32, count: u32)
         requires next { self.old.next ≡ 0 }
-        requires most { count ≤ 1048576 }
+        requires most { count ≤ most_pages }
         ensures { self.new ≡ record self.old { file = record self.old.file { head = record self.old.file.head { guid = guid.now; scn = scn } }; count = count } }
     {
         self.file.start(guid, scn);
@@ -104,7 +105,7 @@ impl LevelCopy {
         requires size { self.old.file.head.page_size ≡ engine.old.files.page_size }
         requires some { 1 ≤ self.old.next }
         requires below { self.old.next < self.old.count }
-        ensures entries { (t : Trail) → IsTrue H.tells → IsOpen (H.world host.old) engine.old t → engine.old.files.state ≡ 1 → IsLevelOf self.old t.base.frozen → HasEntriesOf self.old t.base.frozen
+        ensures entries { (t : Trail) → IsTrue H.tells → IsOpen (H.world host.old) engine.old t → engine.old.files.state ≡ stalled_state → IsLevelOf self.old t.base.frozen → HasEntriesOf self.old t.base.frozen
             → OnOk result (self.new.scn_page ≡ page_at t.base.frozen (scn_page_of t.base.frozen self.old.next)) }
         ensures index { IfOk result (λ index. index ≡ self.old.next % entries_in self.old.file.head.page_size) }
         ensures inside { IfOk result (λ index. index < entries_in self.old.file.head.page_size) }
@@ -128,14 +129,14 @@ impl LevelCopy {
         requires size { self.old.file.head.page_size ≡ engine.old.files.page_size }
         requires some { 1 ≤ self.old.next }
         requires below { self.old.next < self.old.count }
-        ensures fetched { (t : Trail) → IsTrue H.tells → IsOpen (H.world host.old) engine.old t → engine.old.files.state ≡ 1 → IsLevelOf self.old t.base.frozen → HasEntriesOf self.old t.base.frozen
+        ensures fetched { (t : Trail) → IsTrue H.tells → IsOpen (H.world host.old) engine.old t → engine.old.files.state ≡ stalled_state → IsLevelOf self.old t.base.frozen → HasEntriesOf self.old t.base.frozen
             → Fetched result self.old self.new.page t.base.frozen }
-        ensures entries { (t : Trail) → IsTrue H.tells → IsOpen (H.world host.old) engine.old t → engine.old.files.state ≡ 1 → IsLevelOf self.old t.base.frozen → HasEntriesOf self.old t.base.frozen
+        ensures entries { (t : Trail) → IsTrue H.tells → IsOpen (H.world host.old) engine.old t → engine.old.files.state ≡ stalled_state → IsLevelOf self.old t.base.frozen → HasEntriesOf self.old t.base.frozen
             → OnOk result (self.new.scn_page ≡ page_at t.base.frozen (scn_page_of t.base.frozen self.old.next)) }
         ensures same { self.new ≡ record self.old { scn_page = self.new.scn_page; page = self.new.page } }
         ensures engine { engine.new ≡ engine.old }
         ensures quiet { Quiet (H.world host.old) (H.world host.new) }
-        ensures reads { (t : Trail) → IsTrue H.tells → IsOpen (H.world host.old) engine.old t → engine.old.files.state ≡ 1 → IsLevelOf self.old t.base.frozen → HasEntriesOf self.old t.base.frozen
+        ensures reads { (t : Trail) → IsTrue H.tells → IsOpen (H.world host.old) engine.old t → engine.old.files.state ≡ stalled_state → IsLevelOf self.old t.base.frozen → HasEntriesOf self.old t.base.frozen
             → (H.world host.new).reads ≤ (H.world host.old).reads + reads_at t.base.frozen self.old.file.head.previous_scn self.old.next }
         ensures twice { IsTrue H.tells → (H.world host.new).reads ≤ (H.world host.old).reads + 2 }
         ensures cause { CountsFault result (H.faults host.old) (H.faults host.new) }
@@ -158,9 +159,9 @@ impl LevelCopy {
         requires size { self.old.file.head.page_size ≡ engine.old.files.page_size }
         requires next { self.old.next ≡ 0 }
         requires some { 0 < self.old.count }
-        ensures left { (t : Trail) → IsTrue H.tells → IsOpen (H.world host.old) engine.old t → engine.old.files.state ≡ 1 → IsLevelOf self.old t.base.frozen → IsFresh self.old → IsMade (H.world host.old) self.old.file.name
+        ensures left { (t : Trail) → IsTrue H.tells → IsOpen (H.world host.old) engine.old t → engine.old.files.state ≡ stalled_state → IsLevelOf self.old t.base.frozen → IsFresh self.old → IsMade (H.world host.old) self.old.file.name
             → Changes (H.world host.old) (H.world host.new) (Only self.old.file.name) (Remade (H.world host.old) self.old.file.name IsUnfinished) }
-        ensures begun { (t : Trail) → IsTrue H.tells → IsOpen (H.world host.old) engine.old t → engine.old.files.state ≡ 1 → IsLevelOf self.old t.base.frozen → IsFresh self.old → IsMade (H.world host.old) self.old.file.name
+        ensures begun { (t : Trail) → IsTrue H.tells → IsOpen (H.world host.old) engine.old t → engine.old.files.state ≡ stalled_state → IsLevelOf self.old t.base.frozen → IsFresh self.old → IsMade (H.world host.old) self.old.file.name
             → OnOk result (HasTaken (H.world host.new) self.new.file (taken_below 1 self.old t.base.frozen)) }
         ensures touches { IsTrue H.tells → Touches (H.world host.old) (H.world host.new) (Only self.old.file.name) }
         ensures same { OnOk result (self.new ≡ record self.old { file = record self.old.file { written = self.new.file.written; run = self.new.file.run }; next = 1; page = self.new.page }) }
@@ -183,11 +184,11 @@ impl LevelCopy {
         requires size { self.old.file.head.page_size ≡ engine.old.files.page_size }
         requires some { 1 ≤ self.old.next }
         requires below { self.old.next < self.old.count }
-        ensures left { (t : Trail) → IsTrue H.tells → IsOpen (H.world host.old) engine.old t → engine.old.files.state ≡ 1 → IsLevelOf self.old t.base.frozen → IsLevelBegun (H.world host.old) self.old t.base.frozen
+        ensures left { (t : Trail) → IsTrue H.tells → IsOpen (H.world host.old) engine.old t → engine.old.files.state ≡ stalled_state → IsLevelOf self.old t.base.frozen → IsLevelBegun (H.world host.old) self.old t.base.frozen
             → Changes (H.world host.old) (H.world host.new) (Only self.old.file.name) (Remade (H.world host.old) self.old.file.name IsUnfinished) }
-        ensures copied { (t : Trail) → IsTrue H.tells → IsOpen (H.world host.old) engine.old t → engine.old.files.state ≡ 1 → IsLevelOf self.old t.base.frozen → IsLevelBegun (H.world host.old) self.old t.base.frozen
+        ensures copied { (t : Trail) → IsTrue H.tells → IsOpen (H.world host.old) engine.old t → engine.old.files.state ≡ stalled_state → IsLevelOf self.old t.base.frozen → IsLevelBegun (H.world host.old) self.old t.base.frozen
             → OnOk result (HasTaken (H.world host.new) self.new.file (taken_below (self.old.next + 1) self.old t.base.frozen)) }
-        ensures entries { (t : Trail) → IsTrue H.tells → IsOpen (H.world host.old) engine.old t → engine.old.files.state ≡ 1 → IsLevelOf self.old t.base.frozen → HasEntriesOf self.old t.base.frozen
+        ensures entries { (t : Trail) → IsTrue H.tells → IsOpen (H.world host.old) engine.old t → engine.old.files.state ≡ stalled_state → IsLevelOf self.old t.base.frozen → HasEntriesOf self.old t.base.frozen
             → OnOk result (self.new.scn_page ≡ page_at t.base.frozen (scn_page_of t.base.frozen self.old.next)) }
         ensures touches { IsTrue H.tells → Touches (H.world host.old) (H.world host.new) (Only self.old.file.name) }
         ensures same { OnOk result (self.new ≡ record self.old { file = record self.old.file { written = self.new.file.written; run = self.new.file.run }; next = self.old.next + 1; scn_page = self.new.scn_page; page = self.new.page }) }
@@ -196,7 +197,7 @@ impl LevelCopy {
         ensures head { self.new.file.head ≡ self.old.file.head }
         ensures engine { engine.new ≡ engine.old }
         ensures gave { GaveNothing (H.world host.old) (H.world host.new) }
-        ensures reads { (t : Trail) → IsTrue H.tells → IsOpen (H.world host.old) engine.old t → engine.old.files.state ≡ 1 → IsLevelOf self.old t.base.frozen → HasEntriesOf self.old t.base.frozen
+        ensures reads { (t : Trail) → IsTrue H.tells → IsOpen (H.world host.old) engine.old t → engine.old.files.state ≡ stalled_state → IsLevelOf self.old t.base.frozen → HasEntriesOf self.old t.base.frozen
             → (H.world host.new).reads ≤ (H.world host.old).reads + reads_at t.base.frozen self.old.file.head.previous_scn self.old.next }
         ensures twice { IsTrue H.tells → (H.world host.new).reads ≤ (H.world host.old).reads + 2 }
         ensures cause { CountsFault result (H.faults host.old) (H.faults host.new) }
@@ -221,13 +222,13 @@ impl LevelCopy {
         engine: &mut Engine,
     ) -> Result<Progress, HostFault>
         requires size { self.old.file.head.page_size ≡ engine.old.files.page_size }
-        ensures left { (t : Trail) → IsTrue H.tells → IsOpen (H.world host.old) engine.old t → engine.old.files.state ≡ 1 → IsLevelCopying (H.world host.old) self.old t.base.frozen
+        ensures left { (t : Trail) → IsTrue H.tells → IsOpen (H.world host.old) engine.old t → engine.old.files.state ≡ stalled_state → IsLevelCopying (H.world host.old) self.old t.base.frozen
             → Changes (H.world host.old) (H.world host.new) (Only self.old.file.name) (Remade (H.world host.old) self.old.file.name (IsUnfinishedOr (whole_level self.old t.base.frozen))) }
-        ensures answer { (t : Trail) → IsTrue H.tells → IsOpen (H.world host.old) engine.old t → engine.old.files.state ≡ 1 → IsLevelCopying (H.world host.old) self.old t.base.frozen
+        ensures answer { (t : Trail) → IsTrue H.tells → IsOpen (H.world host.old) engine.old t → engine.old.files.state ≡ stalled_state → IsLevelCopying (H.world host.old) self.old t.base.frozen
             → LevelTurn result (H.world host.new) self.old self.new t.base.frozen }
 
         // It reads page 0 in its turn, each SCN page once, and of the others those whose entry is above the SCN of the earlier backup.
-        ensures reads { (t : Trail) → IsTrue H.tells → IsOpen (H.world host.old) engine.old t → engine.old.files.state ≡ 1 → IsLevelCopying (H.world host.old) self.old t.base.frozen
+        ensures reads { (t : Trail) → IsTrue H.tells → IsOpen (H.world host.old) engine.old t → engine.old.files.state ≡ stalled_state → IsLevelCopying (H.world host.old) self.old t.base.frozen
             → (H.world host.new).reads ≤ (H.world host.old).reads + reads_at t.base.frozen self.old.file.head.previous_scn self.old.next }
 
         // Whatever stands in the files: no other one is touched, and two pages are read at most.

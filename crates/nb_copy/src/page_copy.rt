@@ -1,5 +1,6 @@
 ghost use Rattle.std.specs.Prelude.{◌≡◌, ◌+◌, ◌-◌, ◌<◌, ◌≤◌, [], IsTrue, IfOk, OnOk, length, Some};
-ghost use Rattle.nb_fields.specs.Places.{is_page_size};
+ghost use Rattle.nb_fields.specs.Places.{is_page_size, most_pages};
+ghost use Rattle.nb_fields.specs.States.{stalled_state};
 ghost use Rattle.nb_host.specs.Calls.{IsSilent, Remakes};
 ghost use Rattle.nb_host.specs.Causes.{CountsFault};
 ghost use Rattle.nb_host.specs.Moments.{Passes};
@@ -81,7 +82,7 @@ impl PageCopy {
     /// The image is frozen, and has so many pages. Its first turn is the next.
     pub fn start(&mut self, count: u32)
         requires next { self.old.next ≡ 0 }
-        requires most { count ≤ 1048576 }
+        requires most { count ≤ most_pages }
         ensures { self.new ≡ record self.old { count = count } }
     {
         self.count = count;
@@ -106,7 +107,7 @@ impl PageCopy {
         requires size { self.old.size ≡ engine.old.files.page_size }
         requires next { self.old.next ≡ 0 }
         requires some { 0 < self.old.count }
-        ensures begun { (t : Trail) → IsTrue H.tells → IsOpen (H.world host.old) engine.old t → engine.old.files.state ≡ 1 → IsOf self.old t.base.frozen → IsBegun (H.world host.old) self.old t.base.frozen
+        ensures begun { (t : Trail) → IsTrue H.tells → IsOpen (H.world host.old) engine.old t → engine.old.files.state ≡ stalled_state → IsOf self.old t.base.frozen → IsBegun (H.world host.old) self.old t.base.frozen
             → OnOk result (IsBegun (H.world host.new) self.new t.base.frozen) }
         ensures next { OnOk result (self.new ≡ record self.old { next = 1; first = self.new.first }) }
         ensures name { self.new.name ≡ self.old.name }
@@ -127,7 +128,7 @@ impl PageCopy {
         requires some { 1 ≤ self.old.next }
         requires below { self.old.next < self.old.count }
         ensures left { (frozen : Image) → IsTrue H.tells → IsBegun (H.world host.old) self.old frozen → Changes (H.world host.old) (H.world host.new) (Only self.old.name) (Remade (H.world host.old) self.old.name IsBlank) }
-        ensures copied { (t : Trail) → IsTrue H.tells → IsOpen (H.world host.old) engine.old t → engine.old.files.state ≡ 1 → IsOf self.old t.base.frozen → IsBegun (H.world host.old) self.old t.base.frozen
+        ensures copied { (t : Trail) → IsTrue H.tells → IsOpen (H.world host.old) engine.old t → engine.old.files.state ≡ stalled_state → IsOf self.old t.base.frozen → IsBegun (H.world host.old) self.old t.base.frozen
             → OnOk result (IsBegun (H.world host.new) self.new t.base.frozen) }
         ensures touches { IsTrue H.tells → Touches (H.world host.old) (H.world host.new) (Only self.old.name) }
         ensures next { OnOk result (self.new ≡ record self.old { next = self.old.next + 1 }) }
@@ -172,9 +173,9 @@ impl PageCopy {
         engine: &mut Engine,
     ) -> Result<Progress, HostFault>
         requires size { self.old.size ≡ engine.old.files.page_size }
-        ensures left { (t : Trail) → IsTrue H.tells → IsOpen (H.world host.old) engine.old t → engine.old.files.state ≡ 1 → IsCopying (H.world host.old) self.old t.base.frozen
+        ensures left { (t : Trail) → IsTrue H.tells → IsOpen (H.world host.old) engine.old t → engine.old.files.state ≡ stalled_state → IsCopying (H.world host.old) self.old t.base.frozen
             → Changes (H.world host.old) (H.world host.new) (Only self.old.name) (Remade (H.world host.old) self.old.name (IsFreeOr (joined t.base.frozen))) }
-        ensures answer { (t : Trail) → IsTrue H.tells → IsOpen (H.world host.old) engine.old t → engine.old.files.state ≡ 1 → IsCopying (H.world host.old) self.old t.base.frozen
+        ensures answer { (t : Trail) → IsTrue H.tells → IsOpen (H.world host.old) engine.old t → engine.old.files.state ≡ stalled_state → IsCopying (H.world host.old) self.old t.base.frozen
             → CopyTurn result (H.world host.new) self.old self.new t.base.frozen }
 
         // Whatever stands in the files: no other one is touched.

@@ -11,6 +11,7 @@ use Rattle.std.proofs.lemmas.Bool.{cases_eq, cases_lt, eq-eqb, ne_eqb, eqb-true,
 use Rattle.std.proofs.lemmas.List.Folds.{list_any-append}
 use Rattle.std.proofs.lemmas.Bool.Decides.{eqb_tells}
 use Rattle.std.proofs.lemmas.Map.Steps.{length-le_from_distinct_below}
+use Rattle.nb_fields.specs.Places.{most_pages}
 use Rattle.nb_delta.specs.Entries.{place_of, AreEntries, IsIndex}
 
 -- no entries
@@ -61,8 +62,8 @@ entry_below (x ∷ xs) n below zero inside = below x (or_left (nat_eq x x) (list
 entry_below (x ∷ xs) n below (suc k) inside = entry_below xs n (λ page is. below page (or_right (nat_eq page x) (list_any (nat_eq page) xs) is)) k (omega arith)
 
 -- there are no more entries than pages
-pub few : (xs : List ℕ) → AreEntries xs → length xs ≤ 1048576
-few xs are = length-le_from_distinct_below xs 1048576 are.once are.below
+pub few : (xs : List ℕ) → AreEntries xs → length xs ≤ most_pages
+few xs are = length-le_from_distinct_below xs most_pages are.once are.below
 
 false_true : false ≡ true → ⊥
 false_true e = cc
@@ -80,7 +81,7 @@ distinct_more (x ∷ xs) p are none = elim (eqb_tells p x) [
 ]
 
 -- one entry more
-pub entries_more : (xs : List ℕ) (p : ℕ) → AreEntries xs → list_any (nat_eq p) xs ≡ false → p < 1048576 → AreEntries (xs ++ p ∷ [])
+pub entries_more : (xs : List ℕ) (p : ℕ) → AreEntries xs → list_any (nat_eq p) xs ≡ false → p < most_pages → AreEntries (xs ++ p ∷ [])
 entries_more xs p are none below = record {
   below = λ page is. ⊎_elim (are.below page)
       (λ last. ⊎_elim (λ e. let same : page ≡ p = eqb-true page p e in omega arith) (λ e. cc) (or_cases (nat_eq page p) false last))
@@ -89,7 +90,7 @@ entries_more xs p are none below = record {
 }
 
 -- where a page is free of an entry, there is room for one
-pub room_for : (xs : List ℕ) (p : ℕ) → AreEntries xs → place_of xs p ≡ None → p < 1048576 → length xs < 1048576
+pub room_for : (xs : List ℕ) (p : ℕ) → AreEntries xs → place_of xs p ≡ None → p < most_pages → length xs < most_pages
 room_for xs p are none below =
     let most = few (xs ++ p ∷ []) (entries_more xs p are (named_none p xs none) below) in
     omega (arith, length-append xs (p ∷ []), most)

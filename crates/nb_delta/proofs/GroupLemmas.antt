@@ -11,7 +11,7 @@ use Rattle.nb_host.specs.declared.faults.Fault.{Fault}
 use Rattle.nb_host.specs.declared.faults.Fault.TheVariants.{Refused, Device, Memory}
 use Rattle.nb_host.specs.declared.refusals.Refusal.TheVariants.{BadDelta}
 use Rattle.nb_fields.specs.Bytes.{number_in, number_of}
-use Rattle.nb_fields.specs.Places.{slots_in}
+use Rattle.nb_fields.specs.Places.{slots_in, most_pages}
 use Rattle.nb_fields.specs.Table.{page_in, alloc_place, entries_from, groups_from, table_of}
 use Rattle.nb_fields.proofs.NumberLemmas.{number_of-zeros}
 use Rattle.nb_delta.specs.Reading.{Counts, Reads, ReadsGroup}
@@ -196,7 +196,7 @@ module _ (size n at group : ℕ) (bytes before after : List ℕ) (same : n ≡ s
   step_fault fault (Err e) is told = subst (λ (f : Fault). Reads (table_of size bytes) (Err f) after) (sym is.1) (stopped fault told)
 
 -- what was counted of a group
-pub counts_full : (full : Bool) (room before after : ℕ) → full ≡ true → Counts full room before after → (after ≡ before + room) × (after ≤ 1048576)
+pub counts_full : (full : Bool) (room before after : ℕ) → full ≡ true → Counts full room before after → (after ≡ before + room) × (after ≤ most_pages)
 counts_full true room before after is counted = counted
 counts_full false room before after is counted = cc
 

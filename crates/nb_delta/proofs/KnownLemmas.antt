@@ -7,7 +7,7 @@ use Rattle.std.proofs.lemmas.List.{take-append-le, take-append-drop, take_all, l
 use Rattle.nb_host.specs.Files.{File, Files, bytes_of}
 use Rattle.nb_host.specs.Calls.{ReadsBytes}
 use Rattle.nb_host.specs.Moments.{IsTimely}
-use Rattle.nb_fields.specs.Places.{is_page_size}
+use Rattle.nb_fields.specs.Places.{is_page_size, most_pages}
 use Rattle.nb_fields.specs.Table.{page_in, slot_place}
 use Rattle.nb_change.specs.Changes.{Only, Changes, Moved, Remade}
 use Rattle.nb_change.proofs.MovedLaws.{moved_begun}
@@ -23,7 +23,7 @@ abbrev pub AddChanges : World → World → (number : ℕ) → (page : List ℕ)
 AddChanges old new number page k =
     HasTable k.page_size (old.files k.name) k.entries → Changes old new (Only k.name) (Moved old k.name (AddStep k.page_size k.entries number page (old.files k.name)))
 
-pub add_changes : (old new : World) (number : ℕ) (page entries : List ℕ) (inside k : Known) → inside ≡ k → length page ≡ k.page_size → place_of k.entries number ≡ None → number < 1048576 → entries ≡ inside.entries ++ number ∷ []
+pub add_changes : (old new : World) (number : ℕ) (page entries : List ℕ) (inside k : Known) → inside ≡ k → length page ≡ k.page_size → place_of k.entries number ≡ None → number < most_pages → entries ≡ inside.entries ++ number ∷ []
     → ((before : List ℕ) → (n : ℕ) → IsNewest entries before n → HasTable (length page) (old.files inside.name) before
     → Changes old new (Only inside.name) (Moved old inside.name (AddStep (length page) before n page (old.files inside.name))))
     → AddChanges old new number page k

@@ -6,6 +6,7 @@ use Rattle.std.specs.List.{list_any}
 use Rattle.std.proofs.lemmas.Bool.{or_parts, leb-false}
 use Rattle.nb_fields.specs.Bytes.{number_in}
 use Rattle.nb_fields.specs.Table.{page_in, entries_from}
+use Rattle.nb_fields.specs.Places.{most_pages}
 use Rattle.nb_host.specs.declared.faults.Fault.{Fault}
 use Rattle.nb_host.specs.declared.faults.Fault.TheVariants.{Refused, Device, Memory}
 use Rattle.nb_host.specs.declared.refusals.Refusal.TheVariants.{BadDelta}
@@ -49,7 +50,7 @@ module _ (size at i left : ℕ) (bytes found : List ℕ) where
 
 -- a number that is fit was not named before
 pub fit_named : (number : ℕ) (found : List ℕ) → is_unfit number found ≡ false → list_any (nat_eq number) found ≡ false
-fit_named number found is = (or_parts (nat_le 1048576 number) (list_any (nat_eq number) found) is).1
+fit_named number found is = (or_parts (nat_le most_pages number) (list_any (nat_eq number) found) is).1
 
-pub fit_below : (number : ℕ) (found : List ℕ) → is_unfit number found ≡ false → number < 1048576
-fit_below number found is = leb-false 1048576 number (or_parts (nat_le 1048576 number) (list_any (nat_eq number) found) is).0
+pub fit_below : (number : ℕ) (found : List ℕ) → is_unfit number found ≡ false → number < most_pages
+fit_below number found is = leb-false most_pages number (or_parts (nat_le most_pages number) (list_any (nat_eq number) found) is).0

@@ -8,7 +8,7 @@ use Rattle.std.proofs.Math.Nat.{mul-le-mul_right}
 use Rattle.nb_host.specs.Files.{File, bytes_of, put_at}
 use Rattle.nb_host.specs.Crash.{PageLeft}
 use Rattle.nb_fields.specs.Bytes.{number_in}
-use Rattle.nb_fields.specs.Places.{slots_in}
+use Rattle.nb_fields.specs.Places.{slots_in, most_pages}
 use Rattle.nb_fields.specs.Table.{page_in, slot_place, alloc_place}
 use Rattle.nb_delta.specs.Pages.{WithPage, SamePages, Grows, PageStep, Put}
 use Rattle.nb_delta.specs.Noting.{IsAllocation}
@@ -126,7 +126,7 @@ module _ (size : ℕ) where
 
     -- the allocation page was written that has one entry more
     module _ (g i number : ℕ) (page b c table : List ℕ) (spells : Spells size b table) (low : i < slots_in size) (many : length table ≡ g * slots_in size + i)
-        (fresh : list_any (nat_eq number) table ≡ false) (below : number < 1048576) (large : 4 ≤ size)
+        (fresh : list_any (nat_eq number) table ≡ false) (below : number < most_pages) (large : 4 ≤ size)
         (whole : (alloc_place size g + 2 + i) * size ≤ length b)
         (room : i + 1 ≡ slots_in size → (page_in size b (alloc_place size (g + 1)) ≡ replicate size 0) × ((alloc_place size (g + 1) + 1) * size ≤ length b))
         (is : IsAllocation size page (table ++ number ∷ []) g (i + 1)) (put : WithPage size (alloc_place size g) page b c) (longer : length b ≤ length c) where

@@ -6,7 +6,7 @@ use Rattle.std.proofs.lemmas.List.{length-replicate}
 use Rattle.std.proofs.Math.Nat.{mul-le-mul_right}
 use Rattle.nb_host.specs.Files.{File, bytes_of, with_page}
 use Rattle.nb_host.specs.Crash.{PageLeft}
-use Rattle.nb_fields.specs.Places.{is_page_size, slots_in}
+use Rattle.nb_fields.specs.Places.{is_page_size, slots_in, most_pages}
 use Rattle.nb_fields.specs.Table.{page_in, slot_place, alloc_place}
 use Rattle.nb_fields.proofs.SizeLemmas.{size_facts}
 use Rattle.nb_delta.specs.Slots.{HasTable, slot_page, HasSlot, HasZeros, Keeps, SlotStep, SlotPut, Adds, AddStep}
@@ -118,7 +118,7 @@ module _ (size : ℕ) (is_size : IsTrue (is_page_size size)) where
     next_keeps before after is = next_left before after (inr (inl is))
 
   -- the allocation page with the new entry is written
-  module _ (table : List ℕ) (number g i : ℕ) (low : i < slots_in size) (many : length table ≡ g * slots_in size + i) (fresh : list_any (nat_eq number) table ≡ false) (below : number < 1048576)
+  module _ (table : List ℕ) (number g i : ℕ) (low : i < slots_in size) (many : length table ≡ g * slots_in size + i) (fresh : list_any (nat_eq number) table ≡ false) (below : number < most_pages)
       (page : List ℕ) (long : length page ≡ size) (is : IsAllocation size page (table ++ number ∷ []) g (i + 1)) (before : File) (has : HasTable size before table) (whole : HasSlot size before (length table)) (room : HasRoom size before (length table)) where
     place : slot_place size (length table) ≡ alloc_place size g + 1 + i
     place = ap (λ (n : ℕ). slot_place size n) many ∙ slot_at size g i low

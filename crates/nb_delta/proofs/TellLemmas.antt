@@ -5,7 +5,7 @@ use Rattle.std.specs.List.{list_any, IsDistinct, AllByRecursion}
 use Rattle.std.proofs.lemmas.Bool.{cases_lt, le-ltb, lt-leb, eqb-false, eq-eqb, ne_eqb, or_from, and_left, and_right}
 use Rattle.std.proofs.lemmas.List.{take_all}
 use Rattle.std.proofs.Math.Nat.{mul-le-mul_right}
-use Rattle.nb_fields.specs.Places.{slots_in}
+use Rattle.nb_fields.specs.Places.{slots_in, most_pages}
 use Rattle.nb_fields.specs.Table.{alloc_place, entries_from, groups_from, table_of}
 use Rattle.nb_delta.specs.Reading.{is_unfit}
 use Rattle.nb_delta.proofs.EntryLemmas.{no_entries, entry_below}
@@ -43,8 +43,8 @@ module _ (size : ℕ) (bytes table : List ℕ) where
       let is : number_at size bytes g i ≡ get_or table (g * slots_in size + i) 0 = holds.numbers g i low here in
       let fit : is_unfit (number_at size bytes g i) (take (g * slots_in size + i) table) ≡ false =
       ap (λ (n : ℕ). is_unfit n (take (g * slots_in size + i) table)) is
-      ∙ or_from (nat_le 1048576 (get_or table (g * slots_in size + i) 0)) (list_any (nat_eq (get_or table (g * slots_in size + i) 0)) (take (g * slots_in size + i) table))
-      (lt-leb 1048576 (get_or table (g * slots_in size + i) 0) (entry_below table 1048576 holds.are.below (g * slots_in size + i) here)) (none_before table (g * slots_in size + i) holds.are.once here) in
+      ∙ or_from (nat_le most_pages (get_or table (g * slots_in size + i) 0)) (list_any (nat_eq (get_or table (g * slots_in size + i) 0)) (take (g * slots_in size + i) table))
+      (lt-leb most_pages (get_or table (g * slots_in size + i) 0) (entry_below table most_pages holds.are.below (g * slots_in size + i) here)) (none_before table (g * slots_in size + i) holds.are.once here) in
       entry_read size (alloc_place size g) i left bytes (take (g * slots_in size + i) table) fit (le-ltb (length bytes) ((alloc_place size g + 2 + i) * size) (holds.slots g i low here))
       ∙ ap (λ (n : ℕ). entries_from size (alloc_place size g) (i + 1) left bytes (take (g * slots_in size + i) table ++ n ∷ [])) is
       ∙ ap (λ (xs : List ℕ). entries_from size (alloc_place size g) (i + 1) left bytes xs) (take_next table (g * slots_in size + i) here)

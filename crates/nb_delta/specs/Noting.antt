@@ -2,7 +2,7 @@
 use Rattle.std.specs.Prelude.{◌≡◌, ◌⊎◌, ℕ, ◌+◌, ◌-◌, ◌*◌, ◌<◌, ◌≤◌, List, [], ◌∷◌, ◌++◌, length, drop, replicate, None, slice_index}
 use Rattle.nb_host.specs.Files.{File, bytes_of}
 use Rattle.nb_fields.specs.Bytes.{number_in}
-use Rattle.nb_fields.specs.Places.{slots_in}
+use Rattle.nb_fields.specs.Places.{slots_in, most_pages}
 use Rattle.nb_fields.specs.Table.{page_in, alloc_place}
 use Rattle.nb_delta.specs.Entries.{place_of}
 use Rattle.nb_delta.specs.Slots.{HasTable, HasSlot, HasZeros, slot_page, Keeps}
@@ -45,7 +45,7 @@ NoteStep size entries number before after = Keeps size (length entries + 1) befo
 -- the page is the allocation page of group g with one entry more than the file's table has, and that entry's slot is there
 pub record IsReady (size : ℕ) (entries : List ℕ) (number g : ℕ) (page : List ℕ) (file : File) : Type 0 where
   pub fresh : place_of entries number ≡ None
-  pub below : number < 1048576
+  pub below : number < most_pages
   pub index : ℕ
   pub low : index < slots_in size
   pub many : length entries ≡ g * slots_in size + index
@@ -58,4 +58,4 @@ pub record IsReady (size : ℕ) (entries : List ℕ) (number g : ℕ) (page : Li
 pub record IsNewest (entries before : List ℕ) (number : ℕ) : Type 0 where
   pub is : entries ≡ before ++ number ∷ []
   pub fresh : place_of before number ≡ None
-  pub below : number < 1048576
+  pub below : number < most_pages

@@ -1,6 +1,7 @@
 -- What was read of a difference file, beside what its form says: the entries, or the page that breaks it.
 use Rattle.std.specs.Prelude.{◌≡◌, ℕ, ◌+◌, ◌<◌, ◌≤◌, Bool, true, false, ◌||◌, nat_eq, nat_le, List, Result, Ok, Err}
 use Rattle.std.specs.List.{list_any}
+use Rattle.nb_fields.specs.Places.{most_pages}
 use Rattle.nb_host.specs.declared.faults.Fault.{Fault}
 use Rattle.nb_host.specs.declared.faults.Fault.TheVariants.{Refused, Device, Memory}
 use Rattle.nb_host.specs.declared.refusals.Refusal.{Refusal}
@@ -8,7 +9,7 @@ use Rattle.nb_host.specs.declared.refusals.Refusal.TheVariants.{BadDelta}
 
 -- the number of an entry is no page's, or that of a page named before
 abbrev pub is_unfit : ℕ → List ℕ → Bool
-is_unfit number found = nat_le 1048576 number || list_any (nat_eq number) found
+is_unfit number found = nat_le most_pages number || list_any (nat_eq number) found
 
 -- the refusal names the page that breaks the form
 pub record NamesBroken (form : Result (List ℕ) ℕ) (refusal : Refusal) : Type 0 where
@@ -40,5 +41,5 @@ ReadsGroup form (Err Memory) rest entries = Unit {0}
 
 -- a full group has as many entries as there is room for, and any other fewer
 abbrev pub Counts : Bool → (room before after : ℕ) → Type 0
-Counts true room before after = (after ≡ before + room) × (after ≤ 1048576)
+Counts true room before after = (after ≡ before + room) × (after ≤ most_pages)
 Counts false room before after = (before ≤ after) × (after < before + room)

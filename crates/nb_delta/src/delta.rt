@@ -3,7 +3,7 @@ ghost use Rattle.nb_host.specs.declared.faults.Fault.TheVariants.{Memory};
 ghost use Rattle.nb_host.specs.Crash.{IsDurable};
 ghost use Rattle.nb_host.specs.Calls.{IsSilent};
 ghost use Rattle.nb_host.specs.Causes.{CountsDevice, CountsFault, CountsRun};
-ghost use Rattle.nb_fields.specs.Places.{is_page_size, slots_in};
+ghost use Rattle.nb_fields.specs.Places.{is_page_size, slots_in, most_pages};
 ghost use Rattle.nb_fields.specs.Table.{slot_place};
 ghost use Rattle.nb_page.specs.Quiet.{Quiet};
 ghost use Rattle.nb_delta.specs.Entries.{place_of, AreEntries};
@@ -93,7 +93,7 @@ impl Delta {
     /// How many entries there are.
     pub fn count(&self) -> u32
         ensures value { result ≡ length self.now.entries }
-        ensures most { result ≤ 1048576 }
+        ensures most { result ≤ most_pages }
     {
         self.entries.len()
     }
@@ -125,7 +125,7 @@ impl Delta {
     pub fn entry<H: Host>(&mut self, _host: &mut H, k: u32) -> Result<u32, HostFault>
         requires { k < length self.old.entries }
         ensures page { result ≡ Ok (slice_index self.old.entries k) }
-        ensures below { IfOk result (λ page. page < 1048576) }
+        ensures below { IfOk result (λ page. page < most_pages) }
         ensures apart { AreEntries self.old.entries }
         ensures same { self.new ≡ self.old }
         ensures no_call { _host.new ≡ _host.old }
@@ -145,7 +145,7 @@ impl Delta {
     ) -> Result<u32, RunError>
         requires size { length bytes.now ≡ self.old.page_size }
         requires fresh { place_of self.old.entries page ≡ None }
-        requires below { page < 1048576 }
+        requires below { page < most_pages }
         requires none_waits { self.old.drafted ≡ 0 }
         ensures slot { IfOk result (λ slot. slot ≡ slot_place self.old.page_size (length self.old.entries)) }
         ensures known { OnOk result (self.new ≡ record self.old { entries = self.old.entries ++ page ∷ [] }) }
@@ -262,7 +262,7 @@ impl Delta {
     /// nothing has changed.
     pub fn draft(&mut self, page: u32) -> Result<u32, RunError>
         requires fresh { place_of self.old.entries page ≡ None }
-        requires below { page < 1048576 }
+        requires below { page < most_pages }
         ensures slot { IfOk result (λ slot. slot ≡ slot_place self.old.page_size (length self.old.entries)) }
         ensures drafted { OnOk result (self.new ≡ record self.old { entries = self.old.entries ++ page ∷ []; drafted = self.old.drafted + 1 }) }
         ensures only_memory { IfErr result (λ error. (error ≡ RunError.Memory) × (self.new ≡ self.old)) }

@@ -1,4 +1,5 @@
 ghost use Rattle.std.specs.Prelude.{◌≡◌, ◌<◌, ◌≤◌, [], ◌∷◌, ◌++◌, length, None, IfSome, OnOk, OnErr, slice_index};
+ghost use Rattle.nb_fields.specs.Places.{most_pages};
 ghost use Rattle.nb_delta.specs.Entries.{place_of, AreEntries};
 
 use std::alloc::{AllocError, Global};
@@ -40,7 +41,7 @@ impl Entries {
     /// How many entries there are.
     pub fn len(&self) -> u32
         ensures value { result ≡ length self.now }
-        ensures most { result ≤ 1048576 }
+        ensures most { result ≤ most_pages }
         ensures apart { AreEntries self.now }
     {
         self.pages.len() as u32
@@ -50,7 +51,7 @@ impl Entries {
     pub fn page_at(&self, place: u32) -> u32
         requires { place < length self.now }
         ensures value { result ≡ slice_index self.now place }
-        ensures below { result < 1048576 }
+        ensures below { result < most_pages }
         ensures apart { AreEntries self.now }
     {
         self.pages[place as usize]
@@ -60,7 +61,7 @@ impl Entries {
     pub fn place_of(&self, page: u32) -> Option<u32>
         ensures value { result ≡ place_of self.now page }
         ensures inside { IfSome result (λ place. place < length self.now) }
-        ensures few { length self.now ≤ 1048576 }
+        ensures few { length self.now ≤ most_pages }
     {
         self.places.get(&page).copied()
     }
@@ -68,8 +69,8 @@ impl Entries {
     /// Adds an entry at the end. Where it fails, nothing has changed.
     pub fn add(&mut self, page: u32) -> Result<(), AllocError>
         requires fresh { place_of self.old page ≡ None }
-        requires below { page < 1048576 }
-        ensures room { length self.old < 1048576 }
+        requires below { page < most_pages }
+        ensures room { length self.old < most_pages }
         ensures ok { OnOk result (self.new ≡ self.old ++ page ∷ []) }
         ensures err { OnErr result (self.new ≡ self.old) }
     {

@@ -1,5 +1,5 @@
 ghost use Rattle.std.specs.Prelude.{◌≡◌, ◌<◌, ◌≤◌, IsTrue};
-ghost use Rattle.nb_fields.specs.Places.{is_page_size, slots_in};
+ghost use Rattle.nb_fields.specs.Places.{is_page_size, slots_in, most_pages};
 ghost use Rattle.nb_fields.specs.Table.{slot_place, alloc_place};
 
 /// How many entries an allocation page has room for.
@@ -17,7 +17,7 @@ pub fn slots_in(size: u32) -> u32
 #[tactic(auto, unfolding(nb_fields::specs::Table::slot_place))]
 pub fn slot_of(size: u32, place: u32) -> u32
     requires size { IsTrue (is_page_size size) }
-    requires place { place ≤ 1048576 }
+    requires place { place ≤ most_pages }
     ensures value { result ≡ slot_place size place }
     ensures most { result ≤ 2097153 }
 {

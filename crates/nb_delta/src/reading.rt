@@ -2,7 +2,7 @@
 ghost use Rattle.std.specs.Prelude.{◌≡◌, ◌≢◌, ℕ, suc, ◌+◌, ◌*◌, ◌/◌, ◌<◌, ◌≤◌, IsTrue, true, false, List, [], length, Some, Result, IfOk, IfErr, OnOk};
 ghost use Rattle.nb_host.specs.declared.faults.Fault.TheVariants.{Device};
 ghost use Rattle.nb_host.specs.Causes.{CountsDevice, CountsFault};
-ghost use Rattle.nb_fields.specs.Places.{is_page_size, slots_in};
+ghost use Rattle.nb_fields.specs.Places.{is_page_size, slots_in, most_pages};
 ghost use Rattle.nb_fields.specs.Table.{page_in, alloc_place, entries_from, groups_from, table_of};
 ghost use Rattle.nb_page.specs.Quiet.{Quiet};
 ghost use Rattle.nb_delta.specs.Reading.{is_unfit, Counts, Reads, ReadsOn, ReadsGroup};
@@ -33,7 +33,7 @@ fn read_entry(page: &[u8], at: u32, i: u32, len: u64, entries: &mut Entries) -> 
     ensures answer { (bytes : List ℕ) → (left : ℕ) → length bytes ≡ len → page_in (length page.now) bytes at ≡ page.now
         → ReadsOn (entries_from (length page.now) at i (suc left) bytes entries.old) result (entries_from (length page.now) at (i + 1) left bytes entries.new) }
     ensures more { OnOk result (length entries.new ≡ length entries.old + 1) }
-    ensures few { OnOk result (length entries.new ≤ 1048576) }
+    ensures few { OnOk result (length entries.new ≤ most_pages) }
     ensures whole { OnOk result ((at + 2 + i) * length page.now ≤ len) }
     ensures cause { IfErr result (λ fault. fault ≢ Device) }
 {
@@ -62,7 +62,7 @@ fn read_entries(
     ensures answer { (bytes : List ℕ) → length bytes ≡ len → page_in (length page.now) bytes at ≡ page.now
         → Reads (entries_from (length page.now) at 0 count bytes entries.old) result entries.new }
     ensures more { OnOk result (length entries.new ≡ length entries.old + count) }
-    ensures few { OnOk result (0 < count → length entries.new ≤ 1048576) }
+    ensures few { OnOk result (0 < count → length entries.new ≤ most_pages) }
     ensures whole { OnOk result (0 < count → (at + 1 + count) * length page.now ≤ len) }
     ensures cause { IfErr result (λ fault. fault ≢ Device) }
 {

@@ -4,7 +4,7 @@ ghost use Rattle.nb_host.specs.Crash.{LeavesAll, IsDurable};
 ghost use Rattle.nb_host.specs.Calls.{IsStill, IsSilent, CountsRead};
 ghost use Rattle.nb_host.specs.Moments.{Passes};
 ghost use Rattle.nb_host.specs.Causes.{CountsFault};
-ghost use Rattle.nb_fields.specs.Places.{is_page_size, slots_in};
+ghost use Rattle.nb_fields.specs.Places.{is_page_size, slots_in, most_pages};
 ghost use Rattle.nb_fields.specs.Table.{slot_place};
 ghost use Rattle.nb_change.specs.Changes.{Only, NoNames, Changes, Moved, Remade};
 ghost use Rattle.nb_delta.specs.Entries.{place_of};
@@ -57,7 +57,7 @@ fn make_room<H: Host>(
     page: &mut [u8],
 ) -> Result<(), HostFault>
     requires size { IsTrue (is_page_size (length page.old)) }
-    requires place { place < 1048576 }
+    requires place { place < most_pages }
     ensures room { IsTrue H.tells → OnOk result (MakesRoom (length page.old) place ((H.world host.old).files name.now) ((H.world host.new).files name.now)) }
     ensures changes { IsTrue H.tells
         → Changes (H.world host.old) (H.world host.new) (Only name.now) (Moved (H.world host.old) name.now (Keeps (length page.old) place)) }
@@ -84,7 +84,7 @@ fn put_slot<H: Host>(
 ) -> Result<(), HostFault>
     requires size { IsTrue (is_page_size (length bytes.now)) }
     requires room { length page.old ≡ length bytes.now }
-    requires place { place < 1048576 }
+    requires place { place < most_pages }
     ensures prepared { IsTrue H.tells → OnOk result (Prepared (length bytes.now) place bytes.now ((H.world host.old).files name.now) ((H.world host.new).files name.now)) }
     ensures durable { IsTrue H.tells → OnOk result (IsDurable (H.world host.new) name.now ((H.world host.new).files name.now)) }
     ensures changes { IsTrue H.tells

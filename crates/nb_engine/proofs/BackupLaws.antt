@@ -1,6 +1,7 @@
 -- How a backup begins and ends by its turn.
 use Rattle.std.proofs.Common.{◌≡◌, ℕ, ◌+◌, List, [], ◌∷◌, refl, sym, ap, subst, ◌∙◌}
 use Rattle.std.specs.Prelude.{true, Option, Some, None, Result, Ok, Err}
+use Rattle.nb_fields.specs.States.{normal_state}
 use Rattle.nb_host.specs.World.{World}
 use Rattle.nb_host.specs.declared.faults.Fault.{Fault}
 use Rattle.nb_host.specs.declared.faults.Fault.TheVariants.{Refused as RefusedFault, Device, Memory}
@@ -42,7 +43,7 @@ begun s = record {
 
 begin_is : (s : Seen) → read_only s.base.image ≡ None → begin_turn s ≡ unless s (begin_cause s.base.image) (begun s)
 unfolding begin_turn
-begin_is s free = ap (λ (c : Cause). unless s c (begun s)) (first_next (read_only s.base.image) (not_state 0 s.base.image ∷ no_scn s.base.image ∷ []) free)
+begin_is s free = ap (λ (c : Cause). unless s c (begun s)) (first_next (read_only s.base.image) (not_state normal_state s.base.image ∷ no_scn s.base.image ∷ []) free)
 
 pub begin_closed : (s : Seen) (r : Refusal) → read_only s.base.image ≡ Some r → begin_turn s ≡ says s (Refused r) []
 unfolding begin_turn
@@ -176,7 +177,7 @@ module _ (old new : World) (a b : Held) (t : Trail) (s : Seen) (is : IsOpen old 
 module _ (t : Trail) (guid : List ℕ) (ask : Option Ask) where
   pub not_started : {r : Refusal} (w : World) (a : Held) → Quiet w w → IsOpen w a t → read_only t.base.image ≡ Some r → Starts (Err (RefusedFault r)) w w a a t guid ask
   not_started {r = r} w a quiet is closed = record {
-    test = first_here (read_only t.base.image) (not_state 0 t.base.image ∷ no_scn t.base.image ∷ []) r closed;
+    test = first_here (read_only t.base.image) (not_state normal_state t.base.image ∷ no_scn t.base.image ∷ []) r closed;
     left = none_yet w w a t _ quiet is;
     opened = tt;
     answer = tt;
@@ -190,7 +191,7 @@ module _ (t : Trail) (guid : List ℕ) (ask : Option Ask) where
 
   pub started : (result : Result ℕ Fault) (old new : World) (a b : Held) → read_only t.base.image ≡ None → Begins result old new a b t guid ask → Starts result old new a b t guid ask
   started result old new a b free begins =
-      let same : starting_cause t.base.image ≡ begin_cause t.base.image = first_next (read_only t.base.image) (not_state 0 t.base.image ∷ no_scn t.base.image ∷ []) free in
+      let same : starting_cause t.base.image ≡ begin_cause t.base.image = first_next (read_only t.base.image) (not_state normal_state t.base.image ∷ no_scn t.base.image ∷ []) free in
       record {
         test = subst (λ (c : Cause). Tested result c) (sym same) begins.test;
         left = subst (λ (c : Cause). Strikes old new (name_of a) t (unless_by c (begin guid ask ∷ []))) (sym same) begins.left;

@@ -5,6 +5,7 @@ use Rattle.std.proofs.lemmas.List.{append-nil, drop_all}
 use Rattle.nb_fields.proofs.PageLemmas.{padded_whole}
 use Rattle.nb_fields.specs.Page.{with_payload}
 use Rattle.nb_fields.specs.Places.{is_page_size}
+use Rattle.nb_fields.specs.Kinds.{data_kind}
 use Rattle.nb_host.specs.World.{World}
 use Rattle.nb_host.specs.declared.faults.Fault.{Fault}
 use Rattle.nb_host.specs.declared.refusals.Refusal.{Refusal}
@@ -31,18 +32,18 @@ use Rattle.nb_engine.proofs.LinkLaws.{any_strokes}
 use Rattle.nb_engine.proofs.NewTurn.{well_of}
 
 -- a data page is below the length
-pub data_there : (image : Image) (p : ℕ) → not_kind image 5 p ≡ None → p < length image
-data_there image p kind = (is_kind-parts image 5 p (none_of (is_kind image 5 p) (NotDatabase p) kind)).0
+pub data_there : (image : Image) (p : ℕ) → not_kind image data_kind p ≡ None → p < length image
+data_there image p kind = (is_kind-parts image data_kind p (none_of (is_kind image data_kind p) (NotDatabase p) kind)).0
 
 -- why it isn't written
-pub none_there : (image : Image) (p : ℕ) (r : Refusal) → not_kind image 5 p ≡ Some r → data_cause image p ≡ Some r
-none_there image p r e = first_here (not_kind image 5 p) (entry_cause image p ∷ []) r e
+pub none_there : (image : Image) (p : ℕ) (r : Refusal) → not_kind image data_kind p ≡ Some r → data_cause image p ≡ Some r
+none_there image p r e = first_here (not_kind image data_kind p) (entry_cause image p ∷ []) r e
 
-pub by_entry : (image : Image) (p : ℕ) → not_kind image 5 p ≡ None → entry_cause image p ≡ data_cause image p
-by_entry image p kind = sym (first_next (not_kind image 5 p) (entry_cause image p ∷ []) kind ∙ one_cause (entry_cause image p))
+pub by_entry : (image : Image) (p : ℕ) → not_kind image data_kind p ≡ None → entry_cause image p ≡ data_cause image p
+by_entry image p kind = sym (first_next (not_kind image data_kind p) (entry_cause image p ∷ []) kind ∙ one_cause (entry_cause image p))
 
 -- A data page that was read is written with what these bytes have after the head.
-pub put_tries : {T : Type 0} (result : Result T Fault) (old mid new : World) (a b c : Held) (t : Trail) (p : ℕ) (bytes : Page) → IsOpen old a t → IsTrue (is_page_size a.files.page_size) → not_kind t.base.image 5 p ≡ None
+pub put_tries : {T : Type 0} (result : Result T Fault) (old mid new : World) (a b c : Held) (t : Trail) (p : ℕ) (bytes : Page) → IsOpen old a t → IsTrue (is_page_size a.files.page_size) → not_kind t.base.image data_kind p ≡ None
     → but_pages b ≡ but_pages a → Quiet old mid → Tries result mid new b c t (entry_cause t.base.image p) (page_strokes t.base.image p 5 (drop 16 bytes)) → Tries result old new a c t (data_cause t.base.image p) (put_data p bytes t.base.image).strokes
 put_tries result old mid new a b c t p bytes is size kind same quiet tries =
     let image = t.base.image in
@@ -53,7 +54,7 @@ put_tries result old mid new a b c t p bytes is size kind same quiet tries =
 
 -- in a sound database it isn't refused
 pub data_sure : {T : Type 0} (result : Result T Fault) (w : World) (held : Held) (t : Trail) (p : ℕ) → IsOpen w held t → IsTrue (is_page_size held.files.page_size) → IsSoundImage t.base.image → 0 < p
-    → not_kind t.base.image 5 p ≡ None → Tested result (data_cause t.base.image p) → IfErr result IsNoRefusal
+    → not_kind t.base.image data_kind p ≡ None → Tested result (data_cause t.base.image p) → IfErr result IsNoRefusal
 data_sure result w held t p is size sound some kind =
     let image = t.base.image in
     let scn : image_scn image < 4294967296 = omega (arith, is.agrees.scn, is.agrees.four) in

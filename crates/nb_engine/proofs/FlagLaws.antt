@@ -5,6 +5,7 @@ use Rattle.std.specs.Prelude.{Bool, true, false}
 use Rattle.std.proofs.lemmas.List.{take-append-le, take-take, length-take-le}
 use Rattle.nb_fields.specs.Bytes.{bytes_of, with_part, is_zeros}
 use Rattle.nb_fields.specs.Header.{is_header}
+use Rattle.nb_fields.specs.States.{normal_state}
 use Rattle.nb_model.specs.declared.reply.Reply.TheVariants.{Done}
 use Rattle.nb_model.specs.Image.{Page, Image, first_page}
 use Rattle.nb_model.specs.Lines.{flag}
@@ -48,6 +49,6 @@ pub forced_is : (s : Seen) (on : Bool) → forced_turn s on ≡ unless s (read_o
 unfolding forced_turn
 forced_is s on = refl
 
-pub access_is : (s : Seen) (closed : Bool) → access_turn s closed ≡ unless s (not_state 0 s.base.image) (says s Done (byte_strokes 65 (flag closed) s.base.image))
+pub access_is : (s : Seen) (closed : Bool) → access_turn s closed ≡ unless s (not_state normal_state s.base.image) (says s Done (byte_strokes 65 (flag closed) s.base.image))
 unfolding access_turn
 access_is s closed = refl

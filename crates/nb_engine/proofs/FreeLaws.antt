@@ -1,6 +1,7 @@
 -- Giving a page back, by the causes of its turn.
 use Rattle.std.proofs.Common.{◌≡◌, ℕ, List, [], ◌∷◌, refl, sym, ap, ◌∙◌}
 use Rattle.std.specs.Prelude.{true, false, Some, None}
+use Rattle.nb_fields.specs.Kinds.{inventory_kind}
 use Rattle.nb_host.specs.declared.refusals.Refusal.{Refusal}
 use Rattle.nb_host.specs.declared.refusals.Refusal.TheVariants.{Access}
 use Rattle.nb_model.specs.declared.reply.Reply.TheVariants.{Refused, Done}
@@ -35,7 +36,7 @@ module _ (s : Seen) (p : ℕ) where
     unfolding free_turn
     free_closed r e = refused_by s causes draft Done r (first_next (not_raw image p) (read_only image ∷ []) raw ∙ first_here (read_only image) [] r e)
 
-    form : not_kind image 2 (inventory_of image p) ≡ None
+    form : not_kind image inventory_kind (inventory_of image p) ≡ None
     form = (is_raw image p raw).form
 
     -- what marking the page finds is all that may still refuse it

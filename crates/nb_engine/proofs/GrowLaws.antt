@@ -12,6 +12,7 @@ use Rattle.nb_model.specs.Image.{Page, Image, image_size, image_scn, with_page}
 use Rattle.nb_model.specs.Strokes.{Stroke, merged_page}
 use Rattle.nb_model.specs.Trail.{Trail}
 use Rattle.nb_fields.specs.Places.{is_page_size}
+use Rattle.nb_fields.specs.Kinds.{data_kind}
 use Rattle.nb_model.proofs.SearchLaws.{draft_cause}
 use Rattle.nb_model.proofs.StepLaws.{kind_parts}
 use Rattle.nb_alloc.specs.Put.{entry_cause}
@@ -72,7 +73,7 @@ module _ (chain : Chain) (slots : List ℕ) where
   -- the strokes of it
   pub grown_strokes : (image : Image) (pages : List ℕ)
       → (grown chain pages slots (drafted image)).0.strokes
-      ≡ (made_behind image).0.strokes ++ (put (last_of pages) 5 (linked_payload (made_behind image).0.image (last_of pages) (made_behind image).1) (drafted (made_behind image).0.image)).strokes
+      ≡ (made_behind image).0.strokes ++ (put (last_of pages) data_kind (linked_payload (made_behind image).0.image (last_of pages) (made_behind image).1) (drafted (made_behind image).0.image)).strokes
   unfolding grown
   grown_strokes image pages =
       ap (λ (d : Draft). d.strokes) (join_put (last_of pages) 5 (linked_payload (made_behind image).0.image (last_of pages) (made_behind image).1) (made_behind image).0)
@@ -116,7 +117,7 @@ module _ (chain : Chain) (slots : List ℕ) where
     entry = ap (λ (x : Image). entry_cause x last) seen ∙ free.entry
 
     after_long : last < length u.base.image
-    after_long = (kind_parts u.base.image 5 last (ap (λ (x : Image). is_kind x 5 last) seen ∙ free.kind)).0
+    after_long = (kind_parts u.base.image data_kind last (ap (λ (x : Image). is_kind x data_kind last) seen ∙ free.kind)).0
 
     pub link_free : write_cause u.base.image last ≡ None
     link_free = sym (write_low u.base.image last after_long) ∙ entry
@@ -124,9 +125,9 @@ module _ (chain : Chain) (slots : List ℕ) where
     pub strokes_are : (number : ℕ) → number ≡ (made_behind image).1 → xs ++ page_strokes u.base.image last 5 (linked_payload u.base.image last number) ≡ (grown chain pages slots (drafted image)).0.strokes
     strokes_are number same =
         ap (λ (ss : List Stroke). xs ++ ss) (page_strokes_are u.base last 5 (linked_payload u.base.image last number) size entry)
-        ∙ ap (λ (x : Image). xs ++ (put last 5 (linked_payload x last number) (drafted x)).strokes) seen
-        ∙ ap (λ (n : ℕ). xs ++ (put last 5 (linked_payload (made_behind image).0.image last n) (drafted (made_behind image).0.image)).strokes) same
-        ∙ ap (λ (n : ℕ). xs ++ (put n 5 (linked_payload (made_behind image).0.image n (made_behind image).1) (drafted (made_behind image).0.image)).strokes) last_is ∙ sym (grown_strokes image pages)
+        ∙ ap (λ (x : Image). xs ++ (put last data_kind (linked_payload x last number) (drafted x)).strokes) seen
+        ∙ ap (λ (n : ℕ). xs ++ (put last data_kind (linked_payload (made_behind image).0.image last n) (drafted (made_behind image).0.image)).strokes) same
+        ∙ ap (λ (n : ℕ). xs ++ (put n data_kind (linked_payload (made_behind image).0.image n (made_behind image).1) (drafted (made_behind image).0.image)).strokes) last_is ∙ sym (grown_strokes image pages)
 
     abbrev all : List Stroke
     all = (grown chain pages slots (drafted image)).0.strokes

@@ -1,6 +1,7 @@
 -- Where a slot is kept for a row of the history, and why none is.
 use Rattle.std.proofs.Common.{◌≡◌, ℕ, ◌<◌, List, [], ◌∷◌, length, refl, sym, ap, ◌∙◌, arith}
 use Rattle.std.specs.Prelude.{Bool, true, false, Option, Some, None}
+use Rattle.nb_fields.specs.Places.{most_pages}
 use Rattle.nb_host.specs.declared.refusals.Refusal.TheVariants.{Full}
 use Rattle.nb_alloc.proofs.TestLaws.{rests}
 use Rattle.nb_model.proofs.ReadLaws.{lt_no}
@@ -71,7 +72,7 @@ skip None b cs e = ap (λ (x : Cause). first_cause (x ∷ cs)) e
 skip (Some r) b cs e = refl
 
 no_room_of : (d : Draft) → d.full ≡ false → no_room d ≡ None
-no_room_of d e = ap (λ (t : Bool). when t (Full 1048576)) e
+no_room_of d e = ap (λ (t : Bool). when t (Full most_pages)) e
 
 module _ (image : Image) where
   abbrev grows : Draft × ℕ

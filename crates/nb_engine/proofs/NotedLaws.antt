@@ -10,6 +10,7 @@ use Rattle.nb_fields.proofs.NumberLemmas.{length-bytes_of}
 use Rattle.nb_fields.proofs.PartLemmas.{length-with_part}
 use Rattle.nb_fields.proofs.PlaceLemmas.{entries-least}
 use Rattle.nb_fields.proofs.SizeLemmas.{SizeFacts, size_facts}
+use Rattle.nb_fields.specs.Kinds.{inventory_kind, data_kind, scn_kind}
 use Rattle.nb_host.specs.declared.refusals.Refusal.TheVariants.{NotDatabase}
 use Rattle.nb_model.specs.Causes.{not_kind, when, lowest_of, lowest_broken}
 use Rattle.nb_model.specs.Image.{Page, Image, page_at, image_size, image_scn}
@@ -196,9 +197,9 @@ module _ (x : Image) (p : ℕ) (inside : scn_page_of x p < length x) where
   place_same : (d : Draft) → image_size d.image ≡ image_size x → scn_page_of d.image p ≡ s
   place_same d same = ap (λ (n : ℕ). scn_place n (p / entries_in n)) same
 
-  notes_entry : (e : Draft) (ps : List ℕ) → Notes x e ps → (is_kind e.image 10 s ≡ true) ⊎ In s e.broken → Notes x (entry_written p e) ps
+  notes_entry : (e : Draft) (ps : List ℕ) → Notes x e ps → (is_kind e.image scn_kind s ≡ true) ⊎ In s e.broken → Notes x (entry_written p e) ps
   unfolding entry_written
-  notes_entry e ps h met = notes_written x e ps (scn_page_of e.image p) 10 (drop 16 entries) h some low room (subst (λ (n : ℕ). (is_kind e.image 10 n ≡ true) ⊎ In n e.broken) (sym at) met)
+  notes_entry e ps h met = notes_written x e ps (scn_page_of e.image p) 10 (drop 16 entries) h some low room (subst (λ (n : ℕ). (is_kind e.image scn_kind n ≡ true) ⊎ In n e.broken) (sym at) met)
     where
       at : scn_page_of e.image p ≡ s
       at = place_same e h.size
@@ -244,19 +245,19 @@ module _ (x : Image) (p : ℕ) (inside : scn_page_of x p < length x) where
       e : Draft
       e = needs 10 (scn_page_of d.image p) d
 
-      asked : Notes x e (other_kind x 10 s ++ ps)
-      asked = subst (λ (n : ℕ). Notes x (needs 10 n d) (other_kind x 10 s ++ ps)) (sym (place_same d h.size)) (notes_needs x d ps 10 s h)
+      asked : Notes x e (other_kind x scn_kind s ++ ps)
+      asked = subst (λ (n : ℕ). Notes x (needs 10 n d) (other_kind x scn_kind s ++ ps)) (sym (place_same d h.size)) (notes_needs x d ps 10 s h)
 
-      met : (is_kind e.image 10 s ≡ true) ⊎ In s e.broken
+      met : (is_kind e.image scn_kind s ≡ true) ⊎ In s e.broken
       met = subst (λ (n : ℕ). (is_kind (needs 10 n d).image 10 s ≡ true) ⊎ In s (needs 10 n d).broken) (sym (place_same d h.size)) (needs_met 10 s d)
 
       by : (t : Bool) → has_entry x p ≡ t → Notes x (raised p d) (entry_broken x p ++ ps)
       by true f =
-          subst (λ (qs : List ℕ). Notes x (raised p d) (qs ++ ps)) (sym (ap (λ (t : Bool). elim t as (λ z. List ℕ) [ true ↦ other_kind x 10 s | false ↦ [] ]) f))
-          (subst (λ (t : Bool). Notes x (elim t as (λ z. Draft) [ true ↦ entry_raised p e | false ↦ d ]) (other_kind x 10 s ++ ps)) (sym (same_entry ∙ f))
-          (notes_chosen (nat_lt (scn_entry e.image p) (image_scn e.image)) (entry_written p e) e (other_kind x 10 s ++ ps) (notes_entry e (other_kind x 10 s ++ ps) asked met) asked))
+          subst (λ (qs : List ℕ). Notes x (raised p d) (qs ++ ps)) (sym (ap (λ (t : Bool). elim t as (λ z. List ℕ) [ true ↦ other_kind x scn_kind s | false ↦ [] ]) f))
+          (subst (λ (t : Bool). Notes x (elim t as (λ z. Draft) [ true ↦ entry_raised p e | false ↦ d ]) (other_kind x scn_kind s ++ ps)) (sym (same_entry ∙ f))
+          (notes_chosen (nat_lt (scn_entry e.image p) (image_scn e.image)) (entry_written p e) e (other_kind x scn_kind s ++ ps) (notes_entry e (other_kind x scn_kind s ++ ps) asked met) asked))
       by false f =
-          subst (λ (qs : List ℕ). Notes x (raised p d) (qs ++ ps)) (sym (ap (λ (t : Bool). elim t as (λ z. List ℕ) [ true ↦ other_kind x 10 s | false ↦ [] ]) f))
+          subst (λ (qs : List ℕ). Notes x (raised p d) (qs ++ ps)) (sym (ap (λ (t : Bool). elim t as (λ z. List ℕ) [ true ↦ other_kind x scn_kind s | false ↦ [] ]) f))
           (subst (λ (t : Bool). Notes x (elim t as (λ z. Draft) [ true ↦ entry_raised p e | false ↦ d ]) ps) (sym (same_entry ∙ f)) h)
 
   -- and page p is written after it
@@ -296,10 +297,10 @@ module _ (x : Image) (shaped : IsShaped x) (q : ℕ) (some : 1 ≤ q) (below : q
   pub notes_given : (d : Draft) (ps : List ℕ) → Notes x d ps → Notes x (give_page q d) (give_broken x q ++ ps)
   unfolding set_bit
   notes_given d ps h =
-      subst (λ (n : ℕ). Notes x (put n 2 (drop 16 (with_bit (bit_number d.image q) 1 (page_at d.image n))) (needs 2 n d)) (give_broken x q ++ ps)) (sym at)
-      (subst (Notes x (put i 2 payload (needs 2 i d))) (sym (append_assoc (entry_broken x i) (other_kind x 2 i) ps))
-      (notes_put x i entry_low (needs 2 i d) (other_kind x 2 i ++ ps) 2 payload asked map_some map_low room
-      (kept_raised i 2 i (needs 2 i d) x (other_kind x 2 i ++ ps) asked (notes_raised x i entry_low (needs 2 i d) (other_kind x 2 i ++ ps) asked) (needs_met 2 i d))))
+      subst (λ (n : ℕ). Notes x (put n inventory_kind (drop 16 (with_bit (bit_number d.image q) 1 (page_at d.image n))) (needs 2 n d)) (give_broken x q ++ ps)) (sym at)
+      (subst (Notes x (put i inventory_kind payload (needs 2 i d))) (sym (append_assoc (entry_broken x i) (other_kind x inventory_kind i) ps))
+      (notes_put x i entry_low (needs 2 i d) (other_kind x inventory_kind i ++ ps) 2 payload asked map_some map_low room
+      (kept_raised i inventory_kind i (needs 2 i d) x (other_kind x inventory_kind i ++ ps) asked (notes_raised x i entry_low (needs 2 i d) (other_kind x inventory_kind i ++ ps) asked) (needs_met 2 i d))))
     where
       at : inventory_of d.image q ≡ i
       at = ap (λ (n : ℕ). inventory_place n (q / bits_in n)) h.size
@@ -307,7 +308,7 @@ module _ (x : Image) (shaped : IsShaped x) (q : ℕ) (some : 1 ≤ q) (below : q
       payload : List ℕ
       payload = drop 16 (with_bit (bit_number d.image q) 1 (page_at d.image i))
 
-      asked : Notes x (needs 2 i d) (other_kind x 2 i ++ ps)
+      asked : Notes x (needs 2 i d) (other_kind x inventory_kind i ++ ps)
       asked = notes_needs x d ps 2 i h
 
       room : 16 + length payload ≤ image_size x
@@ -321,15 +322,15 @@ module _ (x : Image) (shaped : IsShaped x) (q : ℕ) (some : 1 ≤ q) (below : q
 
   -- Where all that it changes is of its kind, it isn't refused, and each page keeps its kind, a data page its bytes.
   module _ (none : give_broken x q ≡ []) where
-    parts : (entry_broken x i ≡ []) × (other_kind x 2 i ≡ [])
-    parts = both_empty (entry_broken x i) (other_kind x 2 i) none
+    parts : (entry_broken x i ≡ []) × (other_kind x inventory_kind i ≡ [])
+    parts = both_empty (entry_broken x i) (other_kind x inventory_kind i) none
 
-    map : is_kind x 2 i ≡ true
+    map : is_kind x inventory_kind i ≡ true
     map = none_broken x 2 i parts.1
 
     pub given_cause : mark_cause x q ≡ None
     given_cause =
-        first_next (not_kind x 2 i) (entry_cause x i ∷ []) (ap (λ (t : Bool). when (not t) (NotDatabase i)) map)
+        first_next (not_kind x inventory_kind i) (entry_cause x i ∷ []) (ap (λ (t : Bool). when (not t) (NotDatabase i)) map)
         ∙ first_next (entry_cause x i) [] (no_entry_broken x i parts.0) ∙ first_none
 
     after : Image
@@ -342,9 +343,9 @@ module _ (x : Image) (shaped : IsShaped x) (q : ℕ) (some : 1 ≤ q) (below : q
     kind_kept kind r = elim (notes.kinds kind r) [ inl same ↦ same | inr found ↦ absurd (subst (λ (ps : List ℕ). In r (ps ++ [])) none (notes.to r found)) ]
 
     entry_there : HasItsEntry x i
-    entry_there has = none_broken x 10 (scn_page_of x i) (sym (ap (λ (t : Bool). elim t as (λ z. List ℕ) [ true ↦ other_kind x 10 (scn_page_of x i) | false ↦ [] ]) has) ∙ parts.0)
+    entry_there has = none_broken x 10 (scn_page_of x i) (sym (ap (λ (t : Bool). elim t as (λ z. List ℕ) [ true ↦ other_kind x scn_kind (scn_page_of x i) | false ↦ [] ]) has) ∙ parts.0)
 
-    data_kept : (r : ℕ) → is_kind x 5 r ≡ true → page_at (give_page q (drafted x)).image r ≡ page_at x r
+    data_kept : (r : ℕ) → is_kind x data_kind r ≡ true → page_at (give_page q (drafted x)).image r ≡ page_at x r
     unfolding set_bit
     data_kept r data_page =
         let payload : List ℕ = drop 16 (with_bit (bit_number x q) 1 (page_at x i)) in
@@ -352,14 +353,14 @@ module _ (x : Image) (shaped : IsShaped x) (q : ℕ) (some : 1 ≤ q) (below : q
         let page : length (page_at x i) ≡ image_size x = all_at (λ page. length page ≡ image_size x) x shaped.sizes i map_low in
         let bits = with_bit_length (bit_number x q) 1 (page_at x i) in
         let room : 16 + length payload ≤ image_size x = omega (arith, facts.at_least, page, bits, length-drop 16 (with_bit (bit_number x q) 1 (page_at x i))) in
-        let puts : Puts x i 2 payload (put i 2 payload (drafted x)) = put_on x i 2 payload shaped entry_there map_some (omega (arith, map_low)) room in
-        let other_map : r ≢ i = λ e. absurd (omega (arith, sym (kind_parts x 5 r data_page).1 ∙ ap (λ (n : ℕ). kind_of (page_at x n)) e ∙ (kind_parts x 2 i map).1)) in
-        ap (λ (d : Draft). page_at (put i 2 payload d).image r) (needs_found x 2 i map) ∙ puts.on.others r other_map (λ e. no_entry r data_page e)
+        let puts : Puts x i 2 payload (put i inventory_kind payload (drafted x)) = put_on x i 2 payload shaped entry_there map_some (omega (arith, map_low)) room in
+        let other_map : r ≢ i = λ e. absurd (omega (arith, sym (kind_parts x data_kind r data_page).1 ∙ ap (λ (n : ℕ). kind_of (page_at x n)) e ∙ (kind_parts x inventory_kind i map).1)) in
+        ap (λ (d : Draft). page_at (put i inventory_kind payload d).image r) (needs_found x 2 i map) ∙ puts.on.others r other_map (λ e. no_entry r data_page e)
       where
-        no_entry : (r : ℕ) → is_kind x 5 r ≡ true → r ≡ scn_page_of x i → ⊥
+        no_entry : (r : ℕ) → is_kind x data_kind r ≡ true → r ≡ scn_page_of x i → ⊥
         no_entry r data_page e =
-            let ten : is_kind x 10 (scn_page_of x i) ≡ true = entry_there (inventory_has x (q / bits_in (image_size x)) shaped.size) in
-            absurd (omega (arith, sym (kind_parts x 5 r data_page).1 ∙ ap (λ (n : ℕ). kind_of (page_at x n)) e ∙ (kind_parts x 10 (scn_page_of x i) ten).1))
+            let ten : is_kind x scn_kind (scn_page_of x i) ≡ true = entry_there (inventory_has x (q / bits_in (image_size x)) shaped.size) in
+            absurd (omega (arith, sym (kind_parts x data_kind r data_page).1 ∙ ap (λ (n : ℕ). kind_of (page_at x n)) e ∙ (kind_parts x scn_kind (scn_page_of x i) ten).1))
 
 -- one image in place of another: the same kinds, and the same data pages
 pub record IsGivenOn (x y : Image) : Type 0 where
@@ -367,7 +368,7 @@ pub record IsGivenOn (x y : Image) : Type 0 where
   pub size : image_size y ≡ image_size x
   pub long : length y ≡ length x
   pub kinds : (kind r : ℕ) → is_kind y kind r ≡ is_kind x kind r
-  pub kept : (r : ℕ) → is_kind x 5 r ≡ true → page_at y r ≡ page_at x r
+  pub kept : (r : ℕ) → is_kind x data_kind r ≡ true → page_at y r ≡ page_at x r
 
 pub given_on : (x : Image) (shaped : IsShaped x) (q : ℕ) (some : 1 ≤ q) (below : q < length x) → give_broken x q ≡ [] → IsGivenOn x (give_page q (drafted x)).image
 given_on x shaped q some below none =
@@ -379,8 +380,8 @@ pub give_by : (x y : Image) (q : ℕ) → image_size y ≡ image_size x → ((ki
 give_by x y q size kinds =
     let at : inventory_of y q ≡ inventory_of x q = ap (λ (n : ℕ). inventory_place n (q / bits_in n)) size in
     let i : ℕ = inventory_of x q in
-    ap (λ (n : ℕ). entry_broken y n ++ other_kind y 2 n) at
-    ∙ ap (λ (ps : List ℕ). ps ++ other_kind y 2 i) (entry_by x y i size ∙ ap (λ (ps : List ℕ). elim (has_entry x i) as (λ z. List ℕ) [ true ↦ ps | false ↦ [] ]) (other_by x y 10 (scn_page_of x i) (kinds 10 (scn_page_of x i))))
+    ap (λ (n : ℕ). entry_broken y n ++ other_kind y inventory_kind n) at
+    ∙ ap (λ (ps : List ℕ). ps ++ other_kind y inventory_kind i) (entry_by x y i size ∙ ap (λ (ps : List ℕ). elim (has_entry x i) as (λ z. List ℕ) [ true ↦ ps | false ↦ [] ]) (other_by x y 10 (scn_page_of x i) (kinds 10 (scn_page_of x i))))
     ∙ ap (λ (ps : List ℕ). entry_broken x i ++ ps) (other_by x y 2 i (kinds 2 i))
 
 pub give_same : (x y : Image) (q : ℕ) → IsGivenOn x y → give_broken y q ≡ give_broken x q

@@ -5,6 +5,7 @@ use Rattle.std.proofs.Math.Nat.{div-mul-le_self, le-div_iff_mul-le}
 use Rattle.nb_fields.specs.Page.{kind_of}
 use Rattle.nb_fields.specs.Places.{is_page_size, entries_in, bits_in, inventory_place, scn_place}
 use Rattle.nb_fields.proofs.PlaceLemmas.{entries-least}
+use Rattle.nb_fields.specs.Kinds.{inventory_kind, data_kind, scn_kind}
 use Rattle.nb_host.specs.declared.refusals.Refusal.{Refusal}
 use Rattle.nb_host.specs.declared.refusals.Refusal.TheVariants.{NotDatabase}
 use Rattle.nb_model.specs.Image.{Image, page_at, image_size}
@@ -92,17 +93,17 @@ module _ (image : Image) (p : ℕ) where
   abbrev second : Draft
   second = needs 10 s first
 
-  first_is : first.broken ≡ with_inventory (is_kind image 2 i)
+  first_is : first.broken ≡ with_inventory (is_kind image inventory_kind i)
   unfolding needs
-  first_is = by (is_kind image 2 i)
+  first_is = by (is_kind image inventory_kind i)
     where
       by : (t : Bool) → (elim t as (λ z. Draft) [ true ↦ drafted image | false ↦ record { image = image; strokes = []; broken = i ∷ []; full = false } ]).broken ≡ with_inventory t
       by true = refl
       by false = refl
 
-  needed : (d : Draft) → (needs 10 s d).broken ≡ with_scn (is_kind d.image 10 s) d.broken
+  needed : (d : Draft) → (needs 10 s d).broken ≡ with_scn (is_kind d.image scn_kind s) d.broken
   unfolding needs
-  needed d = by (is_kind d.image 10 s)
+  needed d = by (is_kind d.image scn_kind s)
     where
       by : (t : Bool) → (elim t as (λ z. Draft) [ true ↦ d | false ↦ record d { broken = s ∷ d.broken } ]).broken ≡ with_scn t d.broken
       by true = refl
@@ -116,16 +117,16 @@ module _ (image : Image) (p : ℕ) where
       by true = refl
       by false = refl
 
-  broken_is : (taken_draft image p).broken ≡ with_page (is_free_page image p) (with_scn (is_kind image 10 s) (with_inventory (is_kind image 2 i)))
+  broken_is : (taken_draft image p).broken ≡ with_page (is_free_page image p) (with_scn (is_kind image scn_kind s) (with_inventory (is_kind image inventory_kind i)))
   broken_is =
       taken second ∙ ap (λ (x : Image). with_page (is_free_page x p) second.broken) (needs_image 10 s first ∙ needs_image 2 i (drafted image))
-      ∙ ap (with_page (is_free_page image p)) (needed first ∙ ap (λ (x : Image). with_scn (is_kind x 10 s) first.broken) (needs_image 2 i (drafted image)) ∙ ap (with_scn (is_kind image 10 s)) first_is)
+      ∙ ap (with_page (is_free_page image p)) (needed first ∙ ap (λ (x : Image). with_scn (is_kind x scn_kind s) first.broken) (needs_image 2 i (drafted image)) ∙ ap (with_scn (is_kind image scn_kind s)) first_is)
 
-  form_is : (a b c : Bool) → is_kind image 2 i ≡ a → is_kind image 10 s ≡ b → is_free_page image p ≡ c → not_of_form (taken_draft image p) ≡ lowest_broken (with_page c (with_scn b (with_inventory a)))
+  form_is : (a b c : Bool) → is_kind image inventory_kind i ≡ a → is_kind image scn_kind s ≡ b → is_free_page image p ≡ c → not_of_form (taken_draft image p) ≡ lowest_broken (with_page c (with_scn b (with_inventory a)))
   form_is a b c e f g =
       ap lowest_broken
-      (broken_is ∙ ap (λ (t : Bool). with_page t (with_scn (is_kind image 10 s) (with_inventory (is_kind image 2 i)))) g
-      ∙ ap (λ (t : Bool). with_page c (with_scn t (with_inventory (is_kind image 2 i)))) f ∙ ap (λ (t : Bool). with_page c (with_scn b (with_inventory t))) e)
+      (broken_is ∙ ap (λ (t : Bool). with_page t (with_scn (is_kind image scn_kind s) (with_inventory (is_kind image inventory_kind i)))) g
+      ∙ ap (λ (t : Bool). with_page c (with_scn t (with_inventory (is_kind image inventory_kind i)))) f ∙ ap (λ (t : Bool). with_page c (with_scn b (with_inventory t))) e)
 
   abbrev cause : Cause
   cause = first_cause (not_of_form (taken_draft image p) ∷ no_scn image ∷ [])
@@ -140,12 +141,12 @@ module _ (image : Image) (p : ℕ) where
       none_some d = cc
   not_none false q r e = (refl, e)
 
-  module _ (size : IsTrue (is_page_size (image_size image))) (some : 1 ≤ p) (kind : kind_of (page_at image p) ≡ 5) where
+  module _ (size : IsTrue (is_page_size (image_size image))) (some : 1 ≤ p) (kind : kind_of (page_at image p) ≡ data_kind) where
     -- the inventory page
-    pub inventory_refused : (r : Refusal) → not_kind image 2 i ≡ Some r → cause ≡ Some r
+    pub inventory_refused : (r : Refusal) → not_kind image inventory_kind i ≡ Some r → cause ≡ Some r
     inventory_refused r e =
-        let both = not_none (is_kind image 2 i) i r e in
-        refused r (form_is false (is_kind image 10 s) (is_free_page image p) both.0 refl refl ∙ by (is_kind image 10 s) (is_free_page image p) ∙ both.1)
+        let both = not_none (is_kind image inventory_kind i) i r e in
+        refused r (form_is false (is_kind image scn_kind s) (is_free_page image p) both.0 refl refl ∙ by (is_kind image scn_kind s) (is_free_page image p) ∙ both.1)
       where
         low : i ≤ p
         low = inventory_most (image_size image) p some
@@ -159,33 +160,33 @@ module _ (image : Image) (p : ℕ) where
         by false true = three_of p s i low (omega (arith, less))
         by false false = two_of s i (omega (arith, less))
 
-    module _ (inventory : not_kind image 2 i ≡ None) where
-      is_inventory : is_kind image 2 i ≡ true
-      is_inventory = none_of (is_kind image 2 i) (NotDatabase i) inventory
+    module _ (inventory : not_kind image inventory_kind i ≡ None) where
+      is_inventory : is_kind image inventory_kind i ≡ true
+      is_inventory = none_of (is_kind image inventory_kind i) (NotDatabase i) inventory
 
       two : 2 ≤ p
       two =
           let low = inventory_most (image_size image) p some in
           let least = inventory_place_some (image_size image) (p / bits_in (image_size image)) size in
-          let other : i ≢ p = λ e. two_five (sym (is_kind-parts image 2 i is_inventory).1 ∙ ap (λ (n : ℕ). kind_of (page_at image n)) e ∙ kind) in
+          let other : i ≢ p = λ e. two_five (sym (is_kind-parts image inventory_kind i is_inventory).1 ∙ ap (λ (n : ℕ). kind_of (page_at image n)) e ∙ kind) in
           omega (arith, low, least, other)
         where
           two_five : ◌≡◌ {A = ℕ} 2 5 → ⊥
           two_five e = absurd (omega (arith, e))
 
       -- the SCN page
-      pub scn_refused : (r : Refusal) → not_kind image 10 s ≡ Some r → cause ≡ Some r
+      pub scn_refused : (r : Refusal) → not_kind image scn_kind s ≡ Some r → cause ≡ Some r
       scn_refused r e =
-          let both = not_none (is_kind image 10 s) s r e in
+          let both = not_none (is_kind image scn_kind s) s r e in
           refused r (form_is true false (is_free_page image p) is_inventory both.0 refl ∙ by (is_free_page image p) ∙ both.1)
         where
           by : (c : Bool) → lowest_broken (with_page c (s ∷ [])) ≡ Some (NotDatabase s)
           by true = two_of p s (scn_most (image_size image) p two)
           by false = one s
 
-      module _ (scn_page : not_kind image 10 s ≡ None) where
-        is_scn_page : is_kind image 10 s ≡ true
-        is_scn_page = none_of (is_kind image 10 s) (NotDatabase s) scn_page
+      module _ (scn_page : not_kind image scn_kind s ≡ None) where
+        is_scn_page : is_kind image scn_kind s ≡ true
+        is_scn_page = none_of (is_kind image scn_kind s) (NotDatabase s) scn_page
 
         -- the page itself
         pub free_refused : is_free_page image p ≡ true → cause ≡ Some (NotDatabase p)

@@ -2,6 +2,7 @@
 use Rattle.std.proofs.Common.{◌≡◌, ℕ, ◌<◌, ◌≤◌, length, arith}
 use Rattle.std.specs.Prelude.{true, Some, None}
 use Rattle.nb_fields.specs.Page.{kind_of}
+use Rattle.nb_fields.specs.Kinds.{data_kind}
 use Rattle.nb_model.specs.Image.{Image, page_at}
 use Rattle.nb_model.specs.Causes.{broken_at}
 use Rattle.nb_model.specs.Chains.{History, Spot, spots, is_in_chain, pages_of, found_pages, last_of, free_spot}
@@ -10,7 +11,7 @@ use Rattle.nb_walk.proofs.SpotPages.{spot_on, last_in}
 
 pub record IsData (image : Image) (p : ℕ) : Type 0 where
   pub low : p < length image
-  pub kind : kind_of (page_at image p) ≡ 5
+  pub kind : kind_of (page_at image p) ≡ data_kind
 
 data_of : (image : Image) (p : ℕ) → is_in_chain History image p ≡ true → IsData image p
 data_of image p is = let parts = in_chain History image p is in record { low = parts.0; kind = parts.1 }

@@ -7,6 +7,7 @@ use Rattle.nb_fields.specs.Header.{is_header}
 use Rattle.nb_fields.specs.Places.{entries_in}
 use Rattle.nb_fields.specs.Page.{kind_of}
 use Rattle.nb_fields.specs.Payloads.{text_payload}
+use Rattle.nb_fields.specs.Kinds.{inventory_kind, raw_kind, scn_kind}
 use Rattle.nb_host.specs.World.{World}
 use Rattle.nb_host.specs.declared.faults.Fault.{Fault}
 use Rattle.nb_host.specs.declared.refusals.Refusal.{Refusal}
@@ -44,9 +45,9 @@ not_when true r e = cc
 -- what a taken raw page is
 pub record IsRaw (image : Image) (p : ℕ) : Type 0 where
   pub low : p < length image
-  pub form : not_kind image 2 (inventory_of image p) ≡ None
-  pub kind : kind_of (page_at image p) ≡ 8
-  pub plain : kind_of (page_at image p) ≢ 10
+  pub form : not_kind image inventory_kind (inventory_of image p) ≡ None
+  pub kind : kind_of (page_at image p) ≡ raw_kind
+  pub plain : kind_of (page_at image p) ≢ scn_kind
 
 pub is_raw : (image : Image) (p : ℕ) → not_raw image p ≡ None → IsRaw image p
 unfolding not_raw
@@ -54,7 +55,7 @@ is_raw image p none =
     let first = no_causes (past_end image p) _ none in
     let second = no_causes _ _ first.1 in
     let third = no_causes _ _ second.1 in
-    let fourth = no_causes (when (not (kind_of (page_at image p) == 8)) (SystemPage p)) [] third.1 in
+    let fourth = no_causes (when (not (kind_of (page_at image p) == raw_kind)) (SystemPage p)) [] third.1 in
     record {
       low = below (not_when (nat_le (length image) p) _ first.0);
       form = second.0;
@@ -72,13 +73,13 @@ is_raw image p none =
     is_true true e = refl
     is_true false e = absurd (true_false e)
 
-    is_eight : when (not (kind_of (page_at image p) == 8)) (SystemPage p) ≡ None → kind_of (page_at image p) ≡ 8
-    is_eight none = eqb-true (kind_of (page_at image p)) 8 (is_true (kind_of (page_at image p) == 8) (not_when _ (SystemPage p) none))
+    is_eight : when (not (kind_of (page_at image p) == raw_kind)) (SystemPage p) ≡ None → kind_of (page_at image p) ≡ raw_kind
+    is_eight none = eqb-true (kind_of (page_at image p)) 8 (is_true (kind_of (page_at image p) == raw_kind) (not_when _ (SystemPage p) none))
 
 -- page 0 of an open database is none, so no call goes on with it
 pub no_header : (image : Image) (p : ℕ) → is_header (first_page image) ≡ true → not_raw image p ≡ None → p ≡ 0 → ⊥
 no_header image p header none front =
-    let kind : kind_of (page_at image 0) ≡ 8 = (is_raw image 0 (ap (λ (n : ℕ). not_raw image n) (sym front) ∙ none)).kind in
+    let kind : kind_of (page_at image 0) ≡ raw_kind = (is_raw image 0 (ap (λ (n : ℕ). not_raw image n) (sym front) ∙ none)).kind in
     absurd (omega (arith, kind, header-kind (page_at image 0) header))
 
 -- what the short form of a page finds is whether its entry may be raised
@@ -98,7 +99,7 @@ module _ (s : Seen) (p : ℕ) (text : List ℕ) where
   image = s.base.image
 
   abbrev draft : Draft
-  draft = put p 8 (text_payload text) (drafted image)
+  draft = put p raw_kind (text_payload text) (drafted image)
 
   abbrev own : List Cause
   own = read_only image ∷ too_long text ∷ []

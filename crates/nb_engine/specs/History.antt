@@ -1,6 +1,7 @@
 -- What a walk over the backup history comes by.
 use Rattle.std.specs.Prelude.{ℕ, ◌+◌, ◌*◌, ◌<◌, ◌≤◌, List, Option, Some, None, Bool, false, nat_eq, ◌&&◌}
 use Rattle.nb_fields.specs.Bytes.{number_in}
+use Rattle.nb_fields.specs.Places.{most_pages}
 use Rattle.nb_host.specs.Names.{same_name}
 use Rattle.nb_model.specs.Chains.{Slot, Spot, is_used, level_in, scn_in, guid_in, file_in, last_such, free_spot}
 use Rattle.nb_engine.specs.declared.rows.HistoryRow.{HistoryRow}
@@ -36,5 +37,5 @@ gathered wanted ss = record { row = row_at (last_such (λ s. is_used s.bytes && 
 -- The slot is in a page of that size, which isn't page 0.
 pub record IsPlaced (page_size : ℕ) (room : Room) : Type 0 where
   pub low : 0 < room.page
-  pub high : room.page < 1048576
+  pub high : room.page < most_pages
   pub inside : 288 + 256 * room.slot ≤ page_size

@@ -1,5 +1,6 @@
 -- What the calls of a backup do of their turns.
 use Rattle.std.specs.Prelude.{◌≡◌, ◌∷◌, ℕ, ◌+◌, List, [], ◌++◌, true, Option, Some, None, Result, Ok, Err, OnOk, IfOk}
+use Rattle.nb_fields.specs.States.{normal_state}
 use Rattle.nb_host.specs.World.{World}
 use Rattle.nb_host.specs.declared.faults.Fault.{Fault}
 use Rattle.nb_host.specs.declared.faults.Fault.TheVariants.{Refused, Device, Memory}
@@ -54,7 +55,7 @@ pub record DoesEnd (result : Result ℕ Fault) (old new : World) (before after :
 
 -- why no backup begins in a database
 abbrev pub starting_cause : Image → Cause
-starting_cause image = first_cause (read_only image ∷ not_state 0 image ∷ no_scn image ∷ [])
+starting_cause image = first_cause (read_only image ∷ not_state normal_state image ∷ no_scn image ∷ [])
 
 -- A backup begins with this GUID and whatever is asked of its copy; or there is a cause to refuse it, and nothing changes, whatever is answered.
 pub record Starts (result : Result ℕ Fault) (old new : World) (before after : Held) (t : Trail) (guid : List ℕ) (ask : Option Ask) : Type 0 where

@@ -1,5 +1,6 @@
 // A backup begins and ends, and what was changed meanwhile is merged.
 ghost use Rattle.std.specs.Prelude.{◌≡◌, ◌≢◌, ℕ, List, length, IsTrue, IfErr, IfOk, OnOk, Option, Some};
+ghost use Rattle.nb_fields.specs.States.{merge_state};
 ghost use Rattle.nb_host.specs.declared.faults.Fault.TheVariants.{Memory};
 ghost use Rattle.nb_host.specs.Causes.{CountsDevice, CountsFault};
 ghost use Rattle.nb_model.specs.Account.{Ask};
@@ -26,7 +27,7 @@ impl Engine {
         ensures starts { (t : Trail) (guid : List ℕ) (ask : Option Ask) → IsTrue H.tells → IsOpen (H.world host.old) self.old t → GaveAtMost (H.world host.old) (H.world host.new) guid
             → Starts result (H.world host.old) (H.world host.new) self.old self.new t guid ask }
         ensures asks { IsTrue H.tells → (guid : List ℕ) × (length guid ≡ 16) × GaveAtMost (H.world host.old) (H.world host.new) guid }
-        ensures stays { self.old.files.state ≡ 2 → self.new ≡ self.old }
+        ensures stays { self.old.files.state ≡ merge_state → self.new ≡ self.old }
         ensures page_size { self.new.files.page_size ≡ self.old.files.page_size }
         ensures cap { self.new.cap ≡ self.old.cap }
         ensures cause { CountsDevice result (H.faults host.old) (H.faults host.new) }
@@ -46,7 +47,7 @@ impl Engine {
         ensures turn { (s : Seen) (t : Trail) → IsTrue H.tells → t.base ≡ s.base → self.old.running ≡ s.running → IsOpen (H.world host.old) self.old t
             → DoesEnd result (H.world host.old) (H.world host.new) self.old self.new t (end_scn t.base.image) (end_turn s session) }
         ensures stays { (other : ℕ) → self.old.running ≡ Some other → other ≢ session → self.new ≡ self.old }
-        ensures merge { OnOk result ((self.new.files.state ≡ 2) × (self.new.running ≡ Some session) × (self.new.merged ≡ 0)) }
+        ensures merge { OnOk result ((self.new.files.state ≡ merge_state) × (self.new.running ≡ Some session) × (self.new.merged ≡ 0)) }
         ensures page_size { self.new.files.page_size ≡ self.old.files.page_size }
         ensures cap { self.new.cap ≡ self.old.cap }
         ensures cause { CountsDevice result (H.faults host.old) (H.faults host.new) }
@@ -58,7 +59,7 @@ impl Engine {
     /// Merges one page that was changed in the stalled state, which changes that page of the main file and nothing else, or finishes the merge once
     /// all are, which removes the difference file. Whatever the files hold.
     pub fn merge_turn<H: Host>(&mut self, host: &mut H) -> Result<Progress, HostFault>
-        requires merge { self.old.files.state ≡ 2 }
+        requires merge { self.old.files.state ≡ merge_state }
         ensures merges { (t : Trail) → IsTrue H.tells → IsOpen (H.world host.old) self.old t → Merges result (H.world host.old) (H.world host.new) self.old self.new t }
         ensures goes { IfOk result (λ progress. GoesOn progress self.old self.new) }
         ensures puts { IsTrue H.tells → IfOk result (λ progress. PutsOn progress (H.world host.old).files (H.world host.new).files self.old) }

@@ -2,7 +2,9 @@
 ghost use Rattle.std.specs.Prelude.{◌≡◌, ◌≢◌, ◌+◌, ◌<◌, ◌≤◌, ◌++◌, true, IsTrue, IfErr, IfOk, OnOk, None, length, take, drop};
 ghost use Rattle.std.specs.List.{list_all};
 ghost use Rattle.nb_fields.specs.Bytes.{with_part};
-ghost use Rattle.nb_fields.specs.Places.{is_page_size};
+ghost use Rattle.nb_fields.specs.Places.{is_page_size, most_pages};
+ghost use Rattle.nb_fields.specs.States.{stalled_state};
+ghost use Rattle.nb_fields.specs.Kinds.{data_kind};
 ghost use Rattle.nb_host.specs.declared.faults.Fault.TheVariants.{Memory};
 ghost use Rattle.nb_host.specs.Causes.{CountsDevice, CountsFault};
 ghost use Rattle.nb_page.specs.Quiet.{Quiet};
@@ -63,7 +65,7 @@ fn write_data<H: Host>(
     ensures goes { Goes store.old store.new }
     ensures scn_room { length scn_page.new ≡ length scn_page.old }
     ensures cause { CountsDevice result (H.faults host.old) (H.faults host.new) }
-    ensures takes_none { store.old.files.state ≢ 1 → IfErr result (λ fault. fault ≢ Memory) }
+    ensures takes_none { store.old.files.state ≢ stalled_state → IfErr result (λ fault. fault ≢ Memory) }
 {
     // A page that is read is below the length, and so below the most pages that there may be.
     let _count = store.count();
@@ -103,7 +105,7 @@ fn change_data<H: Host>(
     ensures scn_room { length scn_page.new ≡ length scn_page.old }
     ensures once { IsTrue H.tells → (H.world host.new).reads ≤ (H.world host.old).reads + 2 }
     ensures cause { CountsDevice result (H.faults host.old) (H.faults host.new) }
-    ensures takes_none { store.old.files.state ≢ 1 → IfErr result (λ fault. fault ≢ Memory) }
+    ensures takes_none { store.old.files.state ≢ stalled_state → IfErr result (λ fault. fault ≢ Memory) }
 {
     // A page that is read is below the length, and so below the most pages that there may be.
     let _count = store.count();
@@ -126,7 +128,7 @@ impl Engine {
         requires size { length into.old ≡ self.old.files.page_size }
         ensures reads { (t : Trail) → IsTrue H.tells → IsOpen (H.world host.old) self.old t → Reads result t.base.image (not_data t.base.image owner number) number into.new }
         ensures low { OnOk result (0 < number) }
-        ensures high { OnOk result (number < 1048576) }
+        ensures high { OnOk result (number < most_pages) }
         ensures open { (t : Trail) → IsTrue H.tells → IsOpen (H.world host.old) self.old t → IsOpen (H.world host.new) self.new t }
         ensures same { but_pages self.new ≡ but_pages self.old }
         ensures quiet { Quiet (H.world host.old) (H.world host.new) }
@@ -154,7 +156,7 @@ impl Engine {
         ensures next { IfOk result (λ next. next ≡ next_in page.new) }
         ensures form { OnOk result (list_all (is_slot (chain_by chain)) (slots_in page.new) ≡ true) }
         ensures low { OnOk result (0 < number) }
-        ensures high { OnOk result (number < 1048576) }
+        ensures high { OnOk result (number < most_pages) }
         ensures sized { length page.new ≡ length page.old }
         ensures open { (t : Trail) → IsTrue H.tells → IsOpen (H.world host.old) self.old t → IsOpen (H.world host.new) self.new t }
         ensures same { but_pages self.new ≡ but_pages self.old }
@@ -182,10 +184,10 @@ impl Engine {
         requires low { 0 < number }
         ensures tries { (t : Trail) → IsTrue H.tells → IsOpen (H.world host.old) self.old t
             → Tries result (H.world host.old) (H.world host.new) self.old self.new t (data_cause t.base.image number) (put_data number page.now t.base.image).strokes }
-        ensures sure { (t : Trail) → IsTrue H.tells → IsOpen (H.world host.old) self.old t → IsSoundImage t.base.image → not_kind t.base.image 5 number ≡ None → IfErr result IsNoRefusal }
+        ensures sure { (t : Trail) → IsTrue H.tells → IsOpen (H.world host.old) self.old t → IsSoundImage t.base.image → not_kind t.base.image data_kind number ≡ None → IfErr result IsNoRefusal }
         ensures goes { Goes self.old self.new }
         ensures cause { CountsDevice result (H.faults host.old) (H.faults host.new) }
-        ensures takes_none { self.old.files.state ≢ 1 → IfErr result (λ fault. fault ≢ Memory) }
+        ensures takes_none { self.old.files.state ≢ stalled_state → IfErr result (λ fault. fault ≢ Memory) }
     {
         write_data(
             &mut self.store,
@@ -216,11 +218,11 @@ impl Engine {
         requires inside { at + length bytes.now ≤ self.old.files.page_size }
         ensures tries { (t : Trail) → IsTrue H.tells → IsOpen (H.world host.old) self.old t
             → Tries result (H.world host.old) (H.world host.new) self.old self.new t (data_cause t.base.image number) (put_data number (with_part at bytes.now (page_at t.base.image number)) t.base.image).strokes }
-        ensures sure { (t : Trail) → IsTrue H.tells → IsOpen (H.world host.old) self.old t → IsSoundImage t.base.image → not_kind t.base.image 5 number ≡ None → IfErr result IsNoRefusal }
+        ensures sure { (t : Trail) → IsTrue H.tells → IsOpen (H.world host.old) self.old t → IsSoundImage t.base.image → not_kind t.base.image data_kind number ≡ None → IfErr result IsNoRefusal }
         ensures goes { Goes self.old self.new }
         ensures once { IsTrue H.tells → (H.world host.new).reads ≤ (H.world host.old).reads + 2 }
         ensures cause { CountsDevice result (H.faults host.old) (H.faults host.new) }
-        ensures takes_none { self.old.files.state ≢ 1 → IfErr result (λ fault. fault ≢ Memory) }
+        ensures takes_none { self.old.files.state ≢ stalled_state → IfErr result (λ fault. fault ≢ Memory) }
     {
         change_data(
             &mut self.store,
@@ -239,14 +241,14 @@ impl Engine {
     ///
     /// The refusals are `NotDatabase` of the inventory page and of the SCN page of that, in this order. A refused call changes nothing.
     pub fn data_free<H: Host>(&mut self, host: &mut H, number: u32) -> Result<(), Fault>
-        requires high { number < 1048576 }
+        requires high { number < most_pages }
         ensures tries { (t : Trail) → IsTrue H.tells → IsOpen (H.world host.old) self.old t
             → Tries result (H.world host.old) (H.world host.new) self.old self.new t (mark_cause t.base.image number) (give_page number (drafted t.base.image)).strokes }
         ensures sure { (t : Trail) → IsTrue H.tells → IsOpen (H.world host.old) self.old t → IsSoundImage t.base.image → 2 ≤ number → number < length t.base.image → IfErr result IsNoRefusal }
         ensures goes { Goes self.old self.new }
         ensures once { IsTrue H.tells → (H.world host.new).reads ≤ (H.world host.old).reads + 2 }
         ensures cause { CountsDevice result (H.faults host.old) (H.faults host.new) }
-        ensures takes_none { self.old.files.state ≢ 1 → IfErr result (λ fault. fault ≢ Memory) }
+        ensures takes_none { self.old.files.state ≢ stalled_state → IfErr result (λ fault. fault ≢ Memory) }
     {
         mark(
             &mut self.store,
@@ -265,7 +267,7 @@ impl Engine {
         number: u32,
     ) -> Result<Option<u32>, HostFault>
         requires low { 0 < number }
-        requires high { number < 1048576 }
+        requires high { number < most_pages }
         ensures value { (t : Trail) → IsTrue H.tells → IsOpen (H.world host.old) self.old t → IfOk result (λ lacking. need_cause lacking ≡ lowest_broken (entry_broken t.base.image number)) }
         ensures open { (t : Trail) → IsTrue H.tells → IsOpen (H.world host.old) self.old t → IsOpen (H.world host.new) self.new t }
         ensures same { but_pages self.new ≡ but_pages self.old }
@@ -288,7 +290,7 @@ impl Engine {
         host: &mut H,
         number: u32,
     ) -> Result<Option<u32>, HostFault>
-        requires high { number < 1048576 }
+        requires high { number < most_pages }
         ensures value { (t : Trail) → IsTrue H.tells → IsOpen (H.world host.old) self.old t → IfOk result (λ lacking. need_cause lacking ≡ lowest_broken (give_broken t.base.image number)) }
         ensures open { (t : Trail) → IsTrue H.tells → IsOpen (H.world host.old) self.old t → IsOpen (H.world host.new) self.new t }
         ensures same { but_pages self.new ≡ but_pages self.old }

@@ -1,6 +1,9 @@
 // New data pages: the first of a chain, and one after its last.
 ghost use Rattle.std.specs.Prelude.{◌≡◌, ◌≢◌, ◌+◌, ◌<◌, ◌≤◌, ℕ, List, true, IsTrue, IfErr, IfOk, OnOk, length};
 ghost use Rattle.nb_fields.specs.Payloads.{data_payload};
+ghost use Rattle.nb_fields.specs.Places.{most_pages};
+ghost use Rattle.nb_fields.specs.States.{stalled_state};
+ghost use Rattle.nb_fields.specs.Kinds.{data_kind};
 ghost use Rattle.nb_host.specs.declared.faults.Fault.TheVariants.{Memory};
 ghost use Rattle.nb_host.specs.Causes.{CountsDevice};
 ghost use Rattle.nb_page.specs.Quiet.{Quiet};
@@ -58,10 +61,10 @@ impl Engine {
             → Tries result (H.world host.old) (H.world host.new) self.old self.new t (unmade t.base.image (new_data owner slots.now t.base.image).0) (new_data owner slots.now t.base.image).0.strokes }
         ensures value { (t : Trail) → IsTrue H.tells → IsOpen (H.world host.old) self.old t → IfOk result (λ number. number ≡ (new_data owner slots.now t.base.image).1) }
         ensures least { IfOk result (λ number. 5 ≤ number) }
-        ensures most { IfOk result (λ number. number < 1048576) }
+        ensures most { IfOk result (λ number. number < most_pages) }
         ensures goes { Goes self.old self.new }
         ensures cause { CountsDevice result (H.faults host.old) (H.faults host.new) }
-        ensures takes_none { self.old.files.state ≢ 1 → IfErr result (λ fault. fault ≢ Memory) }
+        ensures takes_none { self.old.files.state ≢ stalled_state → IfErr result (λ fault. fault ≢ Memory) }
     {
         let count = self.store.count();
         if count < FIRST_TO_GIVE {
@@ -98,17 +101,17 @@ impl Engine {
         slots: &[u8],
     ) -> Result<u32, Fault>
         requires low { 0 < last }
-        requires high { last < 1048576 }
+        requires high { last < most_pages }
         requires short { length slots.now ≤ 992 }
-        ensures makes { (t : Trail) (chain : Chain) (pages : List ℕ) → IsTrue H.tells → IsOpen (H.world host.old) self.old t → owner ≡ owner_of chain → last ≡ last_of pages → is_kind t.base.image 5 last ≡ true
+        ensures makes { (t : Trail) (chain : Chain) (pages : List ℕ) → IsTrue H.tells → IsOpen (H.world host.old) self.old t → owner ≡ owner_of chain → last ≡ last_of pages → is_kind t.base.image data_kind last ≡ true
             → Tries result (H.world host.old) (H.world host.new) self.old self.new t (unmade t.base.image (grown chain pages slots.now (drafted t.base.image)).0) (grown chain pages slots.now (drafted t.base.image)).0.strokes }
-        ensures value { (t : Trail) (chain : Chain) (pages : List ℕ) → IsTrue H.tells → IsOpen (H.world host.old) self.old t → owner ≡ owner_of chain → is_kind t.base.image 5 last ≡ true
+        ensures value { (t : Trail) (chain : Chain) (pages : List ℕ) → IsTrue H.tells → IsOpen (H.world host.old) self.old t → owner ≡ owner_of chain → is_kind t.base.image data_kind last ≡ true
             → IfOk result (λ number. number ≡ (grown chain pages slots.now (drafted t.base.image)).1) }
         ensures least { IfOk result (λ number. 5 ≤ number) }
-        ensures most { IfOk result (λ number. number < 1048576) }
+        ensures most { IfOk result (λ number. number < most_pages) }
         ensures goes { Goes self.old self.new }
         ensures cause { CountsDevice result (H.faults host.old) (H.faults host.new) }
-        ensures takes_none { self.old.files.state ≢ 1 → IfErr result (λ fault. fault ≢ Memory) }
+        ensures takes_none { self.old.files.state ≢ stalled_state → IfErr result (λ fault. fault ≢ Memory) }
     {
         let count = self.store.count();
         if count < FIRST_TO_GIVE {
@@ -147,12 +150,12 @@ impl Engine {
         requires some { 1 ≤ pages }
         requires few { pages ≤ 2 }
         requires low { 0 < behind }
-        requires high { behind < 1048576 }
-        ensures one { (t : Trail) (first : ℕ → List ℕ) → IsTrue H.tells → IsOpen (H.world host.old) self.old t → IsShort first → is_kind t.base.image 5 behind ≡ true → pages ≡ 1
+        requires high { behind < most_pages }
+        ensures one { (t : Trail) (first : ℕ → List ℕ) → IsTrue H.tells → IsOpen (H.world host.old) self.old t → IsShort first → is_kind t.base.image data_kind behind ≡ true → pages ≡ 1
             → Tested result (unmade_behind t.base.image (new_of 5 first t.base.image).0 behind) }
-        ensures two { (t : Trail) (first second : ℕ → List ℕ) → IsTrue H.tells → IsOpen (H.world host.old) self.old t → IsShort first → IsShort second → is_kind t.base.image 5 behind ≡ true → pages ≡ 2
+        ensures two { (t : Trail) (first second : ℕ → List ℕ) → IsTrue H.tells → IsOpen (H.world host.old) self.old t → IsShort first → IsShort second → is_kind t.base.image data_kind behind ≡ true → pages ≡ 2
             → Tested result (unmade_behind t.base.image (second_data first second t.base.image).0 behind) }
-        ensures still { (t : Trail) (first : ℕ → List ℕ) → IsTrue H.tells → IsOpen (H.world host.old) self.old t → IsShort first → is_kind t.base.image 5 behind ≡ true → pages ≡ 2
+        ensures still { (t : Trail) (first : ℕ → List ℕ) → IsTrue H.tells → IsOpen (H.world host.old) self.old t → IsShort first → is_kind t.base.image data_kind behind ≡ true → pages ≡ 2
             → OnOk result (is_kind (new_of 5 first t.base.image).0.image 5 behind ≡ true) }
         ensures open { (t : Trail) → IsTrue H.tells → IsOpen (H.world host.old) self.old t → IsOpen (H.world host.new) self.new t }
         ensures same { but_pages self.new ≡ but_pages self.old }

@@ -1,6 +1,7 @@
 ghost use Rattle.std.specs.Prelude.{◌≡◌, ◌+◌, ◌<◌, ◌≤◌, [], IsTrue, IsSome, IsOk, IfOk, OnOk, length};
-ghost use Rattle.nb_fields.specs.Places.{is_page_size};
+ghost use Rattle.nb_fields.specs.Places.{is_page_size, most_pages};
 ghost use Rattle.nb_fields.specs.Fresh.{fresh};
+ghost use Rattle.nb_fields.specs.States.{stalled_state};
 ghost use Rattle.nb_host.specs.Causes.{CountsDevice, CountsFault};
 ghost use Rattle.nb_change.specs.Gave.{GaveNothing};
 ghost use Rattle.nb_page.specs.Quiet.{Quiet};
@@ -131,7 +132,7 @@ impl Engine {
     /// How many pages the database has.
     pub fn count(&self) -> u32
         ensures value { result ≡ self.now.files.count }
-        ensures most { result ≤ 1048576 }
+        ensures most { result ≤ most_pages }
     {
         self.store.count()
     }
@@ -139,7 +140,7 @@ impl Engine {
     /// How many pages the main file has.
     pub fn main_count(&self) -> u32
         ensures value { result ≡ self.now.files.main_count }
-        ensures most { result ≤ 1048576 }
+        ensures most { result ≤ most_pages }
     {
         self.store.main_count()
     }
@@ -208,7 +209,7 @@ impl Engine {
         into: &mut [u8],
     ) -> Result<(), HostFault>
         requires size { length into.old ≡ self.old.files.page_size }
-        ensures page { (t : Trail) → IsTrue H.tells → IsOpen (H.world host.old) self.old t → self.old.files.state ≡ 1 → number < length t.base.frozen → OnOk result (into.new ≡ page_at t.base.frozen number) }
+        ensures page { (t : Trail) → IsTrue H.tells → IsOpen (H.world host.old) self.old t → self.old.files.state ≡ stalled_state → number < length t.base.frozen → OnOk result (into.new ≡ page_at t.base.frozen number) }
         ensures same { self.new ≡ self.old }
         ensures quiet { Quiet (H.world host.old) (H.world host.new) }
         ensures once { IsTrue H.tells → (H.world host.new).reads ≤ (H.world host.old).reads + 1 }

@@ -1,5 +1,6 @@
 // A raw page is given back.
 ghost use Rattle.std.specs.Prelude.{◌≡◌, ◌≢◌, ◌+◌, ◌≤◌, IsTrue, IfErr, Err};
+ghost use Rattle.nb_fields.specs.States.{stalled_state};
 ghost use Rattle.nb_host.specs.declared.faults.Fault.TheVariants.{Memory};
 ghost use Rattle.nb_host.specs.Causes.{CountsDevice};
 ghost use Rattle.nb_model.specs.Forms.{inventory_of};
@@ -29,7 +30,7 @@ impl Engine {
         ensures goes { Goes self.old self.new }
         ensures once { IsTrue H.tells → (H.world host.new).reads ≤ (H.world host.old).reads + 4 }
         ensures cause { CountsDevice result (H.faults host.old) (H.faults host.new) }
-        ensures takes_none { self.old.files.state ≢ 1 → IfErr result (λ fault. fault ≢ Memory) }
+        ensures takes_none { self.old.files.state ≢ stalled_state → IfErr result (λ fault. fault ≢ Memory) }
         ensures on_memory { (t : Trail) → IsTrue H.tells → IsOpen (H.world host.old) self.old t → result ≡ Err Memory
             → StopsBehind (H.world host.old) (H.world host.new) self.old self.new t (raise_strokes t.base.image (inventory_of t.base.image number)) }
     {

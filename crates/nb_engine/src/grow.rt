@@ -1,6 +1,7 @@
 // A chain of data pages grows by a page, which is made after its last one and then linked.
 ghost use Rattle.std.specs.Prelude.{◌≡◌, ◌≢◌, ◌<◌, ◌≤◌, ℕ, List, None, IsTrue, IfErr, IfOk, length};
-ghost use Rattle.nb_fields.specs.Places.{is_page_size};
+ghost use Rattle.nb_fields.specs.Places.{is_page_size, most_pages};
+ghost use Rattle.nb_fields.specs.States.{stalled_state};
 ghost use Rattle.nb_host.specs.declared.faults.Fault.TheVariants.{Memory};
 ghost use Rattle.nb_host.specs.Causes.{CountsDevice};
 ghost use Rattle.nb_model.specs.Chains.{Chain, last_of, grown};
@@ -31,13 +32,13 @@ fn link<H: Host>(
     requires room { length page.old ≡ store.old.files.page_size }
     requires scn_room { length scn_page.old ≡ store.old.files.page_size }
     requires low { 0 < last }
-    requires high { last < 1048576 }
+    requires high { last < most_pages }
     ensures tries { (t : Trail) → IsTrue H.tells → IsOpen (H.world host.old) store.old t
         → Tries result (H.world host.old) (H.world host.new) store.old store.new t (write_cause t.base.image last) (page_strokes t.base.image last 5 (linked_payload t.base.image last next)) }
     ensures goes { Goes store.old store.new }
     ensures scn_room { length scn_page.new ≡ length scn_page.old }
     ensures cause { CountsDevice result (H.faults host.old) (H.faults host.new) }
-    ensures takes_none { store.old.files.state ≢ 1 → IfErr result (λ fault. fault ≢ Memory) }
+    ensures takes_none { store.old.files.state ≢ stalled_state → IfErr result (λ fault. fault ≢ Memory) }
 {
     if last >= store.count() {
         return Err(Fault::Refused(Refusal::NotDatabase { page: last }));
@@ -64,22 +65,22 @@ pub(crate) fn grow_from<H: Host>(
     requires map_room { length map.old ≡ store.old.files.page_size }
     requires scn_room { length scn_page.old ≡ store.old.files.page_size }
     requires first_low { 5 ≤ first }
-    requires first_high { first < 1048576 }
+    requires first_high { first < most_pages }
     requires inside { first ≤ store.old.files.count }
     requires low { 0 < last }
-    requires high { last < 1048576 }
+    requires high { last < most_pages }
     requires short { length payload.now ≤ 1008 }
     ensures tries { (t : Trail) (chain : Chain) (pages slots : List ℕ) → IsTrue H.tells → IsOpen (H.world host.old) store.old t → IsGrowable t.base.image chain slots first last map.old payload.now → last ≡ last_of pages
         → Tries result (H.world host.old) (H.world host.new) store.old store.new t None (grown chain pages slots (drafted t.base.image)).0.strokes }
     ensures grown { (t : Trail) (chain : Chain) (pages slots : List ℕ) → IsTrue H.tells → IsOpen (H.world host.old) store.old t → IsGrowable t.base.image chain slots first last map.old payload.now
         → IfOk result (IsGrown t.base.image chain pages slots) }
     ensures least { IfOk result (λ number. 5 ≤ number) }
-    ensures most { IfOk result (λ number. number < 1048576) }
+    ensures most { IfOk result (λ number. number < most_pages) }
     ensures goes { Goes store.old store.new }
     ensures map_room { length map.new ≡ length map.old }
     ensures scn_room { length scn_page.new ≡ length scn_page.old }
     ensures cause { CountsDevice result (H.faults host.old) (H.faults host.new) }
-    ensures takes_none { store.old.files.state ≢ 1 → IfErr result (λ fault. fault ≢ Memory) }
+    ensures takes_none { store.old.files.state ≢ stalled_state → IfErr result (λ fault. fault ≢ Memory) }
 {
     let number = make_new(
         store,

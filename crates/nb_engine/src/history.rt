@@ -1,5 +1,6 @@
 // The backup history: what it has, and what is added.
 ghost use Rattle.std.specs.Prelude.{◌≡◌, ◌≢◌, ◌+◌, ◌<◌, ◌≤◌, IsTrue, IfErr, IfOk, OnOk, length, nat_eq};
+ghost use Rattle.nb_fields.specs.States.{stalled_state};
 ghost use Rattle.nb_host.specs.Names.{same_name};
 ghost use Rattle.nb_host.specs.declared.faults.Fault.TheVariants.{Memory};
 ghost use Rattle.nb_host.specs.Causes.{CountsDevice};
@@ -85,7 +86,7 @@ impl Engine {
         ensures placed { IfOk result (IsPlaced self.old.files.page_size) }
         ensures goes { Goes self.old self.new }
         ensures cause { CountsDevice result (H.faults host.old) (H.faults host.new) }
-        ensures takes_none { self.old.files.state ≢ 1 → IfErr result (λ fault. fault ≢ Memory) }
+        ensures takes_none { self.old.files.state ≢ stalled_state → IfErr result (λ fault. fault ≢ Memory) }
     {
         // Contracts ask for its range, which is known of what was read.
         let _scn = self.store.scn();
@@ -136,7 +137,7 @@ impl Engine {
         ensures sure { (t : Trail) → IsTrue H.tells → IsOpen (H.world host.old) self.old t → room.now.page < length t.base.image → IsSoundImage t.base.image → IfErr result IsNoRefusal }
         ensures goes { Goes self.old self.new }
         ensures cause { CountsDevice result (H.faults host.old) (H.faults host.new) }
-        ensures takes_none { self.old.files.state ≢ 1 → IfErr result (λ fault. fault ≢ Memory) }
+        ensures takes_none { self.old.files.state ≢ stalled_state → IfErr result (λ fault. fault ≢ Memory) }
     {
         // Contracts ask for its range, which is known of what was read.
         let _scn = self.store.scn();

@@ -1,10 +1,12 @@
 // Room for a row of the history: a free slot whose page is taken, or a new page after the last.
 ghost use Rattle.std.specs.Prelude.{◌≡◌, ◌≢◌, ◌<◌, ◌≤◌, ℕ, List, [], ◌∷◌, true, IsTrue, IfErr, IfOk, length};
-ghost use Rattle.nb_fields.specs.Places.{is_page_size};
+ghost use Rattle.nb_fields.specs.Places.{is_page_size, most_pages};
 ghost use Rattle.nb_host.specs.declared.faults.Fault.TheVariants.{Memory};
 ghost use Rattle.nb_host.specs.Causes.{CountsDevice};
 ghost use Rattle.nb_page.specs.Quiet.{Quiet};
 ghost use Rattle.nb_fields.specs.Page.{kind_of};
+ghost use Rattle.nb_fields.specs.States.{stalled_state};
+ghost use Rattle.nb_fields.specs.Kinds.{inventory_kind, data_kind, scn_kind};
 ghost use Rattle.nb_model.specs.Image.{Image, image_scn, page_at};
 ghost use Rattle.nb_model.specs.Causes.{first_cause, not_kind, not_of_form, no_scn};
 ghost use Rattle.nb_model.specs.Chains.{History, last_of, put_slot, backup_slot, grown};
@@ -53,8 +55,8 @@ fn is_free<H: Host>(
     map: &mut InventoryPage,
 ) -> Result<bool, Fault>
     requires room { length map.old ≡ store.old.files.page_size }
-    requires number { number < 1048576 }
-    ensures test { (t : Trail) → IsTrue H.tells → IsOpen (H.world host.old) store.old t → Tested result (not_kind t.base.image 2 (inventory_of t.base.image number)) }
+    requires number { number < most_pages }
+    ensures test { (t : Trail) → IsTrue H.tells → IsOpen (H.world host.old) store.old t → Tested result (not_kind t.base.image inventory_kind (inventory_of t.base.image number)) }
     ensures value { (t : Trail) → IsTrue H.tells → IsOpen (H.world host.old) store.old t → IfOk result (λ free. free ≡ is_free_page t.base.image number) }
     ensures room { length map.new ≡ length map.old }
     ensures open { (t : Trail) → IsTrue H.tells → IsOpen (H.world host.old) store.old t → IsOpen (H.world host.new) store.new t }
@@ -80,8 +82,8 @@ fn check_scn_page<H: Host>(
     scn_page: &mut ScnPage,
 ) -> Result<(), Fault>
     requires room { length scn_page.old ≡ store.old.files.page_size }
-    requires number { number < 1048576 }
-    ensures test { (t : Trail) → IsTrue H.tells → IsOpen (H.world host.old) store.old t → Tested result (not_kind t.base.image 10 (scn_page_of t.base.image number)) }
+    requires number { number < most_pages }
+    ensures test { (t : Trail) → IsTrue H.tells → IsOpen (H.world host.old) store.old t → Tested result (not_kind t.base.image scn_kind (scn_page_of t.base.image number)) }
     ensures room { length scn_page.new ≡ length scn_page.old }
     ensures open { (t : Trail) → IsTrue H.tells → IsOpen (H.world host.old) store.old t → IsOpen (H.world host.new) store.new t }
     ensures same { but_pages store.new ≡ but_pages store.old }
@@ -109,8 +111,8 @@ pub(crate) fn check_room<H: Host>(
     requires map_room { length map.old ≡ store.old.files.page_size }
     requires scn_room { length scn_page.old ≡ store.old.files.page_size }
     requires low { 0 < number }
-    requires high { number < 1048576 }
-    ensures test { (t : Trail) → IsTrue H.tells → IsOpen (H.world host.old) store.old t → kind_of (page_at t.base.image number) ≡ 5
+    requires high { number < most_pages }
+    ensures test { (t : Trail) → IsTrue H.tells → IsOpen (H.world host.old) store.old t → kind_of (page_at t.base.image number) ≡ data_kind
         → Tested result (first_cause (not_of_form (taken_draft t.base.image number) ∷ no_scn t.base.image ∷ [])) }
     ensures map_room { length map.new ≡ length map.old }
     ensures scn_room { length scn_page.new ≡ length scn_page.old }
@@ -147,18 +149,18 @@ pub(crate) fn grow<H: Host>(
     requires map_room { length map.old ≡ store.old.files.page_size }
     requires scn_room { length scn_page.old ≡ store.old.files.page_size }
     requires low { 0 < last }
-    requires high { last < 1048576 }
+    requires high { last < most_pages }
     requires least { 5 ≤ store.old.files.count }
-    ensures makes { (t : Trail) (pages : List ℕ) → IsTrue H.tells → IsOpen (H.world host.old) store.old t → IsSearchable t.base.image → last ≡ last_of pages → is_kind t.base.image 5 last ≡ true
+    ensures makes { (t : Trail) (pages : List ℕ) → IsTrue H.tells → IsOpen (H.world host.old) store.old t → IsSearchable t.base.image → last ≡ last_of pages → is_kind t.base.image data_kind last ≡ true
         → Tries result (H.world host.old) (H.world host.new) store.old store.new t (grow_cause t.base.image pages) (grown History pages [] (drafted t.base.image)).0.strokes }
-    ensures grown { (t : Trail) (pages : List ℕ) → IsTrue H.tells → IsOpen (H.world host.old) store.old t → IsSearchable t.base.image → is_kind t.base.image 5 last ≡ true → IfOk result (IsGrown t.base.image History pages []) }
+    ensures grown { (t : Trail) (pages : List ℕ) → IsTrue H.tells → IsOpen (H.world host.old) store.old t → IsSearchable t.base.image → is_kind t.base.image data_kind last ≡ true → IfOk result (IsGrown t.base.image History pages []) }
     ensures least { IfOk result (λ number. 5 ≤ number) }
-    ensures most { IfOk result (λ number. number < 1048576) }
+    ensures most { IfOk result (λ number. number < most_pages) }
     ensures goes { Goes store.old store.new }
     ensures map_room { length map.new ≡ length map.old }
     ensures scn_room { length scn_page.new ≡ length scn_page.old }
     ensures cause { CountsDevice result (H.faults host.old) (H.faults host.new) }
-    ensures takes_none { store.old.files.state ≢ 1 → IfErr result (λ fault. fault ≢ Memory) }
+    ensures takes_none { store.old.files.state ≢ stalled_state → IfErr result (λ fault. fault ≢ Memory) }
 {
     let scn = store.scn();
     let first = check_rooms(store, host, 1, last, map, scn_page)?;
@@ -186,7 +188,7 @@ pub(crate) fn add_row<H: Host>(
     ensures goes { Goes store.old store.new }
     ensures scn_room { length scn_page.new ≡ length scn_page.old }
     ensures cause { CountsDevice result (H.faults host.old) (H.faults host.new) }
-    ensures takes_none { store.old.files.state ≢ 1 → IfErr result (λ fault. fault ≢ Memory) }
+    ensures takes_none { store.old.files.state ≢ stalled_state → IfErr result (λ fault. fault ≢ Memory) }
 {
     store.read(host, room.page, page)?;
     put_slot(page, room.slot, row);

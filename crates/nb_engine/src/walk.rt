@@ -1,7 +1,7 @@
 // A walk over the backup history, page by page along its links. Nothing changes.
 ghost use Rattle.std.specs.Prelude.{◌≡◌, ◌≢◌, ◌+◌, ◌<◌, ◌≤◌, ℕ, List, [], ◌∷◌, ◌++◌, true, IsTrue, IfErr, IfOk, IfSome, OnOk, length};
 ghost use Rattle.std.specs.List.{list_all};
-ghost use Rattle.nb_fields.specs.Places.{is_page_size};
+ghost use Rattle.nb_fields.specs.Places.{is_page_size, most_pages};
 ghost use Rattle.nb_host.specs.declared.faults.Fault.TheVariants.{Memory};
 ghost use Rattle.nb_host.specs.Causes.{CountsDevice};
 ghost use Rattle.nb_page.specs.Quiet.{Quiet};
@@ -66,7 +66,7 @@ fn add_slots(walked: &mut Walked, wanted: &Wanted, page: &[u8], number: u32)
     requires size { IsTrue (is_page_size (length page.now)) }
     requires form { list_all (is_slot History) (slots_in page.now) ≡ true }
     requires low { 0 < number }
-    requires high { number < 1048576 }
+    requires high { number < most_pages }
     ensures walked { (ss : List Spot) → walked.old ≡ gathered wanted.now ss → walked.new ≡ gathered wanted.now (ss ++ spots_on number 0 (slots_in page.now)) }
     ensures placed { IfSome walked.old.room (IsPlaced (length page.now)) → IfSome walked.new.room (IsPlaced (length page.now)) }
 {
@@ -97,7 +97,7 @@ fn take_link<H: Host>(
         → OnOk result (walked.new ≡ gathered wanted.now (spots_of t.base.image (ps ++ number ∷ []))) }
     ensures placed { IfSome walked.old.room (IsPlaced store.old.files.page_size) → OnOk result (IfSome walked.new.room (IsPlaced store.old.files.page_size)) }
     ensures low { OnOk result (0 < number) }
-    ensures high { OnOk result (number < 1048576) }
+    ensures high { OnOk result (number < most_pages) }
     ensures below { OnOk result (number < store.old.files.count) }
     ensures open { (t : Trail) → IsTrue H.tells → IsOpen (H.world host.old) store.old t → IsOpen (H.world host.new) store.new t }
     ensures same { but_pages store.new ≡ but_pages store.old }
@@ -126,7 +126,7 @@ pub(crate) fn walk<H: Host>(
     ensures last { (t : Trail) → IsTrue H.tells → IsOpen (H.world host.old) store.old t → IfOk result (λ (walked, last). last ≡ last_of (found_pages History t.base.image)) }
     ensures placed { IfOk result (λ (walked, last). IfSome walked.room (IsPlaced store.old.files.page_size)) }
     ensures low { IfOk result (λ (walked, last). 0 < last) }
-    ensures high { IfOk result (λ (walked, last). last < 1048576) }
+    ensures high { IfOk result (λ (walked, last). last < most_pages) }
     ensures least { OnOk result (5 ≤ store.old.files.count) }
     ensures open { (t : Trail) → IsTrue H.tells → IsOpen (H.world host.old) store.old t → IsOpen (H.world host.new) store.new t }
     ensures same { but_pages store.new ≡ but_pages store.old }

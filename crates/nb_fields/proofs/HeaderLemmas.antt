@@ -7,6 +7,7 @@ use Rattle.nb_fields.specs.Bytes.{is_zeros}
 use Rattle.nb_fields.specs.Header.{is_marked, is_sound, is_header, state_of, size_of, scn_of, pending_of}
 use Rattle.nb_fields.specs.Free.{is_unfinished, is_free_file}
 use Rattle.nb_fields.proofs.PartLemmas.{number_in-take, part-take}
+use Rattle.nb_fields.specs.States.{applying_state}
 
 -- fewer bytes are no header
 pub is_header-short : (first : List ℕ) → length first < 64 → is_header first ≡ false
@@ -45,9 +46,9 @@ is_header-take bytes = ⊎_elim
 
 is_unfinished-take : (bytes : List ℕ) → is_unfinished (take 64 bytes) ≡ is_unfinished bytes
 is_unfinished-take bytes =
-    ap (λ b. b && (state_of (take 64 bytes) == 3) && is_zeros (pending_of (take 64 bytes))) (is_header-take bytes)
+    ap (λ b. b && (state_of (take 64 bytes) == applying_state) && is_zeros (pending_of (take 64 bytes))) (is_header-take bytes)
     ∙ ap (λ n. is_header bytes && (n == 3) && is_zeros (pending_of (take 64 bytes))) (number_in-take 64 22 2 bytes (omega arith))
-    ∙ ap (λ p. is_header bytes && (state_of bytes == 3) && is_zeros p) (part-take 64 48 16 bytes (omega arith))
+    ∙ ap (λ p. is_header bytes && (state_of bytes == applying_state) && is_zeros p) (part-take 64 48 16 bytes (omega arith))
 
 -- a file is free by its first 64 bytes
 pub is_free_file-take : (bytes : List ℕ) → is_free_file (Some (take 64 bytes)) ≡ is_free_file (Some bytes)

@@ -9,6 +9,7 @@ use Rattle.nb_fields.specs.Free.{is_free_file}
 use Rattle.nb_fields.specs.Table.{table_of}
 use Rattle.nb_fields.specs.Page.{stamped}
 use Rattle.nb_fields.specs.Payloads.{text_payload}
+use Rattle.nb_fields.specs.Kinds.{raw_kind}
 
 -- how many entries, bits and slots the pages of each size have
 sizes_entries : map entries_in (1024 ∷ 2048 ∷ 4096 ∷ 8192 ∷ 16384 ∷ 32768 ∷ []) ≡ 248 ∷ 504 ∷ 1016 ∷ 2040 ∷ 4088 ∷ 8184 ∷ []
@@ -72,7 +73,7 @@ unfolding opened
 sizes = refl
 
 -- a text written into page 6
-hello : take 25 (stamped (fresh_page 1024 8 6) 8 (text_payload (104 ∷ 101 ∷ 108 ∷ 108 ∷ 111 ∷ [])) 1 6)
+hello : take 25 (stamped (fresh_page 1024 8 6) raw_kind (text_payload (104 ∷ 101 ∷ 108 ∷ 108 ∷ 111 ∷ [])) 1 6)
     ≡ 8 ∷ 0 ∷ 0 ∷ 0 ∷ 2 ∷ 0 ∷ 0 ∷ 0 ∷ 1 ∷ 0 ∷ 0 ∷ 0 ∷ 6 ∷ 0 ∷ 0 ∷ 0 ∷ 5 ∷ 0 ∷ 104 ∷ 101 ∷ 108 ∷ 108 ∷ 111 ∷ 0 ∷ 0 ∷ []
 unfolding opened
 hello = refl

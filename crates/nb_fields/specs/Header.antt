@@ -2,6 +2,7 @@
 use Rattle.std.specs.Prelude.{ℕ, List, length, Bool, ◌&&◌, ◌||◌, ◌==◌, not, nat_le, nat_lt}
 use Rattle.nb_fields.specs.Bytes.{number_in, part}
 use Rattle.nb_fields.specs.Places.{is_page_size}
+use Rattle.nb_fields.specs.States.{stalled_state}
 
 -- how many bytes the head and the control block have
 abbrev pub header_length : ℕ
@@ -43,7 +44,7 @@ is_marked first = number_in 0 1 first == 1 && number_in 12 4 first == 0 && numbe
 
 -- a state of 0 to 3, a page size, and an SCN, which in state 1 is not the last one
 abbrev pub is_sound : (state size scn : ℕ) → Bool
-is_sound state size scn = nat_le state 3 && is_page_size size && nat_le 1 scn && (not (state == 1) || nat_lt scn 4294967295)
+is_sound state size scn = nat_le state 3 && is_page_size size && nat_le 1 scn && (not (state == stalled_state) || nat_lt scn 4294967295)
 
 -- The first 64 bytes have the form of a header. Other bytes of them aren't tested.
 unfoldable pub is_header : List ℕ → Bool

@@ -1,6 +1,7 @@
 pub mod Bytes
 pub mod Cases
 pub mod Kinds
+pub mod States
 pub mod Layouts
 pub mod Places
 pub mod Page

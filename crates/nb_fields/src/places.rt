@@ -43,7 +43,7 @@ pub fn bits_in(size: u32) -> u32
 #[tactic(auto, unfolding(crate::specs::Places::is_inventory_place))]
 pub fn is_inventory_place(size: u32, page: u32) -> bool
     requires size { IsTrue (is_page_size size) }
-    requires below { page < 1048576 }
+    requires below { page < most_pages }
     ensures { result ≡ is_inventory_place size page }
 {
     page == 1 || (page + 1) % bits_in(size) == 0
@@ -53,7 +53,7 @@ pub fn is_inventory_place(size: u32, page: u32) -> bool
 #[tactic(auto, unfolding(crate::specs::Places::is_scn_place))]
 pub fn is_scn_place(size: u32, page: u32) -> bool
     requires size { IsTrue (is_page_size size) }
-    requires below { page < 1048576 }
+    requires below { page < most_pages }
     ensures { result ≡ is_scn_place size page }
 {
     page == 2 || (page > 0 && page % entries_in(size) == 0)
@@ -63,7 +63,7 @@ pub fn is_scn_place(size: u32, page: u32) -> bool
 #[tactic(auto, unfolding(crate::specs::Places::is_system_place))]
 pub fn is_system_place(size: u32, page: u32) -> bool
     requires size { IsTrue (is_page_size size) }
-    requires below { page < 1048576 }
+    requires below { page < most_pages }
     ensures { result ≡ is_system_place size page }
 {
     is_inventory_place(size, page) || is_scn_place(size, page)

@@ -5,9 +5,10 @@ use Rattle.std.proofs.Math.Nat.{div-eq_of_lt}
 use Rattle.std.proofs.lemmas.Bool.Decides.{eqb_tells}
 use Rattle.std.proofs.lemmas.List.{take-take, length-take}
 use Rattle.nb_fields.specs.Header.{is_header, state_of, size_of}
-use Rattle.nb_fields.specs.Places.{is_page_size}
+use Rattle.nb_fields.specs.Places.{is_page_size, most_pages}
 use Rattle.nb_fields.proofs.HeaderLemmas.{is_header-short}
 use Rattle.nb_fields.proofs.SizeLemmas.{size_facts}
+use Rattle.nb_fields.specs.States.{stalled_state}
 use Rattle.nb_host.specs.Files.{File}
 use Rattle.nb_host.specs.declared.refusals.Refusal.{Refusal}
 use Rattle.nb_host.specs.declared.refusals.Refusal.TheVariants.{NoFile, NotDatabase, WrongState, DeltaPresent}
@@ -31,23 +32,23 @@ unheaded bytes e = rw (e, not_database) refl
 
 -- the tests of the length after a header
 abbrev tests : (a b : Bool) (pages : ℕ) → Cause
-tests a b pages = first_cause (when a (NotDatabase (min pages 1048576)) ∷ when b (NotDatabase 1048576) ∷ [])
+tests a b pages = first_cause (when a (NotDatabase (min pages most_pages)) ∷ when b (NotDatabase most_pages) ∷ [])
 
-first_test : (b : Bool) (pages : ℕ) → tests true b pages ≡ Some (NotDatabase (min pages 1048576))
+first_test : (b : Bool) (pages : ℕ) → tests true b pages ≡ Some (NotDatabase (min pages most_pages))
 unfolding first_cause
 first_test b pages = refl
 
-second_test : (pages : ℕ) → tests false true pages ≡ Some (NotDatabase 1048576)
+second_test : (pages : ℕ) → tests false true pages ≡ Some (NotDatabase most_pages)
 unfolding first_cause
 second_test pages = refl
 
-by_first : (a b : Bool) (pages : ℕ) → a ≡ true → tests a b pages ≡ Some (NotDatabase (min pages 1048576))
+by_first : (a b : Bool) (pages : ℕ) → a ≡ true → tests a b pages ≡ Some (NotDatabase (min pages most_pages))
 by_first a b pages e = ap (λ (t : Bool). tests t b pages) e ∙ first_test b pages
 
-by_second : (a b : Bool) (pages : ℕ) → b ≡ true → 1048576 < pages → tests a b pages ≡ Some (NotDatabase (min pages 1048576))
+by_second : (a b : Bool) (pages : ℕ) → b ≡ true → most_pages < pages → tests a b pages ≡ Some (NotDatabase (min pages most_pages))
 by_second true b pages e more = first_test b pages
 by_second false b pages e more =
-    let most : 1048576 ≡ min pages 1048576 = omega (arith, more) in
+    let most : most_pages ≡ min pages most_pages = omega (arith, more) in
     ap (λ (t : Bool). tests false t pages) e ∙ second_test pages ∙ ap (λ (n : ℕ). Some (NotDatabase n)) most
 
 module _ (bytes : List ℕ) (len size : ℕ) (header : is_header bytes ≡ true) (same : size_of bytes ≡ size) (long : length bytes ≡ len) where
@@ -55,26 +56,26 @@ module _ (bytes : List ℕ) (len size : ℕ) (header : is_header bytes ≡ true)
   pages = len / size
 
   abbrev by_length : (n s : ℕ) → Cause
-  by_length n s = tests (not (n % s == 0) || nat_lt (n / s) 5) (nat_lt 1048576 (n / s)) (n / s)
+  by_length n s = tests (not (n % s == 0) || nat_lt (n / s) 5) (nat_lt most_pages (n / s)) (n / s)
 
   headed : not_database bytes ≡ by_length len size
   unfolding not_database
   headed = rw (header, not_database) refl ∙ ap (λ (n : ℕ). by_length n (size_of bytes)) long ∙ ap (by_length len) same
 
-  pub parted : len % size ≢ 0 → not_database bytes ≡ Some (NotDatabase (min pages 1048576))
+  pub parted : len % size ≢ 0 → not_database bytes ≡ Some (NotDatabase (min pages most_pages))
   parted h = headed ∙ by_first _ _ pages (ap (λ (t : Bool). not t || nat_lt pages 5) (eq_no (len % size) 0 h))
 
-  pub too_few : pages < 5 → not_database bytes ≡ Some (NotDatabase (min pages 1048576))
+  pub too_few : pages < 5 → not_database bytes ≡ Some (NotDatabase (min pages most_pages))
   too_few h = headed ∙ by_first _ _ pages (last (len % size == 0) (lt_yes pages 5 h))
     where
       last : (t : Bool) {b : Bool} → b ≡ true → (not t || b) ≡ true
       last true e = e
       last false e = refl
 
-  pub too_many : 1048576 < pages → not_database bytes ≡ Some (NotDatabase (min pages 1048576))
-  too_many h = headed ∙ by_second _ _ pages (lt_yes 1048576 pages h) h
+  pub too_many : most_pages < pages → not_database bytes ≡ Some (NotDatabase (min pages most_pages))
+  too_many h = headed ∙ by_second _ _ pages (lt_yes most_pages pages h) h
 
-  pub fits : 0 < size → len % size ≡ 0 → 5 ≤ pages → pages ≤ 1048576 → not_database bytes ≡ None
+  pub fits : 0 < size → len % size ≡ 0 → 5 ≤ pages → pages ≤ most_pages → not_database bytes ≡ None
   fits some whole least most =
       let all : length bytes ≡ pages * size = omega (arith, div-add-mod' len size, whole, long) in
       no_cause bytes size pages header same some all least most
@@ -83,7 +84,7 @@ module _ (bytes : List ℕ) (len size : ℕ) (header : is_header bytes ≡ true)
   pub no_page : len < size → not_database bytes ≡ Some (NotDatabase 0)
   no_page short =
       let none : pages ≡ 0 = div-eq_of_lt short in
-      too_few (omega (arith, none)) ∙ ap (λ (n : ℕ). Some (NotDatabase (min n 1048576))) none
+      too_few (omega (arith, none)) ∙ ap (λ (n : ℕ). Some (NotDatabase (min n most_pages))) none
 
 -- what the first bytes of a file tell, as far as the largest page goes
 module _ (first bytes : List ℕ) (read : first ≡ take 32768 bytes) where
@@ -122,7 +123,7 @@ module _ (bytes : List ℕ) where
   -- its own bytes alone refuse it where no difference file stands beside
   pub alone : (name : List ℕ) → not_fixable name (Some bytes) None ≡ copy_cause bytes
   unfolding not_fixable first_cause
-  alone name = by (not_database bytes) (when (not (state_of bytes == 1)) (WrongState (state_of bytes)))
+  alone name = by (not_database bytes) (when (not (state_of bytes == stalled_state)) (WrongState (state_of bytes)))
     where
       by : (c d : Cause) → first_cause (c ∷ d ∷ None ∷ []) ≡ first_cause (c ∷ d ∷ [])
       by None None = refl
@@ -177,16 +178,16 @@ three_none (Some x) b c e = absurd (some_none x e)
 -- what bytes are that can be fixed: they have the form of a database, in the stalled state, and no difference file stands beside them
 pub record IsFit (bytes : List ℕ) (delta : File) : Type 0 where
   pub formed : not_database bytes ≡ None
-  pub stalled : state_of bytes ≡ 1
+  pub stalled : state_of bytes ≡ stalled_state
   pub alone : delta ≡ None
 
 pub fit_is : (name bytes : List ℕ) (delta : File) → not_fixable name (Some bytes) delta ≡ None → IsFit bytes delta
 unfolding not_fixable
 fit_is name bytes delta e =
-    let none = three_none (not_database bytes) (when (not (state_of bytes == 1)) (WrongState (state_of bytes))) (when (is_some delta) (DeltaPresent (delta_name name))) e in
+    let none = three_none (not_database bytes) (when (not (state_of bytes == stalled_state)) (WrongState (state_of bytes))) (when (is_some delta) (DeltaPresent (delta_name name))) e in
     record { formed = none.0; stalled = state none.1; alone = delta_none delta none.2 }
   where
-    state : when (not (state_of bytes == 1)) (WrongState (state_of bytes)) ≡ None → state_of bytes ≡ 1
+    state : when (not (state_of bytes == stalled_state)) (WrongState (state_of bytes)) ≡ None → state_of bytes ≡ stalled_state
     state none = elim (eqb_tells (state_of bytes) 1) [
       | inl w ↦ w.1
       | inr w ↦ absurd (some_none (WrongState (state_of bytes)) (sym (ap (λ (t : Bool). when (not t) (WrongState (state_of bytes))) w.0) ∙ none))

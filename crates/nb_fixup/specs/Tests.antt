@@ -1,6 +1,7 @@
 -- The tests of a copy that is to be fixed.
 use Rattle.std.specs.Prelude.{◌≡◌, ℕ, List, [], ◌∷◌, take, Some, None, Result, Ok, Err, not, ◌==◌}
 use Rattle.nb_fields.specs.Header.{size_of, state_of}
+use Rattle.nb_fields.specs.States.{stalled_state}
 use Rattle.nb_host.specs.Files.{File}
 use Rattle.nb_host.specs.declared.faults.Fault.{Fault}
 use Rattle.nb_host.specs.declared.faults.Fault.TheVariants.{Refused, Device, Memory}
@@ -16,7 +17,7 @@ Tested cause (Err Memory) = ⊥
 
 -- why bytes can't be fixed, whatever stands beside them
 abbrev pub copy_cause : List ℕ → Cause
-copy_cause bytes = first_cause (not_database bytes ∷ when (not (state_of bytes == 1)) (WrongState (state_of bytes)) ∷ [])
+copy_cause bytes = first_cause (not_database bytes ∷ when (not (state_of bytes == stalled_state)) (WrongState (state_of bytes)) ∷ [])
 
 -- why a file can't be
 abbrev pub file_cause : (name : List ℕ) → File → Cause

@@ -5,6 +5,8 @@ use Rattle.std.specs.List.{AllByRecursion}
 use Rattle.std.proofs.lemmas.Bool.{and_parts, eqb-true}
 use Rattle.std.proofs.lemmas.Bool.Decides.{eqb_tells}
 use Rattle.nb_fields.specs.Header.{is_header, state_of, size_of, scn_of, guid_of}
+use Rattle.nb_fields.specs.Places.{most_pages}
+use Rattle.nb_fields.specs.States.{stalled_state}
 use Rattle.nb_host.specs.Files.{File, Files}
 use Rattle.nb_host.specs.Names.{same_name}
 use Rattle.nb_host.specs.declared.refusals.Refusal.{Refusal}
@@ -91,7 +93,7 @@ scn_room : (h : Head) (page : Page) → is_first_page h page ≡ true → h.scn 
 unfolding is_first_page
 scn_room h page is =
     let one = and_parts (is_header page) _ is in
-    let two = and_parts (state_of page == 1) _ one.1 in
+    let two = and_parts (state_of page == stalled_state) _ one.1 in
     let three = and_parts (size_of page == h.size) _ two.1 in
     let four = and_parts (same_name (guid_of page) h.guid) (scn_of page == h.scn + 1) three.1 in
     let scn = eqb-true (scn_of page) (h.scn + 1) four.1 in
@@ -100,7 +102,7 @@ scn_room h page is =
 
 first_of_size : (h : Head) (size : ℕ) (page : Page) → h.size ≡ size → is_first_page h page ≡ true → is_first_page (record h { size = size }) page ≡ true
 unfolding is_first_page
-first_of_size h size page same is = sym (ap (λ (n : ℕ). is_header page && (state_of page == 1 && (size_of page == n && (same_name (guid_of page) h.guid && scn_of page == h.scn + 1)))) same) ∙ is
+first_of_size h size page same is = sym (ap (λ (n : ℕ). is_header page && (state_of page == stalled_state && (size_of page == n && (same_name (guid_of page) h.guid && scn_of page == h.scn + 1)))) same) ∙ is
 
 -- pages that rise, with a page 0, begin with it
 record BeginsWith (page : Page) (rs : List Numbered) : Type 0 where
@@ -139,7 +141,7 @@ read_of c cs have same rise zero_is later =
     let rss : List (List Numbered) = pages_of_each (c ∷ cs) in
     let first = last_zero c cs have in
     let begin = begins first.page (folded_pages rss) rise (zero_is ∙ first.is) in
-    let sizes : AreOfSize h.size (folded_pages rss) = folded_sizes h.size 1048576 0 rss (all_of_size h.size (c ∷ cs) have same) in
+    let sizes : AreOfSize h.size (folded_pages rss) = folded_sizes h.size most_pages 0 rss (all_of_size h.size (c ∷ cs) have same) in
     level_read (level_bytes 102 h (folded_pages rss)) 102 h (0, first.page) begin.more (record {
       spelled = ap (level_bytes 102 h) begin.is;
       known = refl;
@@ -170,7 +172,7 @@ fold_read files name names cs e =
     let rise = files_rise files None (name ∷ names) (are.first ∷ are.rest) all in
     let later = last_later files are.first names are.rest are.more in
     subst (λ (x : List Contents). read_level (bytes_for (folded x)) ≡ Ok (folded x)) (sym are.all)
-    (read_of are.first are.rest have (same are.first are.rest (sizes_alike files (name ∷ names) (are.first ∷ are.rest) all)) (folded_rises 1048576 0 (pages_of_each (are.first ∷ are.rest)) (omega arith))
+    (read_of are.first are.rest have (same are.first are.rest (sizes_alike files (name ∷ names) (are.first ∷ are.rest) all)) (folded_rises most_pages 0 (pages_of_each (are.first ∷ are.rest)) (omega arith))
     (folded_page 0 (pages_of_each (are.first ∷ are.rest)) rise) (let low = have.0.later in omega (arith, low, later)))
 
 -- ---- what goes on from a link

@@ -4,7 +4,7 @@ use Rattle.std.specs.Prelude.{true, false, Some, None, Option, Result, Ok, Err}
 use Rattle.std.specs.List.{AllByRecursion}
 use Rattle.std.proofs.lemmas.Bool.{and_parts}
 use Rattle.nb_fields.specs.Free.{is_free_file}
-use Rattle.nb_fields.specs.Places.{is_page_size}
+use Rattle.nb_fields.specs.Places.{is_page_size, most_pages}
 use Rattle.nb_host.specs.Files.{File, Files}
 use Rattle.nb_host.specs.World.{World}
 use Rattle.nb_host.specs.Crash.{Leaves, LeavesAll}
@@ -66,11 +66,11 @@ pub head_is : (first last : LevelHead) (cs : List Contents) → head_of first �
 head_is first last cs one two = ap (λ (h : Head). record h { guid = last.guid; scn = last.scn }) one ∙ ap (λ (h : Head). record (first_head cs) { guid = h.guid; scn = h.scn }) two
 
 -- no more numbers are due than there are
-pub due_few : (ss : List Held) → due ss ≤ length ss * 1048576
+pub due_few : (ss : List Held) → due ss ≤ length ss * most_pages
 due_few [] = omega arith
 due_few (s ∷ ss) = let rest = due_few ss in let one = by s.waiting in omega (arith, rest, one)
   where
-    by : (waiting : Option ℕ) → due_by waiting ≤ 1048576
+    by : (waiting : Option ℕ) → due_by waiting ≤ most_pages
     by None = omega arith
     by (Some n) = omega arith
 
@@ -165,8 +165,8 @@ prepared old mid new out names ss file free quiet once chain quiet2 some named s
             previous = ap (λ (h : Head). length h.previous) headed ∙ first_form mid.files names ss cs some opened;
             size = size;
           };
-          rising = folded_rises 1048576 0 (pages_of_each cs) (omega arith);
-          sizes = folded_sizes file.head.page_size 1048576 0 (pages_of_each cs) (all_sized mid.files file.head.page_size names ss cs opened alike);
+          rising = folded_rises most_pages 0 (pages_of_each cs) (omega arith);
+          sizes = folded_sizes file.head.page_size most_pages 0 (pages_of_each cs) (all_sized mid.files file.head.page_size names ss cs opened alike);
         };
         waits = subst (λ (f : Files). AllWait f ss (pages_of_each cs)) (sym quiet2.still.files) (all_waiting mid.files names ss cs opened);
         rises = all_rise mid.files names ss cs opened;

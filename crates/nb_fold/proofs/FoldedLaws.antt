@@ -3,6 +3,7 @@ use Rattle.std.proofs.Common.{◌≡◌, ◌≢◌, inl, inr, ℕ, zero, suc, �
 use Rattle.std.specs.Prelude.{true, false, ◌==◌, Option, Some, None}
 use Rattle.std.specs.List.{AllByRecursion}
 use Rattle.std.proofs.lemmas.Bool.Decides.{eqb_tells}
+use Rattle.nb_fields.specs.Places.{most_pages}
 use Rattle.nb_model.specs.Image.{Page, Numbered}
 use Rattle.nb_model.specs.Levels.{AreRising, AreOfSize}
 use Rattle.nb_model.proofs.ReadLaws.{eq_no}
@@ -21,7 +22,7 @@ none_below n least [] rise low = refl
 none_below n least (r ∷ rs) rise low = rw (eq_no r.0 n (λ e. absurd (omega (arith, e, rise.0, low))), page_of) (none_below n (r.0 + 1) rs rise.2 (omega (arith, rise.0, low)))
 
 -- nor after the last number
-pub none_above : (n least : ℕ) (rs : List Numbered) → AreRising least rs → 1048576 ≤ n → page_of n rs ≡ None
+pub none_above : (n least : ℕ) (rs : List Numbered) → AreRising least rs → most_pages ≤ n → page_of n rs ≡ None
 none_above n least [] rise high = refl
 none_above n least (r ∷ rs) rise high = rw (eq_no r.0 n (λ e. absurd (omega (arith, e, rise.1, high))), page_of) (none_above n (r.0 + 1) rs rise.2 high)
 
@@ -86,14 +87,14 @@ folded_same (suc left) k rss qss same =
     ap (λ o. with_number k o (folded_from left (k + 1) rss)) (same k (omega arith)) ∙ ap (with_number k (last_page k qss)) (folded_same left (k + 1) rss qss (λ m low. same m (omega (arith, low))))
 
 -- after the numbers below the least
-behind_least : (n : ℕ) (rss : List (List Numbered)) (left : ℕ) → AllRise n rss → 1048576 ≡ n + suc left → folded_pages rss ≡ with_number n (last_page n rss) (folded_from left (n + 1) rss)
+behind_least : (n : ℕ) (rss : List (List Numbered)) (left : ℕ) → AllRise n rss → most_pages ≡ n + suc left → folded_pages rss ≡ with_number n (last_page n rss) (folded_from left (n + 1) rss)
 unfolding folded_from
 behind_least n rss left rise is =
-    folded_split n (suc left) 1048576 0 rss is ∙ ap (λ (xs : List Numbered). xs ++ folded_from (suc left) (0 + n) rss) (folded_none n 0 rss (λ m low high. last_none m n rss rise (omega (arith, high))))
+    folded_split n (suc left) most_pages 0 rss is ∙ ap (λ (xs : List Numbered). xs ++ folded_from (suc left) (0 + n) rss) (folded_none n 0 rss (λ m low high. last_none m n rss rise (omega (arith, high))))
     ∙ ap (λ k. folded_from (suc left) k rss) (let e : 0 + n ≡ n = omega arith in e)
 
 -- The page of the least number comes first, and then what the files have after it.
-pub folded_least : (n : ℕ) (page : Page) (rss : List (List Numbered)) → n < 1048576 → AllRise n rss → last_page n rss ≡ Some page → folded_pages rss ≡ (n, page) ∷ folded_pages (rests n rss)
+pub folded_least : (n : ℕ) (page : Page) (rss : List (List Numbered)) → n < most_pages → AllRise n rss → last_page n rss ≡ Some page → folded_pages rss ≡ (n, page) ∷ folded_pages (rests n rss)
 folded_least n page rss low rise is =
     behind_least n rss left rise all ∙ ap (λ o. with_number n o (folded_from left (n + 1) rss)) is
     ∙ ap (λ (xs : List Numbered). (n, page) ∷ xs) (folded_same left (n + 1) rss (rests n rss) (λ m above. sym (last_other n m rss (λ e. absurd (omega (arith, e, above)))))
@@ -102,7 +103,7 @@ folded_least n page rss low rise is =
     left : ℕ
     left = 1048575 - n
 
-    all : 1048576 ≡ n + suc left
+    all : most_pages ≡ n + suc left
     all = omega (arith, low)
 
     next : AllRise (n + 1) (rests n rss)
@@ -114,18 +115,18 @@ folded_least n page rss low rise is =
 
 -- no file has a page more
 pub folded_ends : (rss : List (List Numbered)) → AllByRecursion (λ (rs : List Numbered). rs ≡ []) rss → folded_pages rss ≡ []
-folded_ends rss none = folded_none 1048576 0 rss (λ m low high. nothing m rss none)
+folded_ends rss none = folded_none most_pages 0 rss (λ m low high. nothing m rss none)
   where
     nothing : (m : ℕ) (qss : List (List Numbered)) → AllByRecursion (λ (rs : List Numbered). rs ≡ []) qss → last_page m qss ≡ None
     nothing m [] n = refl
     nothing m (qs ∷ qss) n = ap (λ o. or_before o (page_of m qs)) (nothing m qss n.1) ∙ ap (page_of m) n.0
 
 -- Folded pages rise.
-number_rises : (n : ℕ) (o : Option Page) (rs : List Numbered) → n < 1048576 → AreRising (n + 1) rs → AreRising n (with_number n o rs)
+number_rises : (n : ℕ) (o : Option Page) (rs : List Numbered) → n < most_pages → AreRising (n + 1) rs → AreRising n (with_number n o rs)
 number_rises n (Some page) rs low rise = (omega arith, low, rise)
 number_rises n None rs low rise = lower n (n + 1) rs (omega arith) rise
 
-pub folded_rises : (left k : ℕ) (rss : List (List Numbered)) → k + left ≤ 1048576 → AreRising k (folded_from left k rss)
+pub folded_rises : (left k : ℕ) (rss : List (List Numbered)) → k + left ≤ most_pages → AreRising k (folded_from left k rss)
 unfolding folded_from
 folded_rises zero k rss low = tt
 folded_rises (suc left) k rss low = number_rises k (last_page k rss) (folded_from left (k + 1) rss) (omega (arith, low)) (folded_rises left (k + 1) rss (omega (arith, low)))

@@ -2,6 +2,7 @@
 use Rattle.std.proofs.Common.{◌≡◌, ◌≢◌, ◌⊎◌, inl, inr, ⊎_elim, ℕ, ◌+◌, ◌<◌, ◌≤◌, List, [], ◌∷◌, ◌++◌, refl, sym, ap, subst, ◌∙◌, arith, append_assoc}
 use Rattle.std.specs.Prelude.{Bool, IsTrue, Some, None, Option, Result, Ok, Err, true, false}
 use Rattle.std.proofs.lemmas.List.{append-nil}
+use Rattle.nb_fields.specs.Places.{most_pages}
 use Rattle.nb_host.specs.Files.{File, Files, bytes_of}
 use Rattle.nb_host.specs.World.{World}
 use Rattle.nb_host.specs.Crash.{Leaves, LeavesAll}
@@ -92,7 +93,7 @@ module _ (w : World) (file : LevelWriting) (sources : List Held) (whole : List N
       }
 
   -- this page comes next
-  module _ (n : ℕ) (page : Page) (below : n < 1048576) (least : IsLeast n sources) (is : waiting_page n sources ≡ Some page) where
+  module _ (n : ℕ) (page : Page) (below : n < most_pages) (least : IsLeast n sources) (is : waiting_page n sources ≡ Some page) where
     rise : AllRise n folding.coming
     rise = all_from w.files n folding.least sources folding.coming folding.waits folding.rises least
 

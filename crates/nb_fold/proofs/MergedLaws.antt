@@ -5,6 +5,7 @@ use Rattle.std.proofs.lemmas.Bool.{and_parts, eqb-true, true≢false}
 use Rattle.nb_fields.specs.Bytes.{is_zeros}
 use Rattle.nb_fields.specs.Header.{is_header, state_of, size_of}
 use Rattle.nb_fields.proofs.SizeLemmas.{size_facts}
+use Rattle.nb_fields.specs.States.{stalled_state}
 use Rattle.nb_host.specs.Files.{Files}
 use Rattle.nb_model.specs.Image.{Page, Image, Numbered, image_size, overwritten, trimmed}
 use Rattle.nb_model.specs.Levels.{AreOfSize, Contents, Head, is_first_page}
@@ -59,7 +60,7 @@ header_of : (h : Head) (page : Page) → is_first_page h page ≡ true → Heade
 unfolding is_first_page
 header_of h page is =
     let one = and_parts (is_header page) _ is in
-    let two = and_parts (state_of page == 1) _ one.1 in
+    let two = and_parts (state_of page == stalled_state) _ one.1 in
     let three = and_parts (size_of page == h.size) _ two.1 in record { header = one.0; size = eqb-true (size_of page) h.size three.0 }
 
 -- the image after one merge

@@ -3,6 +3,7 @@ use Rattle.std.proofs.Common.{◌≡◌, ◌≢◌, inl, inr, ℕ, zero, suc, �
 use Rattle.std.specs.Prelude.{true, false, Option, Some, None, Result, Ok, Err}
 use Rattle.std.specs.List.{AllByRecursion}
 use Rattle.std.proofs.lemmas.Bool.Decides.{eqb_tells, leb_tells}
+use Rattle.nb_fields.specs.Places.{most_pages}
 use Rattle.nb_host.specs.Files.{File, Files}
 use Rattle.nb_host.specs.declared.refusals.Refusal.{Refusal}
 use Rattle.nb_host.specs.declared.refusals.Refusal.TheVariants.{NoFile, BadLevel}
@@ -66,7 +67,7 @@ number_other : (p k : ℕ) (o : Option Page) (rs : List Numbered) → k ≢ p �
 number_other p k (Some page) rs other = rw (eq_no k p other, page_of) refl
 number_other p k None rs other = refl
 
-folded_has : (left k p : ℕ) (rss : List (List Numbered)) → k + left ≤ 1048576 → k ≤ p → p < k + left → page_of p (folded_from left k rss) ≡ last_page p rss
+folded_has : (left k p : ℕ) (rss : List (List Numbered)) → k + left ≤ most_pages → k ≤ p → p < k + left → page_of p (folded_from left k rss) ≡ last_page p rss
 unfolding folded_from
 folded_has zero k p rss most low high = absurd (omega (arith, low, high))
 folded_has (suc left) k p rss most low high = elim (eqb_tells k p) [
@@ -79,22 +80,22 @@ folded_has (suc left) k p rss most low high = elim (eqb_tells k p) [
     above : (a b : ℕ) → a ≤ b → a ≢ b → a + 1 ≤ b
     above a b l other = elim (eqb_tells a b) [ inl e ↦ absurd (other e.1) | inr e ↦ omega (arith, l, e.1) ]
 
-last_above : (p : ℕ) (rss : List (List Numbered)) → AllRise 0 rss → 1048576 ≤ p → last_page p rss ≡ None
+last_above : (p : ℕ) (rss : List (List Numbered)) → AllRise 0 rss → most_pages ≤ p → last_page p rss ≡ None
 last_above p [] rise high = refl
 last_above p (rs ∷ rss) rise high = ap (λ o. or_before o (page_of p rs)) (last_above p rss rise.1 high) ∙ none_above p 0 rs rise.0 high
 
 -- the page of a number in the fold is that of the last file that has it
 pub folded_page : (p : ℕ) (rss : List (List Numbered)) → AllRise 0 rss → page_of p (folded_pages rss) ≡ last_page p rss
-folded_page p rss rise = elim (leb_tells (suc p) 1048576) [
-  | inl w ↦ folded_has 1048576 0 p rss (omega arith) (omega arith) (omega (arith, w.1))
-  | inr w ↦ none_above p 0 (folded_pages rss) (folded_rises 1048576 0 rss (omega arith)) (omega (arith, w.1)) ∙ sym (last_above p rss rise (omega (arith, w.1)))
+folded_page p rss rise = elim (leb_tells (suc p) most_pages) [
+  | inl w ↦ folded_has most_pages 0 p rss (omega arith) (omega arith) (omega (arith, w.1))
+  | inr w ↦ none_above p 0 (folded_pages rss) (folded_rises most_pages 0 rss (omega arith)) (omega (arith, w.1)) ∙ sym (last_above p rss rise (omega (arith, w.1)))
 ]
 
 -- So the image is the same, but for pages of zeros at its end.
 pub folded_over : (size : ℕ) (rss : List (List Numbered)) (image : Image) → AllRise 0 rss → trimmed (over_each size rss image) ≡ trimmed (overwritten size (folded_pages rss) image)
 folded_over size rss image rise =
     trimmed_alike size (over_each size rss image) (overwritten size (folded_pages rss) image)
-    (λ p. page_each size rss image p rise ∙ ap (λ o. seen o (main_page size image p)) (sym (folded_page p rss rise)) ∙ sym (page_over size 0 (folded_pages rss) image p (folded_rises 1048576 0 rss (omega arith))))
+    (λ p. page_each size rss image p rise ∙ ap (λ o. seen o (main_page size image p)) (sym (folded_page p rss rise)) ∙ sym (page_over size 0 (folded_pages rss) image p (folded_rises most_pages 0 rss (omega arith))))
 
 -- the files of a chain
 all_over-append : (ls ms : List Link) (image : Image) → all_over (ls ++ ms) image ≡ all_over ms (all_over ls image)

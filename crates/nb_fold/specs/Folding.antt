@@ -1,5 +1,6 @@
 -- Level files that go on from one another, folded into one.
 use Rattle.std.specs.Prelude.{ℕ, zero, suc, ◌+◌, ◌==◌, List, [], ◌∷◌, Option, Some, None, true, false}
+use Rattle.nb_fields.specs.Places.{most_pages}
 use Rattle.nb_model.specs.Image.{Page, Numbered}
 use Rattle.nb_model.specs.Levels.{Head, Contents, level_bytes}
 
@@ -29,7 +30,7 @@ folded_from (suc left) n files = with_number n (last_page n files) (folded_from 
 
 -- for each number that a file has the page of the last file that has it, numbers rising
 abbrev pub folded_pages : (files : List (List Numbered)) → List Numbered
-folded_pages files = folded_from 1048576 0 files
+folded_pages files = folded_from most_pages 0 files
 
 -- the head of no file
 abbrev pub no_head : Head

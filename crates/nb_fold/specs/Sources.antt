@@ -1,6 +1,7 @@
 -- The files that are folded, while they are read side by side.
 use Rattle.std.specs.Prelude.{◌≡◌, ℕ, ◌+◌, ◌-◌, ◌<◌, ◌≤◌, ◌==◌, List, [], ◌∷◌, Option, Some, None, Bool, true, false, Result, Ok, Err}
 use Rattle.std.specs.List.{AllByRecursion}
+use Rattle.nb_fields.specs.Places.{most_pages}
 use Rattle.nb_host.specs.Files.{Files, bytes_of}
 use Rattle.nb_host.specs.declared.faults.Fault.{Fault}
 use Rattle.nb_host.specs.declared.faults.Fault.TheVariants.{Refused, Device, Memory}
@@ -19,7 +20,7 @@ pub record Held : Type 0 where
 -- what holds of the fields of each
 pub record IsSource (reader : Reading) (waiting : Option ℕ) (page : ℕ) : Type 0 where
   pub room : page ≡ reader.head.page_size
-  pub below : (n : ℕ) → waiting ≡ Some n → n < 1048576
+  pub below : (n : ℕ) → waiting ≡ Some n → n < most_pages
   pub behind : (n : ℕ) → waiting ≡ Some n → reader.place.least ≡ n + 1
 
 -- these pages of the file are still to come, the one that waits among them
@@ -71,7 +72,7 @@ IsGiven (Err Memory) P = Unit {0}
 -- how many numbers there are at most from the page on that waits
 abbrev pub due_by : (waiting : Option ℕ) → ℕ
 due_by None = 0
-due_by (Some n) = 1048576 - n
+due_by (Some n) = most_pages - n
 
 abbrev pub due : List Held → ℕ
 due [] = 0

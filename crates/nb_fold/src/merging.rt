@@ -1,4 +1,5 @@
 ghost use Rattle.std.specs.Prelude.{◌≡◌, ◌+◌, ◌<◌, ◌≤◌, ℕ, List, None, Some, IsTrue, IfOk, IfSome, OnOk, length};
+ghost use Rattle.nb_fields.specs.Places.{most_pages};
 ghost use Rattle.nb_host.specs.Causes.{CountsDevice};
 ghost use Rattle.nb_change.specs.Gave.{GaveNothing};
 ghost use Rattle.nb_model.specs.Image.{Numbered};
@@ -14,7 +15,7 @@ use nb_host::{Fault, Host};
 /// The page of the least number that waits, with that number: where several files have it, that of the last of them.
 fn next_page(sources: &[Source]) -> Option<(u32, &[u8])>
     ensures none { result ≡ None → AreAtEnd sources.now }
-    ensures below { IfSome result (λ next. next.0 < 1048576) }
+    ensures below { IfSome result (λ next. next.0 < most_pages) }
     ensures size { (size : ℕ) → AreOfPages size sources.now → IfSome result (λ next. length next.1.now ≡ size) }
     ensures some { IfSome result (λ next. IsLeast next.0 sources.now × (waiting_page next.0 sources.now ≡ Some next.1.now)) }
 {

@@ -2,7 +2,7 @@ ghost use Rattle.std.specs.Prelude.{◌≡◌, ◌+◌, ◌<◌, ◌≤◌, leng
 ghost use Rattle.nb_host.specs.Causes.{CountsDevice};
 ghost use Rattle.nb_host.specs.Files.{bytes_of};
 ghost use Rattle.nb_level.specs.Reading.{still_to_come};
-ghost use Rattle.nb_fields.specs.Places.{is_page_size};
+ghost use Rattle.nb_fields.specs.Places.{is_page_size, most_pages};
 ghost use Rattle.nb_model.specs.Image.{Numbered};
 ghost use Rattle.nb_model.specs.Levels.{Contents, read_level};
 ghost use Rattle.nb_page.specs.Quiet.{Quiet};
@@ -63,7 +63,7 @@ impl Source {
     /// The number of the page that waits.
     pub(crate) fn waiting(&self) -> Option<u32>
         ensures value { result ≡ self.now.waiting }
-        ensures below { IfSome result (λ number. number < 1048576) }
+        ensures below { IfSome result (λ number. number < most_pages) }
     {
         self.waiting
     }
@@ -81,7 +81,7 @@ impl Source {
         ensures waits { IsTrue H.tells → (rs : List Numbered) → still_to_come (bytes_of ((H.world host.old).files self.old.reader.name)) self.old.reader ≡ Ok rs
             → IsTaken result (λ done. Waits (H.world host.old).files self.new rs) }
         ensures same { self.new ≡ record { reader = record self.old.reader { place = self.new.reader.place }; waiting = self.new.waiting; page = self.new.page } }
-        ensures falls { OnOk result (due_by self.new.waiting ≤ 1048576 - self.old.reader.place.least) }
+        ensures falls { OnOk result (due_by self.new.waiting ≤ most_pages - self.old.reader.place.least) }
         ensures quiet { Quiet (H.world host.old) (H.world host.new) }
         ensures once { IsTrue H.tells → (H.world host.new).reads ≤ (H.world host.old).reads + 1 }
         ensures cause { CountsDevice result (H.faults host.old) (H.faults host.new) }

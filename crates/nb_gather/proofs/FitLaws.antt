@@ -3,6 +3,7 @@ use Rattle.std.proofs.Common.{◌≡◌, ◌⊎◌, inl, inr, ℕ, suc, ◌+◌,
 use Rattle.std.specs.Prelude.{true, ◌&&◌, ◌==◌, nat_lt}
 use Rattle.std.proofs.lemmas.Bool.{and_parts, eqb-true}
 use Rattle.std.proofs.lemmas.Bool.Decides.{leb_tells}
+use Rattle.nb_fields.specs.Places.{most_pages}
 use Rattle.nb_level.specs.declared.head.LevelHead.{LevelHead}
 use Rattle.nb_model.specs.Image.{Page, Numbered}
 use Rattle.nb_model.specs.Levels.{AreRising, AreOfSize, Stretch, runs_behind, runs_of}
@@ -16,7 +17,7 @@ use Rattle.nb_gather.proofs.UnfinishedLaws.{IsFit, AreFit}
 pub lt_tells : (a b : ℕ) → nat_lt a b ≡ true → a < b
 lt_tells a b is = elim (leb_tells (suc a) b) [ inl w ↦ w.1 | inr w ↦ absurd (no_both (nat_lt a b) is w.0) ]
 
-fit_longer : (size first : ℕ) (ps : List Page) (p : Page) → IsFit size (record { first = first; pages = ps }) → length ps < 16 → first + length ps < 1048576 → length p ≡ size → IsFit size (record { first = first; pages = ps ++ p ∷ [] })
+fit_longer : (size first : ℕ) (ps : List Page) (p : Page) → IsFit size (record { first = first; pages = ps }) → length ps < 16 → first + length ps < most_pages → length p ≡ size → IsFit size (record { first = first; pages = ps ++ p ∷ [] })
 fit_longer size first ps p fit few low long = record {
   some = omega (arith, length-append ps (p ∷ []));
   few = omega (arith, length-append ps (p ∷ []), few);
@@ -24,7 +25,7 @@ fit_longer size first ps p fit few low long = record {
   sizes = all-append (λ x. length x ≡ size) ps (p ∷ []) fit.sizes (long, tt);
 }
 
-fit_one : (size : ℕ) (r : Numbered) → r.0 < 1048576 → length r.1 ≡ size → IsFit size (record { first = r.0; pages = r.1 ∷ [] })
+fit_one : (size : ℕ) (r : Numbered) → r.0 < most_pages → length r.1 ≡ size → IsFit size (record { first = r.0; pages = r.1 ∷ [] })
 fit_one size r low long = record { some = omega arith; few = omega arith; below = omega (arith, low); sizes = (long, tt) }
 
 fit_behind : (size first : ℕ) (ps : List Page) (rs : List Numbered) → IsFit size (record { first = first; pages = ps }) → AreRising (first + length ps) rs → AreOfSize size rs → AreFit size (runs_behind first ps rs)
@@ -50,7 +51,7 @@ unfolding runs_of
 total_runs [] = refl
 total_runs (r ∷ rs) = let all = gathered_total r.0 (r.1 ∷ []) rs in omega (arith, all)
 
-rising_few : (least : ℕ) (rs : List Numbered) → least ≤ 1048576 → AreRising least rs → least + length rs ≤ 1048576
+rising_few : (least : ℕ) (rs : List Numbered) → least ≤ most_pages → AreRising least rs → least + length rs ≤ most_pages
 rising_few least [] low is = omega (arith, low)
 rising_few least (r ∷ rs) low is = let rest = rising_few (r.0 + 1) rs (omega (arith, is.1)) is.2 in omega (arith, is.0, rest)
 

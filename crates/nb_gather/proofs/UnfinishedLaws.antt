@@ -5,6 +5,7 @@ use Rattle.std.proofs.lemmas.List.{append-nil, drop_at, take_all, drop-drop, len
 use Rattle.std.proofs.Math.Nat.{suc-mul}
 use Rattle.nb_fields.specs.Bytes.{number_of, bytes_of, number_in}
 use Rattle.nb_fields.proofs.NumberLemmas.{number_of-bytes_of, length-bytes_of}
+use Rattle.nb_fields.specs.Places.{most_pages}
 use Rattle.nb_model.specs.Image.{Numbered}
 use Rattle.nb_model.specs.Levels.{Head, Stretch, run_bytes, end_bytes, end_mark, joined, read_runs, barred_after}
 use Rattle.nb_model.specs.Sound.{IsOfSize}
@@ -45,7 +46,7 @@ torn_same (b ∷ bs) (t ∷ ts) is long same =
 pub record IsFit (size : ℕ) (s : Stretch) : Type 0 where
   pub some : 1 ≤ length s.pages
   pub few : length s.pages ≤ 16
-  pub below : s.first + length s.pages ≤ 1048576
+  pub below : s.first + length s.pages ≤ most_pages
   pub sizes : IsOfSize size s.pages
 
 abbrev pub AreFit : ℕ → List Stretch → Type 0

@@ -3,6 +3,7 @@ use Rattle.std.proofs.Common.{◌≡◌, ℕ, ◌-◌, List, [], ◌∷◌, drop
 use Rattle.std.specs.Prelude.{Bool, true, false, not, ◌||◌, ◌==◌, IsTrue, Some, None, Ok, Err}
 use Rattle.std.proofs.lemmas.Bool.{eqb-true}
 use Rattle.nb_fields.specs.Header.{state_of}
+use Rattle.nb_fields.specs.States.{applying_state}
 use Rattle.nb_host.specs.Files.{File, Files}
 use Rattle.nb_host.specs.Names.{same_name}
 use Rattle.nb_host.specs.declared.faults.Fault.{Fault}
@@ -71,7 +72,7 @@ module _ (name : List ℕ) (c : Contents) where
 
   module _ (bytes : List ℕ) where
     -- in the applying state
-    applying_cause : state_of bytes ≡ 3 → not_mergeable bytes name c ≡ finish_cause (header_in bytes)
+    applying_cause : state_of bytes ≡ applying_state → not_mergeable bytes name c ≡ finish_cause (header_in bytes)
     unfolding header_in not_finishing
     applying_cause is = mergeable_by bytes name c ∙ ap (λ (n : ℕ). by_state (n == 3) bytes name c) is
 
@@ -84,7 +85,7 @@ module _ (name : List ℕ) (c : Contents) where
         all_tests (when (not (same_name c.head.previous h.guid)) (ChainGuid name c.head.previous h.guid)) (size_cause h.page_size)
         (when (not (c.head.previous_scn == h.scn - 1)) (ChainScn name c.head.previous_scn (h.scn - 1))) (when (not read_only) (Access 0)) written
 
-    normal_cause : (state_of bytes == 3) ≡ false → not_mergeable bytes name c ≡ behind_cause (header_in bytes) (is_read_only (image_in bytes))
+    normal_cause : (state_of bytes == applying_state) ≡ false → not_mergeable bytes name c ≡ behind_cause (header_in bytes) (is_read_only (image_in bytes))
     unfolding header_in not_next
     normal_cause is = mergeable_by bytes name c ∙ ap (λ (t : Bool). by_state t bytes name c) is
 
@@ -102,7 +103,7 @@ module _ (name : List ℕ) (c : Contents) where
       pub head_refuses : (r : Refusal) → head_cause s name c ≡ Some r → not_mergeable bytes name c ≡ Some r
       head_refuses r = by s.is_begun (sym is.begun)
         where
-          by : (begun : Bool) → (state_of bytes == 3) ≡ begun → by_begun begun ≡ Some r → not_mergeable bytes name c ≡ Some r
+          by : (begun : Bool) → (state_of bytes == applying_state) ≡ begun → by_begun begun ≡ Some r → not_mergeable bytes name c ≡ Some r
           by true three h = applying_cause (eqb-true (state_of bytes) 3 three) ∙ sym its_same ∙ h
           by false other h = normal_cause other ∙ first_of _ _ _ _ written r (sym its_behind ∙ h)
 
@@ -110,7 +111,7 @@ module _ (name : List ℕ) (c : Contents) where
       pub head_clears : (ps : List Page) → written_since name c.head.previous_scn (drop 1 ps) ≡ written → head_cause s name c ≡ None → not_mergeable bytes name c ≡ stamp_cause s name c.head.previous_scn ps
       head_clears ps same = by s.is_begun (sym is.begun)
         where
-          by : (begun : Bool) → (state_of bytes == 3) ≡ begun → by_begun begun ≡ None → not_mergeable bytes name c ≡ elim begun as (λ t. Cause) [ true ↦ None | false ↦ written_since name c.head.previous_scn (drop 1 ps) ]
+          by : (begun : Bool) → (state_of bytes == applying_state) ≡ begun → by_begun begun ≡ None → not_mergeable bytes name c ≡ elim begun as (λ t. Cause) [ true ↦ None | false ↦ written_since name c.head.previous_scn (drop 1 ps) ]
           by true three h = applying_cause (eqb-true (state_of bytes) 3 three) ∙ sym its_same ∙ h
           by false other h = normal_cause other ∙ last_of _ _ _ _ written (sym its_behind ∙ h) ∙ sym same
 

@@ -4,6 +4,7 @@ use Rattle.std.specs.Prelude.{Bool, true, false, ◌==◌, Some, Err, IsTrue}
 use Rattle.std.proofs.lemmas.Bool.{and_from, eq-eqb}
 use Rattle.nb_fields.specs.Free.{is_free_file}
 use Rattle.nb_fields.specs.Header.{is_header, state_of}
+use Rattle.nb_fields.specs.States.{applying_state}
 use Rattle.nb_host.specs.Files.{File, Files}
 use Rattle.nb_host.specs.declared.refusals.Refusal.{Refusal}
 use Rattle.nb_host.specs.declared.refusals.Refusal.TheVariants.{Unfinished}
@@ -28,8 +29,8 @@ unfolding entry_of_files
 closed_entry name bytes delta r e = rw (e, entry_of_files) refl
 
 -- a header in the applying state
-pub is_applying_so : (bytes : List ℕ) → is_header bytes ≡ true → state_of bytes ≡ 3 → IsTrue (is_applying bytes)
-is_applying_so bytes header three = and_from (is_header bytes) (state_of bytes == 3) header (eq-eqb (state_of bytes) 3 three)
+pub is_applying_so : (bytes : List ℕ) → is_header bytes ≡ true → state_of bytes ≡ applying_state → IsTrue (is_applying bytes)
+is_applying_so bytes header three = and_from (is_header bytes) (state_of bytes == applying_state) header (eq-eqb (state_of bytes) 3 three)
 
 module _ (files : Files) (standby name bytes : List ℕ) (c : Contents) (m : IsMergeable files standby name bytes c) (half : List ℕ) (h : IsHalf bytes c half) where
   pub half_header : is_header half ≡ true

@@ -7,6 +7,7 @@ use Rattle.nb_fields.specs.Bytes.{number_of, bytes_of, with_part, part, number_i
 use Rattle.nb_fields.specs.Header.{is_header, is_marked, is_sound, state_of, size_of, scn_of, guid_of, pending_of}
 use Rattle.nb_fields.proofs.HeaderLemmas.{is_header-long}
 use Rattle.nb_fields.proofs.PartLemmas.{length-part, length-with_part, part-with_part, part-with_part_other, number_in-with_part, number_in-with_part_other}
+use Rattle.nb_fields.specs.States.{normal_state, stalled_state, merge_state, applying_state}
 use Rattle.nb_page.specs.declared.header.Header.{Header}
 use Rattle.nb_page.proofs.HeaderLemmas.{is_sound-form}
 use Rattle.nb_model.specs.Image.{Page}
@@ -15,7 +16,7 @@ use Rattle.nb_model.proofs.HeaderLaws.{header-long, form, header-size, header-sc
 use Rattle.nb_inplace.specs.Half.{applying_page}
 
 -- the state has two bytes
-two : (state : ℕ) → length (bytes_of 2 state) ≡ 2
+two : (state : ℕ) → length (bytes_of 2 state) ≡ merge_state
 unfolding bytes_of
 two state = refl
 
@@ -44,7 +45,7 @@ same_state state page low long is =
     same_part 22 (bytes_of 2 state) page (ap (λ (n : ℕ). part 22 n page) (two state) ∙ at)
 
 -- a page that is in the applying state already, with that GUID pending, is as it was
-pub applying_same : (guid : List ℕ) (page : Page) → length guid ≡ 16 → 64 ≤ length page → state_of page ≡ 3 → pending_of page ≡ guid → applying_page guid page ≡ page
+pub applying_same : (guid : List ℕ) (page : Page) → length guid ≡ 16 → 64 ≤ length page → state_of page ≡ applying_state → pending_of page ≡ guid → applying_page guid page ≡ page
 applying_same guid page sixteen long state pending =
     ap (with_part 22 (bytes_of 2 3)) (same_part 48 guid page (ap (λ (n : ℕ). part 48 n page) sixteen ∙ pending)) ∙ same_state 3 page (omega arith) long state
 
@@ -58,7 +59,7 @@ module _ (guid : List ℕ) (page : Page) (sixteen : length guid ≡ 16) (long : 
   pub applying-long : length (applying_page guid page) ≡ length page
   applying-long = length-with_part 22 (bytes_of 2 3) pending_page (omega (arith, two 3, pending-long, long)) ∙ pending-long
 
-  pub applying-state : state_of (applying_page guid page) ≡ 3
+  pub applying-state : state_of (applying_page guid page) ≡ applying_state
   applying-state = number_in-with_part 22 2 3 pending_page (omega arith) (omega (arith, pending-long, long))
 
   pub applying-pending : pending_of (applying_page guid page) ≡ guid
@@ -96,7 +97,7 @@ same_marks p q same =
     let version = same 20 2 (omega arith) in
     rw (kind, number, sign, version) refl
 
-same_form : (state : ℕ) (p q : Page) → is_header q ≡ true → 64 ≤ length p → state_of p ≡ state → state ≤ 3 → (state ≡ 1 → ⊥) → size_of p ≡ size_of q → scn_of p ≡ scn_of q → is_marked p ≡ is_marked q → is_header p ≡ true
+same_form : (state : ℕ) (p q : Page) → is_header q ≡ true → 64 ≤ length p → state_of p ≡ state → state ≤ 3 → (state ≡ stalled_state → ⊥) → size_of p ≡ size_of q → scn_of p ≡ scn_of q → is_marked p ≡ is_marked q → is_header p ≡ true
 same_form state p q is long state_is low other size scn marks =
     let header : Header = record { page_size = size_of q; state = state; scn = scn_of q; guid = guid_of q; pending = pending_of q } in
     let sound : is_sound state (size_of q) (scn_of q) ≡ true = is_sound-form header (record { size = header-size q is; state = low; scn = header-scn q is; room = λ h. absurd (other h) }) in
@@ -130,7 +131,7 @@ module _ (page : Page) (long : 66 ≤ length page) where
   pub standby-long : length (standby_page page) ≡ length page
   standby-long = length-with_part 22 (bytes_of 2 0) rested (omega (arith, two 0, rested-long, long)) ∙ rested-long
 
-  pub standby-state : state_of (standby_page page) ≡ 0
+  pub standby-state : state_of (standby_page page) ≡ normal_state
   standby-state = number_in-with_part 22 2 0 rested (omega arith) (omega (arith, rested-long, long))
 
   -- any other field stays

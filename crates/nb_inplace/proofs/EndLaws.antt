@@ -2,7 +2,7 @@
 use Rattle.std.proofs.Common.{◌≡◌, ℕ, ◌*◌, ◌≤◌, [], ◌∷◌, ◌++◌, length, sym, ap, subst, ◌∙◌, arith}
 use Rattle.std.specs.Prelude.{true, IsTrue, Some}
 use Rattle.nb_fields.specs.Header.{is_header, size_of}
-use Rattle.nb_fields.specs.Places.{is_page_size}
+use Rattle.nb_fields.specs.Places.{is_page_size, most_pages}
 use Rattle.nb_fields.proofs.SizeLemmas.{size_facts}
 use Rattle.nb_host.specs.Files.{File, put_at, with_page}
 use Rattle.nb_model.specs.Image.{Page, Image, trimmed}
@@ -18,7 +18,7 @@ use Rattle.nb_restore.specs.Copied.{Holds}
 use Rattle.nb_restore.proofs.HeadLaws.{HasHead}
 use Rattle.nb_inplace.proofs.ControlLaws.{standby-long, standby-state, standby-size, standby-header}
 
-whole : (size : ℕ) (p : Page) (ps : Image) → IsTrue (is_page_size size) → IsOfSize size (p ∷ ps) → is_header p ≡ true → size_of p ≡ size → 5 ≤ length (p ∷ ps) → length (p ∷ ps) ≤ 1048576
+whole : (size : ℕ) (p : Page) (ps : Image) → IsTrue (is_page_size size) → IsOfSize size (p ∷ ps) → is_header p ≡ true → size_of p ≡ size → 5 ≤ length (p ∷ ps) → length (p ∷ ps) ≤ most_pages
     → HoldsMain (as_standby (trimmed (p ∷ ps))) (Some (joined (standby_page p ∷ ps)))
 whole size p ps is sizes header same least most =
     let wide = (size_facts size is).at_least in

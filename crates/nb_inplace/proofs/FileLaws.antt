@@ -2,6 +2,7 @@
 use Rattle.std.proofs.Common.{◌≡◌, ◌⊎◌, inl, inr, ℕ, zero, suc, ◌+◌, ◌*◌, ◌<◌, ◌≤◌, List, [], ◌∷◌, ◌++◌, length, drop, replicate, refl, sym, ap, subst, ◌∙◌, arith, length-append, mul-le-mul_right, add-mul, suc-mul, le_of_mul-le-mul_right}
 use Rattle.std.specs.Prelude.{true, Some, Contains}
 use Rattle.nb_fields.specs.Bytes.{is_zeros}
+use Rattle.nb_fields.specs.Places.{most_pages}
 use Rattle.std.proofs.lemmas.Bool.{cases_eq}
 use Rattle.std.proofs.lemmas.List.{length-replicate}
 use Rattle.nb_host.specs.Files.{File, bytes_of as file_bytes, put_at, with_page}
@@ -28,7 +29,7 @@ first_and_rest (x ∷ xs) some = refl
 
 module _ (size : ℕ) (records : List Numbered) (before : Image) (first : Page) where
   -- such a list, whatever it is called
-  half_of : (xs : Image) (file : File) → file ≡ Some (joined xs) → 1 ≤ length xs → first_page xs ≡ first → IsOfSize size xs → 5 ≤ length xs → length xs ≤ 1048576 → IsBetween size records before xs → IsHalfFile size records before first file
+  half_of : (xs : Image) (file : File) → file ≡ Some (joined xs) → 1 ≤ length xs → first_page xs ≡ first → IsOfSize size xs → 5 ≤ length xs → length xs ≤ most_pages → IsBetween size records before xs → IsHalfFile size records before first file
   half_of xs file reads some front sizes least most between =
       let is : xs ≡ first ∷ drop 1 xs = first_and_rest xs some ∙ ap (λ (p : Page). p ∷ drop 1 xs) front in
       record {
@@ -36,12 +37,12 @@ module _ (size : ℕ) (records : List Numbered) (before : Image) (first : Page) 
         reads = reads ∙ ap (λ (x : Image). Some (joined x)) is;
         sizes = subst (λ (x : Image). IsOfSize size x) is sizes;
         least = subst (λ (x : Image). 5 ≤ length x) is least;
-        most = subst (λ (x : Image). length x ≤ 1048576) is most;
+        most = subst (λ (x : Image). length x ≤ most_pages) is most;
         between = subst (λ (x : Image). IsBetween size records before x) is between;
       }
 
   -- a record is written at its place
-  half_put : (n : ℕ) (page : Page) (file : File) → 1 ≤ n → n < 1048576 → length page ≡ size → Contains records (n, page) → IsHalfFile size records before first file → IsHalfFile size records before first (with_page file (n * length page) page)
+  half_put : (n : ℕ) (page : Page) (file : File) → 1 ≤ n → n < most_pages → length page ≡ size → Contains records (n, page) → IsHalfFile size records before first file → IsHalfFile size records before first (with_page file (n * length page) page)
   half_put n page file some below long there half =
       let xs : Image = first ∷ half.pages in
       let wide = length-written size (n, page) xs in
@@ -58,7 +59,7 @@ module _ (size : ℕ) (records : List Numbered) (before : Image) (first : Page) 
       ])
 
   -- the file grew by pages of zeros
-  half_grown : (k n : ℕ) (file : File) (bytes : List ℕ) → file ≡ Some bytes → length bytes + k * size ≤ n * size + size → n < 1048576 → 0 < size → IsHalfFile size records before first file → IsHalfFile size records before first (Some (bytes ++ replicate (k * size) 0))
+  half_grown : (k n : ℕ) (file : File) (bytes : List ℕ) → file ≡ Some bytes → length bytes + k * size ≤ n * size + size → n < most_pages → 0 < size → IsHalfFile size records before first file → IsHalfFile size records before first (Some (bytes ++ replicate (k * size) 0))
   half_grown k n file bytes there fits below some half =
       let xs : Image = first ∷ half.pages in
       let zeros : Image = replicate k (replicate {A = ℕ} size 0) in
@@ -76,7 +77,7 @@ module _ (size : ℕ) (records : List Numbered) (before : Image) (first : Page) 
       elim (half.between p from) [ inl was ↦ inl (same ∙ was) | inr one ↦ inr (subst (λ (x : Page). Contains records (p, x)) (sym same) one) ])
 
 -- Whatever a crash leaves of the write of a record, the file is half merged still.
-pub keeps_record : (n : ℕ) (page : Page) (records : List Numbered) (b c : File) → 1 ≤ n → n < 1048576 → 0 < length page → Contains records (n, page) → PageLeft (n * length page) page b c → KeepsHalf (length page) records b c
+pub keeps_record : (n : ℕ) (page : Page) (records : List Numbered) (b c : File) → 1 ≤ n → n < most_pages → 0 < length page → Contains records (n, page) → PageLeft (n * length page) page b c → KeepsHalf (length page) records b c
 keeps_record n page records b c some below wide there (inl same) image first half = subst (λ (f : File). IsHalfFile (length page) records image first f) (sym same) half
 keeps_record n page records b c some below wide there (inr (inl put)) image first half =
     subst (λ (f : File). IsHalfFile (length page) records image first f) (sym put) (half_put (length page) records image first n page b some below refl there half)
@@ -97,7 +98,7 @@ module _ (size : ℕ) (records : List Numbered) (wide : 0 < size) where
       let two : 2 * size ≤ length ps * size = mul-le-mul_right size more in
       omega (arith, all, two, fits, long, wide)
 
-  pub half_begun : (ps : List Page) (first : Page) → IsOfSize size ps → 5 ≤ length ps → length ps ≤ 1048576 → length first ≡ size → IsHalfFile size records ps first (Some (joined (first ∷ drop 1 ps)))
+  pub half_begun : (ps : List Page) (first : Page) → IsOfSize size ps → 5 ≤ length ps → length ps ≤ most_pages → length first ≡ size → IsHalfFile size records ps first (Some (joined (first ∷ drop 1 ps)))
   half_begun [] first sizes least most long = absurd (omega (arith, least))
   half_begun (p ∷ ps) first sizes least most long = record { pages = ps; reads = refl; sizes = (long, sizes.1); least = least; most = most; between = λ q low. inl (behind q low) }
     where
@@ -106,7 +107,7 @@ module _ (size : ℕ) (records : List Numbered) (wide : 0 < size) where
       behind (suc q) low = main_tail size first ps q ∙ sym (main_tail size p ps q)
 
   -- What a crash leaves of that: the file as it was, or half merged.
-  pub begun_left : (ps : List Page) (first : Page) (file c : File) → IsOfSize size ps → 5 ≤ length ps → length ps ≤ 1048576 → length first ≡ size → file ≡ Some (joined ps) → PageLeft (0 * length first) first file c → (c ≡ file) ⊎ IsHalfFile size records ps first c
+  pub begun_left : (ps : List Page) (first : Page) (file c : File) → IsOfSize size ps → 5 ≤ length ps → length ps ≤ most_pages → length first ≡ size → file ≡ Some (joined ps) → PageLeft (0 * length first) first file c → (c ≡ file) ⊎ IsHalfFile size records ps first c
   begun_left ps first file c sizes least most long is (inl same) = inl same
   begun_left ps first file c sizes least most long is (inr (inl put)) =
       inr (subst (λ (f : File). IsHalfFile size records ps first f) (sym (put ∙ ap (λ (f : File). with_page f (0 * length first) first) is ∙ first_put first ps sizes (omega (arith, least)) long)) (half_begun ps first sizes least most long))

@@ -4,6 +4,7 @@ use Rattle.std.specs.Prelude.{None, Contains}
 use Rattle.nb_fields.specs.Bytes.{part}
 use Rattle.nb_fields.specs.Header.{state_of, size_of, guid_of, pending_of}
 use Rattle.nb_fields.proofs.PartLemmas.{part-take}
+use Rattle.nb_fields.specs.States.{applying_state}
 use Rattle.nb_host.specs.Files.{Files}
 use Rattle.nb_model.specs.Causes.{not_database}
 use Rattle.nb_model.specs.Image.{Page, Image, Numbered, first_page, image_size, image_in, trimmed, overwritten}
@@ -81,7 +82,7 @@ module _ (files : Files) (standby name bytes : List ℕ) (c : Contents) (m : IsM
   page = first_page (image_in bytes)
 
   module _ (half : List ℕ) (h : IsHalf bytes c half) where
-    pub half_state : state_of half ≡ 3
+    pub half_state : state_of half ≡ applying_state
     half_state = sym (front_state half h.formed) ∙ ap state_of h.first ∙ applying-state c.head.guid page sixteen (front_long bytes its.formed)
 
     pub half_pending : pending_of half ≡ c.head.guid
@@ -116,7 +117,7 @@ module _ (files : Files) (standby name bytes : List ℕ) (c : Contents) (m : IsM
     }
 
   -- A standby that is half merged already is one.
-  pub itself_half : state_of bytes ≡ 3 → IsHalf bytes c bytes
+  pub itself_half : state_of bytes ≡ applying_state → IsHalf bytes c bytes
   itself_half is = record {
     formed = its.formed;
     first = sym (applying_same c.head.guid page sixteen (front_long bytes its.formed) (front_state bytes its.formed ∙ is) (front_pending bytes its.formed ∙ pending its.for));

@@ -3,6 +3,7 @@ use Rattle.std.proofs.Common.{◌≡◌, ◌≢◌, inr, ℕ, ◌<◌, ◌≤◌
 use Rattle.std.specs.Prelude.{Some, Ok, Contains}
 use Rattle.nb_fields.specs.Page.{stamp_of}
 use Rattle.nb_fields.specs.Header.{state_of, size_of, guid_of, pending_of}
+use Rattle.nb_fields.specs.States.{normal_state, applying_state}
 use Rattle.nb_host.specs.Files.{File, Files}
 use Rattle.nb_model.specs.Account.{Kept, Base, base_of, Plain, IsBase, Account, with_entry}
 use Rattle.nb_model.specs.Image.{Image, Numbered, first_page, image_guid, image_in, trimmed, overwritten}
@@ -51,7 +52,7 @@ module _ (files : Files) (account : Account) (stands : Stands files account) (st
       way : IsOnTheWay (size_of bytes) record_of.from.scn r.image image
 
     -- 1. In the normal state: it goes on from the record that it names, and wasn't written since.
-    from_normal : state_of bytes ≡ 0 → GoesOnFrom name bytes c → IsFromRecord
+    from_normal : state_of bytes ≡ normal_state → GoesOnFrom name bytes c → IsFromRecord
     from_normal zero_is on =
         let opens : owner standby (files standby) (files (delta_name standby)) ≡ Ok (base_of image) =
         owner_main standby image (files standby) (files (delta_name standby)) (record { bytes = bytes; there = merges.mergeable.there; formed = its.formed; normal = zero_is; is = refl }) in
@@ -69,7 +70,7 @@ module _ (files : Files) (account : Account) (stands : Stands files account) (st
         }
 
     -- 2. In the applying state the files that stand for the account tell that.
-    from_begun : state_of bytes ≡ 3 → IsTheSame bytes c → IsFromRecord
+    from_begun : state_of bytes ≡ applying_state → IsTheSame bytes c → IsFromRecord
     from_begun three same =
         let stopped : IsStopped account.kept bytes r =
         stands.standbys standby bytes r merges.plain merges.mergeable.there (is_applying_so bytes (formed bytes its.formed).header three) (subst (λ (g : List ℕ). IsKeptAs account.kept g r) (sym same.pending) named) in
@@ -129,7 +130,7 @@ module _ (files : Files) (account : Account) (stands : Stands files account) (st
 
   -- 3. Files in which the standby is half merged stand for the account with it as a plain file, whatever became of the others meanwhile.
   module _ (half : List ℕ) (h : IsHalf bytes c half) (then : Account) (same_kept : then.kept ≡ account.kept) (new : Files) (here : new standby ≡ Some half) where
-    its_state : state_of half ≡ 3
+    its_state : state_of half ≡ applying_state
     its_state = half_state files standby name bytes c merges.mergeable half h
 
     abbrev beside : File

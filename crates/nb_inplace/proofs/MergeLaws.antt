@@ -3,7 +3,7 @@ use Rattle.std.proofs.Common.{◌≡◌, ◌⊎◌, inl, inr, ⊎_elim, ℕ, zer
 use Rattle.std.specs.Prelude.{Bool, true, false, Some, Ok, IsTrue, Contains}
 use Rattle.nb_fields.specs.Bytes.{is_zeros}
 use Rattle.nb_fields.specs.Header.{is_header, size_of}
-use Rattle.nb_fields.specs.Places.{is_page_size}
+use Rattle.nb_fields.specs.Places.{is_page_size, most_pages}
 use Rattle.nb_fields.proofs.SizeLemmas.{size_facts}
 use Rattle.nb_host.specs.Files.{File, Files, bytes_of, with_page}
 use Rattle.nb_host.specs.World.{World}
@@ -63,7 +63,7 @@ module _ (old : World) (standby : List ℕ) (size count : ℕ) (is_begun : Bool)
   least : 5 ≤ length ps
   least = omega (arith, plan.whole.least, plan.whole.long)
 
-  most : length ps ≤ 1048576
+  most : length ps ≤ most_pages
   most = omega (arith, plan.whole.most, plan.whole.long)
 
   page_long : 64 ≤ length (first_page ps)

@@ -2,6 +2,7 @@
 use Rattle.std.proofs.Common.{◌≡◌, ℕ, suc, ◌+◌, ◌*◌, ◌<◌, ◌≤◌, List, [], ◌∷◌, ◌++◌, length, refl, sym, ap, subst, ◌∙◌, arith, append_assoc}
 use Rattle.std.specs.Prelude.{Bool, IsTrue, Ok, Err, Result, max, Contains}
 use Rattle.std.proofs.lemmas.List.{append-nil}
+use Rattle.nb_fields.specs.Places.{most_pages}
 use Rattle.nb_host.specs.Files.{File, bytes_of}
 use Rattle.nb_host.specs.World.{World}
 use Rattle.nb_host.specs.Calls.{IsStill, WritesPage}
@@ -43,7 +44,7 @@ module _ (name : List ℕ) (size : ℕ) (records : List Numbered) where
   half_still old mid new so_far timely still silent time = half_joined old mid new so_far (moved_still mid new (Only name) name (KeepsHalf size records) timely still silent time (λ b was image first half. half))
 
 -- a record is written, also where that fails
-pub half_record : {T E : Type 0} (name : List ℕ) (tells : Bool) (result : Result T E) (old new : World) (n : ℕ) (page : Page) (records : List Numbered) → IsTrue tells → 1 ≤ n → n < 1048576 → 0 < length page → Contains records (n, page) → IsTimely old
+pub half_record : {T E : Type 0} (name : List ℕ) (tells : Bool) (result : Result T E) (old new : World) (n : ℕ) (page : Page) (records : List Numbered) → IsTrue tells → 1 ≤ n → n < most_pages → 0 < length page → Contains records (n, page) → IsTimely old
     → WritesPage tells result old new name (n * length page) page → new.said ≡ old.said → Passes old new → Changes old new (Only name) (Moved old name (KeepsHalf (length page) records))
 half_record name tells result old new n page records told some below wide there timely writes silent time =
     page_alone tells result old new name (n * length page) page (KeepsHalf (length page) records) told timely writes silent time (λ b c was next. keeps_record n page records b c some below wide there next)
@@ -115,7 +116,7 @@ module _ (size : ℕ) (reader : Reading) (records : List Numbered) (tells : Bool
   reader_stops T P next page Memory says = absurd says
 
 -- the number of a record is that of a page
-pub number_low : (old new : Reading) (item : Item) (n : ℕ) → item ≡ PageAt n → Rises old new (Ok item) → n < 1048576
+pub number_low : (old new : Reading) (item : Item) (n : ℕ) → item ≡ PageAt n → Rises old new (Ok item) → n < most_pages
 number_low old new item n is rises = (subst (λ (i : Item). Rises old new (Ok i)) is rises).1
 
 -- what fails without a value fails so, whatever the value is to be

@@ -7,6 +7,7 @@ use Rattle.nb_fields.specs.Bytes.{number_in}
 use Rattle.nb_fields.specs.Header.{is_header, state_of, size_of, guid_of}
 use Rattle.nb_fields.proofs.PartLemmas.{number_in-take}
 use Rattle.nb_fields.proofs.SizeLemmas.{size_facts}
+use Rattle.nb_fields.specs.States.{normal_state, applying_state}
 use Rattle.nb_host.specs.Files.{File}
 use Rattle.nb_host.specs.Names.{same_name}
 use Rattle.nb_host.specs.declared.refusals.Refusal.{Refusal}
@@ -106,14 +107,14 @@ apart name bytes e = other (sym (another_finishing name bytes) ∙ e ∙ another
 
 -- what the table says of a standby's state
 pub data IsCaseOf (state : ℕ) (case : Case) : Type 0 where
-  goes : case ≡ Go → state ≡ 0 → IsCaseOf state case
-  goes_on : case ≡ GoOrUnfinished → state ≡ 3 → IsCaseOf state case
+  goes : case ≡ Go → state ≡ normal_state → IsCaseOf state case
+  goes_on : case ≡ GoOrUnfinished → state ≡ applying_state → IsCaseOf state case
 
 module _ (state : ℕ) (name bytes : List ℕ) (is : IsFileIn state bytes) where
-  in_normal : state_of bytes ≡ 0 → (not_mergeable bytes name (another bytes) ≡ not_finishing name bytes (another bytes)) → ⊥
+  in_normal : state_of bytes ≡ normal_state → (not_mergeable bytes name (another bytes) ≡ not_finishing name bytes (another bytes)) → ⊥
   in_normal zero_is says = apart name bytes (sym says ∙ mergeable_by bytes name (another bytes) ∙ ap (λ (n : ℕ). by_state (n == 3) bytes name (another bytes)) zero_is)
 
-  in_applying : state_of bytes ≡ 3 → (not_mergeable bytes name (another bytes) ≡ not_next name bytes (another bytes)) → ⊥
+  in_applying : state_of bytes ≡ applying_state → (not_mergeable bytes name (another bytes) ≡ not_next name bytes (another bytes)) → ⊥
   in_applying three says = apart name bytes (sym (mergeable_by bytes name (another bytes) ∙ ap (λ (n : ℕ). by_state (n == 3) bytes name (another bytes)) three) ∙ says)
 
   -- a merge goes in the normal state, and goes on in the applying state
@@ -134,7 +135,7 @@ module _ (state : ℕ) (name bytes : List ℕ) (is : IsFileIn state bytes) where
   case_is GoWithoutDelta says other = absurd says
 
 -- so a merge was begun exactly in the applying state
-pub begun_is : (state : ℕ) (case : Case) (test : Bool) → IsCaseOf state case → (test ≡ true → case ≡ GoOrUnfinished) → (test ≡ false → case ≢ GoOrUnfinished) → test ≡ (state == 3)
+pub begun_is : (state : ℕ) (case : Case) (test : Bool) → IsCaseOf state case → (test ≡ true → case ≡ GoOrUnfinished) → (test ≡ false → case ≢ GoOrUnfinished) → test ≡ (state == applying_state)
 begun_is state case true (goes is zero_is) if_so if_not = absurd (go_other (sym is ∙ if_so refl))
   where
     go_other : Go ≡ GoOrUnfinished → ⊥

@@ -4,6 +4,7 @@ use Rattle.std.specs.Prelude.{Bool, true, false, not, ◌==◌, Some, None, Resu
 use Rattle.std.specs.Cmp.Lexicographic.{told_text}
 use Rattle.std.proofs.lemmas.Bool.{eqb-true, eqb-false, or_parts}
 use Rattle.nb_fields.specs.Header.{state_of, size_of, scn_of, guid_of, pending_of}
+use Rattle.nb_fields.specs.States.{normal_state, stalled_state, merge_state, applying_state}
 use Rattle.nb_host.specs.Files.{File, Files}
 use Rattle.nb_host.specs.Names.{same_name}
 use Rattle.nb_host.specs.declared.refusals.Refusal.{Refusal}
@@ -53,8 +54,8 @@ pub record IsTheSame (bytes : List ℕ) (c : Contents) : Type 0 where
 
 -- By the state: it goes on from the standby as it stands, or finishes what was begun.
 pub data IsFor (name bytes : List ℕ) (c : Contents) : Type 0 where
-  as_it_stands : state_of bytes ≡ 0 → GoesOnFrom name bytes c → IsFor name bytes c
-  begun : state_of bytes ≡ 3 → IsTheSame bytes c → IsFor name bytes c
+  as_it_stands : state_of bytes ≡ normal_state → GoesOnFrom name bytes c → IsFor name bytes c
+  begun : state_of bytes ≡ applying_state → IsTheSame bytes c → IsFor name bytes c
 
 -- all that is known of an accepted merge
 pub record IsAccepted (files : Files) (name bytes : List ℕ) (c : Contents) : Type 0 where
@@ -66,12 +67,12 @@ pub record IsAccepted (files : Files) (name bytes : List ℕ) (c : Contents) : T
   pub for : IsFor name bytes c
 
 -- a standby of the form is in one of the two states
-pub standby_state : (name bytes : List ℕ) → not_standby name (Some bytes) ≡ None → (not_database bytes ≡ None) × ((state_of bytes ≡ 0) ⊎ (state_of bytes ≡ 3))
+pub standby_state : (name bytes : List ℕ) → not_standby name (Some bytes) ≡ None → (not_database bytes ≡ None) × ((state_of bytes ≡ normal_state) ⊎ (state_of bytes ≡ applying_state))
 unfolding not_standby
 standby_state name bytes none =
     let form = clear_head _ _ none in
     let state = clear_head _ _ form.1 in
-    let other = or_parts (state_of bytes == 1) (state_of bytes == 2) (when_clear _ (WrongState (state_of bytes)) state.0) in
+    let other = or_parts (state_of bytes == stalled_state) (state_of bytes == merge_state) (when_clear _ (WrongState (state_of bytes)) state.0) in
     (form.0, by (state_of bytes) (header-state bytes (formed bytes form.0).header) (eqb-false (state_of bytes) 1 other.0) (eqb-false (state_of bytes) 2 other.1))
   where
     by : (n : ℕ) → n ≤ 3 → (n ≡ 1 → ⊥) → (n ≡ 2 → ⊥) → (n ≡ 0) ⊎ (n ≡ 3)
@@ -98,11 +99,11 @@ the_same name bytes c none =
 abbrev pub by_state : (stopped : Bool) (bytes name : List ℕ) → Contents → Cause
 by_state stopped bytes name c = elim stopped [ true ↦ not_finishing name bytes c | false ↦ not_next name bytes c ]
 
-pub mergeable_by : (bytes name : List ℕ) (c : Contents) → not_mergeable bytes name c ≡ by_state (state_of bytes == 3) bytes name c
+pub mergeable_by : (bytes name : List ℕ) (c : Contents) → not_mergeable bytes name c ≡ by_state (state_of bytes == applying_state) bytes name c
 unfolding not_mergeable
 mergeable_by bytes name c = refl
 
-is_for : (bytes name : List ℕ) (c : Contents) → (state_of bytes ≡ 0) ⊎ (state_of bytes ≡ 3) → not_mergeable bytes name c ≡ None → IsFor name bytes c
+is_for : (bytes name : List ℕ) (c : Contents) → (state_of bytes ≡ normal_state) ⊎ (state_of bytes ≡ applying_state) → not_mergeable bytes name c ≡ None → IsFor name bytes c
 is_for bytes name c (inl is) none = as_it_stands is (goes_on name bytes c (sym (mergeable_by bytes name c ∙ ap (λ (n : ℕ). by_state (n == 3) bytes name c) is) ∙ none))
 is_for bytes name c (inr is) none = begun is (the_same name bytes c (sym (mergeable_by bytes name c ∙ ap (λ (n : ℕ). by_state (n == 3) bytes name c) is) ∙ none))
 

@@ -1,6 +1,7 @@
 -- A merge of a level file into a standby that was restored from a backup.
 use Rattle.std.specs.Prelude.{◌≡◌, ◌≢◌, ℕ, List, false}
 use Rattle.nb_fields.specs.Header.{state_of, guid_of}
+use Rattle.nb_fields.specs.States.{normal_state}
 use Rattle.nb_host.specs.Files.{Files}
 use Rattle.nb_host.specs.Names.{is_delta}
 use Rattle.nb_model.specs.Levels.{Contents}
@@ -13,4 +14,4 @@ pub record MergesBackup (files : Files) (standby name bytes : List ℕ) (c : Con
   pub plain : is_delta standby ≡ false
   pub level_plain : is_delta name ≡ false
   pub mergeable : IsMergeable files standby name bytes c
-  pub restored : state_of bytes ≡ 0 → guid_of bytes ≢ nil
+  pub restored : state_of bytes ≡ normal_state → guid_of bytes ≢ nil

@@ -1,5 +1,6 @@
 -- The file of a standby while a level file is merged into it.
 use Rattle.std.specs.Prelude.{◌≡◌, ◌⊎◌, ℕ, ◌+◌, ◌*◌, ◌≤◌, List, [], ◌∷◌, length, max, Bool, true, false, Some, Result, Ok, Err}
+use Rattle.nb_fields.specs.Places.{most_pages}
 use Rattle.nb_host.specs.Files.{File, with_page}
 use Rattle.nb_host.specs.World.{World}
 use Rattle.nb_host.specs.declared.faults.Fault.{Fault}
@@ -25,7 +26,7 @@ pub record IsHalfFile (size : ℕ) (records : List Numbered) (before : Image) (f
   pub reads : file ≡ Some (joined (first ∷ pages))
   pub sizes : IsOfSize size (first ∷ pages)
   pub least : 5 ≤ length (first ∷ pages)
-  pub most : length (first ∷ pages) ≤ 1048576
+  pub most : length (first ∷ pages) ≤ most_pages
   pub between : IsBetween size records before (first ∷ pages)
 
 -- it stays so

@@ -1,6 +1,7 @@
 -- What is known of a merge before it changes the standby.
 use Rattle.std.specs.Prelude.{◌≡◌, ◌≢◌, ℕ, ◌≤◌, List, length, Bool, true, Some, Ok, Contains}
 use Rattle.nb_fields.specs.Header.{is_header, size_of}
+use Rattle.nb_fields.specs.Places.{most_pages}
 use Rattle.nb_host.specs.Files.{Files, bytes_of}
 use Rattle.nb_model.specs.Image.{Page, Numbered, first_page}
 use Rattle.nb_model.specs.Levels.{joined}
@@ -15,7 +16,7 @@ pub record IsWholeFile (files : Files) (standby : List ℕ) (size count : ℕ) (
   pub long : length pages ≡ count
   pub sizes : IsOfSize size pages
   pub least : 5 ≤ count
-  pub most : count ≤ 1048576
+  pub most : count ≤ most_pages
   pub header : is_header (first_page pages) ≡ true
   pub same : size_of (first_page pages) ≡ size
 

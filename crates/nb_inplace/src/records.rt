@@ -3,7 +3,7 @@ ghost use Rattle.std.specs.Prelude.{◌≡◌, ◌≢◌, ◌<◌, ◌≤◌, []
 ghost use Rattle.nb_change.specs.Changes.{Changes, Only, Moved};
 ghost use Rattle.nb_host.specs.Causes.{CountsDevice, CountsFault};
 ghost use Rattle.nb_change.specs.Gave.{GaveNothing};
-ghost use Rattle.nb_fields.specs.Places.{is_page_size};
+ghost use Rattle.nb_fields.specs.Places.{is_page_size, most_pages};
 ghost use Rattle.nb_host.specs.Files.{bytes_of};
 ghost use Rattle.nb_model.specs.Image.{Numbered};
 ghost use Rattle.nb_level.specs.Reading.{still_to_come};
@@ -23,7 +23,7 @@ fn put_page<H: Host>(
 ) -> Result<(), HostFault>
     requires size { IsTrue (is_page_size (length page.now)) }
     requires first { length first.old ≡ length page.now }
-    requires below { number < 1048576 }
+    requires below { number < most_pages }
     ensures left { IsTrue H.tells → (records : List Numbered) → Contains records (number, page.now)
         → Changes (H.world host.old) (H.world host.new) (Only standby.now) (Moved (H.world host.old) standby.now (KeepsHalf (length page.now) records)) }
     ensures pages { IsTrue H.tells → OnOk result (Overwrites (length page.now) ((number, page.now) ∷ []) ((H.world host.old).files standby.now) ((H.world host.new).files standby.now) first.old first.new) }
@@ -49,12 +49,12 @@ pub(crate) fn write_records<H: Host>(
     requires size { IsTrue (is_page_size (length page.old)) }
     requires reader { reader.old.head.page_size ≡ length page.old }
     requires first { length first.old ≡ length page.old }
-    requires most { pages ≤ 1048576 }
+    requires most { pages ≤ most_pages }
     ensures left { IsTrue H.tells → (records : List Numbered) → reader.old.name ≢ standby.now → still_to_come (bytes_of ((H.world host.old).files reader.old.name)) reader.old ≡ Ok records
         → Changes (H.world host.old) (H.world host.new) (Only standby.now) (Moved (H.world host.old) standby.now (KeepsHalf (length page.old) records)) }
     ensures pages { IsTrue H.tells → (records : List Numbered) → reader.old.name ≢ standby.now → still_to_come (bytes_of ((H.world host.old).files reader.old.name)) reader.old ≡ Ok records
         → IsDoneBy result (λ count. (count ≡ pages_with records pages) × Overwrites (length page.old) records ((H.world host.old).files standby.now) ((H.world host.new).files standby.now) first.old first.new) }
-    ensures most { IfOk result (λ count. count ≤ 1048576) }
+    ensures most { IfOk result (λ count. count ≤ most_pages) }
     ensures gave { GaveNothing (H.world host.old) (H.world host.new) }
     ensures cause { CountsDevice result (H.faults host.old) (H.faults host.new) }
 {

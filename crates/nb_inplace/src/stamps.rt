@@ -1,7 +1,7 @@
 // Whether a page of a standby was written since it was restored, by the stamps.
 ghost use Rattle.std.specs.Prelude.{◌≡◌, ◌+◌, ◌*◌, ◌<◌, ◌≤◌, ℕ, List, Some, IsTrue, length, take, drop, option_map};
 ghost use Rattle.nb_host.specs.Causes.{CountsDevice};
-ghost use Rattle.nb_fields.specs.Places.{is_page_size};
+ghost use Rattle.nb_fields.specs.Places.{is_page_size, most_pages};
 ghost use Rattle.nb_host.specs.declared.refusals.Refusal.TheVariants.{ChainScn};
 ghost use Rattle.nb_model.specs.Image.{Page};
 ghost use Rattle.nb_model.specs.InPlace.{written_since};
@@ -65,7 +65,7 @@ pub(crate) fn test_stamps<H: Host>(
     piece: &mut [u8],
 ) -> Result<(), Fault>
     requires size { IsTrue (is_page_size page_size) }
-    requires most { pages ≤ 1048576 }
+    requires most { pages ≤ most_pages }
     requires piece { 32768 ≤ length piece.old }
     ensures test { IsTrue H.tells → (ps : List Page) → (H.world host.old).files standby.now ≡ Some (joined ps) → IsOfSize page_size ps → length ps ≡ pages → Tested (written_since file.now scn (drop 1 ps)) result }
     ensures quiet { Quiet (H.world host.old) (H.world host.new) }

@@ -2,7 +2,7 @@
 ghost use Rattle.std.specs.Prelude.{◌≡◌, ◌*◌, ◌≤◌, ℕ, List, true, Some, IfOk, IsTrue, length, take};
 ghost use Rattle.nb_host.specs.Causes.{CountsDevice};
 ghost use Rattle.nb_fields.specs.Header.{is_header, size_of};
-ghost use Rattle.nb_fields.specs.Places.{is_page_size};
+ghost use Rattle.nb_fields.specs.Places.{is_page_size, most_pages};
 ghost use Rattle.nb_host.specs.declared.refusals.Refusal.TheVariants.{NotDatabase};
 ghost use Rattle.nb_model.specs.Causes.{not_database};
 ghost use Rattle.nb_model.specs.InPlace.{not_standby};
@@ -47,7 +47,7 @@ fn pages_in(len: u64, page_size: u32) -> Result<u32, Fault>
     ensures test { (bytes : List ℕ) → is_header bytes ≡ true → size_of bytes ≡ page_size → length bytes ≡ len → Tested (not_database bytes) result }
     ensures pages { IfOk result (λ pages. len ≡ pages * page_size) }
     ensures least { IfOk result (λ pages. 5 ≤ pages) }
-    ensures most { IfOk result (λ pages. pages ≤ 1048576) }
+    ensures most { IfOk result (λ pages. pages ≤ most_pages) }
     ensures cause { (faults : ℕ) → CountsDevice result faults faults }
 {
     let size = u64::from(page_size);

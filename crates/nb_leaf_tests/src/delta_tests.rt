@@ -1,5 +1,6 @@
 // Single calls of a difference file on a host in memory: entries that are only drafted, and what is left without the file.
 ghost use Rattle.std.specs.Prelude.{◌≡◌, ◌<◌, OnOk};
+ghost use Rattle.nb_fields.specs.Places.{most_pages};
 
 use crate::sample::name_of;
 use nb_delta::Delta;
@@ -11,7 +12,7 @@ use std::test::Fail;
 fn add(host: &mut MemHost, delta: &mut Delta, page: u32, byte: u8) -> Result<u32, Fault>
     requires size { delta.old.page_size ≡ 1024 }
     requires none_waits { delta.old.drafted ≡ 0 }
-    requires below { page < 1048576 }
+    requires below { page < most_pages }
     ensures known { OnOk result (delta.new.page_size ≡ 1024) }
     ensures none { OnOk result (delta.new.drafted ≡ 0) }
 {
@@ -45,7 +46,7 @@ fn second_entry(host: &mut MemHost, delta: &mut Delta) -> Result<Option<u32>, Fa
 
 /// The slot of an entry that is drafted for a page that has none.
 fn draft(host: &mut MemHost, delta: &mut Delta, page: u32) -> Result<u32, Fault>
-    requires { page < 1048576 }
+    requires { page < most_pages }
     ensures { OnOk result (delta.new.page_size ≡ delta.old.page_size) }
 {
     match delta.slot_of(host, page)? {

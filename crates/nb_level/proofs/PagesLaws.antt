@@ -4,7 +4,7 @@ use Rattle.std.specs.Prelude.{Bool, true, false, ◌&&◌, ◌||◌, ◌==◌, n
 use Rattle.std.proofs.lemmas.Bool.{or_parts}
 use Rattle.std.proofs.lemmas.List.{length-take-le}
 use Rattle.nb_fields.specs.Bytes.{number_in, part}
-use Rattle.nb_fields.specs.Places.{is_page_size}
+use Rattle.nb_fields.specs.Places.{is_page_size, most_pages}
 use Rattle.nb_model.specs.Image.{Numbered}
 use Rattle.nb_model.specs.Levels.{Head, Contents, AreRising, AreOfSize, first_fault, head_in, end_mark, read_level, read_pages, read_end, read_singles, read_runs, pages_in, is_bad_number, is_first_page}
 use Rattle.nb_model.proofs.LevelWalk.{FirstIsZero, none_clear, not_long, not_same, zero_tells, good, ok_is, no_pages, singles_are, runs_are}
@@ -46,7 +46,7 @@ module _ (h : Head) where
       }
 
   -- version 102: so many pages, with numbers from n on
-  pages_rise : (m n : ℕ) (x : List ℕ) (more : List Numbered) → n + m ≤ 1048576 → AreRising (n + m) more → AreRising n (pages_in h.size m n x ++ more)
+  pages_rise : (m n : ℕ) (x : List ℕ) (more : List Numbered) → n + m ≤ most_pages → AreRising (n + m) more → AreRising n (pages_in h.size m n x ++ more)
   unfolding pages_in
   pages_rise zero n x more low rise = subst (λ k. AreRising k more) (let e : n + 0 ≡ n = omega arith in e) rise
   pages_rise (suc m) n x more low rise =
@@ -74,8 +74,8 @@ module _ (h : Head) where
       let n : ℕ = number_in 0 4 rest in
       let m : ℕ = number_in 4 4 rest in
       let number = good count least n (or_parts (is_bad_number count least n) (n == barred) clear.0).0 in
-      let counts = or_parts (m == 0) (nat_lt 16 m || nat_lt 1048576 (n + m)) clear.1.1.0 in
-      let most : n + m ≤ 1048576 = not_long 1048576 (n + m) (or_parts (nat_lt 16 m) (nat_lt 1048576 (n + m)) counts.1).1 in
+      let counts = or_parts (m == 0) (nat_lt 16 m || nat_lt most_pages (n + m)) clear.1.1.0 in
+      let most : n + m ≤ most_pages = not_long most_pages (n + m) (or_parts (nat_lt 16 m) (nat_lt most_pages (n + m)) counts.1).1 in
       let long : 8 + m * h.size ≤ length rest = not_long (length rest) (8 + m * h.size) clear.1.1.1.1.1.0 in
       record {
         rising = lower least n _ number.low (pages_rise m n (drop 8 rest) more most next.rising);

@@ -6,6 +6,7 @@ use Rattle.std.proofs.lemmas.List.{drop-drop, take_all, length-take-le}
 use Rattle.std.proofs.Math.Nat.{suc-mul}
 use Rattle.nb_fields.specs.Bytes.{part, number_in}
 use Rattle.nb_fields.proofs.PartLemmas.{part-take, number_in-take}
+use Rattle.nb_fields.specs.Places.{most_pages}
 use Rattle.nb_model.specs.Image.{Numbered}
 use Rattle.nb_model.specs.Levels.{Head, first_fault, ends_before, behind, read_end, read_singles, read_runs, pages_in, barred_after, is_bad_number, is_first_page, end_mark}
 use Rattle.nb_model.proofs.ReadLaws.{lt_no, lt_yes}
@@ -157,7 +158,7 @@ by_run h at count least barred short head cut place n m ends page = elim short [
   | false ↦ elim (n == end_mark) [
     | true ↦ ends
     | false ↦ elim (first_fault (
-        (is_bad_number count least n || n == barred, at) ∷ (head, place) ∷ (m == 0 || (nat_lt 16 m || nat_lt 1048576 (n + m)), at + 4) ∷ (cut, place) ∷ (n == 0 && not (is_first_page h page), at + 8) ∷ [])) [
+        (is_bad_number count least n || n == barred, at) ∷ (head, place) ∷ (m == 0 || (nat_lt 16 m || nat_lt most_pages (n + m)), at + 4) ∷ (cut, place) ∷ (n == 0 && not (is_first_page h page), at + 8) ∷ [])) [
           | Some p ↦ Err p
           | None ↦ Ok (Some (n, m))
         ]
@@ -252,11 +253,11 @@ module _ (fuel : ℕ) (h : Head) (at count least barred : ℕ) (rest : List ℕ)
         lt_no_back : (a b : ℕ) → nat_lt a b ≡ false → b ≤ a
         lt_no_back a b e = elim (cases_lt a b) [ inl below ↦ absurd (let yes = lt_yes a b below in cc) | inr above ↦ above ]
 
-  first-there : (m == 0 || (nat_lt 16 m || nat_lt 1048576 (n + m))) ≡ false → nat_lt (length rest) (8 + h.size) ≡ true
+  first-there : (m == 0 || (nat_lt 16 m || nat_lt most_pages (n + m))) ≡ false → nat_lt (length rest) (8 + h.size) ≡ true
       → ((n == 0 && nat_lt (length rest) (8 + h.size)) ≡ true)
       ⊎ (((n == 0 && nat_lt (length rest) (8 + h.size)) ≡ false) × ((n == 0 && not (is_first_page h (part 8 h.size rest))) ≡ false) × (nat_lt (length rest) (8 + m * h.size) ≡ true))
   first-there few short = from (n == 0) refl (some_pages m few) where
-    some_pages : (k : ℕ) → (k == 0 || (nat_lt 16 k || nat_lt 1048576 (n + k))) ≡ false → nat_lt (length rest) (8 + k * h.size) ≡ true
+    some_pages : (k : ℕ) → (k == 0 || (nat_lt 16 k || nat_lt most_pages (n + k))) ≡ false → nat_lt (length rest) (8 + k * h.size) ≡ true
     some_pages zero e = absurd (cc)
     some_pages (suc k) e = lt_yes (length rest) (8 + suc k * h.size) (below (cases_lt (length rest) (8 + h.size))) where
       below : (length rest < 8 + h.size) ⊎ (8 + h.size ≤ length rest) → length rest < 8 + suc k * h.size
@@ -284,7 +285,7 @@ module _ (fuel : ℕ) (h : Head) (at count least barred : ℕ) (rest : List ℕ)
             | false ↦ elim (first_fault (
                 (is_bad_number count least n || n == barred, at)
                 ∷ ends_before 8 at rest
-                ∷ (m == 0 || (nat_lt 16 m || nat_lt 1048576 (n + m)), at + 4)
+                ∷ (m == 0 || (nat_lt 16 m || nat_lt most_pages (n + m)), at + 4)
                 ∷ (n == 0 && nat_lt (length rest) (8 + h.size), place)
                 ∷ (n == 0 && not (is_first_page h (part 8 h.size rest)), at + 8)
                 ∷ ends_before (8 + m * h.size) at rest
@@ -298,7 +299,7 @@ module _ (fuel : ℕ) (h : Head) (at count least barred : ℕ) (rest : List ℕ)
             | false ↦ elim (first_fault (
                 (is_bad_number count least n || n == barred, at)
                 ∷ ends_before 8 at rest
-                ∷ (m == 0 || (nat_lt 16 m || nat_lt 1048576 (n + m)), at + 4)
+                ∷ (m == 0 || (nat_lt 16 m || nat_lt most_pages (n + m)), at + 4)
                 ∷ ends_before (8 + h.size) at rest
                 ∷ (n == 0 && not (is_first_page h (part 8 h.size rest)), at + 8)
                 ∷ [])) [ Some p ↦ Err p | None ↦ Ok (Some (n, m)) ]
@@ -306,7 +307,7 @@ module _ (fuel : ℕ) (h : Head) (at count least barred : ℕ) (rest : List ℕ)
         ])
     from true ends = refl
     from false true = end_run fuel h at count rest
-    from false false = by_tests (is_bad_number count least n || n == barred) (nat_lt (length rest) 8) (m == 0 || (nat_lt 16 m || nat_lt 1048576 (n + m)))
+    from false false = by_tests (is_bad_number count least n || n == barred) (nat_lt (length rest) 8) (m == 0 || (nat_lt 16 m || nat_lt most_pages (n + m)))
         (n == 0 && nat_lt (length rest) (8 + h.size)) (n == 0 && not (is_first_page h (part 8 h.size rest))) (nat_lt (length rest) (8 + m * h.size)) (nat_lt (length rest) (8 + h.size))
         first-there (no-page (n == 0)) run-whole
 

@@ -1,6 +1,7 @@
 -- What an answer of a reader says of the file, of the reader and of the host.
 use Rattle.std.specs.Prelude.{◌≡◌, ℕ, ◌+◌, ◌<◌, ◌≤◌, Bool, true, false, ◌==◌, nat_lt, drop, IsTrue, List, [], ◌∷◌, Some, None, Result, Ok, Err}
 use Rattle.nb_fields.specs.Bytes.{number_in, part}
+use Rattle.nb_fields.specs.Places.{most_pages}
 use Rattle.nb_host.specs.Files.{File, bytes_of}
 use Rattle.nb_host.specs.World.{World}
 use Rattle.nb_host.specs.declared.faults.Fault.{Fault}
@@ -42,7 +43,7 @@ GivesAt tells file lead due old new page (Err fault) = Unit {0}
 
 -- numbers rise, and are those of pages of a database, whether the host tells its files or not
 abbrev pub Rises : (old new : Reading) → Result Item Fault → Type 0
-Rises old new (Ok (PageAt number)) = (old.place.least ≤ number) × (number < 1048576) × (new.place.least ≡ number + 1)
+Rises old new (Ok (PageAt number)) = (old.place.least ≤ number) × (number < most_pages) × (new.place.least ≡ number + 1)
 Rises old new (Ok (End count)) = Unit {0}
 Rises old new (Err fault) = Unit {0}
 

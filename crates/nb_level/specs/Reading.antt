@@ -3,7 +3,7 @@ use Rattle.std.specs.Prelude.{◌≡◌, ◌⊎◌, ℕ, ◌+◌, ◌*◌, ◌�
 use Rattle.nb_fields.specs.Bytes.{number_in, part}
 use Rattle.nb_model.specs.Image.{Numbered}
 use Rattle.nb_model.specs.Levels.{Head, first_fault, ends_before, is_bad_number, is_first_page, end_mark, behind, pages_in, read_singles, read_runs, begins_level, head_in}
-use Rattle.nb_fields.specs.Places.{is_page_size}
+use Rattle.nb_fields.specs.Places.{is_page_size, most_pages}
 use Rattle.nb_level.specs.Heads.{head_of}
 use Rattle.nb_level.specs.declared.head.LevelHead.{LevelHead}
 use Rattle.nb_level.specs.declared.place.Place.{Place}
@@ -60,7 +60,7 @@ run_step h at count least barred bytes = elim (nat_lt (length bytes) 4) [
         elim (first_fault (
         (is_bad_number count least n || n == barred, at)
         ∷ ends_before 8 at bytes
-        ∷ (m == 0 || (nat_lt 16 m || nat_lt 1048576 (n + m)), at + 4)
+        ∷ (m == 0 || (nat_lt 16 m || nat_lt most_pages (n + m)), at + 4)
         ∷ ends_before (8 + h.size) at bytes
         ∷ (n == 0 && not (is_first_page h (part 8 h.size bytes)), at + 8)
         ∷ [])) [
@@ -104,7 +104,7 @@ pub record IsReader (version : ℕ) (head : LevelHead) (place : Place) (buffer :
   pub room_101 : version ≡ 101 → buffer ≡ 4 + head.page_size
   pub room_102 : version ≡ 102 → buffer ≡ 8 + head.page_size
   pub single : version ≡ 101 → place.left ≡ 0
-  pub within : place.least + place.left ≤ 1048576
+  pub within : place.least + place.left ≤ most_pages
   pub counted : place.count ≤ place.least
   pub reached : place.at ≤ 52 + 32776 * place.least
 

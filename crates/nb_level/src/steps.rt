@@ -1,6 +1,6 @@
 ghost use Rattle.std.specs.Prelude.{◌≡◌, ◌+◌, ◌^◌, ◌<◌, ◌≤◌, ◌==◌, ◌||◌, nat_lt, length, IsTrue, IfOk, IfSome};
 ghost use Rattle.nb_fields.specs.Bytes.{number_in};
-ghost use Rattle.nb_fields.specs.Places.{is_page_size};
+ghost use Rattle.nb_fields.specs.Places.{is_page_size, most_pages};
 ghost use Rattle.nb_model.specs.Levels.{is_first_page, is_bad_number, barred_after};
 ghost use Rattle.nb_level.specs.Heads.{head_of};
 ghost use Rattle.nb_level.specs.Reading.{end_step, single_step, run_step};
@@ -72,7 +72,7 @@ pub(crate) fn single_step(
     requires window { length bytes.now ≤ 4 + head.now.page_size }
     ensures step { result ≡ single_step (head_of head.now) at count least bytes.now }
     ensures number { IfOk result (λ next. IfSome next (λ page. page.0 ≡ number_in 0 4 bytes.now)) }
-    ensures page { IfOk result (λ next. IfSome next (λ page. (length bytes.now ≡ 4 + head.now.page_size) × (least ≤ page.0) × (page.0 < 1048576))) }
+    ensures page { IfOk result (λ next. IfSome next (λ page. (length bytes.now ≡ 4 + head.now.page_size) × (least ≤ page.0) × (page.0 < most_pages))) }
 {
     if bytes.len() < 4 {
         return Err(at + bytes.len() as u64);
@@ -96,8 +96,8 @@ pub(crate) fn single_step(
 
 /// Whether a run may not have so many pages.
 fn is_bad_count(number: u32, pages: u32) -> bool
-    requires { number < 1048576 }
-    ensures { result ≡ (pages == 0 || (nat_lt 16 pages || nat_lt 1048576 (number + pages))) }
+    requires { number < most_pages }
+    ensures { result ≡ (pages == 0 || (nat_lt 16 pages || nat_lt most_pages (number + pages))) }
 {
     pages == 0 || pages > 16 || number + pages > MOST_PAGES
 }
@@ -118,7 +118,7 @@ pub(crate) fn run_step(
     requires window { length bytes.now ≤ 8 + head.now.page_size }
     ensures step { result ≡ run_step (head_of head.now) at count least barred bytes.now }
     ensures number { IfOk result (λ next. IfSome next (λ run. run.0 ≡ number_in 0 4 bytes.now)) }
-    ensures run { IfOk result (λ next. IfSome next (λ run. (length bytes.now ≡ 8 + head.now.page_size) × (least ≤ run.0) × (1 ≤ run.1) × (run.1 ≤ 16) × (run.0 + run.1 ≤ 1048576))) }
+    ensures run { IfOk result (λ next. IfSome next (λ run. (length bytes.now ≡ 8 + head.now.page_size) × (least ≤ run.0) × (1 ≤ run.1) × (run.1 ≤ 16) × (run.0 + run.1 ≤ most_pages))) }
 {
     if bytes.len() < 4 {
         return Err(at + bytes.len() as u64);

@@ -8,6 +8,8 @@ use Rattle.std.proofs.lemmas.List.Elements.{Contains-append_right}
 use Rattle.nb_fields.specs.Bytes.{bytes_of, number_in, padded, with_part}
 use Rattle.nb_fields.specs.Page.{stamped}
 use Rattle.nb_fields.proofs.NumberLemmas.{number_of-bytes_of}
+use Rattle.nb_fields.specs.States.{normal_state, stalled_state}
+use Rattle.nb_fields.specs.Kinds.{data_kind}
 use Rattle.nb_model.specs.Account.{Ask, Kept, Base, Entry}
 use Rattle.nb_model.specs.Backups.{room_in, ask_of}
 use Rattle.nb_model.specs.Causes.{broken_at}
@@ -170,11 +172,11 @@ module _ (kept : List Kept) (t : Trail) (w : IsWellTrail kept t) where
   its_row test row unbroken is = backup_found (IsRemembered kept (AllGoOn t)) test t.base.image row unbroken is (chain_rows kept (AllGoOn t) t.base.image its_past)
 
   -- A backup begins after steps that keep no record: it goes on from the one that its row names.
-  module _ (u : Trail) (on : (r : Kept) → AllGoOn t r → AllGoOn u r) (later : IsWellTrail kept u) (normal : image_state u.base.image ≡ 0) (scn : image_scn u.base.image ≤ 4294967293) (guid : List ℕ) (sixteen : length guid ≡ 16) where
+  module _ (u : Trail) (on : (r : Kept) → AllGoOn t r → AllGoOn u r) (later : IsWellTrail kept u) (normal : image_state u.base.image ≡ normal_state) (scn : image_scn u.base.image ≤ 4294967293) (guid : List ℕ) (sixteen : length guid ≡ 16) where
     goes_on_then : (ask : Option Ask) (r : Kept) → AllGoOn u r → GoesOn r (on_base (begin guid ask) u.base).image
     unfolding on_base
     goes_on_then ask r all =
-        control_goes_on 1 (image_scn u.base.image + 1) guid u.base.image (record { header = later.base.well.header; scn = later.base.well.scn }) later.base.well.sound
+        control_goes_on stalled_state (image_scn u.base.image + 1) guid u.base.image (record { header = later.base.well.header; scn = later.base.well.scn }) later.base.well.sound
         (may_begin u.base.image (record { header = later.base.well.header; scn = later.base.well.scn }) guid sixteen scn) r (all u.base (last_there u.earlier u.base))
 
     its_parent : (asked : Ask) → broken_at (pages_of History t.base.image) ≡ None → IsFrom t.base.image asked → HasParent kept (record_of u guid (Some asked))
@@ -212,7 +214,7 @@ unfolding made after_steps after_step after_stroke settles_at
 begun_trail u guid ask = refl
 
 -- A backup begins where room was made for its row.
-module _ (kept : List Kept) (u : Trail) (later : IsWellTrail kept u) (normal : image_state u.base.image ≡ 0) (scn : image_scn u.base.image ≤ 4294967293) (b : Backing) (sixteen : length b.guid ≡ 16) (same_scn : b.scn ≡ image_scn u.base.image)
+module _ (kept : List Kept) (u : Trail) (later : IsWellTrail kept u) (normal : image_state u.base.image ≡ normal_state) (scn : image_scn u.base.image ≤ 4294967293) (b : Backing) (sixteen : length b.guid ≡ 16) (same_scn : b.scn ≡ image_scn u.base.image)
     (page : HoldsRows (IsRemembered kept (AllGoOn u)) b.page u.base.image) where
   abbrev r : Kept
   r = record_of u b.guid (Some b.ask)
@@ -235,16 +237,16 @@ module _ (kept : List Kept) (u : Trail) (later : IsWellTrail kept u) (normal : i
   unfolding on_base
   held_then bytes held =
       held_by b.page bytes u.base.image then.image (new_size 1 (image_scn u.base.image + 1) b.guid u.base.image u_header later.base.well.sound (may_begin u.base.image u_header b.guid sixteen scn))
-      (omega (arith, control_long 1 (image_scn u.base.image + 1) b.guid u.base.image))
-      (control_rest 1 (image_scn u.base.image + 1) b.guid u.base.image b.page held.behind)
+      (omega (arith, control_long stalled_state (image_scn u.base.image + 1) b.guid u.base.image))
+      (control_rest stalled_state (image_scn u.base.image + 1) b.guid u.base.image b.page held.behind)
       (new_free 1 (image_scn u.base.image + 1) b.guid u.base.image u_header later.base.well.sound (may_begin u.base.image u_header b.guid sixteen scn) b.page) held
 
   -- page 0 alone changes
   leads_then : LeadsTo u.base.image b.page → LeadsTo then.image b.page
   unfolding on_base
   leads_then l = leads_kept u.base.image then.image b.page (λ p some. elim (cases_lt p (length u.base.image)) [
-    | inl low ↦ inl (low, control_rest 1 (image_scn u.base.image + 1) b.guid u.base.image p some)
-    | inr past ↦ inr (past_chain then.image p (omega (arith, past, control_long 1 (image_scn u.base.image + 1) b.guid u.base.image)))
+    | inl low ↦ inl (low, control_rest stalled_state (image_scn u.base.image + 1) b.guid u.base.image p some)
+    | inr past ↦ inr (past_chain then.image p (omega (arith, past, control_long stalled_state (image_scn u.base.image + 1) b.guid u.base.image)))
   ]) l
 
   begun_recorded : IsRecorded (kept ++ r ∷ []) (settled then) b
@@ -290,7 +292,7 @@ module _ (kept : List Kept) (t : Trail) (w : IsWellTrail kept t) (cache : ℕ) (
     stays : Stays t.base u.base
     stays = subst (Stays t.base) (sym (made_base t ss)) (fitting_stays rows ss t.base fits.each (header_whole t.base.image header w.base.well.sound))
 
-    normal : image_state u.base.image ≡ 0
+    normal : image_state u.base.image ≡ normal_state
     normal = stays.state ∙ may.may.normal
 
     small : image_scn u.base.image ≤ 4294967293
@@ -367,8 +369,8 @@ module _ (kept : List Kept) (t : Trail) (w : IsWellTrail kept t) (b : Backing) (
   slot_long : length its_slot ≡ 256
   slot_long = backup_length b.ask.level b.scn time b.guid b.name place.sixteen place.short
 
-  rows_then : (scn number : ℕ) → HasRows kept (AllGoOn t) (stamped (page_at t.base.image b.page) 5 (drop 16 (with_part (32 + 256 * b.slot) its_slot (page_at t.base.image b.page))) scn number)
-  rows_then scn number history = subst (λ (x : Page). AllByRecursion IsKnown (slots_in (stamped x 5 (drop 16 (with_part (32 + 256 * b.slot) its_slot x)) scn number))) (sym recorded.page.held.is)
+  rows_then : (scn number : ℕ) → HasRows kept (AllGoOn t) (stamped (page_at t.base.image b.page) data_kind (drop 16 (with_part (32 + 256 * b.slot) its_slot (page_at t.base.image b.page))) scn number)
+  rows_then scn number history = subst (λ (x : Page). AllByRecursion IsKnown (slots_in (stamped x data_kind (drop 16 (with_part (32 + 256 * b.slot) its_slot x)) scn number))) (sym recorded.page.held.is)
       (rows_written IsKnown b.slot its_slot recorded.page.bytes slot_long long (λ used. slot_known) scn number recorded.page.rows)
     where
       long : 32 + 256 * b.slot + 256 ≤ length recorded.page.bytes

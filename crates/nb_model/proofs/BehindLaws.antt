@@ -6,6 +6,7 @@ use Rattle.std.proofs.lemmas.List.{append-nil}
 use Rattle.std.proofs.lemmas.List.Elements.{Contains-append_left, Contains-append_right}
 use Rattle.nb_fields.specs.Places.{is_page_size, is_scn_place, entries_in}
 use Rattle.nb_fields.specs.Header.{state_of, size_of, scn_of}
+use Rattle.nb_fields.specs.States.{stalled_state}
 use Rattle.nb_model.specs.Image.{Page, Image, page_at, first_page, image_size, image_state, image_scn}
 use Rattle.nb_model.specs.Account.{Base}
 use Rattle.nb_model.specs.Forms.{scn_page_of, scn_entry, has_entry}
@@ -121,8 +122,8 @@ module _ (f t : Trail) (is : IsBehind f t) where
           ⊎_elim (λ same. omega (arith, same)) (λ same. omega (arith, same, f_before.entries p low (sym (has_same b.image f.base.image size_f p) ∙ has)))
 
       -- and where an entry of the difference file names the page in the stalled state, it is current.
-      module _ (stalled : image_state t.base.image ≡ 1) (left : (rest : List ℕ) × (f.base.diverted ≡ b.diverted ++ rest)) where
-        stalled_f : image_state f.base.image ≡ 1
+      module _ (stalled : image_state t.base.image ≡ stalled_state) (left : (rest : List ℕ) × (f.base.diverted ≡ b.diverted ++ rest)) where
+        stalled_f : image_state f.base.image ≡ stalled_state
         stalled_f = ap state_of is.first ∙ stalled
 
         entry_current : (p k : ℕ) → entry_for p b.diverted ≡ Some k → has_entry b.image p ≡ true → (scn_entry b.image p ≡ scn_entry f.base.image p) ⊎ (scn_entry b.image p ≡ scn_entry t.base.image p)
@@ -151,7 +152,7 @@ module _ (f t : Trail) (is : IsBehind f t) where
         size = subst (λ (n : ℕ). IsTrue (is_page_size n)) (sym size) now.size;
         entries = covered_entries t b steps way.long way.first from (λ p low at. way_page p low);
         raised = λ stalled.
-            let seen : image_state t.base.image ≡ 1 = sym (ap state_of way.first) ∙ stalled in
+            let seen : image_state t.base.image ≡ stalled_state = sym (ap state_of way.first) ∙ stalled in
             raised_front t.base b all.0 size all.1 (now.raised seen) (λ p k e has. current seen p k e has);
       }
         where
@@ -209,7 +210,7 @@ module _ (f t : Trail) (is : IsBehind f t) where
                   }
 
           -- an entry of the table that is left names a page of the image
-          current : image_state t.base.image ≡ 1 → (p k : ℕ) → entry_for p b.diverted ≡ Some k → has_entry b.image p ≡ true → scn_entry b.image p ≡ image_scn b.image
+          current : image_state t.base.image ≡ stalled_state → (p k : ℕ) → entry_for p b.diverted ≡ Some k → has_entry b.image p ≡ true → scn_entry b.image p ≡ image_scn b.image
           current seen p k e has =
               let in_c : entry_for p t.base.diverted ≡ Some k = ap (entry_for p) all.1 ∙ for_front p k b.diverted all.0 e in
               entry_current steps way.first seen way.diverted p k e has (either p (way.below seen p k e) has)

@@ -8,6 +8,7 @@ use Rattle.nb_fields.specs.Page.{kind_of, stamped}
 use Rattle.nb_fields.specs.Payloads.{bit_of}
 use Rattle.nb_fields.proofs.SizeLemmas.{SizeFacts, size_facts}
 use Rattle.nb_fields.proofs.PlaceLemmas.{bits-least}
+use Rattle.nb_fields.specs.Kinds.{inventory_kind, scn_kind}
 use Rattle.nb_model.specs.Image.{Page, Image, page_at, image_size, image_scn}
 use Rattle.nb_model.specs.Account.{Base}
 use Rattle.nb_model.specs.Forms.{Draft, drafted, old_page, needs, is_kind, inventory_of, scn_page_of, bit_number, is_free_page, with_bit, set_bit, give_page}
@@ -28,7 +29,7 @@ module _ (image x : Image) (p bit : ℕ) (fields : HasFields image) (is : IsSoun
   row = with_bit (bit_number image p) bit (page_at image i)
 
   abbrev bit_page : Page
-  bit_page = stamped (old_page i x) 2 (drop 16 row) (image_scn x) i
+  bit_page = stamped (old_page i x) inventory_kind (drop 16 row) (image_scn x) i
 
   no_scn_page : is_scn_place (image_size image) i ≡ true → ⊥
   no_scn_page at =
@@ -95,7 +96,7 @@ module _ (image x : Image) (p bit : ℕ) (fields : HasFields image) (is : IsSoun
     no_later = λ q at has. absurd (no_entries q at);
   }
 
-  bit_kind : kind_of bit_page ≡ 2
+  bit_kind : kind_of bit_page ≡ inventory_kind
   bit_kind = now_kind x i 2 (drop 16 row) fields_x is_x refl room
 
 -- the inventory page of a raw page is there
@@ -103,13 +104,13 @@ raw_inventory : (image : Image) (p : ℕ) → not_raw image p ≡ None → inven
 unfolding not_raw is_kind
 raw_inventory image p none =
     let second = no_first _ _ (no_first _ _ none).1 in
-    by_test (is_kind image 2 (inventory_of image p)) refl second.0
+    by_test (is_kind image inventory_kind (inventory_of image p)) refl second.0
   where
-    by_test : (t : Bool) → is_kind image 2 (inventory_of image p) ≡ t → not_kind image 2 (inventory_of image p) ≡ None → inventory_of image p < length image
+    by_test : (t : Bool) → is_kind image inventory_kind (inventory_of image p) ≡ t → not_kind image inventory_kind (inventory_of image p) ≡ None → inventory_of image p < length image
     by_test true is e = ltb-true (inventory_of image p) (length image) (and_parts (nat_lt (inventory_of image p) (length image)) _ is).0
     by_test false is e = absurd (true≢false (sym (ap not is) ∙ not_when _ _ e))
 
-module _ (K : Page → Type 0) (scn_pages : (bytes : Page) → kind_of bytes ≡ 10 → K bytes) (inventories : (bytes : Page) → kind_of bytes ≡ 2 → K bytes) (b : Base) where
+module _ (K : Page → Type 0) (scn_pages : (bytes : Page) → kind_of bytes ≡ scn_kind → K bytes) (inventories : (bytes : Page) → kind_of bytes ≡ inventory_kind → K bytes) (b : Base) where
   -- the bit of a page below the length is written
   pub bit_put : (bit p : ℕ) (d : Draft) → bit ≤ 1 → Fits K b d → p < length d.image → inventory_of d.image p < length d.image
       → IsPut K b d.image (inventory_of d.image p) 2 (drop 16 (with_bit (bit_number d.image p) bit (page_at d.image (inventory_of d.image p)))) (set_bit bit p d)
@@ -135,7 +136,7 @@ module _ (K : Page → Type 0) (scn_pages : (bytes : Page) → kind_of bytes ≡
       })
 
       written_bit : Image → Page
-      written_bit x = stamped (old_page (inventory_of d.image p) x) 2 (drop 16 (with_bit (bit_number d.image p) bit (page_at d.image (inventory_of d.image p)))) (image_scn x) (inventory_of d.image p)
+      written_bit x = stamped (old_page (inventory_of d.image p) x) inventory_kind (drop 16 (with_bit (bit_number d.image p) bit (page_at d.image (inventory_of d.image p)))) (image_scn x) (inventory_of d.image p)
 
       fit : (x : Image) → IsWhole x → Raises read.image x (inventory_of d.image p)
           → FitsAt x (inventory_of d.image p) (written_bit x) × K (written_bit x)

@@ -3,6 +3,7 @@ use Rattle.std.proofs.Common.{◌≡◌, inl, inr, ℕ, suc, ◌+◌, ◌<◌, �
 use Rattle.std.specs.Prelude.{Bool, true, false, not, ◌&&◌, ◌||◌, ◌==◌, Some, None, Ok}
 use Rattle.std.proofs.lemmas.Bool.Decides.{leb_tells, eqb_tells}
 use Rattle.nb_fields.specs.Page.{stamp_of}
+use Rattle.nb_fields.specs.Places.{most_pages}
 use Rattle.nb_host.specs.Files.{Files}
 use Rattle.nb_host.specs.Names.{same_name}
 use Rattle.nb_host.specs.declared.refusals.Refusal.{Refusal}
@@ -24,7 +25,7 @@ weaker n [] h = tt
 weaker n (r ∷ rs) h = (omega (arith, h.0), h.1, h.2)
 
 -- the pages that are taken rise, and are of one size
-pub taken_rise : (n s : ℕ) (ps : Image) → n + length ps ≤ 1048576 → AreRising n (taken_from n s ps)
+pub taken_rise : (n s : ℕ) (ps : Image) → n + length ps ≤ most_pages → AreRising n (taken_from n s ps)
 unfolding taken_from
 taken_rise n s [] h = tt
 taken_rise n s (p ∷ ps) h = elim (leb_tells (suc s) (stamp_of p)) [
@@ -76,7 +77,7 @@ file_in_grammar : (version : ℕ) (q : Kept) (ask : Ask) (p : Page) (ps : Image)
     → IsLevel (level_bytes version (head_for q ask) ((0, p) ∷ taken_from 1 ask.previous_scn ps)) version (head_for q ask) (0, p) (taken_from 1 ask.previous_scn ps)
 file_in_grammar version q ask p ps is known head whole begun later =
     let sizes : IsOfSize (image_size q.image) (p ∷ ps) = subst (λ (x : Image). IsOfSize (image_size q.image) x) is whole.sizes in
-    let most : length (p ∷ ps) ≤ 1048576 = subst (λ (x : Image). length x ≤ 1048576) is whole.most in
+    let most : length (p ∷ ps) ≤ most_pages = subst (λ (x : Image). length x ≤ most_pages) is whole.most in
     record {
       spelled = refl;
       known = known;

@@ -4,13 +4,14 @@ use Rattle.std.specs.Prelude.{Bool, true, false, ◌==◌, nat_lt, Result, Ok, E
 use Rattle.std.specs.List.{AllByRecursion, list_all}
 use Rattle.std.proofs.lemmas.Bool.{and_parts, and_from, lt-ltb, ltb-true, eq-eqb, eqb-true}
 use Rattle.nb_fields.specs.Page.{kind_of}
+use Rattle.nb_fields.specs.Kinds.{data_kind}
 use Rattle.nb_model.specs.Causes.{broken_at}
 use Rattle.nb_model.specs.Chains.{Chain, first_of, owner_of, owner_in, next_in, is_slot, slots_in, is_in_chain, linked, walk, pages_of, found_pages, spots_on, spots_of, spots}
 use Rattle.nb_model.specs.Image.{Page, Image, page_at}
 
 -- a page has the form of those of the chain
 pub record HasForm (chain : Chain) (page : Page) : Type 0 where
-  pub of_kind : kind_of page ≡ 5
+  pub of_kind : kind_of page ≡ data_kind
   pub owner : owner_in page ≡ owner_of chain
   pub slots : list_all (is_slot chain) (slots_in page) ≡ true
 
@@ -18,7 +19,7 @@ pub form_there : (chain : Chain) (image : Image) (p : ℕ) → is_in_chain chain
 unfolding is_in_chain
 form_there chain image p is =
     let rest = (and_parts (nat_lt p (length image)) _ is).1 in
-    let kind = and_parts (kind_of (page_at image p) == 5) _ rest in
+    let kind = and_parts (kind_of (page_at image p) == data_kind) _ rest in
     let owner = and_parts (owner_in (page_at image p) == owner_of chain) _ kind.1 in
     record { of_kind = eqb-true (kind_of (page_at image p)) 5 kind.0; owner = eqb-true (owner_in (page_at image p)) (owner_of chain) owner.0; slots = owner.1 }
 
@@ -26,7 +27,7 @@ pub there_by : (chain : Chain) (image : Image) (p : ℕ) → p < length image �
 unfolding is_in_chain
 there_by chain image p low form =
     and_from (nat_lt p (length image)) _ (lt-ltb p (length image) low)
-    (and_from (kind_of (page_at image p) == 5) _ (eq-eqb (kind_of (page_at image p)) 5 form.of_kind) (and_from (owner_in (page_at image p) == owner_of chain) _ (eq-eqb (owner_in (page_at image p)) (owner_of chain) form.owner) form.slots))
+    (and_from (kind_of (page_at image p) == data_kind) _ (eq-eqb (kind_of (page_at image p)) 5 form.of_kind) (and_from (owner_in (page_at image p) == owner_of chain) _ (eq-eqb (owner_in (page_at image p)) (owner_of chain) form.owner) form.slots))
 
 -- A page of a chain is one in another image, and leads on to the same page.
 pub record StaysLinked (chain : Chain) (x y : Image) (q : ℕ) : Type 0 where

@@ -8,6 +8,7 @@ use Rattle.nb_fields.specs.Page.{stamp_of}
 use Rattle.nb_fields.proofs.HeaderLemmas.{is_header-long}
 use Rattle.nb_fields.proofs.NumberLemmas.{length-bytes_of}
 use Rattle.nb_fields.proofs.PartLemmas.{length-with_part, part-with_part, part-with_part_other, number_in-with_part, number_in-with_part_other}
+use Rattle.nb_fields.specs.States.{normal_state}
 use Rattle.nb_model.specs.Image.{Page}
 use Rattle.nb_model.specs.Strokes.{controlled}
 use Rattle.nb_model.proofs.HeaderLaws.{form}
@@ -96,7 +97,7 @@ module _ (state scn : ℕ) (guid : List ℕ) (p : Page) (long : 64 ≤ length p)
   unfolding is_marked
   marks_stay =
       ap (λ (n : ℕ). n == 1 && number_in 12 4 (controlled state scn guid p) == 0 && number_in 16 4 (controlled state scn guid p) == signature && number_in 20 2 (controlled state scn guid p) == version)
-      (control_other 0 1 (inr (omega arith)) (inr (omega arith)) (inr (omega arith)) (inr (omega arith)) (inr (omega arith)))
+      (control_other normal_state 1 (inr (omega arith)) (inr (omega arith)) (inr (omega arith)) (inr (omega arith)) (inr (omega arith)))
       ∙ ap (λ (n : ℕ). number_in 0 1 p == 1 && n == 0 && number_in 16 4 (controlled state scn guid p) == signature && number_in 20 2 (controlled state scn guid p) == version)
       (control_other 12 4 (inl (omega arith)) (inl (omega arith)) (inr (omega arith)) (inr (omega arith)) (inr (omega arith)))
       ∙ ap (λ (n : ℕ). number_in 0 1 p == 1 && number_in 12 4 p == 0 && n == signature && number_in 20 2 (controlled state scn guid p) == version)

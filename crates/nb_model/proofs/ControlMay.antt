@@ -5,15 +5,16 @@ use Rattle.std.proofs.lemmas.Bool.{and_from, le-leb, lt-ltb}
 use Rattle.nb_fields.specs.Header.{is_sound}
 use Rattle.nb_fields.specs.Places.{is_page_size}
 use Rattle.nb_fields.proofs.PartLemmas.{length-part}
+use Rattle.nb_fields.specs.States.{stalled_state}
 use Rattle.nb_model.specs.Image.{Image, first_page, image_size, image_state, image_scn, image_guid}
 use Rattle.nb_model.specs.Sound.{HasHeader}
 use Rattle.nb_model.proofs.ControlSound.{MayControl}
 use Rattle.nb_model.proofs.HeaderLaws.{header-long, header-size, header-scn, header-room}
 
 -- a state and an SCN that a header may have
-sound_fields : (state size scn : ℕ) → state ≤ 3 → IsTrue (is_page_size size) → 1 ≤ scn → (not (state == 1) || nat_lt scn 4294967295) ≡ true → is_sound state size scn ≡ true
+sound_fields : (state size scn : ℕ) → state ≤ 3 → IsTrue (is_page_size size) → 1 ≤ scn → (not (state == stalled_state) || nat_lt scn 4294967295) ≡ true → is_sound state size scn ≡ true
 sound_fields state size scn low is some last =
-    and_from (nat_le state 3 && is_page_size size && nat_le 1 scn) (not (state == 1) || nat_lt scn 4294967295)
+    and_from (nat_le state 3 && is_page_size size && nat_le 1 scn) (not (state == stalled_state) || nat_lt scn 4294967295)
     (and_from (nat_le state 3 && is_page_size size) (nat_le 1 scn) (and_from (nat_le state 3) (is_page_size size) (le-leb state 3 low) is) (le-leb 1 scn some)) last
 
 module _ (image : Image) (h : HasHeader image) where
@@ -35,7 +36,7 @@ module _ (image : Image) (h : HasHeader image) where
     sound = sound_fields 1 (image_size image) (image_scn image + 1) (omega arith) wide (omega arith) (lt-ltb (image_scn image + 1) 4294967295 (omega (arith, room)));
   }
 
-  pub may_end : image_state image ≡ 1 → MayControl 2 (image_scn image + 1) (image_guid image) image
+  pub may_end : image_state image ≡ stalled_state → MayControl 2 (image_scn image + 1) (image_guid image) image
   may_end stalled = record {
     sixteen = its_guid;
     four = omega (arith, header-room (first_page image) h.header stalled);

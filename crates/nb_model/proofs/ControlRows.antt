@@ -1,6 +1,7 @@
 -- The control strokes of a backup change no row of a table: they write page 0 alone.
 use Rattle.std.proofs.Common.{◌≡◌, ◌≢◌, ℕ, ◌+◌, ◌≤◌, List, [], ◌∷◌, length, refl, sym, ap, subst, arith}
 use Rattle.std.specs.Prelude.{Option}
+use Rattle.nb_fields.specs.States.{normal_state, stalled_state, merge_state}
 use Rattle.nb_model.specs.Account.{Ask, Base}
 use Rattle.nb_model.specs.Chains.{Catalogue, History}
 use Rattle.nb_model.specs.Image.{Page, Image, image_state, image_scn, image_guid}
@@ -42,11 +43,11 @@ module _ (b : Base) (header : HasHeader b.image) (is : IsSoundImage b.image) (ne
 
   pub begin_rows : (guid : List ℕ) (ask : Option Ask) → image_scn b.image ≤ 4294967293 → length guid ≡ 16 → KeepsRows b (begin guid ask ∷ [])
   unfolding on_base
-  begin_rows guid ask scn sixteen = control_rows 1 (image_scn b.image + 1) guid (begin guid ask) (may_begin b.image header guid sixteen scn) refl
+  begin_rows guid ask scn sixteen = control_rows stalled_state (image_scn b.image + 1) guid (begin guid ask) (may_begin b.image header guid sixteen scn) refl
 
-  pub ends_rows : image_state b.image ≡ 1 → KeepsRows b (ends ∷ [])
+  pub ends_rows : image_state b.image ≡ stalled_state → KeepsRows b (ends ∷ [])
   unfolding on_base
-  ends_rows stalled = control_rows 2 (image_scn b.image + 1) (image_guid b.image) ends (may_end b.image header stalled) refl
+  ends_rows stalled = control_rows merge_state (image_scn b.image + 1) (image_guid b.image) ends (may_end b.image header stalled) refl
 
   pub finish_rows : KeepsRows b (finish ∷ [])
-  finish_rows = control_rows 0 (image_scn b.image) (image_guid b.image) finish (may_finish b.image header) (ap (λ (c : Base). c.image) (finish_full b is.sound.no_zeros))
+  finish_rows = control_rows normal_state (image_scn b.image) (image_guid b.image) finish (may_finish b.image header) (ap (λ (c : Base). c.image) (finish_full b is.sound.no_zeros))

@@ -2,6 +2,7 @@
 use Rattle.std.proofs.Common.{◌≡◌, ℕ, ◌+◌, ◌<◌, ◌≤◌, List, [], ◌∷◌, ◌++◌, length, refl, sym, subst, arith}
 use Rattle.std.specs.Prelude.{Option, Some}
 use Rattle.std.proofs.lemmas.List.Elements.{Contains-append_right}
+use Rattle.nb_fields.specs.States.{normal_state, stalled_state, merge_state}
 use Rattle.nb_model.specs.Image.{Image, first_page, image_state, image_scn, image_guid}
 use Rattle.nb_model.specs.Account.{Ask, Kept, Base}
 use Rattle.nb_model.specs.Strokes.{begin, ends, finish, with_control, on_base, records_of}
@@ -32,9 +33,9 @@ module _ (kept : List Kept) (b : Base) (w : IsWellBaseIn kept b) where
   header = record { header = w.well.header; scn = w.well.scn }
 
   -- A backup begins: its record is kept.
-  module _ (guid : List ℕ) (ask : Option Ask) (normal : image_state image ≡ 0) (sixteen : length guid ≡ 16) (room : image_scn image ≤ 4294967293) where
+  module _ (guid : List ℕ) (ask : Option Ask) (normal : image_state image ≡ normal_state) (sixteen : length guid ≡ 16) (room : image_scn image ≤ 4294967293) where
     abbrev now : Image
-    now = with_control 1 (image_scn image + 1) guid image
+    now = with_control stalled_state (image_scn image + 1) guid image
 
     abbrev r : Kept
     r = record { guid = guid; scn = image_scn image; ask = ask; image = now }
@@ -53,8 +54,8 @@ module _ (kept : List Kept) (b : Base) (w : IsWellBaseIn kept b) where
     begin_may : MayControl 1 (image_scn image + 1) guid image
     begin_may = may_begin image header guid sixteen room
 
-    begun_state : image_state now ≡ 1
-    begun_state = new_state 1 (image_scn image + 1) guid image header w.well.sound begin_may
+    begun_state : image_state now ≡ stalled_state
+    begun_state = new_state stalled_state (image_scn image + 1) guid image header w.well.sound begin_may
 
     begun_scn : image_scn now ≡ image_scn image + 1
     begun_scn = new_scn 1 (image_scn image + 1) guid image header w.well.sound begin_may
@@ -78,12 +79,12 @@ module _ (kept : List Kept) (b : Base) (w : IsWellBaseIn kept b) where
         header = new_header 1 (image_scn image + 1) guid image header w.well.sound begin_may;
         scn = omega (arith, begun_scn, room);
         state = refl;
-        sound = control_sound 1 (image_scn image + 1) guid image header w.well.sound begin_may;
-        past = control_past 1 (image_scn image + 1) guid image header w.well.sound begin_may (kept ++ r ∷ []) (λ q. GoesOn q image) (λ q. GoesOn q now)
-            (control_goes_on 1 (image_scn image + 1) guid image header w.well.sound begin_may) (λ named. (r, kept_now, goes_on_now)) (past_more kept (r ∷ []) (λ q. GoesOn q image) image w.well.past);
+        sound = control_sound stalled_state (image_scn image + 1) guid image header w.well.sound begin_may;
+        past = control_past stalled_state (image_scn image + 1) guid image header w.well.sound begin_may (kept ++ r ∷ []) (λ q. GoesOn q image) (λ q. GoesOn q now)
+            (control_goes_on stalled_state (image_scn image + 1) guid image header w.well.sound begin_may) (λ named. (r, kept_now, goes_on_now)) (past_more kept (r ∷ []) (λ q. GoesOn q image) image w.well.past);
       };
       normal = λ zero. absurd (omega (arith, zero, begun_state));
-      stalled = λ stalled. record { raised = none_raised; old = control_old 1 (image_scn image + 1) guid image header w.well.sound begin_may (omega arith) };
+      stalled = λ stalled. record { raised = none_raised; old = control_old stalled_state (image_scn image + 1) guid image header w.well.sound begin_may (omega arith) };
       backup = λ stalled. record { backup = r; kept_as = subst (λ (g : List ℕ). IsKeptAs (kept ++ r ∷ []) g r) (sym begun_guid) kept_now; same = refl };
       merge = λ merge. absurd (omega (arith, merge, begun_state));
     }
@@ -96,12 +97,12 @@ module _ (kept : List Kept) (b : Base) (w : IsWellBaseIn kept b) where
         (subst (λ (c : Base). IsWellTrail (kept ++ r ∷ []) (settled c)) begun_is (settled_well (kept ++ r ∷ []) begun begun_well (λ stalled. begun_over)))
 
   -- The stalled state ends.
-  module _ (stalled : image_state image ≡ 1) where
+  module _ (stalled : image_state image ≡ stalled_state) where
     room : image_scn image < 4294967295
     room = header-room (first_page image) w.well.header stalled
 
     abbrev ended : Base
-    ended = record { image = with_control 2 (image_scn image + 1) (image_guid image) image; frozen = []; diverted = b.diverted }
+    ended = record { image = with_control merge_state (image_scn image + 1) (image_guid image) image; frozen = []; diverted = b.diverted }
 
     ended_is : ended ≡ on_base ends b
     unfolding on_base
@@ -110,11 +111,11 @@ module _ (kept : List Kept) (b : Base) (w : IsWellBaseIn kept b) where
     ends_may : MayControl 2 (image_scn image + 1) (image_guid image) image
     ends_may = may_end image header stalled
 
-    ended_state : image_state ended.image ≡ 2
-    ended_state = new_state 2 (image_scn image + 1) (image_guid image) image header w.well.sound ends_may
+    ended_state : image_state ended.image ≡ merge_state
+    ended_state = new_state merge_state (image_scn image + 1) (image_guid image) image header w.well.sound ends_may
 
     ended_goes_on : (q : Kept) → GoesOn q image → GoesOn q ended.image
-    ended_goes_on = control_goes_on 2 (image_scn image + 1) (image_guid image) image header w.well.sound ends_may
+    ended_goes_on = control_goes_on merge_state (image_scn image + 1) (image_guid image) image header w.well.sound ends_may
 
     ended_well : IsWellBaseIn kept ended
     ended_well = record {
@@ -123,8 +124,8 @@ module _ (kept : List Kept) (b : Base) (w : IsWellBaseIn kept b) where
         header = new_header 2 (image_scn image + 1) (image_guid image) image header w.well.sound ends_may;
         scn = omega (arith, new_scn 2 (image_scn image + 1) (image_guid image) image header w.well.sound ends_may, room);
         state = refl;
-        sound = control_sound 2 (image_scn image + 1) (image_guid image) image header w.well.sound ends_may;
-        past = control_past 2 (image_scn image + 1) (image_guid image) image header w.well.sound ends_may kept (λ q. GoesOn q image) (λ q. GoesOn q ended.image) ended_goes_on
+        sound = control_sound merge_state (image_scn image + 1) (image_guid image) image header w.well.sound ends_may;
+        past = control_past merge_state (image_scn image + 1) (image_guid image) image header w.well.sound ends_may kept (λ q. GoesOn q image) (λ q. GoesOn q ended.image) ended_goes_on
             (λ named. let old = w.well.past.last named in (old.0, old.1, ended_goes_on old.0 old.2)) w.well.past;
       };
       normal = λ zero. absurd (omega (arith, zero, ended_state));
@@ -137,9 +138,9 @@ module _ (kept : List Kept) (b : Base) (w : IsWellBaseIn kept b) where
     ends_well = subst (λ (c : Base). IsWellTrail kept (settled c)) ended_is (settled_well kept ended ended_well (λ one. absurd (omega (arith, one, ended_state))))
 
   -- All is merged.
-  module _ (merge : image_state image ≡ 2) where
+  module _ (merge : image_state image ≡ merge_state) where
     abbrev finished : Base
-    finished = record { image = with_control 0 (image_scn image) (image_guid image) image; frozen = b.frozen; diverted = [] }
+    finished = record { image = with_control normal_state (image_scn image) (image_guid image) image; frozen = b.frozen; diverted = [] }
 
     finished_is : finished ≡ on_base finish b
     finished_is = sym (finish_full b w.well.sound.sound.no_zeros)
@@ -147,11 +148,11 @@ module _ (kept : List Kept) (b : Base) (w : IsWellBaseIn kept b) where
     finish_may : MayControl 0 (image_scn image) (image_guid image) image
     finish_may = may_finish image header
 
-    finished_state : image_state finished.image ≡ 0
-    finished_state = new_state 0 (image_scn image) (image_guid image) image header w.well.sound finish_may
+    finished_state : image_state finished.image ≡ normal_state
+    finished_state = new_state normal_state (image_scn image) (image_guid image) image header w.well.sound finish_may
 
     finished_goes_on : (q : Kept) → GoesOn q image → GoesOn q finished.image
-    finished_goes_on = control_goes_on 0 (image_scn image) (image_guid image) image header w.well.sound finish_may
+    finished_goes_on = control_goes_on normal_state (image_scn image) (image_guid image) image header w.well.sound finish_may
 
     finished_well : IsWellBaseIn kept finished
     finished_well = record {
@@ -160,8 +161,8 @@ module _ (kept : List Kept) (b : Base) (w : IsWellBaseIn kept b) where
         header = new_header 0 (image_scn image) (image_guid image) image header w.well.sound finish_may;
         scn = omega (arith, new_scn 0 (image_scn image) (image_guid image) image header w.well.sound finish_may, w.well.scn);
         state = refl;
-        sound = control_sound 0 (image_scn image) (image_guid image) image header w.well.sound finish_may;
-        past = control_past 0 (image_scn image) (image_guid image) image header w.well.sound finish_may kept (λ q. GoesOn q image) (λ q. GoesOn q finished.image) finished_goes_on
+        sound = control_sound normal_state (image_scn image) (image_guid image) image header w.well.sound finish_may;
+        past = control_past normal_state (image_scn image) (image_guid image) image header w.well.sound finish_may kept (λ q. GoesOn q image) (λ q. GoesOn q finished.image) finished_goes_on
             (λ named. let old = w.well.past.last named in (old.0, old.1, finished_goes_on old.0 old.2)) w.well.past;
       };
       normal = λ zero. told_whole finished (w.merge merge) refl;

@@ -3,7 +3,8 @@ use Rattle.std.proofs.Common.{◌≡◌, ℕ, zero, suc, ◌+◌, ◌*◌, List,
 use Rattle.std.specs.Prelude.{Bool, true, false, ◌||◌, ◌==◌, nat_lt, Option, Some, None}
 use Rattle.std.proofs.lemmas.List.{append-nil}
 use Rattle.nb_fields.specs.Bytes.{bytes_of, with_part}
-use Rattle.nb_fields.specs.Places.{is_system_place}
+use Rattle.nb_fields.specs.Places.{is_system_place, most_pages}
+use Rattle.nb_fields.specs.Kinds.{inventory_kind}
 use Rattle.nb_model.specs.Image.{Image, page_at, image_size, image_scn}
 use Rattle.nb_model.specs.Strokes.{Stroke}
 use Rattle.nb_model.specs.Forms.{Draft, drafted, wrote, written, needs, is_kind, other_kind, wants, scn_page_of, inventory_of, bit_number, entry_number, scn_entry, has_entry, with_bit, entry_written, entry_raised, raised, put, set_bit, take_page, lowest_free, first_not, needed_at, system_kind, system_payload, system_page, no_page, new_within}
@@ -81,8 +82,8 @@ join_put p kind payload d = join_then (raised p) (written p kind payload) (join_
 pub join_set_bit : (bit p : ℕ) → Joins (set_bit bit p)
 unfolding set_bit
 join_set_bit bit p d =
-    join_at (λ image x. put (inventory_of image p) 2 (drop 16 (with_bit (bit_number image p) bit (page_at image (inventory_of image p)))) (needs 2 (inventory_of image p) x))
-    (λ image. join_then (needs 2 (inventory_of image p)) (put (inventory_of image p) 2 _) (join_needs 2 (inventory_of image p)) (join_put (inventory_of image p) 2 _)) d
+    join_at (λ image x. put (inventory_of image p) inventory_kind (drop 16 (with_bit (bit_number image p) bit (page_at image (inventory_of image p)))) (needs 2 (inventory_of image p) x))
+    (λ image. join_then (needs 2 (inventory_of image p)) (put (inventory_of image p) inventory_kind _) (join_needs 2 (inventory_of image p)) (join_put (inventory_of image p) 2 _)) d
 
 pub join_system : (p : ℕ) → Joins (system_page p)
 unfolding system_page
@@ -153,7 +154,7 @@ join_new (suc tries) kind payload d = by_need (λ x. join_new tries kind payload
     by_end before false = by_place before (is_system_place (image_size d.image) p)
 
     go : Draft → Draft × ℕ
-    go x = elim (p == 1048576) [
+    go x = elim (p == most_pages) [
       | true ↦ (no_page x, p)
       | false ↦ elim (is_system_place (image_size d.image) p) [ true ↦ new_within tries kind payload (round x) | false ↦ (last x, p) ]
     ]
@@ -162,4 +163,4 @@ join_new (suc tries) kind payload d = by_need (λ x. join_new tries kind payload
         → (elim o as (λ z. Draft × ℕ) [ Some q ↦ (record d { broken = q ∷ d.broken }, 0) | None ↦ go d ])
         ≡ joined_new d (elim o as (λ z. Draft × ℕ) [ Some q ↦ (record (drafted d.image) { broken = q ∷ [] }, 0) | None ↦ go (drafted d.image) ])
     by_need before (Some q) = ap (λ (x : Draft). (x, 0)) (join_broken q d)
-    by_need before None = by_end before (p == 1048576)
+    by_need before None = by_end before (p == most_pages)

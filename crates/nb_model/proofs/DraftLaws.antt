@@ -1,7 +1,7 @@
 -- What one write of the short forms keeps, every form keeps.
 use Rattle.std.proofs.Common.{◌≡◌, ℕ, zero, suc, List, [], ◌∷◌, refl, ap, ◌∙◌}
 use Rattle.std.specs.Prelude.{Bool, Option, Some, None, true, false, ◌==◌, nat_lt}
-use Rattle.nb_fields.specs.Places.{is_system_place}
+use Rattle.nb_fields.specs.Places.{is_system_place, most_pages}
 use Rattle.nb_model.specs.Image.{Page, Image, image_size, image_scn, with_page}
 use Rattle.nb_model.specs.Account.{Base}
 use Rattle.nb_model.specs.Chains.{Chain, Slot, Spot, spots_of, free_spot, put_slot, last_of, grown, place_at, place_slot}
@@ -60,7 +60,7 @@ module _ (P : Draft → Type 0) (kept : IsKept P) where
   new_keeps (suc tries) kind payload d h =
       let p : ℕ = lowest_free d.image in
       either_need P (first_not d.image (needed_at d.image p)) _ _ (λ q. kept.reads (q ∷ d.broken) d h)
-      (either_page P (p == 1048576) _ _ (kept.fills d h)
+      (either_page P (p == most_pages) _ _ (kept.fills d h)
       (either_page P (is_system_place (image_size d.image) p) _ _
       (new_keeps tries kind payload _ (set_bit_keeps 0 p _ (system_keeps p d h)))
       (set_bit_keeps 0 p _ (put_keeps p kind (payload p) d h))))

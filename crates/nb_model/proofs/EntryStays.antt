@@ -6,7 +6,8 @@ use Rattle.std.specs.List.{AllByRecursion}
 use Rattle.std.proofs.lemmas.Bool.{true≢false, false_from_ne_true}
 use Rattle.std.proofs.lemmas.Bool.Decides.{eqb_tells}
 use Rattle.nb_fields.specs.Page.{kind_of}
-use Rattle.nb_fields.specs.Places.{is_page_size, bits_in, entries_in, is_inventory_place, is_scn_place, is_system_place}
+use Rattle.nb_fields.specs.Places.{is_page_size, bits_in, entries_in, is_inventory_place, is_scn_place, is_system_place, most_pages}
+use Rattle.nb_fields.specs.Kinds.{scn_kind}
 use Rattle.nb_host.specs.declared.refusals.Refusal.{Refusal}
 use Rattle.nb_model.specs.declared.statement.Statement.{Statement}
 use Rattle.nb_model.specs.declared.statement.Statement.TheVariants.{CreateDb, OpenDb, PageNew, Write, Free, Reclaim, CreateTable, DropTable, Insert, Update, Delete, Get, Scan, Forced, Access, ShowCache}
@@ -43,7 +44,7 @@ module _ (n q : ℕ) (place : is_scn_place n q ≡ true) where
   pub record HasScn (x : Image) : Type 0 where
     pub header : HasHeader x
     pub size : image_size x ≡ n
-    pub kind : is_kind x 10 q ≡ true
+    pub kind : is_kind x scn_kind q ≡ true
 
   abbrev Has : Draft → Type 0
   Has d = HasScn d.image
@@ -55,13 +56,13 @@ module _ (n q : ℕ) (place : is_scn_place n q ≡ true) where
   some = scn_page_behind n q place
 
   -- a page is written, which is another or one of the SCN inventory
-  pub scn_stays : (x : Image) (p : ℕ) (bytes : Page) → (p ≡ q → kind_of bytes ≡ 10) → HasScn x → HasScn (with_page p (merged_page p bytes x) x)
+  pub scn_stays : (x : Image) (p : ℕ) (bytes : Page) → (p ≡ q → kind_of bytes ≡ scn_kind) → HasScn x → HasScn (with_page p (merged_page p bytes x) x)
   scn_stays x p bytes same h =
-      let old = kind_parts x 10 q h.kind in
+      let old = kind_parts x scn_kind q h.kind in
       record {
         header = header_kept x p bytes h.header;
         size = size_kept x p bytes h.header ∙ h.size;
-        kind = kind_from (with_page p (merged_page p bytes x) x) 10 q (omega (arith, old.0, with_page_longer p (merged_page p bytes x) x)) (elim (eqb_tells p q) [
+        kind = kind_from (with_page p (merged_page p bytes x) x) scn_kind q (omega (arith, old.0, with_page_longer p (merged_page p bytes x) x)) (elim (eqb_tells p q) [
           | inl w ↦
               let at : 1 ≤ p = omega (arith, some, w.1) in
               ap (λ (i : ℕ). kind_of (page_at (with_page p (merged_page p bytes x) x) i)) (sym w.1) ∙ ap kind_of (with_page_same p (merged_page p bytes x) x (omega (arith, w.1, old.0)))
@@ -136,10 +137,10 @@ module _ (n q : ℕ) (place : is_scn_place n q ≡ true) where
 
       by_need : Has more.0 → (o : Option ℕ) → Has (elim o as (λ z. Draft × ℕ) [
         | Some r ↦ (record d { broken = r ∷ d.broken }, 0)
-        | None ↦ elim (p == 1048576) as (λ z. Draft × ℕ) [ true ↦ (no_page d, p) | false ↦ elim (is_system_place (image_size d.image) p) as (λ z. Draft × ℕ) [ true ↦ more | false ↦ last ] ]
+        | None ↦ elim (p == most_pages) as (λ z. Draft × ℕ) [ true ↦ (no_page d, p) | false ↦ elim (is_system_place (image_size d.image) p) as (λ z. Draft × ℕ) [ true ↦ more | false ↦ last ] ]
       ]).0
       by_need again (Some r) = record { header = h.header; size = h.size; kind = h.kind }
-      by_need again None = by_full again (p == 1048576)
+      by_need again None = by_full again (p == most_pages)
 
   pub slot_has : (p slot : ℕ) (bytes : Slot) (d : Draft) → p ≢ q → Has d → Has (put_slot p slot bytes d)
   unfolding put_slot
@@ -162,8 +163,8 @@ module _ (n q : ℕ) (place : is_scn_place n q ≡ true) where
 
   -- No page of a chain is that page.
   module _ (x : Image) (h : HasScn x) where
-    data_apart : (p : ℕ) → kind_of (page_at x p) ≢ 10 → p ≢ q
-    data_apart p other e = other (ap (λ (i : ℕ). kind_of (page_at x i)) e ∙ (kind_parts x 10 q h.kind).1)
+    data_apart : (p : ℕ) → kind_of (page_at x p) ≢ scn_kind → p ≢ q
+    data_apart p other e = other (ap (λ (i : ℕ). kind_of (page_at x i)) e ∙ (kind_parts x scn_kind q h.kind).1)
 
     chain_apart : (chain : Chain) → broken_at (pages_of chain x) ≡ None → AllByRecursion (λ (p : ℕ). p ≢ q) (found_pages chain x)
     chain_apart chain formed = each (found_pages chain x) (pages_found chain x formed).each

@@ -16,7 +16,7 @@ use Rattle.nb_model.proofs.MainLaws.{some_page}
 use Rattle.nb_model.proofs.MixtureLaws.{has_same, scn_page_same, inventory_same, entry_same, free_same}
 use Rattle.nb_model.proofs.PastLaws.{rows_with, no_history, no_rows_pass}
 use Rattle.nb_model.proofs.PutSound.{header_fields}
-use Rattle.nb_model.proofs.SoundLaws.{HasFields, all_from, all_at, header_kind, inventory_behind, inventory_place_some, scn_page_behind, scn_place_some}
+use Rattle.nb_model.proofs.SoundLaws.{HasFields, all_from, all_at, kind_of_header, inventory_behind, inventory_place_some, scn_page_behind, scn_place_some}
 use Rattle.nb_model.proofs.StalledLaws.{behind_first}
 
 -- the image with another page 0
@@ -142,7 +142,7 @@ module _ (image : Image) (page : Page) (h : HasHeader image) (is : IsSoundImage 
   -- It names what it named, but for the last backup.
   pub first_past : (kept : List Kept) (P R : Kept → Type 0) → ((r : Kept) → P r → R r) → (guid_of page ≢ nil → (r : Kept) × IsKeptAs kept (guid_of page) r × R r) → NamesPast kept P image → NamesPast kept R new
   first_past kept P R goes last past = record {
-    rows = each_new (HasRows kept R) (no_rows_pass kept R (first_page new) (no_history (first_page new) (λ five. absurd (omega (arith, five, header_kind (first_page new) new_header)))))
+    rows = each_new (HasRows kept R) (no_rows_pass kept R (first_page new) (no_history (first_page new) (λ five. absurd (omega (arith, five, kind_of_header (first_page new) new_header)))))
         (λ q low. rows_with kept P R goes (page_at image q) (past.rows q low));
     last = λ some.
         let named = last (λ none. some (ap guid_of first ∙ none)) in

@@ -5,7 +5,7 @@ use Rattle.std.proofs.lemmas.Bool.{true≢false, or_parts, or_from}
 use Rattle.std.proofs.lemmas.Bool.Decides.{leb_tells, eqb_tells}
 use Rattle.std.proofs.Math.Nat.{mul-mod_left}
 use Rattle.nb_fields.specs.Header.{is_header, size_of}
-use Rattle.nb_fields.specs.Places.{is_page_size}
+use Rattle.nb_fields.specs.Places.{is_page_size, most_pages}
 use Rattle.nb_host.specs.declared.refusals.Refusal.{Refusal}
 use Rattle.nb_host.specs.declared.refusals.Refusal.TheVariants.{NotDatabase}
 use Rattle.nb_model.specs.Causes.{Cause, first_cause, when, not_database}
@@ -19,7 +19,7 @@ pub record Formed (bytes : List ℕ) : Type 0 where
   pub count : ℕ
   pub whole : length bytes ≡ count * size_of bytes
   pub least : 5 ≤ count
-  pub most : count ≤ 1048576
+  pub most : count ≤ most_pages
 
 -- two tests that don't apply
 abbrev two_tests : (a b : Bool) (r q : Refusal) → Cause
@@ -44,8 +44,8 @@ two_tests-from a b r q e f = rw (e, first_cause) (rw (f, first_cause) refl)
 -- the tests of the length
 abbrev length_cause : List ℕ → Cause
 length_cause bytes =
-    two_tests (not (length bytes % size_of bytes == 0) || nat_lt (length bytes / size_of bytes) 5) (nat_lt 1048576 (length bytes / size_of bytes))
-    (NotDatabase (min (length bytes / size_of bytes) 1048576)) (NotDatabase 1048576)
+    two_tests (not (length bytes % size_of bytes == 0) || nat_lt (length bytes / size_of bytes) 5) (nat_lt most_pages (length bytes / size_of bytes))
+    (NotDatabase (min (length bytes / size_of bytes) most_pages)) (NotDatabase most_pages)
 
 not_database-is : (bytes : List ℕ) → not_database bytes ≡ elim (is_header bytes) as (λ z. Cause) [ false ↦ Some (NotDatabase 0) | true ↦ length_cause bytes ]
 unfolding not_database
@@ -74,8 +74,8 @@ formed bytes none = by (is_header bytes) refl (sym (not_database-is bytes) ∙ n
     by true e h =
         let count : ℕ = length bytes / size_of bytes in
         let left : ℕ = length bytes % size_of bytes in
-        let tests : ((not (left == 0) || nat_lt count 5) ≡ false) × (nat_lt 1048576 count ≡ false) =
-        two_tests-none (not (left == 0) || nat_lt count 5) (nat_lt 1048576 count) (NotDatabase (min count 1048576)) (NotDatabase 1048576) h in
+        let tests : ((not (left == 0) || nat_lt count 5) ≡ false) × (nat_lt most_pages count ≡ false) =
+        two_tests-none (not (left == 0) || nat_lt count 5) (nat_lt most_pages count) (NotDatabase (min count most_pages)) (NotDatabase most_pages) h in
         let parts : (left ≡ 0) × (5 ≤ count) = whole_pages left count tests.0 in
         record {
           header = e;
@@ -83,15 +83,15 @@ formed bytes none = by (is_header bytes) refl (sym (not_database-is bytes) ∙ n
           count = count;
           whole = omega (arith, div-add-mod' (length bytes) (size_of bytes), parts.0);
           least = parts.1;
-          most = at_most count 1048576 tests.1;
+          most = at_most count most_pages tests.1;
         }
 
 -- and bytes of which that holds have the form
-pub no_cause : (bytes : List ℕ) (size count : ℕ) → is_header bytes ≡ true → size_of bytes ≡ size → 0 < size → length bytes ≡ count * size → 5 ≤ count → count ≤ 1048576 → not_database bytes ≡ None
+pub no_cause : (bytes : List ℕ) (size count : ℕ) → is_header bytes ≡ true → size_of bytes ≡ size → 0 < size → length bytes ≡ count * size → 5 ≤ count → count ≤ most_pages → not_database bytes ≡ None
 no_cause bytes size count header same some whole least most =
     let left : length bytes % size_of bytes ≡ 0 = ap (λ x. length bytes % x) same ∙ ap (λ x. x % size) whole ∙ mul-mod_left count size in
     let pages : length bytes / size_of bytes ≡ count = ap (λ x. length bytes / x) same ∙ ap (λ x. x / size) whole ∙ mul-div_cancel count some in
     not_database-is bytes
     ∙ ap (λ (t : Bool). elim t as (λ z. Cause) [ false ↦ Some (NotDatabase 0) | true ↦ length_cause bytes ]) header
-    ∙ two_tests-from _ _ (NotDatabase (min (length bytes / size_of bytes) 1048576)) (NotDatabase 1048576)
-    (or_from _ _ (ap (λ x. not (x == 0)) left) (ap (λ x. nat_lt x 5) pages ∙ lt_no count 5 least)) (ap (λ x. nat_lt 1048576 x) pages ∙ lt_no 1048576 count most)
+    ∙ two_tests-from _ _ (NotDatabase (min (length bytes / size_of bytes) most_pages)) (NotDatabase most_pages)
+    (or_from _ _ (ap (λ x. not (x == 0)) left) (ap (λ x. nat_lt x 5) pages ∙ lt_no count 5 least)) (ap (λ x. nat_lt most_pages x) pages ∙ lt_no most_pages count most)

@@ -6,6 +6,7 @@ use Rattle.nb_fields.specs.Bytes.{is_zeros}
 use Rattle.nb_fields.specs.Free.{is_unfinished, is_free_file}
 use Rattle.nb_fields.specs.Header.{is_header, state_of, pending_of}
 use Rattle.nb_fields.proofs.HeaderLemmas.{is_header-take}
+use Rattle.nb_fields.specs.States.{applying_state}
 use Rattle.nb_host.specs.Files.{File, Files}
 use Rattle.nb_host.specs.Names.{is_delta}
 use Rattle.nb_host.specs.declared.refusals.Refusal.{Refusal}
@@ -59,13 +60,13 @@ free_no_level bytes c free reads = elim (free_cases bytes free) [
     ok_err x a b = cc
 
 -- where it has a header it is in the applying state, and no merge is pending
-pub free_header : (bytes : List ℕ) → is_free_file (Some bytes) ≡ true → is_header bytes ≡ true → (state_of bytes ≡ 3) × (pending_of bytes ≡ nil)
+pub free_header : (bytes : List ℕ) → is_free_file (Some bytes) ≡ true → is_header bytes ≡ true → (state_of bytes ≡ applying_state) × (pending_of bytes ≡ nil)
 free_header bytes free header = elim (free_cases bytes free) [
   | inl zeros ↦ absurd (zeros_no_header bytes zeros header)
   | inr unfinished ↦
-      let parts = and_parts (is_header bytes && state_of bytes == 3) (is_zeros (pending_of bytes)) unfinished in
+      let parts = and_parts (is_header bytes && state_of bytes == applying_state) (is_zeros (pending_of bytes)) unfinished in
       let long : length (pending_of bytes) ≡ 16 = length-take-le 16 (drop 48 bytes) (omega (arith, header-long bytes header, length-drop 48 bytes)) in (
-        eqb-true (state_of bytes) 3 (and_parts (is_header bytes) (state_of bytes == 3) parts.0).1,
+        eqb-true (state_of bytes) 3 (and_parts (is_header bytes) (state_of bytes == applying_state) parts.0).1,
         all_zeros (pending_of bytes) parts.1 ∙ ap (λ (n : ℕ). replicate n 0) long,
       )
 ]
@@ -101,7 +102,7 @@ pub free_under : (files : Files) (kept : List Kept) (name : List ℕ) → ((r : 
 free_under files kept name not_nil free alone =
     closed_under files kept name alone (λ b e. free_closed name (files name) (files (delta_name name)) b free e) (λ bytes there. free_holds kept bytes (free_bytes bytes there))
     (λ bytes r there applying named.
-    let pending = (free_header bytes (free_bytes bytes there) (and_parts (is_header bytes) (state_of bytes == 3) applying).0).1 in
+    let pending = (free_header bytes (free_bytes bytes there) (and_parts (is_header bytes) (state_of bytes == applying_state) applying).0).1 in
     not_nil r named.there (named.named ∙ pending))
   where
     free_bytes : (bytes : List ℕ) → files name ≡ Some bytes → is_free_file (Some bytes) ≡ true

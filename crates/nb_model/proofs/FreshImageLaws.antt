@@ -19,6 +19,7 @@ use Rattle.nb_fields.proofs.HeaderLemmas.{is_header-long}
 use Rattle.nb_fields.proofs.PageLemmas.{length-page_of}
 use Rattle.nb_fields.proofs.FreshLemmas.{fresh_count-most}
 use Rattle.nb_fields.proofs.FreshLaws.{length-taken_bits}
+use Rattle.nb_fields.specs.States.{normal_state}
 use Rattle.nb_host.specs.Files.{put_at}
 use Rattle.nb_model.specs.Image.{Page, Image, page_at, first_page, image_size, image_state, image_scn, is_forced, is_read_only}
 use Rattle.nb_model.specs.Levels.{joined}
@@ -107,7 +108,7 @@ first-size : (size raw : ℕ) → size < 4294967296 → size_of (fresh_page size
 unfolding fresh_page fresh_kind fresh_payload page_of head_of padded header_payload control_block bytes_of number_in
 first-size size raw small = number_of-bytes_of 4 size small
 
-first-state : (size raw : ℕ) → state_of (fresh_page size raw 0) ≡ 0
+first-state : (size raw : ℕ) → state_of (fresh_page size raw 0) ≡ normal_state
 unfolding fresh_page fresh_kind fresh_payload page_of head_of padded header_payload control_block bytes_of number_in number_of
 first-state size raw = refl
 
@@ -127,7 +128,7 @@ first-marked : (size raw : ℕ) → is_marked (fresh_page size raw 0) ≡ true
 unfolding fresh_page fresh_kind fresh_payload page_of head_of padded header_payload control_block bytes_of number_in number_of is_marked
 first-marked size raw = refl
 
-sound : (state size scn : ℕ) → state ≡ 0 → IsTrue (is_page_size size) → scn ≡ 1 → is_sound state size scn ≡ true
+sound : (state size scn : ℕ) → state ≡ normal_state → IsTrue (is_page_size size) → scn ≡ 1 → is_sound state size scn ≡ true
 sound state size scn normal is one =
     ap (λ x. is_sound x size scn) normal ∙ ap (λ x. is_sound 0 size x) one ∙ ap (λ (b : Bool). nat_le 0 3 && b && nat_le 1 1 && (not (0 == 1) || nat_lt 1 4294967295)) is
 
@@ -143,7 +144,7 @@ first-header size raw is =
 pub fresh_size : (size raw : ℕ) → IsTrue (is_page_size size) → image_size (fresh size raw) ≡ size
 fresh_size size raw is = let most = (size_facts size is).at_most in ap size_of (fresh_first size raw) ∙ first-size size raw (omega arith)
 
-pub fresh_state : (size raw : ℕ) → image_state (fresh size raw) ≡ 0
+pub fresh_state : (size raw : ℕ) → image_state (fresh size raw) ≡ normal_state
 fresh_state size raw = ap state_of (fresh_first size raw) ∙ first-state size raw
 
 pub fresh_scn : (size raw : ℕ) → image_scn (fresh size raw) ≡ 1

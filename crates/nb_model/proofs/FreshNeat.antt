@@ -9,7 +9,7 @@ use Rattle.nb_fields.specs.declared.kinds.PageKind.{PageKind}
 use Rattle.nb_fields.specs.declared.kinds.PageKind.TheVariants.{Data}
 use Rattle.nb_fields.specs.Bytes.{bytes_of, number_of, number_in, padded, is_zeros}
 use Rattle.nb_fields.specs.Fresh.{fresh_kind, fresh_payload, fresh_page, fresh}
-use Rattle.nb_fields.specs.Kinds.{code_of}
+use Rattle.nb_fields.specs.Kinds.{code_of, data_kind}
 use Rattle.nb_fields.specs.Page.{head_of, page_of, kind_of}
 use Rattle.nb_fields.specs.Payloads.{data_payload, bit_of}
 use Rattle.nb_fields.specs.Places.{is_page_size, entries_in, bits_in, inventory_place, is_inventory_place, is_scn_place}
@@ -35,7 +35,7 @@ its_next : (size p owner : ℕ) → next_in (page_of size 5 1 1 p (data_payload 
 unfolding number_in page_of head_of padded data_payload bytes_of number_of
 its_next size p owner = refl
 
-its_kind : (size p owner : ℕ) → kind_of (page_of size 5 1 1 p (data_payload 0 owner [])) ≡ 5
+its_kind : (size p owner : ℕ) → kind_of (page_of size 5 1 1 p (data_payload 0 owner [])) ≡ data_kind
 unfolding number_in page_of head_of padded data_payload bytes_of number_of
 its_kind size p owner = refl
 
@@ -45,9 +45,9 @@ its_owner size p true = refl
 its_owner size p false = refl
 
 -- the pages 3 and 4 are data pages
-data_kind : (size p : ℕ) → IsTrue (is_page_size size) → (p == 0) ≡ false → is_inventory_place size p ≡ false → is_scn_place size p ≡ false → nat_lt p 5 ≡ true → fresh_kind size p ≡ Data
+kind_of_data : (size p : ℕ) → IsTrue (is_page_size size) → (p == 0) ≡ false → is_inventory_place size p ≡ false → is_scn_place size p ≡ false → nat_lt p 5 ≡ true → fresh_kind size p ≡ Data
 unfolding fresh_kind
-data_kind size p is some inventory scn low = cond-false (p == 0) _ _ some ∙ cond-false (is_inventory_place size p) _ _ inventory ∙ cond-false (is_scn_place size p) _ _ scn ∙ cond-true (nat_lt p 5) _ _ low
+kind_of_data size p is some inventory scn low = cond-false (p == 0) _ _ some ∙ cond-false (is_inventory_place size p) _ _ inventory ∙ cond-false (is_scn_place size p) _ _ scn ∙ cond-true (nat_lt p 5) _ _ low
 
 no_inventory : (size p : ℕ) → IsTrue (is_page_size size) → 2 ≤ p → p ≤ 4 → is_inventory_place size p ≡ false
 unfolding is_inventory_place
@@ -73,7 +73,7 @@ module _ (size raw : ℕ) (is : IsTrue (is_page_size size)) (few : raw ≤ 65535
     low = let least = long in omega (arith, least, most)
 
     kind : fresh_kind size p ≡ Data
-    kind = data_kind size p is (ne_eqb p 0 (λ e. absurd (omega (arith, e, three)))) (no_inventory size p is (omega (arith, three)) most) (no_scn_page size p is three most) (lt-ltb p 5 (omega (arith, most)))
+    kind = kind_of_data size p is (ne_eqb p 0 (λ e. absurd (omega (arith, e, three)))) (no_inventory size p is (omega (arith, three)) most) (no_scn_page size p is three most) (lt-ltb p 5 (omega (arith, most)))
 
     abbrev owner : ℕ
     owner = if p == 4 then 1 else 0

@@ -8,7 +8,7 @@ use Rattle.nb_fields.specs.declared.kinds.PageKind.{PageKind}
 use Rattle.nb_fields.specs.declared.kinds.PageKind.TheVariants.{Header, Inventory, Data, Raw, ScnInventory}
 use Rattle.nb_fields.specs.Bytes.{bytes_of, padded, part}
 use Rattle.nb_fields.specs.Header.{guid_of}
-use Rattle.nb_fields.specs.Kinds.{code_of}
+use Rattle.nb_fields.specs.Kinds.{code_of, data_kind}
 use Rattle.nb_fields.specs.Places.{is_page_size, entries_in, bits_in, inventory_place, scn_place, is_inventory_place, is_scn_place}
 use Rattle.nb_fields.specs.Page.{head_of, page_of, kind_of}
 use Rattle.nb_fields.specs.Payloads.{control_block, header_payload, inventory_payload, scn_payload, data_payload, bit_of, entry_of}
@@ -80,9 +80,9 @@ unfolding fresh_page fresh_payload
 fresh_rest size raw p e =
     ap (λ (kind : PageKind). drop 32 (page_of size (code_of kind) 1 1 p (fresh_payload size raw p kind))) (kind_data (fresh_kind size p) e) ∙ data_rest size p (if p == 4 then 1 else 0)
 
-history_kind : (page : Page) → is_history_page page ≡ true → kind_of page ≡ 5
+history_kind : (page : Page) → is_history_page page ≡ true → kind_of page ≡ data_kind
 unfolding is_history_page
-history_kind page is = eqb-true (kind_of page) 5 (and_parts (kind_of page == 5) _ is).0
+history_kind page is = eqb-true (kind_of page) 5 (and_parts (kind_of page == data_kind) _ is).0
 
 module _ (size raw : ℕ) (is : IsTrue (is_page_size size)) (few : raw ≤ 65535) where
   pub size_is : image_size (fresh size raw) ≡ size

@@ -5,6 +5,7 @@ use Rattle.std.specs.List.{AllByRecursion}
 use Rattle.std.proofs.lemmas.Bool.Decides.{eqb_tells, leb_tells}
 use Rattle.std.proofs.lemmas.List.{get_or_append_left}
 use Rattle.nb_fields.specs.Bytes.{bytes_of}
+use Rattle.nb_fields.specs.Places.{most_pages}
 use Rattle.nb_model.specs.Image.{Page, Numbered}
 use Rattle.nb_model.specs.Levels.{Head, Stretch, AreRising, AreOfSize, runs_behind, run_bytes, end_bytes, joined, numbered_from, barred_after, is_first_page, read_runs}
 use Rattle.nb_model.proofs.ReadLaws.{IsRun, run_read, runs_end}
@@ -50,7 +51,7 @@ pub one_numbered : (n : ℕ) (p : Page) (more : List Numbered) → numbered_from
 unfolding numbered_from
 one_numbered n p more = refl
 
-not_barred : (first count number : ℕ) → ((count < 16) → number ≢ first + count) → number < 1048576 → number ≢ barred_after first count
+not_barred : (first count number : ℕ) → ((count < 16) → number ≢ first + count) → number < most_pages → number ≢ barred_after first count
 not_barred first count number ne small = elim (leb_tells (suc count) 16) [
   | inl w ↦ rw (w.0, barred_after) (ne w.1)
   | inr w ↦ rw (w.0, barred_after) (λ e. absurd (omega arith))

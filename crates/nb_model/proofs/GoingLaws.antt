@@ -7,6 +7,7 @@ use Rattle.std.proofs.lemmas.Bool.{true≢false, eqb-true, eqb-false, leb-true}
 use Rattle.std.proofs.lemmas.Bool.Decides.{eqb_tells, leb_tells}
 use Rattle.std.proofs.lemmas.List.{get_or_past, get_or-set_same, get_or-set_other}
 use Rattle.nb_fields.specs.Header.{is_header, scn_of, guid_of}
+use Rattle.nb_fields.specs.States.{normal_state, stalled_state, merge_state}
 use Rattle.nb_host.specs.Names.{is_name}
 use Rattle.nb_host.specs.declared.refusals.Refusal.{Refusal}
 use Rattle.nb_model.specs.Forms.{HasItsEntry}
@@ -122,7 +123,7 @@ pub record OthersStay (sound : Bool) (now : Now) (o : Outcome) : Type 0 where
 
 -- what is frozen stays so in the stalled state, or is the image as it becomes
 abbrev pub IsFrozenThen : Base → Base → Type 0
-IsFrozenThen old new = ((image_state old.image ≡ 1) × (new.frozen ≡ old.frozen)) ⊎ (new.frozen ≡ new.image)
+IsFrozenThen old new = ((image_state old.image ≡ stalled_state) × (new.frozen ≡ old.frozen)) ⊎ (new.frozen ≡ new.image)
 
 -- What a turn does where it comes.
 pub record IsStep (sound : Bool) (now : Now) (session : ℕ) (o : Outcome) (rest : List Turn) : Type 0 where
@@ -159,11 +160,11 @@ controlled_by state scn guid image new header may is = record {
 
 begin_controls : (b : Base) (guid : List ℕ) (ask : Option Ask) → HasHeader b.image → image_scn b.image ≤ 4294967293 → length guid ≡ 16 → IsControlled 1 (base_after b (begin guid ask ∷ []))
 unfolding base_after on_base
-begin_controls b guid ask header scn sixteen = controlled_by 1 (image_scn b.image + 1) guid b.image _ header (may_begin b.image header guid sixteen scn) refl
+begin_controls b guid ask header scn sixteen = controlled_by stalled_state (image_scn b.image + 1) guid b.image _ header (may_begin b.image header guid sixteen scn) refl
 
-ends_control : (b : Base) → HasHeader b.image → image_state b.image ≡ 1 → IsControlled 2 (base_after b (ends ∷ []))
+ends_control : (b : Base) → HasHeader b.image → image_state b.image ≡ stalled_state → IsControlled 2 (base_after b (ends ∷ []))
 unfolding base_after on_base
-ends_control b header stalled = controlled_by 2 (image_scn b.image + 1) (image_guid b.image) b.image _ header (may_end b.image header stalled) refl
+ends_control b header stalled = controlled_by merge_state (image_scn b.image + 1) (image_guid b.image) b.image _ header (may_end b.image header stalled) refl
 
 -- a merge ends, which drops pages of zeros at the end
 finish_controls : (b : Base) → HasHeader b.image → IsControlled 0 (base_after b (finish ∷ []))
@@ -171,13 +172,13 @@ unfolding base_after
 finish_controls b header =
     let first : first_page (trimmed b.image) ≡ first_page b.image = trimmed_front b.image header.header in
     let still : HasHeader (trimmed b.image) = record { header = ap is_header first ∙ header.header; scn = subst (λ (n : ℕ). n < 4294967296) (sym (ap scn_of first)) header.scn } in
-    controlled_by 0 (image_scn (trimmed b.image)) (image_guid (trimmed b.image)) (trimmed b.image) (on_base finish b) still (may_finish (trimmed b.image) still)
-    (ap (λ (c : Base). c.image) (finish_base b) ∙ ap (λ (page : Page). with_control 0 (scn_of page) (guid_of page) (trimmed b.image)) (sym first))
+    controlled_by normal_state (image_scn (trimmed b.image)) (image_guid (trimmed b.image)) (trimmed b.image) (on_base finish b) still (may_finish (trimmed b.image) still)
+    (ap (λ (c : Base). c.image) (finish_base b) ∙ ap (λ (page : Page). with_control normal_state (scn_of page) (guid_of page) (trimmed b.image)) (sym first))
 
 -- A backup begins after the strokes that make room for its row.
 record IsBegunAfter (new : Base) (page : ℕ) : Type 0 where
   header : HasHeader new.image
-  state : image_state new.image ≡ 1
+  state : image_state new.image ≡ stalled_state
   frozen : new.frozen ≡ new.image
   there : IsThere new.image page
 
@@ -252,7 +253,7 @@ module _ {sound : Bool} (session : ℕ) (now : Now) (going : IsGoing sound now) 
       (left_by statement s.given) (left_guids statement s.given) (pages_once statement on s session) all (entry_stays s session statement on going.header)
 
   -- no copy and no merge is under way in the normal state
-  none_runs : image_state b.image ≡ 0 → (other number : ℕ) → 1 ≤ number → Runs now other number → ⊥
+  none_runs : image_state b.image ≡ normal_state → (other number : ℕ) → 1 ≤ number → Runs now other number → ⊥
   none_runs normal other number some runs = omega (arith, normal, some, runs.state)
 
   begun_step : (rest : List Turn) → AreBeginnings rest → MayBegin b.image → IsStep sound now session (cases.begun s) rest
@@ -270,9 +271,9 @@ module _ {sound : Bool} (session : ℕ) (now : Now) (going : IsGoing sound now) 
       }
 
   -- the merge begins
-  ended_step : (rest : List Turn) → AreBeginnings rest → (reply : Reply) → image_state b.image ≢ 0 → ((other number : ℕ) → other ≢ session - 1 → Runs now other number → ⊥) → IsStep sound now session (ends_by s session reply) rest
+  ended_step : (rest : List Turn) → AreBeginnings rest → (reply : Reply) → image_state b.image ≢ normal_state → ((other number : ℕ) → other ≢ session - 1 → Runs now other number → ⊥) → IsStep sound now session (ends_by s session reply) rest
   unfolding ends_by end_strokes
-  ended_step rest all reply some alone = by (image_state b.image == 1) refl
+  ended_step rest all reply some alone = by (image_state b.image == stalled_state) refl
     where
       ended : List Stroke → Outcome
       ended ss = record { strokes = ss; reply = None; next = replicate (length b.diverted) Merges ++ Finishes reply ∷ []; running = Some session; made = None; given = s.given }
@@ -288,13 +289,13 @@ module _ {sound : Bool} (session : ℕ) (now : Now) (going : IsGoing sound now) 
         others = λ other number off some runs. absurd (alone other number off runs);
       }
 
-      by : (test : Bool) → (image_state b.image == 1) ≡ test → IsStep sound now session (ended (elim test as (λ z. List Stroke) [ true ↦ ends ∷ [] | false ↦ [] ])) rest
+      by : (test : Bool) → (image_state b.image == stalled_state) ≡ test → IsStep sound now session (ended (elim test as (λ z. List Stroke) [ true ↦ ends ∷ [] | false ↦ [] ])) rest
       by true is =
-          let stalled : image_state b.image ≡ 1 = eqb-true (image_state b.image) 1 is in
+          let stalled : image_state b.image ≡ stalled_state = eqb-true (image_state b.image) 1 is in
           let new : IsControlled 2 (base_after b (ends ∷ [])) = ends_control b going.header stalled in
           with_strokes (ends ∷ []) new.header (λ sure. (ends_keep b going.header (going.sure sure) stalled).0.sound) new.is
       by false is =
-          let two : image_state b.image ≡ 2 = omega (arith, some, going.state, eqb-false (image_state b.image) 1 is) in
+          let two : image_state b.image ≡ merge_state = omega (arith, some, going.state, eqb-false (image_state b.image) 1 is) in
           with_strokes [] (subst (λ (x : Base). HasHeader x.image) (sym (no_more b)) going.header) sure_none (ap (λ (x : Base). image_state x.image) (no_more b) ∙ two)
 
   -- the backup begins
@@ -507,15 +508,15 @@ module _ {sound : Bool} (session : ℕ) (now : Now) (going : IsGoing sound now) 
   frozen_keeps P (inr now_it) before new = subst P (sym now_it) new
 
   stalled_then : (image_state (base_now now).image ≡ 1 → image_state (base_now now).frozen ≡ 1) → image_state (base_now last).image ≡ 1 → image_state (base_now last).frozen ≡ 1
-  stalled_then before = subst (λ (x : Base). image_state x.image ≡ 1 → image_state x.frozen ≡ 1) (sym (then_base session rest o now))
-      (λ stalled. frozen_keeps (λ image. image_state image ≡ 1) (step.frozen stalled) before stalled)
+  stalled_then before = subst (λ (x : Base). image_state x.image ≡ stalled_state → image_state x.frozen ≡ stalled_state) (sym (then_base session rest o now))
+      (λ stalled. frozen_keeps (λ image. image_state image ≡ stalled_state) (step.frozen stalled) before stalled)
 
   pub going_then : IsGoing sound last
   going_then = record {
     header = subst (λ (x : Base). HasHeader x.image) (sym base) step.header;
     sure = λ is. subst (λ (x : Base). IsSoundImage x.image) (sym base) (step.sure is);
     state = subst (λ (x : Base). image_state x.image ≤ 2) (sym base) step.state;
-    frozen = subst (λ (x : Base). image_state x.image ≡ 1 → is_header (first_page x.frozen) ≡ true) (sym base)
+    frozen = subst (λ (x : Base). image_state x.image ≡ stalled_state → is_header (first_page x.frozen) ≡ true) (sym base)
         (λ stalled. frozen_keeps (λ image. is_header (first_page image) ≡ true) (step.frozen stalled) going.frozen step.header.header);
     each = λ place. elim (eqb_tells place (session - 1)) [
       | inl w ↦ subst (λ (p : ℕ). IsAt sound last p (get_or last.todo p [])) (sym w.1) (subst (IsAt sound last (session - 1)) (sym (own_todo session now u rest is o)) step.own)

@@ -7,8 +7,9 @@ use Rattle.std.proofs.lemmas.List.{append-nil}
 use Rattle.nb_fields.specs.Bytes.{bytes_of, with_part}
 use Rattle.nb_fields.specs.Page.{kind_of, stamped}
 use Rattle.nb_fields.specs.Payloads.{data_payload}
-use Rattle.nb_fields.specs.Places.{bits_in, is_inventory_place, is_scn_place, is_system_place}
+use Rattle.nb_fields.specs.Places.{bits_in, is_inventory_place, is_scn_place, is_system_place, most_pages}
 use Rattle.nb_fields.proofs.SizeLemmas.{SizeFacts, size_facts}
+use Rattle.nb_fields.specs.Kinds.{data_kind}
 use Rattle.nb_model.specs.Account.{Base}
 use Rattle.nb_model.specs.Causes.{broken_at}
 use Rattle.nb_model.specs.Chains.{Chain, Slot, Spot, first_of, owner_of, owner_in, next_in, is_slot, is_used, first_in, slots_in, pages_of, found_pages, spots_on, spots_of, spots, row_spot, row_slot, last_of, grown}
@@ -109,7 +110,7 @@ module _ (b : Base) (header : HasHeader b.image) (is : IsSoundImage b.image) (ne
   link = drop 16 (with_part 16 (bytes_of 4 n) (page_at m last))
 
   abbrev pub y : Image
-  y = (put last 5 link (drafted m)).image
+  y = (put last data_kind link (drafted m)).image
 
   pub whole : IsWhole x
   whole = header_whole x header is
@@ -119,7 +120,7 @@ module _ (b : Base) (header : HasHeader b.image) (is : IsSoundImage b.image) (ne
 
   pub left : made.0.full ≡ false
   unfolding grown
-  left = put_full last 5 link made.0 full
+  left = put_full last data_kind link made.0 full
 
   is_new : IsNew x 5 made
   is_new = new_is_new (length x + 4) 5 payload x whole refl room left
@@ -167,7 +168,7 @@ module _ (b : Base) (header : HasHeader b.image) (is : IsSoundImage b.image) (ne
   new_apart : n ≢ last
   new_apart e = is_made.other last (page_at x last) last_there.held (sym e)
 
-  n_small : n < 1048576
+  n_small : n < most_pages
   n_small = let low = is_new.below in let most = m_whole.sound.most in omega (arith, low, most)
 
   old_long : 1024 ≤ length (old_page n is_made.of.0)
@@ -200,8 +201,8 @@ module _ (b : Base) (header : HasHeader b.image) (is : IsSoundImage b.image) (ne
   last_long : 1024 ≤ length (page_at m last)
   last_long = omega (arith, size_m.at_least, all_at (λ page. length page ≡ image_size m) m m_whole.sound.sizes last last_held_m.below)
 
-  linked_page : page_at y last ≡ stamped (page_at m last) 5 link (image_scn m) last
-  linked_page = put_here m m_whole last last_plain.place 5 link ∙ ap (λ (old : Page). stamped old 5 link (image_scn m) last) (old_there m last last_held_m.below)
+  linked_page : page_at y last ≡ stamped (page_at m last) data_kind link (image_scn m) last
+  linked_page = put_here m m_whole last last_plain.place 5 link ∙ ap (λ (old : Page). stamped old data_kind link (image_scn m) last) (old_there m last last_held_m.below)
 
   link_slots : slots_in (page_at y last) ≡ slots_in (page_at x last)
   link_slots = ap slots_in linked_page ∙ linked_slots (page_at m last) n (image_scn m) last last_long ∙ ap slots_in last_m
@@ -230,7 +231,7 @@ module _ (b : Base) (header : HasHeader b.image) (is : IsSoundImage b.image) (ne
   pub longer : length x ≤ length y
   longer = omega (arith, m_longer, y_longer)
 
-  last_held_y : IsHeld last (form_page last 5 link m) y
+  last_held_y : IsHeld last (form_page last data_kind link m) y
   last_held_y = held_here m m_whole last (page_at m last) 5 link last_plain last_held_m
 
   pub new_held_y : IsHeld n (page_at m n) y
@@ -348,7 +349,7 @@ module _ (b : Base) (header : HasHeader b.image) (is : IsSoundImage b.image) (ne
       (room b header is neat c of_all unbroken small bytes long fits full) (left b header is neat c of_all unbroken small bytes long fits full) held))
       (longer_along AnyPage (length b.image) b made_then.0.strokes fitting.each (whole b header is neat c of_all unbroken small bytes long fits full) (omega arith)))
 
-  link_along : Along Gives (base_after b made_then.0.strokes) (put end_page 5 link_then (drafted made_then.0.image)).strokes
+  link_along : Along Gives (base_after b made_then.0.strokes) (put end_page data_kind link_then (drafted made_then.0.image)).strokes
   link_along =
       let r : Raises made_then.0.image (raised end_page (drafted made_then.0.image)).image end_page = raises made_then.0.image whole_then end_page plain_then.place in
       put_along Gives (base_after b made_then.0.strokes) made_then.0.image end_page 5 link_then fitting.is.is (not_yet made_then.0.image keeping.keeps no_shorter)
@@ -356,7 +357,7 @@ module _ (b : Base) (header : HasHeader b.image) (is : IsSoundImage b.image) (ne
 
   pub grown_along : Along Gives b (grown c (found_pages c b.image) bytes (drafted b.image)).0.strokes
   unfolding grown
-  grown_along = subst (λ (d : Draft). Along Gives b d.strokes) (sym (join_put end_page 5 link_then made_then.0)) (along_append Gives b made_then.0.strokes (put end_page 5 link_then (drafted made_then.0.image)).strokes made_along link_along)
+  grown_along = subst (λ (d : Draft). Along Gives b d.strokes) (sym (join_put end_page 5 link_then made_then.0)) (along_append Gives b made_then.0.strokes (put end_page data_kind link_then (drafted made_then.0.image)).strokes made_along link_along)
 
   pub grown_end : (grown c (found_pages c b.image) bytes (drafted b.image)).0.image ≡ y b header is neat c of_all unbroken small bytes long fits full
   unfolding grown

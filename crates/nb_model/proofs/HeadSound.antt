@@ -9,13 +9,14 @@ use Rattle.nb_fields.specs.Places.{entries_in, bits_in}
 use Rattle.nb_fields.specs.Page.{kind_of}
 use Rattle.nb_fields.proofs.PartLemmas.{number_in-take, length-with_part}
 use Rattle.nb_fields.proofs.SizeLemmas.{SizeFacts, size_facts}
+use Rattle.nb_fields.specs.Kinds.{header_kind}
 use Rattle.nb_model.specs.Image.{Page, Image, first_page, image_size}
 use Rattle.nb_model.specs.Account.{Base}
 use Rattle.nb_model.specs.Strokes.{merged_page}
 use Rattle.nb_model.specs.Forms.{has_entry}
 use Rattle.nb_model.specs.Pages.{byte_strokes}
 use Rattle.nb_model.specs.Sound.{IsSoundImage, HasHeader}
-use Rattle.nb_model.proofs.SoundLaws.{all_at, inventory_behind, inventory_place_some, scn_page_behind, scn_place_some, HasFields, FitsAt, header_kind}
+use Rattle.nb_model.proofs.SoundLaws.{all_at, inventory_behind, inventory_place_some, scn_page_behind, scn_place_some, HasFields, FitsAt, kind_of_header}
 use Rattle.nb_model.proofs.FitLaws.{AreFitting}
 use Rattle.nb_model.proofs.PutSound.{header_fields}
 
@@ -87,8 +88,8 @@ module _ (image : Image) (bytes : Page) (fields : HasFields image) (is : IsSound
     no_later = λ q at has. absurd (let some = scn_place_some (image_size image) (q / entries_in (image_size image)) fields.size in omega arith);
   }
 
-  head_kind : is_header (first_page image) ≡ true → kind_of head_page ≡ 1
-  head_kind header = head_number 0 1 (omega arith) ∙ header_kind (first_page image) header
+  head_kind : is_header (first_page image) ≡ true → kind_of head_page ≡ header_kind
+  head_kind header = head_number 0 1 (omega arith) ∙ kind_of_header (first_page image) header
 
 -- One byte of page 0 is written, as for forced writes and for access.
 changed_length : (image : Image) (at value : ℕ) → HasFields image → IsSoundImage image → at < 1024 → length (with_part at (value ∷ []) (first_page image)) ≡ image_size image
@@ -97,7 +98,7 @@ changed_length image at value fields is inside =
     let first : length (first_page image) ≡ image_size image = let least = is.least in all_at (λ page. length page ≡ image_size image) image is.sizes 0 (omega arith) in
     length-with_part at (value ∷ []) (first_page image) (omega (arith, size.at_least)) ∙ first
 
-pub byte_fits : (K : Page → Type 0) → ((bytes : Page) → kind_of bytes ≡ 1 → K bytes) → (b : Base) (at value : ℕ) → HasHeader b.image → IsSoundImage b.image → at < 1024
+pub byte_fits : (K : Page → Type 0) → ((bytes : Page) → kind_of bytes ≡ header_kind → K bytes) → (b : Base) (at value : ℕ) → HasHeader b.image → IsSoundImage b.image → at < 1024
     → AreFitting K b (byte_strokes at value b.image)
 unfolding byte_strokes
 byte_fits K headers b at value h is inside =

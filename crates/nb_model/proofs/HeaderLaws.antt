@@ -8,6 +8,7 @@ use Rattle.nb_fields.specs.Header.{is_header, is_marked, is_sound, state_of, siz
 use Rattle.nb_fields.specs.Places.{is_page_size}
 use Rattle.nb_fields.proofs.HeaderLemmas.{is_header-short, is_header-long, is_header-take}
 use Rattle.nb_fields.proofs.PartLemmas.{number_in-take}
+use Rattle.nb_fields.specs.States.{stalled_state}
 use Rattle.nb_model.specs.Image.{Page}
 
 not_marked : (p : Page) → (number_in 0 1 p == 1) ≡ false → is_marked p ≡ false
@@ -46,7 +47,7 @@ module _ (p : Page) (h : is_header p ≡ true) where
 
   -- the SCN is 1 or more
   pub header-scn : 1 ≤ scn_of p
-  header-scn = leb-true 1 (scn_of p) (third (nat_le (state_of p) 3) (is_page_size (size_of p)) (nat_le 1 (scn_of p)) (not (state_of p == 1) || nat_lt (scn_of p) 4294967295) (and_parts (is_marked p) _ form).1)
+  header-scn = leb-true 1 (scn_of p) (third (nat_le (state_of p) 3) (is_page_size (size_of p)) (nat_le 1 (scn_of p)) (not (state_of p == stalled_state) || nat_lt (scn_of p) 4294967295) (and_parts (is_marked p) _ form).1)
     where
       third : (a b c d : Bool) → (a && b && c && d) ≡ true → c ≡ true
       third true true true d k = refl
@@ -55,10 +56,10 @@ module _ (p : Page) (h : is_header p ≡ true) where
       third false b c d k = absurd (true≢false (sym k))
 
   -- in the stalled state it isn't the last one
-  pub header-room : state_of p ≡ 1 → scn_of p < 4294967295
+  pub header-room : state_of p ≡ stalled_state → scn_of p < 4294967295
   header-room stalled =
       ltb-true (scn_of p) 4294967295 (ap (λ (n : ℕ). not (n == 1) || nat_lt (scn_of p) 4294967295) (sym stalled)
-      ∙ fourth (nat_le (state_of p) 3) (is_page_size (size_of p)) (nat_le 1 (scn_of p)) (not (state_of p == 1) || nat_lt (scn_of p) 4294967295) (and_parts (is_marked p) _ form).1)
+      ∙ fourth (nat_le (state_of p) 3) (is_page_size (size_of p)) (nat_le 1 (scn_of p)) (not (state_of p == stalled_state) || nat_lt (scn_of p) 4294967295) (and_parts (is_marked p) _ form).1)
     where
       fourth : (a b c d : Bool) → (a && b && c && d) ≡ true → d ≡ true
       fourth true true true d k = k

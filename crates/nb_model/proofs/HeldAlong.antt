@@ -4,6 +4,7 @@ use Rattle.std.specs.Prelude.{Bool, true, false, ◌==◌}
 use Rattle.std.proofs.lemmas.Bool.{true≢false, or_parts}
 use Rattle.nb_fields.specs.Payloads.{bit_of}
 use Rattle.nb_fields.specs.Places.{bits_in, is_system_place}
+use Rattle.nb_fields.specs.Kinds.{inventory_kind}
 use Rattle.nb_model.specs.Account.{Base}
 use Rattle.nb_model.specs.Forms.{Draft, drafted, is_kind, put, with_bit, set_bit, take_page, inventory_of, bit_number, lowest_free, system_kind, system_payload, system_page, new_within}
 use Rattle.nb_model.specs.Image.{Page, Image, page_at, image_size}
@@ -50,8 +51,8 @@ module _ (q : ℕ) (bytes : Page) where
       at : IsPlace x i
       at = record { behind = inventory_place_some (image_size x) (p / bits_in (image_size x)) h.fields.size; there = omega (arith, i_low); most = let most = h.sound.most in omega (arith, i_low, most) }
 
-      set_is : set_bit bit p (drafted x) ≡ put i 2 row (drafted x)
-      set_is = set_bit_is bit p x (kind_found x 2 i i_low (h.sound.sound.system.inventories i i_low (inventory_there (image_size x) (p / bits_in (image_size x)) h.fields.size)))
+      set_is : set_bit bit p (drafted x) ≡ put i inventory_kind row (drafted x)
+      set_is = set_bit_is bit p x (kind_found x inventory_kind i i_low (h.sound.sound.system.inventories i i_low (inventory_there (image_size x) (p / bits_in (image_size x)) h.fields.size)))
 
   -- A system page is there, or is made.
   system_held_along : (b : Base) (x : Image) (h : IsWhole x) (p : ℕ) → b.image ≡ x → IsPlace x p → is_system_place (image_size x) p ≡ true → IsHeld q bytes x → HeldAlong b (system_page p (drafted x)).strokes

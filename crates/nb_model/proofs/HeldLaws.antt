@@ -8,6 +8,7 @@ use Rattle.nb_fields.specs.Payloads.{bit_of}
 use Rattle.nb_fields.specs.Places.{bits_in, entries_in, inventory_place, is_inventory_place, is_system_place}
 use Rattle.nb_fields.proofs.PlaceLemmas.{bits-least}
 use Rattle.nb_fields.proofs.SizeLemmas.{SizeFacts, size_facts}
+use Rattle.nb_fields.specs.Kinds.{inventory_kind, data_kind}
 use Rattle.nb_model.specs.Chains.{owner_in}
 use Rattle.nb_model.specs.Forms.{Draft, drafted, old_page, is_kind, put, set_bit, with_bit, take_page, is_free_page, inventory_of, bit_number, free_from, lowest_free, system_page, system_kind, system_payload, new_within}
 use Rattle.nb_model.specs.Image.{Page, Image, page_at, image_size, image_scn, with_page}
@@ -30,7 +31,7 @@ pub record IsHeld (q : ℕ) (bytes : Page) (image : Image) : Type 0 where
 
 -- a data page of the history
 pub record IsOfHistory (bytes : Page) : Type 0 where
-  pub of_kind : kind_of bytes ≡ 5
+  pub of_kind : kind_of bytes ≡ data_kind
   pub owner : owner_in bytes ≡ 1
 
 -- So it does in another image that has that page and its bit.
@@ -48,10 +49,10 @@ bit_by_bit : (image after : Image) (q : ℕ) → image_size after ≡ image_size
 unfolding is_free_page
 bit_by_bit image after q size same = ap (λ (s : ℕ). bit_of (page_at after (inventory_place s (q / bits_in s))) (q % bits_in s) == 1) size ∙ ap (λ (n : ℕ). n == 1) same
 
-pub set_bit_is : (bit p : ℕ) (image : Image) → is_kind image 2 (inventory_of image p) ≡ true
-    → set_bit bit p (drafted image) ≡ put (inventory_of image p) 2 (drop 16 (with_bit (bit_number image p) bit (page_at image (inventory_of image p)))) (drafted image)
+pub set_bit_is : (bit p : ℕ) (image : Image) → is_kind image inventory_kind (inventory_of image p) ≡ true
+    → set_bit bit p (drafted image) ≡ put (inventory_of image p) inventory_kind (drop 16 (with_bit (bit_number image p) bit (page_at image (inventory_of image p)))) (drafted image)
 unfolding set_bit
-set_bit_is bit p image is = ap (put (inventory_of image p) 2 (drop 16 (with_bit (bit_number image p) bit (page_at image (inventory_of image p))))) (needs_found image 2 (inventory_of image p) is)
+set_bit_is bit p image is = ap (put (inventory_of image p) inventory_kind (drop 16 (with_bit (bit_number image p) bit (page_at image (inventory_of image p))))) (needs_found image 2 (inventory_of image p) is)
 
 module _ (q : ℕ) (bytes : Page) where
   -- Another page is written that isn't the inventory page of it.
@@ -99,10 +100,10 @@ module _ (q : ℕ) (bytes : Page) where
       i_place : IsPlace image i
       i_place = record { behind = inventory_place_some (image_size image) (p / bits_in (image_size image)) h.fields.size; there = omega (arith, i_low); most = let most = h.sound.most in omega (arith, i_low, most) }
 
-      i_found : is_kind image 2 i ≡ true
-      i_found = kind_found image 2 i i_low (h.sound.sound.system.inventories i i_low (inventory_there (image_size image) (p / bits_in (image_size image)) h.fields.size))
+      i_found : is_kind image inventory_kind i ≡ true
+      i_found = kind_found image inventory_kind i i_low (h.sound.sound.system.inventories i i_low (inventory_there (image_size image) (p / bits_in (image_size image)) h.fields.size))
 
-      set_is : set_bit bit p (drafted image) ≡ put i 2 (drop 16 row) (drafted image)
+      set_is : set_bit bit p (drafted image) ≡ put i inventory_kind (drop 16 row) (drafted image)
       set_is = set_bit_is bit p image i_found
 
       facts : SizeFacts (image_size image)
@@ -111,7 +112,7 @@ module _ (q : ℕ) (bytes : Page) where
       i_long : length (page_at image i) ≡ image_size image
       i_long = all_at (λ x. length x ≡ image_size image) image h.sound.sizes i i_low
 
-      same_bit : inventory_of image q ≡ i → bit_of (form_page i 2 (drop 16 row) image) (bit_number image q) ≡ bit_of (page_at image i) (bit_number image q)
+      same_bit : inventory_of image q ≡ i → bit_of (form_page i inventory_kind (drop 16 row) image) (bit_number image q) ≡ bit_of (page_at image i) (bit_number image q)
       same_bit at =
           let least = bits-least (image_size image) h.fields.size in
           let below : bit_number image p < bits_in (image_size image) = omega (arith, least) in
@@ -129,14 +130,14 @@ module _ (q : ℕ) (bytes : Page) where
 
       by : (t : Bool) → is_kind image (system_kind image p) p ≡ t → IsHeld q bytes (elim t as (λ z. Draft) [ true ↦ drafted image | false ↦ put p (system_kind image p) (system_payload image p) (drafted image) ]).image
       by true is = held
-      by false is = held_put image h p (system_kind image p) (system_payload image p) at other (λ e. absurd (true≢false (sym (inventory_kind e) ∙ is))) held
+      by false is = held_put image h p (system_kind image p) (system_payload image p) at other (λ e. absurd (true≢false (sym (kind_of_inventory e) ∙ is))) held
         where
-          inventory_kind : inventory_of image q ≡ p → is_kind image (system_kind image p) p ≡ true
-          inventory_kind e =
+          kind_of_inventory : inventory_of image q ≡ p → is_kind image (system_kind image p) p ≡ true
+          kind_of_inventory e =
               let inventory : is_inventory_place (image_size image) p ≡ true = subst (λ (n : ℕ). is_inventory_place (image_size image) n ≡ true) e (inventory_there (image_size image) (q / bits_in (image_size image)) h.fields.size) in
               let before = inventory_before (image_size image) q h.fields.size (held_two image h held) in
               let low : p < length image = let below = held.below in omega (arith, before, below, e) in
-              ap (λ (t : Bool). is_kind image (elim t as (λ z. ℕ) [ true ↦ 2 | false ↦ 10 ]) p) inventory ∙ kind_found image 2 p low (h.sound.sound.system.inventories p low inventory)
+              ap (λ (t : Bool). is_kind image (elim t as (λ z. ℕ) [ true ↦ 2 | false ↦ 10 ]) p) inventory ∙ kind_found image inventory_kind p low (h.sound.sound.system.inventories p low inventory)
 
   -- A round of the search for a new page, and its end.
   pub held_round : (image : Image) (h : IsWhole image) (p : ℕ) (at : IsPlace image p) (place : is_system_place (image_size image) p ≡ true) → 2 ≤ p → IsHeld q bytes image → IsHeld q bytes (round p image).image

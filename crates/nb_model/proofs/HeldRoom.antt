@@ -7,8 +7,9 @@ use Rattle.std.proofs.lemmas.Bool.Decides.{eqb_tells}
 use Rattle.nb_fields.specs.Bytes.{bytes_of, with_part}
 use Rattle.nb_fields.specs.Page.{stamped}
 use Rattle.nb_fields.specs.Payloads.{data_payload}
-use Rattle.nb_fields.specs.Places.{bits_in, entries_in, is_inventory_place, is_system_place}
+use Rattle.nb_fields.specs.Places.{bits_in, entries_in, is_inventory_place, is_system_place, most_pages}
 use Rattle.nb_fields.proofs.SizeLemmas.{SizeFacts, size_facts}
+use Rattle.nb_fields.specs.Kinds.{data_kind}
 use Rattle.nb_model.specs.Account.{Base}
 use Rattle.nb_model.specs.Backups.{Room, needs_taken, room_in}
 use Rattle.nb_model.specs.Causes.{broken_at, not_of_form, lowest_broken}
@@ -94,11 +95,11 @@ module _ (P : Slot → Type 0) (b : Base) (h : HasHeader b.image) (is : IsSoundI
   abbrev link : List ℕ
   link = drop 16 (with_part 16 (bytes_of 4 made.1) (page_at made.0.image last))
 
-  new_held : made.0.full ≡ false → HoldsRows P made.1 (put last 5 link made.0).image
+  new_held : made.0.full ≡ false → HoldsRows P made.1 (put last data_kind link made.0).image
   new_held left = subst (HoldsRows P made.1) (sym (ap (λ (x : Draft). x.image) (join_put last 5 link made.0))) (elim (eqb_tells made.1 last) [
     | inl w ↦ record {
-      bytes = form_page last 5 link made.0.image;
-      held = subst (λ (n : ℕ). IsHeld n (form_page last 5 link made.0.image) linked) (sym w.1) (held_here made.0.image whole last page 5 link plain (subst (λ (n : ℕ). IsHeld n page made.0.image) w.1 held));
+      bytes = form_page last data_kind link made.0.image;
+      held = subst (λ (n : ℕ). IsHeld n (form_page last data_kind link made.0.image) linked) (sym w.1) (held_here made.0.image whole last page 5 link plain (subst (λ (n : ℕ). IsHeld n page made.0.image) w.1 held));
       leads = leads;
       of_history = record { of_kind = stamped_kind (old_page last made.0.image) 5 link (image_scn made.0.image) last; owner = linked_owner_same w.1 };
       rows = subst (AllByRecursion (λ row. is_used row ≡ true → P row)) (sym (linked_same w.1)) unused;
@@ -126,7 +127,7 @@ module _ (P : Slot → Type 0) (b : Base) (h : HasHeader b.image) (is : IsSoundI
       page = page_at made.0.image made.1
 
       linked : Image
-      linked = (put last 5 link (drafted made.0.image)).image
+      linked = (put last data_kind link (drafted made.0.image)).image
 
       plain : IsPlain made.0.image last
       plain = link_plain b h is unbroken AnyPage any_history (λ p in_it. tt)
@@ -147,9 +148,9 @@ module _ (P : Slot → Type 0) (b : Base) (h : HasHeader b.image) (is : IsSoundI
           let long : length (page_at made.0.image last) ≡ image_size made.0.image = all_at (λ x. length x ≡ image_size made.0.image) made.0.image whole.sound.sizes last low in
           omega (arith, long, size.at_least)
 
-      linked_owner_same : made.1 ≡ last → owner_in (form_page last 5 link made.0.image) ≡ 1
+      linked_owner_same : made.1 ≡ last → owner_in (form_page last data_kind link made.0.image) ≡ 1
       linked_owner_same e =
-          ap (λ (old : Page). owner_in (stamped old 5 link (image_scn made.0.image) last)) (old_there made.0.image last (omega (arith, new.below, e)))
+          ap (λ (old : Page). owner_in (stamped old data_kind link (image_scn made.0.image) last)) (old_there made.0.image last (omega (arith, new.below, e)))
           ∙ linked_owner (page_at made.0.image last) made.1 (image_scn made.0.image) last (last_long e) ∙ ap (λ (n : ℕ). owner_in (page_at made.0.image n)) (sym e) ∙ owner
 
       -- the last page is there, and long enough for a link
@@ -160,9 +161,9 @@ module _ (P : Slot → Type 0) (b : Base) (h : HasHeader b.image) (is : IsSoundI
       last_links =
           let size : SizeFacts (image_size made.0.image) = size_facts (image_size made.0.image) whole.fields.size in
           let long : length (page_at made.0.image last) ≡ image_size made.0.image = all_at (λ x. length x ≡ image_size made.0.image) made.0.image whole.sound.sizes last last_low in
-          let few : length made.0.image ≤ 1048576 = whole.sound.most in
+          let few : length made.0.image ≤ most_pages = whole.sound.most in
           ap next_in (put_here made.0.image whole last plain.place 5 link)
-          ∙ ap (λ (old : Page). next_in (stamped old 5 link (image_scn made.0.image) last)) (old_there made.0.image last last_low)
+          ∙ ap (λ (old : Page). next_in (stamped old data_kind link (image_scn made.0.image) last)) (old_there made.0.image last last_low)
           ∙ linked_next (page_at made.0.image last) made.1 (image_scn made.0.image) last (omega (arith, long, size.at_least)) (let low = new.below in omega (arith, low, few))
 
       -- no other page of the history changes
@@ -176,9 +177,9 @@ module _ (P : Slot → Type 0) (b : Base) (h : HasHeader b.image) (is : IsSoundI
       leads : LeadsTo linked made.1
       leads = linked_leads b.image linked made.1 (let some = new.behind in omega (arith, some)) unbroken others last_links
 
-      linked_same : made.1 ≡ last → slots_in (form_page last 5 link made.0.image) ≡ slots_in page
+      linked_same : made.1 ≡ last → slots_in (form_page last data_kind link made.0.image) ≡ slots_in page
       linked_same e =
-          ap (λ (old : Page). slots_in (stamped old 5 link (image_scn made.0.image) last)) (old_there made.0.image last (omega (arith, new.below, e)))
+          ap (λ (old : Page). slots_in (stamped old data_kind link (image_scn made.0.image) last)) (old_there made.0.image last (omega (arith, new.below, e)))
           ∙ linked_slots (page_at made.0.image last) made.1 (image_scn made.0.image) last (last_long e) ∙ ap (λ (n : ℕ). slots_in (page_at made.0.image n)) (sym e)
 
   -- a slot that is free is read, and its page has to be taken
@@ -188,7 +189,7 @@ module _ (P : Slot → Type 0) (b : Base) (h : HasHeader b.image) (is : IsSoundI
   abbrev room : Option Spot → Room
   room o = elim o as (λ z. Room) [
     | Some s ↦ record { draft = needs_taken s.page (read s); page = s.page; slot = s.slot }
-    | None ↦ record { draft = wants made.0.image 5 last (put last 5 link made.0); page = made.1; slot = 0 }
+    | None ↦ record { draft = wants made.0.image 5 last (put last data_kind link made.0); page = made.1; slot = 0 }
   ]
 
   read_image : (s : Spot) → (read s).image ≡ b.image
@@ -203,4 +204,4 @@ module _ (P : Slot → Type 0) (b : Base) (h : HasHeader b.image) (is : IsSoundI
       by (Some s) found formed left =
           subst (HoldsRows P s.page) (sym (needs_image_same s.page (read s) ∙ read_image s))
           (spot_held s (free_is_spot b.image s unbroken found) (found_there History b.image _ s found).page (subst (λ (x : Image). is_free_page x s.page ≡ false) (read_image s) (needs_is_taken s.page (read s) formed)))
-      by None found formed left = new_held (put_full last 5 link made.0 left)
+      by None found formed left = new_held (put_full last data_kind link made.0 left)

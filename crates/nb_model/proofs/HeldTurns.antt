@@ -5,6 +5,7 @@ use Rattle.std.proofs.lemmas.Bool.{true≢false}
 use Rattle.nb_fields.specs.Page.{kind_of}
 use Rattle.nb_fields.specs.Payloads.{text_payload}
 use Rattle.nb_fields.specs.Places.{bits_in, is_inventory_place}
+use Rattle.nb_fields.specs.Kinds.{raw_kind}
 use Rattle.nb_model.specs.declared.statement.Statement.{Statement}
 use Rattle.nb_model.specs.declared.statement.Statement.TheVariants.{CreateDb, OpenDb, PageNew, Write, Free, CreateTable, DropTable, Insert, Update, Delete, Get, Scan, Forced, Access, Reclaim, ShowCache}
 use Rattle.nb_model.specs.Account.{Base}
@@ -58,7 +59,7 @@ module _ (q : ℕ) (bytes : Page) (of_history : IsOfHistory bytes) where
   write_holds p text s session h is leads held = guarded s _ _ held (λ none.
       let raw = no_first _ _ none in
       let long = no_first _ _ (no_first _ _ raw.1).1 in
-      let fits : Fits AnyPage s.base (put p 8 (text_payload text) (drafted s.base.image)) = text_fits AnyPage (λ page e. tt) (λ page e. tt) s.base p text h is raw.0 (short_text text long.0) in
+      let fits : Fits AnyPage s.base (put p raw_kind (text_payload text) (drafted s.base.image)) = text_fits AnyPage (λ page e. tt) (λ page e. tt) s.base p text h is raw.0 (short_text text long.0) in
       let plain : IsPlain s.base.image p = raw_plain s.base.image p h is raw.0 in
       subst (IsHeld q bytes) (sym fits.is.is)
       (held_put q bytes s.base.image (header_whole s.base.image h is) p 8 (text_payload text) plain.place (raw_other s.base.image p raw.0 held)

@@ -5,6 +5,7 @@ use Rattle.std.specs.Prelude.{true, false, ◌==◌, nat_lt, Contains, Ok, None}
 use Rattle.std.proofs.lemmas.Bool.{true≢false, cases_lt, and_from, and_parts, eq-eqb, false_from_ne_true, ltb-true}
 use Rattle.std.proofs.lemmas.Bool.Decides.{eqb_tells}
 use Rattle.nb_fields.specs.Page.{kind_of}
+use Rattle.nb_fields.specs.Kinds.{data_kind}
 use Rattle.nb_model.specs.Account.{Base}
 use Rattle.nb_model.specs.Causes.{broken_at}
 use Rattle.nb_model.specs.Chains.{History, first_of, owner_in, next_in, is_in_chain, walk, pages_of, found_pages, last_of}
@@ -92,7 +93,7 @@ no_history_page : (y : Image) (p : ℕ) (bytes : Page) → page_at y p ≡ bytes
 unfolding is_history_page
 no_history_page y p bytes same none = false_from_ne_true _ (λ in_it.
     let form : HasForm History bytes = subst (HasForm History) same (form_there History y p in_it) in
-    absurd (true≢false (sym (and_from (kind_of bytes == 5) _ (eq-eqb (kind_of bytes) 5 form.of_kind) (and_from (owner_in bytes == 1) _ (eq-eqb (owner_in bytes) 1 form.owner) form.slots)) ∙ none)))
+    absurd (true≢false (sym (and_from (kind_of bytes == data_kind) _ (eq-eqb (kind_of bytes) 5 form.of_kind) (and_from (owner_in bytes == 1) _ (eq-eqb (owner_in bytes) 1 form.owner) form.slots)) ∙ none)))
 
 pub past_chain : (y : Image) (p : ℕ) → length y ≤ p → is_in_chain History y p ≡ false
 unfolding is_in_chain

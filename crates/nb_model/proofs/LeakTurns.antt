@@ -6,6 +6,7 @@ use Rattle.std.proofs.lemmas.List.Elements.{Contains-append_left, Contains-appen
 use Rattle.std.proofs.lemmas.Bool.{and_parts, cases_Bool, true≢false, eqb-true, or_cases}
 use Rattle.nb_fields.specs.Page.{kind_of}
 use Rattle.nb_fields.specs.Places.{is_inventory_place, is_scn_place, is_system_place}
+use Rattle.nb_fields.specs.Kinds.{data_kind}
 use Rattle.nb_model.specs.Account.{Base}
 use Rattle.nb_model.specs.declared.reply.Reply.TheVariants.{Freed, Refused}
 use Rattle.nb_model.specs.Causes.{Cause, broken_at}
@@ -27,7 +28,7 @@ use Rattle.nb_model.proofs.LeadLaws.{LeadsTo, leads_found}
 use Rattle.nb_model.proofs.NoRows.{HasNoRows, no_rows}
 use Rattle.nb_model.proofs.PutSound.{no_first, header_whole}
 use Rattle.nb_model.proofs.ReadLaws.{eq_yes}
-use Rattle.nb_model.proofs.SoundLaws.{header_kind}
+use Rattle.nb_model.proofs.SoundLaws.{kind_of_header}
 use Rattle.nb_model.proofs.StrokeLaws.{base_after-append}
 use Rattle.nb_model.proofs.TableDrafts.{bit_inventory, bit_longer}
 
@@ -88,10 +89,10 @@ given_holds q bytes (p ∷ ps) b h all off held =
     (subst (λ (c : Base). IsHeld q bytes c.image) (sym (base_after-append b d.strokes (all_given ps (drafted d.image)).strokes))
     (subst (λ (x : Image). IsHeld q bytes (base_after then (all_given ps (drafted x)).strokes).image) same rest))
 
-leaked_kind : (image : Image) (p : ℕ) → is_leaked image p ≡ true → kind_of (page_at image p) ≡ 5
+leaked_kind : (image : Image) (p : ℕ) → is_leaked image p ≡ true → kind_of (page_at image p) ≡ data_kind
 leaked_kind image p holds =
     eqb-true (kind_of (page_at image p)) 5
-    (and_parts (not (is_free_page image p)) (kind_of (page_at image p) == 5) (and_parts (is_taken_data image p) (not (is_among p (reached image))) holds).0).1
+    (and_parts (not (is_free_page image p)) (kind_of (page_at image p) == data_kind) (and_parts (is_taken_data image p) (not (is_among p (reached image))) holds).0).1
 
 -- A leaked page of a sound image is at no system place, and after the first two.
 pub leaked_plain : (image : Image) → IsSoundImage image → (p : ℕ) → p < length image → is_leaked image p ≡ true → is_system_place (image_size image) p ≡ false
@@ -104,19 +105,19 @@ leaked_plain image sound p low holds = elim (cases_Bool (is_inventory_place (ima
   ])
 ]
   where
-    five : kind_of (page_at image p) ≡ 5
+    five : kind_of (page_at image p) ≡ data_kind
     five = leaked_kind image p holds
 
 pub leaked_two : (image : Image) → HasHeader image → IsSoundImage image → (p : ℕ) → p < length image → is_leaked image p ≡ true → 2 ≤ p
 unfolding is_system_place is_inventory_place
 leaked_two image header sound p low holds = by p refl
   where
-    five : kind_of (page_at image p) ≡ 5
+    five : kind_of (page_at image p) ≡ data_kind
     five = leaked_kind image p holds
 
     by : (q : ℕ) → p ≡ q → 2 ≤ p
     by zero e =
-        let one = header_kind (first_page image) header.header in
+        let one = kind_of_header (first_page image) header.header in
         let same : kind_of (page_at image p) ≡ kind_of (first_page image) = ap (λ (n : ℕ). kind_of (page_at image n)) e in
         omega (arith, one, same, five)
     by (suc zero) e = absurd (true≢false (sym (ap (is_system_place (image_size image)) e) ∙ leaked_plain image sound p low holds))

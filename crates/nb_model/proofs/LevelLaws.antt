@@ -5,7 +5,7 @@ use Rattle.std.proofs.lemmas.Bool.{true≢false, eqb-true, or_cases}
 use Rattle.std.proofs.lemmas.Bool.Decides.{leb_tells}
 use Rattle.std.proofs.lemmas.List.{take_at, drop_at, drop-drop}
 use Rattle.nb_fields.specs.Bytes.{number_of, bytes_of, number_in, part}
-use Rattle.nb_fields.specs.Places.{is_page_size}
+use Rattle.nb_fields.specs.Places.{is_page_size, most_pages}
 use Rattle.nb_fields.proofs.NumberLemmas.{number_of-bytes_of}
 use Rattle.nb_fields.proofs.SizeLemmas.{size_facts}
 use Rattle.nb_model.specs.Image.{Numbered}
@@ -86,7 +86,7 @@ read_step bytes version h e f clear =
     ∙ ap (λ v. with_head v (head_in bytes) (read_pages v (head_in bytes) bytes)) e ∙ ap (λ x. with_head version x (read_pages version x bytes)) f
 
 -- rising numbers below the most are few
-rising_few : (least : ℕ) (rs : List Numbered) → least ≤ 1048576 → AreRising least rs → least + length rs ≤ 1048576
+rising_few : (least : ℕ) (rs : List Numbered) → least ≤ most_pages → AreRising least rs → least + length rs ≤ most_pages
 rising_few least [] low h = omega arith
 rising_few least (r ∷ rs) low h =
     let rest = rising_few (r.0 + 1) rs (omega (arith, h.1)) h.2 in
@@ -132,7 +132,7 @@ record IsBody (h : Head) (r : Numbered) (rs : List Numbered) : Type 0 where
   pub rising : AreRising 1 rs
   pub size : length r.1 ≡ h.size
   pub sizes : AreOfSize h.size rs
-  pub few : 1 + length rs ≤ 1048576
+  pub few : 1 + length rs ≤ most_pages
 
 -- the whole body of version 101
 body_101 : (h : Head) (r : Numbered) (rs : List Numbered) (left : ℕ) → length (r ∷ rs) < left → IsBody h r rs → read_singles left h 52 0 0 (single_bytes (r ∷ rs) ++ end_bytes (length (r ∷ rs))) ≡ Ok (r ∷ rs)

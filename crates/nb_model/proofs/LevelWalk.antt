@@ -4,6 +4,7 @@ use Rattle.std.specs.Prelude.{Bool, true, false, not, ◌&&◌, ◌||◌, ◌==�
 use Rattle.std.proofs.lemmas.Bool.{true≢false, eqb-true, or_parts}
 use Rattle.std.proofs.lemmas.Bool.Decides.{eqb_tells, leb_tells}
 use Rattle.nb_fields.specs.Bytes.{number_in, part}
+use Rattle.nb_fields.specs.Places.{most_pages}
 use Rattle.nb_model.specs.Image.{Numbered}
 use Rattle.nb_model.specs.Levels.{Head, Test, first_fault, behind, end_mark, read_end, read_singles, read_runs, pages_in, barred_after, is_bad_number, is_first_page}
 use Rattle.nb_model.proofs.ReadLaws.{AreClear, single_tests, run_tests, single_there, run_there}
@@ -43,13 +44,13 @@ zero_tells n false e is = absurd (true≢false (sym (ap (λ (k : ℕ). k == 0 &&
 pub record IsGood (count least n : ℕ) : Type 0 where
   pub begins : count ≡ 0 → n ≡ 0
   pub low : least ≤ n
-  pub small : n < 1048576
+  pub small : n < most_pages
 
 pub good : (count least n : ℕ) → is_bad_number count least n ≡ false → IsGood count least n
 good count least n e =
-    let parts = or_parts (count == 0 && not (n == 0)) (nat_lt n least || nat_le 1048576 n) e in
-    let ends = or_parts (nat_lt n least) (nat_le 1048576 n) parts.1 in
-    record { begins = λ none. eqb-true n 0 (zero_tells count (n == 0) parts.0 none); low = not_long n least ends.0; small = not_low 1048576 n ends.1 }
+    let parts = or_parts (count == 0 && not (n == 0)) (nat_lt n least || nat_le most_pages n) e in
+    let ends = or_parts (nat_lt n least) (nat_le most_pages n) parts.1 in
+    record { begins = λ none. eqb-true n 0 (zero_tells count (n == 0) parts.0 none); low = not_long n least ends.0; small = not_low most_pages n ends.1 }
 
 -- what is answered is answered once
 abbrev pub held : Result (List Numbered) ℕ → List Numbered

@@ -10,6 +10,7 @@ use Rattle.nb_fields.specs.Free.{is_free_file}
 use Rattle.nb_fields.specs.Header.{is_header, state_of, guid_of}
 use Rattle.nb_fields.proofs.NumberLemmas.{number_of-bytes_of}
 use Rattle.nb_fields.proofs.PartLemmas.{part-take, length-part}
+use Rattle.nb_fields.specs.States.{stalled_state, applying_state}
 use Rattle.nb_host.specs.Files.{File, Files, with_file}
 use Rattle.nb_host.specs.Names.{same_name, is_delta}
 use Rattle.nb_host.specs.declared.refusals.Refusal.{Refusal}
@@ -28,8 +29,8 @@ use Rattle.nb_model.proofs.LevelLaws.{begins_there}
 use Rattle.nb_model.proofs.MainLaws.{owner-formed, owner-refused, owner-none}
 use Rattle.nb_model.proofs.OpenedLaws.{joined_front, has_main}
 use Rattle.nb_model.proofs.RunLaws.{same_self}
-use Rattle.nb_model.proofs.SoundLaws.{header_kind}
-use Rattle.nb_model.proofs.StandsLaws.{names_tell, delta_named, no_main, StandsUnder, formed_header, no_level_begins, header_no_level, applying_state, stands_with_both}
+use Rattle.nb_model.proofs.SoundLaws.{kind_of_header}
+use Rattle.nb_model.proofs.StandsLaws.{names_tell, delta_named, no_main, StandsUnder, formed_header, no_level_begins, header_no_level, state_of_applying, stands_with_both}
 
 -- Whole, the file holds the record that it names, isn't opened without a difference file, and waits for no merge.
 pub record IsWholeFile (kept : List Kept) (bytes : List ℕ) : Type 0 where
@@ -84,7 +85,7 @@ read_head bytes c reads = by (first_fault _) reads
 -- the bytes of a level begin with no header, and spell the version and the GUID
 level_no_header : (version : ℕ) (h : Head) (rs : List Numbered) → is_header (level_bytes version h rs) ≡ true → ⊥
 unfolding level_bytes
-level_no_header version h rs header = true≢false (sym (begins_there version h _) ∙ no_level_begins _ (header_kind _ header))
+level_no_header version h rs header = true≢false (sym (begins_there version h _) ∙ no_level_begins _ (kind_of_header _ header))
 
 level_version : (h : Head) (rs : List Numbered) → number_in 4 2 (level_bytes 102 h rs) ≡ 102
 unfolding level_bytes head_then number_in bytes_of
@@ -114,7 +115,7 @@ module _ (all kept : List Kept) (among : (r : Kept) → Contains kept r → Cont
       let one : IsBegun r = begun r there in
       let front : take 64 (joined r.image) ≡ take 64 (first_page r.image) = ap (λ (x : Image). take 64 (joined x)) (sym (append-nil r.image)) ∙ joined_front r.image [] one.header in
       let header : is_header (joined r.image) ≡ true = same-header (joined r.image) (first_page r.image) front ∙ one.header in
-      let stalled : state_of (joined r.image) ≡ 1 = same-number (joined r.image) (first_page r.image) front 22 2 (omega arith) ∙ one.state in
+      let stalled : state_of (joined r.image) ≡ stalled_state = same-number (joined r.image) (first_page r.image) front 22 2 (omega arith) ∙ one.state in
       let guid : guid_of (joined r.image) ≡ r.guid = sym (part-take 64 32 16 (joined r.image) (omega arith)) ∙ ap (part 32 16) front ∙ part-take 64 32 16 (first_page r.image) (omega arith) ∙ one.guid in
       record {
         holds = record {
@@ -122,10 +123,10 @@ module _ (all kept : List Kept) (among : (r : Kept) → Contains kept r → Cont
           copy = λ q is_header is_stalled whole named. subst (λ (x : Kept). IsCopyOf x (joined r.image)) (meant r q (guid_of (joined r.image)) there guid named) (record { zeros = []; are_zeros = tt; is = ap joined (sym (append-nil r.image)) });
         };
         closed = λ name b opens. alone name b (not_database (joined r.image)) refl stalled opens;
-        rests = λ applying. absurd (omega (arith, stalled, applying_state (joined r.image) applying));
+        rests = λ applying. absurd (omega (arith, stalled, state_of_applying (joined r.image) applying));
       }
     where
-      alone : (name : List ℕ) (b : Base) (c : Cause) → not_database (joined r.image) ≡ c → state_of (joined r.image) ≡ 1 → owner name (Some (joined r.image)) None ≡ Ok b → ⊥
+      alone : (name : List ℕ) (b : Base) (c : Cause) → not_database (joined r.image) ≡ c → state_of (joined r.image) ≡ stalled_state → owner name (Some (joined r.image)) None ≡ Ok b → ⊥
       alone name b (Some x) is stalled opens = err_ok _ x b (owner-refused name (joined r.image) None x is) opens
       alone name b None is stalled opens =
           err_ok _ (NoFile (delta_name name)) b (owner-formed name (joined r.image) None is ∙ ap (λ (n : ℕ). owner_in n name (joined r.image) None) stalled ∙ stalled_alone name (joined r.image)) opens
@@ -146,7 +147,7 @@ module _ (all kept : List Kept) (among : (r : Kept) → Contains kept r → Cont
           copy = λ q header stalled whole named. absurd (plain header);
         };
         closed = λ name b opens. plain (opened_header name bytes None b opens);
-        rests = λ applying. plain (and_parts (is_header bytes) (state_of bytes == 3) applying).0;
+        rests = λ applying. plain (and_parts (is_header bytes) (state_of bytes == applying_state) applying).0;
       }
 
   level_whole : (r : Kept) (ask : Ask) → Contains all r → file_of 102 r ≡ level_bytes 102 (head_for r ask) (changed ask.previous_scn r.image) → IsWholeFile kept (file_of 102 r)
@@ -198,7 +199,7 @@ module _ (old new : Files) (account : Account) (name : List ℕ) (stands : Stand
         level = λ c r reads named. absurd ((none bytes there).no_level c reads);
         copy = λ r header stalled whole named. absurd (true≢false (sym header ∙ (none bytes there).no_header));
       })
-      (λ bytes r there applying named. true≢false (sym (and_parts (is_header bytes) (state_of bytes == 3) applying).0 ∙ (none bytes there).no_header))
+      (λ bytes r there applying named. true≢false (sym (and_parts (is_header bytes) (state_of bytes == applying_state) applying).0 ∙ (none bytes there).no_header))
     where
       closed : (file : File) → ((bytes : List ℕ) → file ≡ Some bytes → IsNoBackup bytes) → (b : Base) → owner name file None ≡ Ok b → ⊥
       closed None is b opens = none_opened name b opens

@@ -6,9 +6,10 @@ use Rattle.std.proofs.lemmas.Bool.Decides.{leb_tells}
 use Rattle.std.proofs.lemmas.List.{take-append-le, take_at}
 use Rattle.nb_fields.specs.Bytes.{is_zeros}
 use Rattle.nb_fields.specs.Header.{is_header, state_of, size_of}
-use Rattle.nb_fields.specs.Places.{is_page_size}
+use Rattle.nb_fields.specs.Places.{is_page_size, most_pages}
 use Rattle.nb_fields.specs.Table.{table_of}
 use Rattle.nb_fields.proofs.SizeLemmas.{size_facts}
+use Rattle.nb_fields.specs.States.{normal_state, stalled_state, merge_state}
 use Rattle.nb_host.specs.Files.{File}
 use Rattle.nb_host.specs.declared.refusals.Refusal.{Refusal}
 use Rattle.nb_host.specs.declared.refusals.Refusal.TheVariants.{NoFile, BadDelta, Unfinished}
@@ -34,7 +35,7 @@ pub record IsLaid (image : Image) (bytes : List ℕ) : Type 0 where
   pub whole : IsTrimmed image
   pub header : is_header (first_page image) ≡ true
   pub least : 5 ≤ length (image ++ rest)
-  pub most : length (image ++ rest) ≤ 1048576
+  pub most : length (image ++ rest) ≤ most_pages
 
 -- The same, whether pages of zeros stand at the image's end or not.
 pub record IsLaidOut (image : Image) (bytes : List ℕ) : Type 0 where
@@ -45,7 +46,7 @@ pub record IsLaidOut (image : Image) (bytes : List ℕ) : Type 0 where
   pub zeros : AreZeros rest
   pub header : is_header (first_page image) ≡ true
   pub least : 5 ≤ length (image ++ rest)
-  pub most : length (image ++ rest) ≤ 1048576
+  pub most : length (image ++ rest) ≤ most_pages
 
 pub whole_laid : (image : Image) (bytes : List ℕ) → IsLaidOut image bytes → IsTrimmed image → IsLaid image bytes
 whole_laid image bytes out whole = record { rest = out.rest; is = out.is; size = out.size; sizes = out.sizes; zeros = out.zeros; whole = whole; header = out.header; least = out.least; most = out.most }
@@ -81,7 +82,7 @@ image_in-is bytes size ps same is sizes some =
     ap (λ x. trimmed (cut x (length bytes) bytes)) same ∙ ap (λ (x : List ℕ). trimmed (cut size (length bytes) x)) is ∙ ap trimmed (cut-joined size (length bytes) ps sizes some low)
 
 -- a file laid so holds the image
-pub main_laid : (image : Image) (bytes : List ℕ) → IsLaid image bytes → image_state image ≡ 0 → HoldsMain image (Some bytes)
+pub main_laid : (image : Image) (bytes : List ℕ) → IsLaid image bytes → image_state image ≡ normal_state → HoldsMain image (Some bytes)
 main_laid image bytes laid normal =
     let front : take 64 bytes ≡ take 64 (first_page image) = laid-front image bytes laid in
     let wide : 1024 ≤ image_size image = laid-wide image bytes laid in
@@ -151,7 +152,7 @@ laid bytes none =
 pub laid_main : (image : Image) (file : File) (h : HoldsMain image file) → IsLaid image h.bytes
 laid_main image file h = subst (λ (x : Image). IsLaid x h.bytes) h.is (laid h.bytes h.formed)
 
-pub main_state : (image : Image) (file : File) → HoldsMain image file → image_state image ≡ 0
+pub main_state : (image : Image) (file : File) → HoldsMain image file → image_state image ≡ normal_state
 main_state image file h =
     let front : take 64 h.bytes ≡ take 64 (first_page image) = laid-front image h.bytes (laid_main image file h) in
     sym (same-number h.bytes (first_page image) front 22 2 (omega arith)) ∙ h.normal
@@ -160,9 +161,9 @@ main_state image file h =
 pub record MainFacts (image : Image) (bytes : List ℕ) : Type 0 where
   pub size : IsTrue (is_page_size (image_size image))
   pub same_size : size_of bytes ≡ image_size image
-  pub state : image_state image ≡ 0
+  pub state : image_state image ≡ normal_state
   pub some : 1 ≤ length image
-  pub whole : (n : ℕ) × (length bytes ≡ n * image_size image) × (n ≤ 1048576) × (length image ≤ n)
+  pub whole : (n : ℕ) × (length bytes ≡ n * image_size image) × (n ≤ most_pages) × (length image ≤ n)
   pub sizes : (p : ℕ) → p < length image → length (page_at image p) ≡ image_size image
   pub header : is_header (page_at image 0) ≡ true
   pub front : take 64 bytes ≡ take 64 (page_at image 0)
@@ -289,7 +290,7 @@ pub record IsDiverted (base : Base) (file : File) : Type 0 where
   pub table : List ℕ
   pub is : base ≡ diverted_base bytes delta table
   pub state : image_state base.image ≡ state_of bytes
-  pub other : (state_of bytes ≡ 1) ⊎ (state_of bytes ≡ 2)
+  pub other : (state_of bytes ≡ stalled_state) ⊎ (state_of bytes ≡ merge_state)
 
 -- a database that can be opened is of a main file in the normal state, or has a difference file
 pub owner_cases : (name : List ℕ) (base : Base) (m d : File) → owner name m d ≡ Ok base → HoldsMain base.image m ⊎ IsDiverted base m
@@ -317,7 +318,7 @@ owner_cases name base (Some bytes) d e = by_cause (not_database bytes) refl
           other = one_or_two k is most (eqb-false k 2 found.1);
         })
       where
-        one_or_two : (k : ℕ) → state_of bytes ≡ suc k → state_of bytes ≤ 3 → k ≢ 2 → (state_of bytes ≡ 1) ⊎ (state_of bytes ≡ 2)
+        one_or_two : (k : ℕ) → state_of bytes ≡ suc k → state_of bytes ≤ 3 → k ≢ 2 → (state_of bytes ≡ stalled_state) ⊎ (state_of bytes ≡ merge_state)
         one_or_two zero is most other = inl is
         one_or_two (suc zero) is most other = inr is
         one_or_two (suc (suc zero)) is most other = absurd (other refl)
@@ -331,12 +332,12 @@ owner_cases name base (Some bytes) d e = by_cause (not_database bytes) refl
     by_cause None none = by_state none (state_of bytes) refl (sym (owner-formed name bytes d none) ∙ e)
 
 -- so one whose image is in the normal state is that of a main file in the normal state
-pub main_of_base : (name : List ℕ) (base : Base) (m d : File) → owner name m d ≡ Ok base → image_state base.image ≡ 0 → HoldsMain base.image m
+pub main_of_base : (name : List ℕ) (base : Base) (m d : File) → owner name m d ≡ Ok base → image_state base.image ≡ normal_state → HoldsMain base.image m
 main_of_base name base m d e normal = elim (owner_cases name base m d e) [
   | inl holds ↦ holds
   | inr diverted ↦ absurd (elim diverted.other [ inl one ↦ omega (arith, one, diverted.state, normal) | inr two ↦ omega (arith, two, diverted.state, normal) ])
 ]
 
 -- so its image tells it whole
-pub base_told : (name : List ℕ) (base : Base) (m d : File) → owner name m d ≡ Ok base → image_state base.image ≡ 0 → base ≡ base_of base.image
+pub base_told : (name : List ℕ) (base : Base) (m d : File) → owner name m d ≡ Ok base → image_state base.image ≡ normal_state → base ≡ base_of base.image
 base_told name base m d e normal = ok_same base (base_of base.image) (owner name m d) e (owner_main name base.image m d (main_of_base name base m d e normal))

@@ -7,6 +7,7 @@ use Rattle.std.proofs.lemmas.List.{append-nil}
 use Rattle.std.proofs.lemmas.List.Elements.{Contains-append_left, Contains-append_right, Contains-append_cases}
 use Rattle.nb_fields.specs.Free.{is_free_file}
 use Rattle.nb_fields.specs.Header.{is_header}
+use Rattle.nb_fields.specs.States.{stalled_state}
 use Rattle.nb_model.specs.declared.reply.Reply.{Reply}
 use Rattle.nb_model.specs.declared.statement.Statement.{Statement}
 use Rattle.nb_model.specs.Account.{Base, Plain, IsBase}
@@ -27,7 +28,7 @@ use Rattle.nb_model.proofs.HeaderLaws.{first_byte, same-header, same-number}
 use Rattle.nb_model.proofs.OpenedLaws.{joined_front}
 use Rattle.nb_model.proofs.OpeningLaws.{in_use}
 use Rattle.nb_model.proofs.RunLaws.{entry_same}
-use Rattle.nb_model.proofs.SoundLaws.{header_kind}
+use Rattle.nb_model.proofs.SoundLaws.{kind_of_header}
 use Rattle.nb_model.proofs.SoundTurns.{seen_now}
 use Rattle.nb_model.proofs.StandsLaws.{names_tell, entry_other}
 use Rattle.nb_model.proofs.TurnCases.{begin_either, end_either, backup_either, since_either, copy_either, pages_once, statement_cases}
@@ -233,16 +234,16 @@ level_used version h pages = false_from_ne_true (is_free_file (Some (level_bytes
       | inl zeros ↦ true≢false (sym zeros)
       | inr unfinished ↦
           let header : is_header (78 ∷ behind) ≡ true = (and_parts _ _ (and_parts _ _ unfinished).0).0 in
-          omega (arith, header_kind (78 ∷ behind) header, first_byte 78 behind)
+          omega (arith, kind_of_header (78 ∷ behind) header, first_byte 78 behind)
     ]
 
-joined_used : (frozen : Image) → is_header (first_page frozen) ≡ true → image_state frozen ≡ 1 → is_free_file (Some (joined frozen)) ≡ false
+joined_used : (frozen : Image) → is_header (first_page frozen) ≡ true → image_state frozen ≡ stalled_state → is_free_file (Some (joined frozen)) ≡ false
 joined_used frozen header stalled =
     let front : take 64 (joined frozen) ≡ take 64 (first_page frozen) = ap (λ (pages : Image). take 64 (joined pages)) (sym (append-nil frozen)) ∙ joined_front frozen [] header in
     in_use (joined frozen) (same-header (joined frozen) (first_page frozen) front ∙ header)
     (ap (λ (n : ℕ). n == 3) (same-number (joined frozen) (first_page frozen) front 22 2 (omega arith) ∙ stalled))
 
-module _ (frozen : Image) (header : is_header (first_page frozen) ≡ true) (stalled : image_state frozen ≡ 1) where
+module _ (frozen : Image) (header : is_header (first_page frozen) ≡ true) (stalled : image_state frozen ≡ stalled_state) where
   backup_used : (b : Backing) → is_free_file (Some (file_of 102 (kept_of b frozen))) ≡ false
   unfolding file_of file_for
   backup_used b = elim (eqb_tells b.ask.level 0) [

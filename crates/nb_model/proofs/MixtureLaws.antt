@@ -6,6 +6,7 @@ use Rattle.nb_fields.specs.Places.{is_inventory_place, is_scn_place, inventory_p
 use Rattle.nb_fields.specs.Payloads.{bit_of, entry_of}
 use Rattle.nb_fields.specs.Page.{kind_of, stamp_of}
 use Rattle.nb_fields.specs.Header.{state_of, size_of, scn_of, guid_of}
+use Rattle.nb_fields.specs.States.{stalled_state}
 use Rattle.nb_model.specs.Image.{Page, Image, page_at, first_page, image_size, image_state, image_scn, image_guid, is_forced, is_read_only}
 use Rattle.nb_model.specs.Account.{Base}
 use Rattle.nb_model.specs.Forms.{inventory_of, scn_page_of, bit_number, entry_number, scn_entry, is_free_page, has_entry}
@@ -72,7 +73,7 @@ module _ (bases : List Base) (now : Base) (image : Image) (mixed : IsMixture bas
 
   module _ (there : Contains bases now) where
     -- it is pagewise
-    pub mixture_pagewise : (diverted : List ℕ) → SoundInventory image → (image_state image ≡ 1 → IsRaised image diverted) → IsPagewise (images bases) image diverted
+    pub mixture_pagewise : (diverted : List ℕ) → SoundInventory image → (image_state image ≡ stalled_state → IsRaised image diverted) → IsPagewise (images bases) image diverted
     mixture_pagewise diverted sound raised = record {
       control = record { image = now.image; there = image_there bases now there; passes = (mixed.long, ap (take 64) mixed.first) };
       header = record { image = now.image; there = image_there bases now there; passes = ap (drop 64) mixed.first };

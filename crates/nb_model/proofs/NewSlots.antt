@@ -9,6 +9,7 @@ use Rattle.nb_fields.specs.Page.{stamped}
 use Rattle.nb_fields.specs.Payloads.{data_payload}
 use Rattle.nb_fields.proofs.NumberLemmas.{number_of-bytes_of}
 use Rattle.nb_fields.proofs.PageLemmas.{drop-page_of}
+use Rattle.nb_fields.specs.Kinds.{data_kind}
 use Rattle.nb_model.specs.Chains.{Chain, Slot, is_used, is_filled, is_slot, next_in, slots_from, slots_in}
 use Rattle.nb_model.specs.Image.{Page}
 use Rattle.nb_model.proofs.ImageLaws.{zeros-are}
@@ -40,7 +41,7 @@ zero_free page from zeros (suc count) at less =
 
 module _ (old : Page) (owner : ℕ) (slots : List ℕ) (scn number : ℕ) where
   abbrev page : Page
-  page = stamped old 5 (data_payload 0 owner slots) scn number
+  page = stamped old data_kind (data_payload 0 owner slots) scn number
 
   abbrev zeros : List ℕ
   zeros = replicate (length old - 16 - length (data_payload 0 owner slots)) 0
@@ -69,10 +70,10 @@ module _ (old : Page) (owner : ℕ) (slots : List ℕ) (scn number : ℕ) where
   zeros_are = zeros-are (length old - 16 - length (data_payload 0 owner slots))
 
 -- without slots all are free
-pub none_used : (old : Page) (owner scn number : ℕ) → AllByRecursion IsFree (slots_in (stamped old 5 (data_payload 0 owner []) scn number))
+pub none_used : (old : Page) (owner scn number : ℕ) → AllByRecursion IsFree (slots_in (stamped old data_kind (data_payload 0 owner []) scn number))
 unfolding slots_in
 none_used old owner scn number =
-    let page : Page = stamped old 5 (data_payload 0 owner []) scn number in
+    let page : Page = stamped old data_kind (data_payload 0 owner []) scn number in
     zero_free page 32 (ap is_zeros (behind old owner [] scn number) ∙ zeros_are old owner [] scn number) ((length page - 32) / 256) 32 (omega arith)
 
 -- with one it is the first, and the others are free
@@ -89,12 +90,12 @@ pub data_long : (owner : ℕ) (slot : Slot) → length slot ≡ 256 → length (
 unfolding data_payload bytes_of
 data_long owner slot sized = omega (arith, sized)
 
-pub one_used : (old : Page) (owner : ℕ) (slot : Slot) (scn number : ℕ) → 1024 ≤ length old → length slot ≡ 256 → BeginsWith slot (slots_in (stamped old 5 (data_payload 0 owner slot) scn number))
+pub one_used : (old : Page) (owner : ℕ) (slot : Slot) (scn number : ℕ) → 1024 ≤ length old → length slot ≡ 256 → BeginsWith slot (slots_in (stamped old data_kind (data_payload 0 owner slot) scn number))
 unfolding slots_in
 one_used old owner slot scn number long sized = by ((length page - 32) / 256) (some (length page) page_long)
   where
     page : Page
-    page = stamped old 5 (data_payload 0 owner slot) scn number
+    page = stamped old data_kind (data_payload 0 owner slot) scn number
 
     payload_long : length (data_payload 0 owner slot) ≡ 272
     payload_long = data_long owner slot sized

@@ -5,8 +5,8 @@ use Rattle.std.proofs.lemmas.Bool.{true≢false, and_parts, and_from, or_parts, 
 use Rattle.std.proofs.lemmas.Bool.Decides.{leb_tells}
 use Rattle.nb_fields.specs.declared.kinds.PageKind.TheVariants.{Inventory, ScnInventory}
 use Rattle.nb_fields.specs.Bytes.{bytes_of}
-use Rattle.nb_fields.specs.Kinds.{code_of}
-use Rattle.nb_fields.specs.Places.{is_page_size, entries_in, bits_in, inventory_place, is_inventory_place, is_scn_place, is_system_place}
+use Rattle.nb_fields.specs.Kinds.{code_of, inventory_kind, raw_kind, scn_kind}
+use Rattle.nb_fields.specs.Places.{is_page_size, entries_in, bits_in, inventory_place, is_inventory_place, is_scn_place, is_system_place, most_pages}
 use Rattle.nb_fields.specs.Page.{page_of, kind_of, generation_of, stamped}
 use Rattle.nb_fields.specs.Payloads.{inventory_payload, scn_payload, text_payload, bit_of, entry_of}
 use Rattle.nb_fields.proofs.FreshLaws.{taken_bits-free, bit_of-inventory, entry_of-scn}
@@ -71,7 +71,7 @@ module _ (x : Image) (p : ℕ) (fields : HasFields x) (is : IsSoundImage x) (at 
     bits_room : 16 + length bits ≤ image_size x
     bits_room = omega (arith, facts.at_least, inventory_length (image_size x) ((p + 1) / bits_in (image_size x)) 0)
 
-    all_free : (i : ℕ) → i < bits_in (image_size x) → bit_of (stamped (old_page p x) 2 bits (image_scn x) p) i ≡ 1
+    all_free : (i : ℕ) → i < bits_in (image_size x) → bit_of (stamped (old_page p x) inventory_kind bits (image_scn x) p) i ≡ 1
     unfolding stamped
     all_free i inside =
         let g : ℕ = (generation_of (old_page p x) + 1) % 2 ^ 32 in
@@ -80,7 +80,7 @@ module _ (x : Image) (p : ℕ) (fields : HasFields x) (is : IsSoundImage x) (at 
         ∙ bit_of-inventory (image_size x) 2 g (image_scn x) p ((p + 1) / bits_in (image_size x)) 0 i byte
         ∙ taken_bits-free (image_size x - 32) 0 i byte (omega arith)
 
-    inventory_fits : FitsAt x p (stamped (old_page p x) 2 bits (image_scn x) p)
+    inventory_fits : FitsAt x p (stamped (old_page p x) inventory_kind bits (image_scn x) p)
     inventory_fits = record {
       head = λ e. absurd (let some = at.behind in omega arith);
       there = at.there;
@@ -110,14 +110,14 @@ module _ (x : Image) (p : ℕ) (fields : HasFields x) (is : IsSoundImage x) (at 
     entries_room : 16 + length entries ≤ image_size x
     entries_room = omega (arith, facts.at_least, scn_length (image_size x) (p / entries_in (image_size x)) (image_scn x))
 
-    all_current : (i : ℕ) → i < entries_in (image_size x) → entry_of (stamped (old_page p x) 10 entries (image_scn x) p) i ≡ image_scn x
+    all_current : (i : ℕ) → i < entries_in (image_size x) → entry_of (stamped (old_page p x) scn_kind entries (image_scn x) p) i ≡ image_scn x
     unfolding stamped
     all_current i inside =
         let g : ℕ = (generation_of (old_page p x) + 1) % 2 ^ 32 in
         ap (λ (s : ℕ). entry_of (page_of s 10 g (image_scn x) p entries) i) (old_length x p 10 entries fields is refl entries_room)
         ∙ entry_of-scn (image_size x) 10 g (image_scn x) p (p / entries_in (image_size x)) (image_scn x) i fields.scn inside
 
-    scn_fits : FitsAt x p (stamped (old_page p x) 10 entries (image_scn x) p)
+    scn_fits : FitsAt x p (stamped (old_page p x) scn_kind entries (image_scn x) p)
     scn_fits = record {
       head = λ e. absurd (let some = at.behind in omega arith);
       there = at.there;
@@ -153,8 +153,8 @@ system_is p kind payload d e f =
 
 -- what K has to hold of
 pub record HoldsOfKinds (K : Page → Type 0) : Type 0 where
-  pub inventories : (bytes : Page) → kind_of bytes ≡ 2 → K bytes
-  pub scn_pages : (bytes : Page) → kind_of bytes ≡ 10 → K bytes
+  pub inventories : (bytes : Page) → kind_of bytes ≡ inventory_kind → K bytes
+  pub scn_pages : (bytes : Page) → kind_of bytes ≡ scn_kind → K bytes
 
 module _ (K : Page → Type 0) (kinds : HoldsOfKinds K) (b : Base) where
   -- a draft in which page p is there
@@ -197,23 +197,23 @@ module _ (K : Page → Type 0) (kinds : HoldsOfKinds K) (b : Base) where
 
   -- an inventory page of free bits is made at the end
   inventory_made : (p : ℕ) (d : Draft) → is_inventory_place (image_size d.image) p ≡ true → IsPlace d.image p → Fits K b d → length d.image ≤ p
-      → IsPut K b d.image p 2 (inventory_payload (image_size d.image) ((p + 1) / bits_in (image_size d.image)) 0) (put p 2 (inventory_payload (image_size d.image) ((p + 1) / bits_in (image_size d.image)) 0) d)
+      → IsPut K b d.image p 2 (inventory_payload (image_size d.image) ((p + 1) / bits_in (image_size d.image)) 0) (put p inventory_kind (inventory_payload (image_size d.image) ((p + 1) / bits_in (image_size d.image)) 0) d)
   inventory_made p d place at before end = put_fits K kinds.scn_pages b p 2 _ d before at
       (λ x h raises.
       let there = at.there in (
-        subst (λ (s : ℕ). FitsAt x p (stamped (old_page p x) 2 (inventory_payload s ((p + 1) / bits_in s) 0) (image_scn x) p)) raises.size
+        subst (λ (s : ℕ). FitsAt x p (stamped (old_page p x) inventory_kind (inventory_payload s ((p + 1) / bits_in s) 0) (image_scn x) p)) raises.size
             (inventory_fits x p h.fields h.sound (place_later d.image x p raises at) (omega (arith, raises.long)) (subst (λ (s : ℕ). is_inventory_place s p ≡ true) (sym raises.size) place) raises.current),
         kinds.inventories _ (stamped_kind (old_page p x) 2 _ (image_scn x) p),
       ))
 
   -- an SCN page of the current SCN is made at the end
   scn_page_made : (p : ℕ) (d : Draft) → is_scn_place (image_size d.image) p ≡ true → IsPlace d.image p → Fits K b d → length d.image ≤ p
-      → IsPut K b d.image p 10 (scn_payload (image_size d.image) (p / entries_in (image_size d.image)) (image_scn d.image)) (put p 10 (scn_payload (image_size d.image) (p / entries_in (image_size d.image)) (image_scn d.image)) d)
+      → IsPut K b d.image p 10 (scn_payload (image_size d.image) (p / entries_in (image_size d.image)) (image_scn d.image)) (put p scn_kind (scn_payload (image_size d.image) (p / entries_in (image_size d.image)) (image_scn d.image)) d)
   scn_page_made p d place at before end = put_fits K kinds.scn_pages b p 10 _ d before at
       (λ x h raises.
       let there = at.there in (
-        subst (λ (n : ℕ). FitsAt x p (stamped (old_page p x) 10 (scn_payload (image_size d.image) (p / entries_in (image_size d.image)) n) (image_scn x) p)) raises.scn
-            (subst (λ (s : ℕ). FitsAt x p (stamped (old_page p x) 10 (scn_payload s (p / entries_in s) (image_scn x)) (image_scn x) p)) raises.size
+        subst (λ (n : ℕ). FitsAt x p (stamped (old_page p x) scn_kind (scn_payload (image_size d.image) (p / entries_in (image_size d.image)) n) (image_scn x) p)) raises.scn
+            (subst (λ (s : ℕ). FitsAt x p (stamped (old_page p x) scn_kind (scn_payload s (p / entries_in s) (image_scn x)) (image_scn x) p)) raises.size
             (scn_fits x p h.fields h.sound (place_later d.image x p raises at) (omega (arith, raises.long)) (subst (λ (s : ℕ). is_scn_place s p ≡ true) (sym raises.size) place))),
         kinds.scn_pages _ (stamped_kind (old_page p x) 10 _ (image_scn x) p),
       ))
@@ -245,16 +245,16 @@ module _ (K : Page → Type 0) (kinds : HoldsOfKinds K) (b : Base) where
 
       by_kind : (t : Bool) → is_inventory_place (image_size d.image) p ≡ t → IsThere p (system_page p d)
       by_kind true inventory = subst (IsThere p)
-          (sym (system_is p 2 (inventory_payload (image_size d.image) ((p + 1) / bits_in (image_size d.image)) 0) d (chosen_kind true inventory) (chosen_payload true inventory)))
+          (sym (system_is p inventory_kind (inventory_payload (image_size d.image) ((p + 1) / bits_in (image_size d.image)) 0) d (chosen_kind true inventory) (chosen_payload true inventory)))
           (kind_there p 2 _ d at before (λ low. held.sound.sound.system.inventories p low inventory) (inventory_made p d inventory at before))
       by_kind false other =
           let scn : is_scn_place (image_size d.image) p ≡ true = scn_place_there other in
           subst (IsThere p)
-          (sym (system_is p 10 (scn_payload (image_size d.image) (p / entries_in (image_size d.image)) (image_scn d.image)) d (chosen_kind false other) (chosen_payload false other)))
+          (sym (system_is p scn_kind (scn_payload (image_size d.image) (p / entries_in (image_size d.image)) (image_scn d.image)) d (chosen_kind false other) (chosen_payload false other)))
           (kind_there p 10 _ d at before (λ low. held.sound.sound.system.scn_pages p low scn) (scn_page_made p d scn at before))
 
   -- a new page with a payload that fits into each page size
-  pub new_fits : (tries kind : ℕ) (payload : ℕ → List ℕ) (d : Draft) → (kind == 0) ≡ false → ((p : ℕ) → length (payload p) ≤ 1008) → ((x : Image) (p : ℕ) → IsWhole x → 5 ≤ p → p < 1048576 → K (form_page p kind (payload p) x))
+  pub new_fits : (tries kind : ℕ) (payload : ℕ → List ℕ) (d : Draft) → (kind == 0) ≡ false → ((p : ℕ) → length (payload p) ≤ 1008) → ((x : Image) (p : ℕ) → IsWhole x → 5 ≤ p → p < most_pages → K (form_page p kind (payload p) x))
       → Fits K b d → Fits K b (new_within tries kind payload d).0
   unfolding new_within
   new_fits zero kind payload d some room holds before = fits_full K b d before
@@ -269,8 +269,8 @@ module _ (K : Page → Type 0) (kinds : HoldsOfKinds K) (b : Base) where
       between : (5 ≤ p) × (p ≤ length d.image)
       between = lowest_between d.image held.sound.least
 
-      at_place : (p == 1048576) ≡ false → IsPlace d.image p
-      at_place below = let most = held.sound.most in record { behind = omega (arith, between.0); there = between.1; most = omega (arith, most, between.1, eqb-false p 1048576 below) }
+      at_place : (p == most_pages) ≡ false → IsPlace d.image p
+      at_place below = let most = held.sound.most in record { behind = omega (arith, between.0); there = between.1; most = omega (arith, most, between.1, eqb-false p most_pages below) }
 
       by_place : ((e : Draft) → Fits K b e → Fits K b (new_within tries kind payload e).0) → IsPlace d.image p → (t : Bool) → is_system_place (image_size d.image) p ≡ t
           → Fits K b (elim t as (λ z. Draft × ℕ) [ true ↦ new_within tries kind payload (take_page p (system_page p d)) | false ↦ (take_page p (put p kind (payload p) d), p) ]).0
@@ -282,7 +282,7 @@ module _ (K : Page → Type 0) (kinds : HoldsOfKinds K) (b : Base) where
           (plain_here K kinds.scn_pages b p kind (payload p) d before (record { place = at; no_inventory = plain.0; no_scn_page = plain.1 }) some (omega (arith, size.at_least, room p))
           (holds d.image p held between.0 at.most)))
 
-      by_end : ((e : Draft) → Fits K b e → Fits K b (new_within tries kind payload e).0) → (t : Bool) → (p == 1048576) ≡ t
+      by_end : ((e : Draft) → Fits K b e → Fits K b (new_within tries kind payload e).0) → (t : Bool) → (p == most_pages) ≡ t
           → Fits K b (elim t as (λ z. Draft × ℕ) [
             | true ↦ (no_page d, p)
             | false ↦ elim (is_system_place (image_size d.image) p) as (λ z. Draft × ℕ) [ true ↦ new_within tries kind payload (take_page p (system_page p d)) | false ↦ (take_page p (put p kind (payload p) d), p) ]
@@ -293,20 +293,20 @@ module _ (K : Page → Type 0) (kinds : HoldsOfKinds K) (b : Base) where
       by_need : ((e : Draft) → Fits K b e → Fits K b (new_within tries kind payload e).0) → (o : Option ℕ)
           → Fits K b (elim o as (λ z. Draft × ℕ) [
             | Some q ↦ (record d { broken = q ∷ d.broken }, 0)
-            | None ↦ elim (p == 1048576) [
+            | None ↦ elim (p == most_pages) [
               | true ↦ (no_page d, p)
               | false ↦ elim (is_system_place (image_size d.image) p) [ true ↦ new_within tries kind payload (take_page p (system_page p d)) | false ↦ (take_page p (put p kind (payload p) d), p) ]
             ]
           ]).0
       by_need again (Some q) = fits_broken K b (q ∷ d.broken) d before
-      by_need again None = by_end again (p == 1048576) refl
+      by_need again None = by_end again (p == most_pages) refl
 
 pub empty_text : (p : ℕ) → length (text_payload []) ≤ 1008
 unfolding text_payload bytes_of
 empty_text p = omega arith
 
 -- a new raw page
-pub new_raw_fits : (K : Page → Type 0) → HoldsOfKinds K → ((bytes : Page) → kind_of bytes ≡ 8 → K bytes) → (b : Base) → HasHeader b.image → IsSoundImage b.image
+pub new_raw_fits : (K : Page → Type 0) → HoldsOfKinds K → ((bytes : Page) → kind_of bytes ≡ raw_kind → K bytes) → (b : Base) → HasHeader b.image → IsSoundImage b.image
     → Fits K b (new_page 8 (λ p. text_payload []) (drafted b.image)).0
 new_raw_fits K kinds raw_pages b h is =
     new_fits K kinds b (length b.image + 4) 8 (λ p. text_payload []) (drafted b.image) refl empty_text (λ x p whole five most. raw_pages _ (stamped_kind (old_page p x) 8 (text_payload []) (image_scn x) p)) (fits_first K b (header_whole b.image h is))

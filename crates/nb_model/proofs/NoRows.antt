@@ -3,6 +3,7 @@ use Rattle.std.proofs.Common.{◌≡◌, ◌≢◌, ℕ, sym, ◌∙◌}
 use Rattle.std.specs.Prelude.{false, ◌==◌}
 use Rattle.std.proofs.lemmas.Bool.{and_left, and_right, ne_eqb}
 use Rattle.nb_fields.specs.Page.{kind_of}
+use Rattle.nb_fields.specs.Kinds.{data_kind}
 use Rattle.nb_model.specs.Chains.{owner_in}
 use Rattle.nb_model.specs.Image.{Page}
 use Rattle.nb_model.specs.Stands.{is_history_page}
@@ -18,4 +19,4 @@ no_rows kind other bytes e = no_history bytes (λ five. other (sym e ∙ five))
 -- a page of another owner
 pub owner_no_rows : (bytes : Page) → owner_in bytes ≢ 1 → HasNoRows bytes
 unfolding is_history_page
-owner_no_rows bytes other = and_right (kind_of bytes == 5) _ (and_left (owner_in bytes == 1) _ (ne_eqb (owner_in bytes) 1 other))
+owner_no_rows bytes other = and_right (kind_of bytes == data_kind) _ (and_left (owner_in bytes == 1) _ (ne_eqb (owner_in bytes) 1 other))

@@ -1,6 +1,7 @@
 -- Page strokes leave a database in the normal state as its image tells it, and keep no record.
 use Rattle.std.proofs.Common.{◌≡◌, ℕ, List, [], refl, ap}
 use Rattle.std.specs.Prelude.{true, false, ◌==◌}
+use Rattle.nb_fields.specs.States.{normal_state}
 use Rattle.nb_model.specs.Image.{image_state}
 use Rattle.nb_model.specs.Account.{Base, base_of}
 use Rattle.nb_model.specs.Strokes.{Stroke, make, page, begin, ends, finish, fix, merge, noted, on_base, records_of}
@@ -16,7 +17,7 @@ pub record IsQuiet (s : Stroke) (b : Base) : Type 0 where
   pub diverted : (on_base s b).diverted ≡ b.diverted
   pub records : records_of s b ≡ []
 
-pub quiet : (s : Stroke) (b : Base) → IsPage s → image_state b.image ≡ 0 → IsQuiet s b
+pub quiet : (s : Stroke) (b : Base) → IsPage s → image_state b.image ≡ normal_state → IsQuiet s b
 unfolding on_base records_of
 quiet (page p bytes) b is normal = record {
   frozen = refl;

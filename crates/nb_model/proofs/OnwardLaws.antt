@@ -6,6 +6,7 @@ use Rattle.std.proofs.lemmas.Bool.Decides.{eqb_tells, leb_tells}
 use Rattle.nb_fields.specs.Places.{is_page_size, bits_in, inventory_place, is_inventory_place, is_scn_place}
 use Rattle.nb_fields.specs.Page.{kind_of}
 use Rattle.nb_fields.proofs.PlaceLemmas.{bits-least}
+use Rattle.nb_fields.specs.Kinds.{inventory_kind, scn_kind}
 use Rattle.nb_model.specs.Image.{Image, page_at, image_size}
 use Rattle.nb_model.specs.Forms.{HasItsEntry, is_kind, inventory_of, scn_page_of, is_free_page}
 use Rattle.nb_model.specs.Way.{IsMadeBehind, same_made, made_here, IsFreshBehind, same_fresh, fresh_here}
@@ -29,13 +30,13 @@ pub record IsOnTheWay (old now : Image) (from made fresh : ℕ) : Type 0 where
   pub taken : (q : ℕ) → 5 ≤ q → q < from → is_free_page now q ≡ false
   pub bits : (q : ℕ) → from ≤ q → q < length old → inventory_of old q ≢ fresh → is_free_page now q ≡ is_free_page old q
   pub fresh_bits : (q : ℕ) → from ≤ q → q < length now → inventory_of old q ≡ fresh → is_free_page now q ≡ true
-  pub maps : (k : ℕ) → k < from / bits_in (image_size old) → is_kind now 2 (inventory_place (image_size old) k) ≡ true
-  pub fresh_map : fresh ≢ 0 → is_kind now 2 fresh ≡ true
-  pub ahead : (k : ℕ) → from / bits_in (image_size old) ≤ k → inventory_place (image_size old) k ≢ fresh → is_kind now 2 (inventory_place (image_size old) k) ≡ is_kind old 2 (inventory_place (image_size old) k)
-  pub made_page : made ≢ 0 → is_kind now 10 made ≡ true
-  pub entries : (s : ℕ) → is_scn_place (image_size old) s ≡ true → made < s → is_kind now 10 s ≡ is_kind old 10 s
+  pub maps : (k : ℕ) → k < from / bits_in (image_size old) → is_kind now inventory_kind (inventory_place (image_size old) k) ≡ true
+  pub fresh_map : fresh ≢ 0 → is_kind now inventory_kind fresh ≡ true
+  pub ahead : (k : ℕ) → from / bits_in (image_size old) ≤ k → inventory_place (image_size old) k ≢ fresh → is_kind now inventory_kind (inventory_place (image_size old) k) ≡ is_kind old inventory_kind (inventory_place (image_size old) k)
+  pub made_page : made ≢ 0 → is_kind now scn_kind made ≡ true
+  pub entries : (s : ℕ) → is_scn_place (image_size old) s ≡ true → made < s → is_kind now scn_kind s ≡ is_kind old scn_kind s
   pub asked : 5 < from → HasItsEntry now (inventory_of now (from - 1))
-  pub read : 5 < from → is_kind now 2 (inventory_of now (from - 1)) ≡ true
+  pub read : 5 < from → is_kind now inventory_kind (inventory_of now (from - 1)) ≡ true
 
 -- at the start
 pub way_begins : (x : Image) → IsShaped x → 5 ≤ length x → IsOnTheWay x x 5 0 0
@@ -82,7 +83,7 @@ kind_same now next p kind k r on there ne =
 module _ (old now next : Image) (from made fresh p kind m f : ℕ) (way : IsOnTheWay old now from made fresh) (on : IsVisited now next p kind)
     (lowest : (q : ℕ) → from ≤ q → q < p → is_free_page now q ≡ false) (from_p : from ≤ p) (there : p ≤ length now)
     (of_map : is_inventory_place (image_size old) p ≡ true → kind ≡ 2) (of_entries : is_scn_place (image_size old) p ≡ true → kind ≡ 10)
-    (tested : (k : ℕ) → k ≤ p / bits_in (image_size old) → is_kind now 2 (inventory_place (image_size old) k) ≡ true)
+    (tested : (k : ℕ) → k ≤ p / bits_in (image_size old) → is_kind now inventory_kind (inventory_place (image_size old) k) ≡ true)
     (entry : HasItsEntry now (inventory_of now p)) (made_is : IsMadeBehind now p made m) (fresh_is : IsFreshBehind now p fresh f) where
   abbrev size : ℕ
   size = image_size old
@@ -124,7 +125,7 @@ module _ (old now next : Image) (from made fresh p kind m f : ℕ) (way : IsOnTh
     ]
   ]
 
-  maps : (k : ℕ) → k < (p + 1) / w → is_kind next 2 (inventory_place size k) ≡ true
+  maps : (k : ℕ) → k < (p + 1) / w → is_kind next inventory_kind (inventory_place size k) ≡ true
   maps k low =
       let five = way.five in
       let least = bits-least size is_size in
@@ -155,16 +156,16 @@ module _ (old now next : Image) (from made fresh p kind m f : ℕ) (way : IsOnTh
       subst (HasItsEntry next) (sym same) (scn_page_moves now next (inventory_of now p) on.size
       (λ is. same_kind 10 (scn_page_of now (inventory_of now p)) (λ e. absurd (omega (arith, e, before))) ∙ is) entry)
 
-  read : is_kind next 2 (inventory_of next (p + 1 - 1)) ≡ true
+  read : is_kind next inventory_kind (inventory_of next (p + 1 - 1)) ≡ true
   read =
       let e : p + 1 - 1 ≡ p = omega arith in
       let same : inventory_of next (p + 1 - 1) ≡ inventory_of old p = ap (λ (q : ℕ). inventory_of next q) e ∙ ap (λ (s : ℕ). inventory_place s (p / bits_in s)) next_size in
-      ap (is_kind next 2) same ∙ same_kind 2 (inventory_of old p) (map_not_here (p / w) (omega arith)) ∙ tested (p / w) (omega arith)
+      ap (is_kind next inventory_kind) same ∙ same_kind 2 (inventory_of old p) (map_not_here (p / w) (omega arith)) ∙ tested (p / w) (omega arith)
 
-  scn_made : is_scn_place size p ≡ true → is_kind next 10 p ≡ true
+  scn_made : is_scn_place size p ≡ true → is_kind next scn_kind p ≡ true
   scn_made at = subst (λ (n : ℕ). is_kind next n p ≡ true) (of_entries at) here_kind
 
-  map_made : is_inventory_place size p ≡ true → is_kind next 2 p ≡ true
+  map_made : is_inventory_place size p ≡ true → is_kind next inventory_kind p ≡ true
   map_made at = subst (λ (n : ℕ). is_kind next n p ≡ true) (of_map at) here_kind
 
   made_no_p : made ≢ p
@@ -178,19 +179,19 @@ module _ (old now next : Image) (from made fresh p kind m f : ℕ) (way : IsOnTh
     before : m < p + 1
     five : m ≢ 0 → 5 ≤ m
     place : m ≢ 0 → is_scn_place size m ≡ true
-    page : m ≢ 0 → is_kind next 10 m ≡ true
-    entries : (s : ℕ) → is_scn_place size s ≡ true → m < s → is_kind next 10 s ≡ is_kind old 10 s
+    page : m ≢ 0 → is_kind next scn_kind m ≡ true
+    entries : (s : ℕ) → is_scn_place size s ≡ true → m < s → is_kind next scn_kind s ≡ is_kind old scn_kind s
 
   by_made : IsMadeBehind now p made m → ByMade
-  by_made (same_made same kept_now) = let kept : is_scn_place size p ≡ true → is_kind now 10 p ≡ true = λ at. kept_now (ap (λ (n : ℕ). is_scn_place n p) way.size ∙ at) in let low = way.made_before in record {
+  by_made (same_made same kept_now) = let kept : is_scn_place size p ≡ true → is_kind now scn_kind p ≡ true = λ at. kept_now (ap (λ (n : ℕ). is_scn_place n p) way.size ∙ at) in let low = way.made_before in record {
     before = omega (arith, same, low, from_p);
     five = λ some. omega (arith, same, way.made_five (λ e. some (same ∙ e)));
     place = λ some. ap (is_scn_place size) same ∙ way.made_place (λ e. some (same ∙ e));
-    page = λ some. ap (is_kind next 10) same ∙ same_kind 10 made made_no_p ∙ way.made_page (λ e. some (same ∙ e));
+    page = λ some. ap (is_kind next scn_kind) same ∙ same_kind 10 made made_no_p ∙ way.made_page (λ e. some (same ∙ e));
     entries = λ s at behind. elim (eqb_tells s p) [
       | inl e ↦
           let here : is_scn_place size p ≡ true = ap (is_scn_place size) (sym e.1) ∙ at in
-          ap (is_kind next 10) e.1 ∙ scn_made here ∙ sym (kept here) ∙ way.entries p here (omega (arith, low, from_p)) ∙ ap (is_kind old 10) (sym e.1)
+          ap (is_kind next scn_kind) e.1 ∙ scn_made here ∙ sym (kept here) ∙ way.entries p here (omega (arith, low, from_p)) ∙ ap (is_kind old scn_kind) (sym e.1)
       | inr e ↦ same_kind 10 s e.1 ∙ way.entries s at (omega (arith, same, behind))
     ];
   }
@@ -198,7 +199,7 @@ module _ (old now next : Image) (from made fresh p kind m f : ℕ) (way : IsOnTh
     before = omega (arith, same);
     five = λ some. let five = way.five in omega (arith, same, five, from_p);
     place = λ some. ap (is_scn_place size) same ∙ at;
-    page = λ some. ap (is_kind next 10) same ∙ scn_made at;
+    page = λ some. ap (is_kind next scn_kind) same ∙ scn_made at;
     entries = λ s place behind. same_kind 10 s (λ e. absurd (omega (arith, e, same, behind))) ∙ way.entries s place (omega (arith, same, behind, low, from_p));
   }
 
@@ -206,10 +207,10 @@ module _ (old now next : Image) (from made fresh p kind m f : ℕ) (way : IsOnTh
   record ByFresh : Type 0 where
     before : f < p + 1
     place : f ≢ 0 → is_inventory_place size f ≡ true
-    page : f ≢ 0 → is_kind next 2 f ≡ true
+    page : f ≢ 0 → is_kind next inventory_kind f ≡ true
     bits : (q : ℕ) → p + 1 ≤ q → q < length old → inventory_of old q ≢ f → is_free_page next q ≡ is_free_page old q
     free : (q : ℕ) → p + 1 ≤ q → q < length next → inventory_of old q ≡ f → is_free_page next q ≡ true
-    ahead : (k : ℕ) → (p + 1) / w ≤ k → inventory_place size k ≢ f → is_kind next 2 (inventory_place size k) ≡ is_kind old 2 (inventory_place size k)
+    ahead : (k : ℕ) → (p + 1) / w ≤ k → inventory_place size k ≢ f → is_kind next inventory_kind (inventory_place size k) ≡ is_kind old inventory_kind (inventory_place size k)
 
   -- page p is an inventory place where a page has its bit there
   map_at : (q : ℕ) → inventory_of now q ≡ p → is_inventory_place size p ≡ true
@@ -218,14 +219,14 @@ module _ (old now next : Image) (from made fresh p kind m f : ℕ) (way : IsOnTh
   not_p : (q : ℕ) → p + 1 ≤ q → q ≢ p
   not_p q behind e = absurd (omega (arith, e, behind))
 
-  old_ahead : (k : ℕ) → (p + 1) / w ≤ k → inventory_place size k ≢ fresh → is_kind now 2 (inventory_place size k) ≡ is_kind old 2 (inventory_place size k)
+  old_ahead : (k : ℕ) → (p + 1) / w ≤ k → inventory_place size k ≢ fresh → is_kind now inventory_kind (inventory_place size k) ≡ is_kind old inventory_kind (inventory_place size k)
   old_ahead k behind other = way.ahead k (omega (arith, behind, div_rises from (p + 1) w some_bits (omega (arith, from_p)))) other
 
   by_fresh : IsFreshBehind now p fresh f → ByFresh
-  by_fresh (same_fresh same kept_now) = let kept : is_inventory_place size p ≡ true → is_kind now 2 p ≡ true = λ at. kept_now (ap (λ (n : ℕ). is_inventory_place n p) way.size ∙ at) in let low = way.fresh_before in record {
+  by_fresh (same_fresh same kept_now) = let kept : is_inventory_place size p ≡ true → is_kind now inventory_kind p ≡ true = λ at. kept_now (ap (λ (n : ℕ). is_inventory_place n p) way.size ∙ at) in let low = way.fresh_before in record {
     before = omega (arith, same, low, from_p);
     place = λ some. ap (is_inventory_place size) same ∙ way.fresh_place (λ e. some (same ∙ e));
-    page = λ some. ap (is_kind next 2) same ∙ same_kind 2 fresh fresh_no_p ∙ way.fresh_map (λ e. some (same ∙ e));
+    page = λ some. ap (is_kind next inventory_kind) same ∙ same_kind 2 fresh fresh_no_p ∙ way.fresh_map (λ e. some (same ∙ e));
     bits = λ q behind inside other. elim (eqb_tells (inventory_of now q) p) [
       | inl e ↦ on.kept_map (kept (map_at q e.1)) q (not_p q behind) e.1 ∙ way.bits q (omega (arith, behind, from_p)) inside (λ own. other (own ∙ sym same))
       | inr e ↦ on.others q (not_p q behind) e.1 ∙ way.bits q (omega (arith, behind, from_p)) inside (λ own. other (own ∙ sym same))
@@ -237,14 +238,14 @@ module _ (old now next : Image) (from made fresh p kind m f : ℕ) (way : IsOnTh
     ahead = λ k behind other. elim (eqb_tells (inventory_place size k) p) [
       | inl e ↦
           let here : is_inventory_place size p ≡ true = ap (is_inventory_place size) (sym e.1) ∙ inventory_there size k is_size in
-          ap (is_kind next 2) e.1 ∙ map_made here ∙ sym (kept here) ∙ ap (is_kind now 2) (sym e.1) ∙ old_ahead k behind (λ own. fresh_no_p (sym own ∙ e.1))
+          ap (is_kind next inventory_kind) e.1 ∙ map_made here ∙ sym (kept here) ∙ ap (is_kind now inventory_kind) (sym e.1) ∙ old_ahead k behind (λ own. fresh_no_p (sym own ∙ e.1))
       | inr e ↦ same_kind 2 (inventory_place size k) e.1 ∙ old_ahead k behind (λ own. other (own ∙ sym same))
     ];
   }
   by_fresh (fresh_here same at_now none) = let at : is_inventory_place size p ≡ true = ap (λ (n : ℕ). is_inventory_place n p) (sym way.size) ∙ at_now in let low = way.fresh_before in record {
     before = omega (arith, same);
     place = λ some. ap (is_inventory_place size) same ∙ at;
-    page = λ some. ap (is_kind next 2) same ∙ map_made at;
+    page = λ some. ap (is_kind next inventory_kind) same ∙ map_made at;
     bits = λ q behind inside other.
         on.others q (not_p q behind) (λ own. other (sym (inventory_same q) ∙ own ∙ sym same))
         ∙ way.bits q (omega (arith, behind, from_p)) inside (λ own. absurd (omega (arith, own, map_behind size p q is_size at (omega (arith, behind)), low, from_p)));

@@ -3,8 +3,9 @@ use Rattle.std.proofs.Common.{◌≡◌, ◌≢◌, inl, inr, ℕ, ◌+◌, ◌-
 use Rattle.std.specs.Prelude.{Bool, true, false, ◌==◌, ◌||◌, ◌&&◌, nat_lt, IsTrue, Option}
 use Rattle.std.proofs.lemmas.Bool.{eqb-true, eqb-false, ltb-true, ltb-false}
 use Rattle.std.proofs.lemmas.Bool.Decides.{eqb_tells, leb_tells}
-use Rattle.nb_fields.specs.Places.{is_page_size, entries_in, bits_in, inventory_place, is_inventory_place, is_scn_place, is_system_place}
+use Rattle.nb_fields.specs.Places.{is_page_size, entries_in, bits_in, inventory_place, is_inventory_place, is_scn_place, is_system_place, most_pages}
 use Rattle.nb_fields.proofs.PlaceLemmas.{bits-least}
+use Rattle.nb_fields.specs.Kinds.{inventory_kind, scn_kind}
 use Rattle.nb_model.specs.Image.{Image, image_size}
 use Rattle.nb_model.specs.Forms.{HasItsEntry, is_kind, inventory_of, scn_page_of, lowest_free, free_from, Need, first_not, maps_from, entry_page, is_kept, needed_at}
 use Rattle.nb_model.specs.Way.{next_place, maps_on, entry_on, map_entry_on, needed_on}
@@ -87,7 +88,7 @@ module _ (old now : Image) (from made fresh : ℕ) (way : IsOnTheWay old now fro
       by true e =
           let same : s ≡ made = eqb-true s made e in
           let some : made ≢ 0 = λ none. absurd (omega (arith, none, same, scn_place_some size (q / entries_in size) is_size)) in
-          entry_found now old q (ap (is_kind now 10) same ∙ way.made_page some) ∙ sym (first_none old)
+          entry_found now old q (ap (is_kind now scn_kind) same ∙ way.made_page some) ∙ sym (first_none old)
       by false e = entry_alike now old q (way.entries s at (later (eqb-false s made e)))
 
   -- the search was there before
@@ -141,15 +142,15 @@ module _ (old now : Image) (from made fresh : ℕ) (way : IsOnTheWay old now fro
       ap (λ (s : ℕ). is_system_place s p && is_kind now (elim (is_inventory_place s p) as (λ z. ℕ) [ true ↦ 2 | false ↦ 10 ]) p) way.size
       ∙ by (is_inventory_place size p) refl (is_scn_place size p) refl
     where
-      map_there : is_inventory_place size p ≡ true → is_kind now 2 p ≡ is_kind old 2 p
+      map_there : is_inventory_place size p ≡ true → is_kind now inventory_kind p ≡ is_kind old inventory_kind p
       map_there at =
           let place : inventory_place size ((p + 1) / w) ≡ p = map_place_is size p is_size at in
           let low = way.fresh_before in
-          ap (is_kind now 2) (sym place)
+          ap (is_kind now inventory_kind) (sym place)
           ∙ way.ahead ((p + 1) / w) (div_rises from (p + 1) w some_bits (omega (arith, behind))) (λ e. absurd (omega (arith, e, place, low, behind)))
-          ∙ ap (is_kind old 2) place
+          ∙ ap (is_kind old inventory_kind) place
 
-      entry_there : is_scn_place size p ≡ true → is_kind now 10 p ≡ is_kind old 10 p
+      entry_there : is_scn_place size p ≡ true → is_kind now scn_kind p ≡ is_kind old scn_kind p
       entry_there at = let low = way.made_before in way.entries p at (omega (arith, low, behind))
 
       with : Bool → Bool → Bool
@@ -198,7 +199,7 @@ module _ (old now : Image) (from made fresh : ℕ) (way : IsOnTheWay old now fro
           let own : inventory_of old from ≡ fresh = eqb-true (inventory_of old from) fresh e in
           let some : fresh ≢ 0 = λ none. absurd (omega (arith, none, own, inventory_place_some size (from / w) is_size)) in
           let one : p / w ≡ from / w = ap (λ (n : ℕ). n / w) same in
-          maps_found now size (p / w + 1 - from / w) (from / w) (λ j low high. ap (λ (k : ℕ). is_kind now 2 (inventory_place size k)) (omega (arith, low, high, one)) ∙ ap (is_kind now 2) own ∙ way.fresh_map some)
+          maps_found now size (p / w + 1 - from / w) (from / w) (λ j low high. ap (λ (k : ℕ). is_kind now inventory_kind (inventory_place size k)) (omega (arith, low, high, one)) ∙ ap (is_kind now inventory_kind) own ∙ way.fresh_map some)
           ∙ sym (first_none old)
       by false e same = maps_alike now old size (p / w + 1 - from / w) (from / w) (λ j low high. way.ahead j low (other (eqb-false (inventory_of old from) fresh e) j low))
 
@@ -209,11 +210,11 @@ module _ (old now : Image) (from made fresh : ℕ) (way : IsOnTheWay old now fro
       ap (λ (s : ℕ). first_not now (maps_from s (p / bits_in s + 1) 0 ++ rest_now)) way.size
       ∙ first_append now (maps_from size (p / w + 1) 0) rest_now
       ∙ ap (λ (o : Option ℕ). first_behind o (first_not now rest_now)) (maps_same p behind at)
-      ∙ ap (first_behind (first_not old (maps_on old from fresh p))) (rest_same (p == 1048576))
-      ∙ sym (first_append old (maps_on old from fresh p) (rest_old (p == 1048576)))
+      ∙ ap (first_behind (first_not old (maps_on old from fresh p))) (rest_same (p == most_pages))
+      ∙ sym (first_append old (maps_on old from fresh p) (rest_old (p == most_pages)))
     where
       rest_now : List Need
-      rest_now = elim (p == 1048576) [ true ↦ [] | false ↦ entry_page now (inventory_of now p) ++ elim (is_kept now p) [ true ↦ [] | false ↦ entry_page now p ] ]
+      rest_now = elim (p == most_pages) [ true ↦ [] | false ↦ entry_page now (inventory_of now p) ++ elim (is_kept now p) [ true ↦ [] | false ↦ entry_page now p ] ]
 
       rest_old : Bool → List Need
       rest_old t = elim t [ true ↦ [] | false ↦ map_entry_on old from made p ++ elim (is_kept old p) [ true ↦ [] | false ↦ entry_on old made p ] ]

@@ -8,6 +8,7 @@ use Rattle.nb_fields.specs.Bytes.{part, is_zeros}
 use Rattle.nb_fields.specs.Header.{is_header, state_of, size_of, guid_of}
 use Rattle.nb_fields.proofs.PartLemmas.{part-take}
 use Rattle.nb_fields.proofs.SizeLemmas.{size_facts}
+use Rattle.nb_fields.specs.States.{stalled_state, merge_state, applying_state}
 use Rattle.nb_host.specs.Files.{File, Files}
 use Rattle.nb_host.specs.Names.{is_delta}
 use Rattle.nb_model.specs.Image.{Page, Image, first_page, image_size, image_state, image_scn, image_guid, image_in}
@@ -27,7 +28,7 @@ use Rattle.nb_model.proofs.HeaderLaws.{header-long, header-size, same-header, sa
 use Rattle.nb_model.proofs.ImageLaws.{AreZeros, joined-append, length-joined, joined-zeros, zeros-are, trimmed-no_zeros, trimmed-append_zeros, all-append, all-replicate}
 use Rattle.nb_model.proofs.MainLaws.{IsLaid, laid, laid-front, some_page, image_in-is, main_facts, owned-front, owned-first, diverted-image, IsDiverted, owner_cases, base_told}
 use Rattle.nb_model.proofs.OverLaws.{owner_over}
-use Rattle.nb_model.proofs.StandsLaws.{header_no_level, applying_state, opened_entry, StandsUnder, stands_with_both}
+use Rattle.nb_model.proofs.StandsLaws.{header_no_level, state_of_applying, opened_entry, StandsUnder, stands_with_both}
 use Rattle.nb_model.proofs.WellTrailLaws.{settled_well, left_well}
 
 -- zeros after zeros
@@ -73,8 +74,8 @@ pub record HasMain (b : Base) (file : File) : Type 0 where
   pub formed : not_database bytes ≡ None
   pub front : take 64 (first_page b.image) ≡ take 64 bytes
   pub state : state_of bytes ≤ 2
-  pub frozen : state_of bytes ≡ 1 → b.frozen ≡ image_in bytes
-  pub merge : state_of bytes ≡ 2 → b.frozen ≡ []
+  pub frozen : state_of bytes ≡ stalled_state → b.frozen ≡ image_in bytes
+  pub merge : state_of bytes ≡ merge_state → b.frozen ≡ []
 
 diverted_front : (b : Base) (file : File) (is : IsDiverted b file) → take 64 (first_page b.image) ≡ take 64 is.bytes
 diverted_front b file is =
@@ -85,11 +86,11 @@ diverted_front b file is =
     ap (λ (c : Base). take 64 (first_page c.image)) is.is ∙ ap (λ (x : Image). take 64 (first_page x)) (diverted-image is.bytes is.delta is.table)
     ∙ ap (take 64) (owned-first size main is.delta is.table some) ∙ owned-front size main is.delta is.table some (header-long (first_page main) l.header) ∙ sym (laid-front main is.bytes l)
 
-diverted_frozen : (b : Base) (file : File) (is : IsDiverted b file) → state_of is.bytes ≡ 1 → b.frozen ≡ image_in is.bytes
+diverted_frozen : (b : Base) (file : File) (is : IsDiverted b file) → state_of is.bytes ≡ stalled_state → b.frozen ≡ image_in is.bytes
 unfolding diverted_base
 diverted_frozen b file is stalled = ap (λ (c : Base). c.frozen) is.is ∙ ap (λ (n : ℕ). elim (n == 1) as (λ z. Image) [ true ↦ image_in is.bytes | false ↦ [] ]) stalled
 
-diverted_merge : (b : Base) (file : File) (is : IsDiverted b file) → state_of is.bytes ≡ 2 → b.frozen ≡ []
+diverted_merge : (b : Base) (file : File) (is : IsDiverted b file) → state_of is.bytes ≡ merge_state → b.frozen ≡ []
 unfolding diverted_base
 diverted_merge b file is merge = ap (λ (c : Base). c.frozen) is.is ∙ ap (λ (n : ℕ). elim (n == 1) as (λ z. Image) [ true ↦ image_in is.bytes | false ↦ [] ]) merge
 
@@ -143,13 +144,13 @@ module _ (files : Files) (account : Account) (name : List ℕ) (b : Base) (stand
   state = same_state b (files name) main
 
   -- the main file of a stalled database is a copy of the record that it names
-  of_record : image_state b.image ≡ 1 → IsOfRecord account.kept b
+  of_record : image_state b.image ≡ stalled_state → IsOfRecord account.kept b
   of_record stalled =
       let named = stands.kept_records.stalled name b there stalled in
       let r : Kept = named.0 in
       let kept : IsKeptAs account.kept (image_guid b.image) r = named.1 in
       let form : Formed main.bytes = main_form b (files name) main in
-      let one : state_of main.bytes ≡ 1 = sym state ∙ stalled in
+      let one : state_of main.bytes ≡ stalled_state = sym state ∙ stalled in
       let whole : length main.bytes % size_of main.bytes ≡ 0 = ap (λ (n : ℕ). n % size_of main.bytes) form.whole ∙ mul-mod_left form.count (size_of main.bytes) in
       let copy : IsCopyOf r main.bytes = (stands.kept_records.levels name main.bytes plain main.there).copy r form.header one whole (subst (λ (g : List ℕ). IsKeptAs account.kept g r) (same_guid b (files name) main) kept) in
       record {
@@ -203,7 +204,7 @@ module _ (files : Files) (kept : List Kept) (name : List ℕ) (b : Base) (opens 
   its_base c e = cc
 
   -- it is a copy of the record that it names
-  its_copy : (r : Kept) → state_of its_main.bytes ≡ 1 → IsKeptAs kept (guid_of its_main.bytes) r → IsCopyOf r its_main.bytes
+  its_copy : (r : Kept) → state_of its_main.bytes ≡ stalled_state → IsKeptAs kept (guid_of its_main.bytes) r → IsCopyOf r its_main.bytes
   its_copy r one named =
       let of : IsOfRecord kept b = w.backup (its_state ∙ one) in
       let l : IsLaid (image_in its_main.bytes) its_main.bytes = laid its_main.bytes its_main.formed in
@@ -220,14 +221,14 @@ module _ (files : Files) (kept : List Kept) (name : List ℕ) (b : Base) (opens 
   well_under : StandsUnder files kept name (IsBase b)
   well_under = record {
     same = sym (opened_entry name (files name) (files (delta_name name)) its_main.bytes b its_main.there opens);
-    frozen = λ c e. subst (λ (x : Base). image_state x.image ≡ 1 → IsRaised x.image x.diverted) (its_base c e) (λ stalled. (w.stalled stalled).raised);
+    frozen = λ c e. subst (λ (x : Base). image_state x.image ≡ stalled_state → IsRaised x.image x.diverted) (its_base c e) (λ stalled. (w.stalled stalled).raised);
     sound = λ c e. subst (λ (x : Base). IsSoundImage x.image) (its_base c e) w.well.sound;
-    stalled = λ c e. subst (λ (x : Base). image_state x.image ≡ 1 → (r : Kept) × IsKeptAs kept (image_guid x.image) r) (its_base c e) (λ stalled. let of : IsOfRecord kept b = w.backup stalled in (of.backup, of.kept_as));
+    stalled = λ c e. subst (λ (x : Base). image_state x.image ≡ stalled_state → (r : Kept) × IsKeptAs kept (image_guid x.image) r) (its_base c e) (λ stalled. let of : IsOfRecord kept b = w.backup stalled in (of.backup, of.kept_as));
     past = λ c e. subst (λ (x : Base). NamesItsPast kept x.image) (its_base c e) w.well.past;
     holds = λ bytes there. subst (HoldsItsRecord kept) (its_bytes bytes there) its_record;
     no_stray = λ beside. inl (b, refl);
     standby = λ bytes r there applying named.
-        let three : state_of its_main.bytes ≡ 3 = ap state_of (its_bytes bytes there) ∙ applying_state bytes applying in
+        let three : state_of its_main.bytes ≡ applying_state = ap state_of (its_bytes bytes there) ∙ state_of_applying bytes applying in
         absurd (omega (arith, three, its_main.state));
   }
 

@@ -8,6 +8,7 @@ use Rattle.nb_fields.specs.Fresh.{fresh, fresh_count}
 use Rattle.nb_fields.specs.Free.{is_free_file}
 use Rattle.nb_fields.specs.Header.{is_header, state_of, pending_of}
 use Rattle.nb_fields.proofs.HeaderLemmas.{is_header-take}
+use Rattle.nb_fields.specs.States.{applying_state}
 use Rattle.nb_host.specs.Files.{File, Files}
 use Rattle.nb_host.specs.Names.{is_delta}
 use Rattle.nb_host.specs.declared.refusals.Refusal.{Refusal}
@@ -38,11 +39,11 @@ err_ok : (answer : Result Base Refusal) (r : Refusal) (b : Base) → answer ≡ 
 err_ok answer r b e f = cc
 
 -- a file in use: a header in another state
-pub in_use : (bytes : List ℕ) → is_header bytes ≡ true → (state_of bytes == 3) ≡ false → is_free_file (Some bytes) ≡ false
+pub in_use : (bytes : List ℕ) → is_header bytes ≡ true → (state_of bytes == applying_state) ≡ false → is_free_file (Some bytes) ≡ false
 unfolding is_free_file
 in_use bytes header state =
-    ap (λ (t : Bool). t || (is_header bytes && state_of bytes == 3 && is_zeros (pending_of bytes))) (header-other (take 64 bytes) (is_header-take bytes ∙ header))
-    ∙ ap (λ (t : Bool). t && state_of bytes == 3 && is_zeros (pending_of bytes)) header ∙ ap (λ (t : Bool). true && t && is_zeros (pending_of bytes)) state
+    ap (λ (t : Bool). t || (is_header bytes && state_of bytes == applying_state && is_zeros (pending_of bytes))) (header-other (take 64 bytes) (is_header-take bytes ∙ header))
+    ∙ ap (λ (t : Bool). t && state_of bytes == applying_state && is_zeros (pending_of bytes)) header ∙ ap (λ (t : Bool). true && t && is_zeros (pending_of bytes)) state
 
 -- the name of a file that is opened isn't free
 pub opened_in_use : (name bytes : List ℕ) (delta : File) (b : Base) → owner name (Some bytes) delta ≡ Ok b → is_free_file (Some bytes) ≡ false

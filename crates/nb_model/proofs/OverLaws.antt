@@ -5,6 +5,7 @@ use Rattle.std.proofs.lemmas.Bool.{true≢false}
 use Rattle.std.proofs.lemmas.Bool.Decides.{leb_tells}
 use Rattle.nb_fields.specs.Bytes.{is_zeros}
 use Rattle.nb_fields.specs.Header.{state_of, size_of}
+use Rattle.nb_fields.specs.States.{normal_state, stalled_state}
 use Rattle.nb_host.specs.Files.{File}
 use Rattle.nb_model.specs.Image.{Page, Image, page_at, first_page, image_state, image_in}
 use Rattle.nb_model.specs.Account.{Base}
@@ -54,21 +55,21 @@ module _ (size : ℕ) (main : Image) (delta table : List ℕ) where
       ]
 
 -- so it is in the stalled state
-pub diverted_over : (bytes delta table : List ℕ) → IsLaid (image_in bytes) bytes → state_of bytes ≡ 1 → HasNoZeros (owned (size_of bytes) (image_in bytes) delta table) → IsOverFrozen (diverted_base bytes delta table)
+pub diverted_over : (bytes delta table : List ℕ) → IsLaid (image_in bytes) bytes → state_of bytes ≡ stalled_state → HasNoZeros (owned (size_of bytes) (image_in bytes) delta table) → IsOverFrozen (diverted_base bytes delta table)
 unfolding diverted_base
 diverted_over bytes delta table is stalled some =
     let main : Image = image_in bytes in
     let size : ℕ = size_of bytes in
-    let frozen : (elim (state_of bytes == 1) as (λ z. Image) [ true ↦ main | false ↦ [] ]) ≡ main = ap (λ (n : ℕ). elim (n == 1) as (λ z. Image) [ true ↦ main | false ↦ [] ]) stalled in
+    let frozen : (elim (state_of bytes == stalled_state) as (λ z. Image) [ true ↦ main | false ↦ [] ]) ≡ main = ap (λ (n : ℕ). elim (n == 1) as (λ z. Image) [ true ↦ main | false ↦ [] ]) stalled in
     subst (λ (x : Image). IsOverFrozen (record { image = owned size main delta table; frozen = x; diverted = table })) (sym frozen) (record {
       front = ap (take 64) (owned-first size main delta table (some_page main is.header)) ∙ owned-front size main delta table (some_page main is.header) (header-long (first_page main) is.header);
       rest = λ p low none. rest_same size main delta table some p low none;
       below = λ p k e. omega (arith, named p table k e, owned_length size main delta table);
     })
 
-pub owner_over : (name : List ℕ) (b : Base) (m d : File) → owner name m d ≡ Ok b → HasNoZeros b.image → image_state b.image ≡ 1 → IsOverFrozen b
+pub owner_over : (name : List ℕ) (b : Base) (m d : File) → owner name m d ≡ Ok b → HasNoZeros b.image → image_state b.image ≡ stalled_state → IsOverFrozen b
 owner_over name b m d opens some stalled = elim (owner_cases name b m d opens) [
-  | inl holds ↦ absurd (let normal : image_state b.image ≡ 0 = main_state b.image m holds in omega arith)
+  | inl holds ↦ absurd (let normal : image_state b.image ≡ normal_state = main_state b.image m holds in omega arith)
   | inr is ↦
       let image : b.image ≡ owned (size_of is.bytes) (image_in is.bytes) is.delta is.table = ap (λ (c : Base). c.image) is.is ∙ diverted-image is.bytes is.delta is.table in
       subst IsOverFrozen (sym is.is) (diverted_over is.bytes is.delta is.table (laid is.bytes is.formed) (sym is.state ∙ stalled) (subst HasNoZeros image some))

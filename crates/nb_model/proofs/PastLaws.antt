@@ -6,6 +6,7 @@ use Rattle.std.proofs.lemmas.Bool.{true≢false, and_left, ne_eqb}
 use Rattle.std.proofs.lemmas.Bool.Decides.{eqb_tells, leb_tells}
 use Rattle.std.proofs.lemmas.List.Elements.{Contains-append_left}
 use Rattle.nb_fields.specs.Page.{kind_of, stamp_of}
+use Rattle.nb_fields.specs.Kinds.{data_kind}
 use Rattle.nb_model.specs.Image.{Page, Image, page_at, image_size, image_guid, with_page}
 use Rattle.nb_model.specs.Account.{Kept}
 use Rattle.nb_model.specs.Sound.{IsSoundImage}
@@ -31,9 +32,9 @@ follows_written a image n p bytes f there high some size = elim (leb_tells (suc 
   | inr w ↦ rw (w.0, with_page) (follows_add bytes f some high)
 ]
 
-pub no_history : (bytes : Page) → kind_of bytes ≢ 5 → is_history_page bytes ≡ false
+pub no_history : (bytes : Page) → kind_of bytes ≢ data_kind → is_history_page bytes ≡ false
 unfolding is_history_page
-no_history bytes other = and_left (kind_of bytes == 5) _ (ne_eqb (kind_of bytes) 5 other)
+no_history bytes other = and_left (kind_of bytes == data_kind) _ (ne_eqb (kind_of bytes) 5 other)
 
 -- a page that fits changes nothing of what the image goes on from
 pub goes_on_still : (image : Image) (p : ℕ) (bytes : Page) → HasFields image → IsSoundImage image → FitsAt image p bytes → (r : Kept) → GoesOn r image → GoesOn r (with_page p bytes image)

@@ -7,6 +7,7 @@ use Rattle.std.proofs.lemmas.Bool.{true≢false, and_from, and_left, and_right, 
 use Rattle.std.proofs.lemmas.List.{append-nil}
 use Rattle.nb_fields.specs.Bytes.{bytes_of, with_part}
 use Rattle.nb_fields.specs.Payloads.{data_payload}
+use Rattle.nb_fields.specs.Kinds.{data_kind}
 use Rattle.nb_host.specs.Names.{same_name}
 use Rattle.nb_model.specs.Account.{Base}
 use Rattle.nb_model.specs.Causes.{broken_at}
@@ -54,15 +55,15 @@ unfolding grown
 join_grown chain ps bytes d =
     let made : Draft × ℕ = new_page 5 (λ p. data_payload 0 (owner_of chain) bytes) (drafted d.image) in
     let link : List ℕ = drop 16 (with_part 16 (bytes_of 4 made.1) (page_at made.0.image (last_of ps))) in
-    ap (λ (n : Draft × ℕ). wants n.0.image 5 (last_of ps) (put (last_of ps) 5 (drop 16 (with_part 16 (bytes_of 4 n.1) (page_at n.0.image (last_of ps)))) n.0)) (join_new (length d.image + 4) 5 (λ p. data_payload 0 (owner_of chain) bytes) d)
-    ∙ ap (wants made.0.image 5 (last_of ps)) (join_put (last_of ps) 5 link (joined d made.0) ∙ joined_grouped d made.0 (put (last_of ps) 5 link (drafted made.0.image)) ∙ ap (joined d) (sym (join_put (last_of ps) 5 link made.0)))
-    ∙ join_wants made.0.image 5 (last_of ps) d (put (last_of ps) 5 link made.0)
+    ap (λ (n : Draft × ℕ). wants n.0.image 5 (last_of ps) (put (last_of ps) data_kind (drop 16 (with_part 16 (bytes_of 4 n.1) (page_at n.0.image (last_of ps)))) n.0)) (join_new (length d.image + 4) 5 (λ p. data_payload 0 (owner_of chain) bytes) d)
+    ∙ ap (wants made.0.image 5 (last_of ps)) (join_put (last_of ps) 5 link (joined d made.0) ∙ joined_grouped d made.0 (put (last_of ps) data_kind link (drafted made.0.image)) ∙ ap (joined d) (sym (join_put (last_of ps) 5 link made.0)))
+    ∙ join_wants made.0.image 5 (last_of ps) d (put (last_of ps) data_kind link made.0)
 
 pub join_at : (chain : Chain) (room : Option Spot) (ps : List ℕ) (bytes : Slot) → Joins (place_at chain room ps bytes)
 unfolding put_slot grown
 join_at chain (Some s) ps bytes d =
     let slots : List ℕ = drop 16 (with_part (32 + 256 * s.slot) bytes (page_at d.image s.page)) in
-    ap (wants d.image 5 s.page) (join_put s.page 5 slots d) ∙ join_wants d.image 5 s.page d (put s.page 5 slots (drafted d.image))
+    ap (wants d.image 5 s.page) (join_put s.page 5 slots d) ∙ join_wants d.image 5 s.page d (put s.page data_kind slots (drafted d.image))
 join_at chain None ps bytes d = join_grown chain ps bytes d
 
 -- a spot that is found is among them

@@ -4,7 +4,7 @@ use Rattle.std.specs.Prelude.{true, false, IsTrue, nat_le}
 use Rattle.std.proofs.lemmas.Bool.Decides.{leb_tells}
 use Rattle.std.proofs.lemmas.List.{take-append-le, drop-append-le, take_all, drop_all, drop_at, length-take-le, length-drop, length-replicate, set_split, drop-drop}
 use Rattle.nb_fields.specs.Bytes.{is_zeros}
-use Rattle.nb_fields.specs.Places.{is_page_size}
+use Rattle.nb_fields.specs.Places.{is_page_size, most_pages}
 use Rattle.nb_host.specs.Files.{padded, put_at}
 use Rattle.nb_model.specs.Image.{Page, Image, page_at, first_page, image_size, with_page}
 use Rattle.nb_model.specs.Levels.{joined}
@@ -78,7 +78,7 @@ drop-behind p image rest low = by (leb_tells (suc p) (length image))
 -- what a page may be that is put there
 pub record MayPut (p : ℕ) (page : Page) (image : Image) : Type 0 where
   pub low : p ≤ length image
-  pub below : p < 1048576
+  pub below : p < most_pages
   pub long : length page ≡ image_size image
   pub front : p ≡ 0 → take 64 page ≡ take 64 (page_at image 0)
 
@@ -115,7 +115,7 @@ laid_put p page image bytes may laid =
       most = omega (arith, count, ap length pages_are, laid.most, may.below);
     }
 
-pub laid_grown : (k : ℕ) (image : Image) (bytes : List ℕ) (laid : IsLaid image bytes) → length (image ++ laid.rest) + k ≤ 1048576 → IsLaid image (bytes ++ replicate (k * image_size image) 0)
+pub laid_grown : (k : ℕ) (image : Image) (bytes : List ℕ) (laid : IsLaid image bytes) → length (image ++ laid.rest) + k ≤ most_pages → IsLaid image (bytes ++ replicate (k * image_size image) 0)
 laid_grown k image bytes laid most =
     let size : ℕ = image_size image in
     let zeros : List Page = replicate k (replicate {A = ℕ} size 0) in

@@ -5,7 +5,7 @@ use Rattle.std.proofs.lemmas.Bool.{true≢false, cases_lt}
 use Rattle.std.proofs.lemmas.Bool.Decides.{eqb_tells, leb_tells}
 use Rattle.std.proofs.lemmas.List.{length-replicate, drop-drop}
 use Rattle.nb_fields.specs.Bytes.{number_of, bytes_of, number_in, part, with_part, is_zeros, padded}
-use Rattle.nb_fields.specs.Places.{entries_in, bits_in, is_inventory_place, is_scn_place}
+use Rattle.nb_fields.specs.Places.{entries_in, bits_in, is_inventory_place, is_scn_place, most_pages}
 use Rattle.nb_fields.specs.Page.{head_of, page_of, kind_of, stamp_of, generation_of, stamped}
 use Rattle.nb_fields.specs.Payloads.{entry_of, text_payload}
 use Rattle.nb_fields.proofs.NumberLemmas.{length-bytes_of}
@@ -13,6 +13,7 @@ use Rattle.nb_fields.proofs.PartLemmas.{length-with_part, number_in-with_part, n
 use Rattle.nb_fields.proofs.PageLemmas.{length-head_of, length-page_of, kind_of-page_of, stamp_of-page_of, padded_whole, part-append}
 use Rattle.nb_fields.proofs.SizeLemmas.{SizeFacts, size_facts}
 use Rattle.nb_fields.proofs.PlaceLemmas.{entries-least}
+use Rattle.nb_fields.specs.Kinds.{header_kind, raw_kind, scn_kind}
 use Rattle.nb_host.specs.declared.refusals.Refusal.{Refusal}
 use Rattle.nb_model.specs.Image.{Page, Image, page_at, first_page, image_size, image_scn, with_page}
 use Rattle.nb_model.specs.Account.{Base}
@@ -22,13 +23,13 @@ use Rattle.nb_model.specs.Sound.{IsSoundImage, HasHeader}
 use Rattle.nb_model.proofs.DraftLaws.{either}
 use Rattle.nb_model.proofs.FitLaws.{IsWhole, Fits, fits_first, fits_needs, form_page, written_image, fits_more}
 use Rattle.nb_model.proofs.HeaderLaws.{header-size}
-use Rattle.nb_model.proofs.SoundLaws.{all_at, page_no_zeros, inventory_there, scn_page_there, scn_place_some, scn_place_before, with_page_length, HasFields, FitsAt, scn_no_entry, size_stays, scn_stays, entry_here, header_kind, written_other}
+use Rattle.nb_model.proofs.SoundLaws.{all_at, page_no_zeros, inventory_there, scn_page_there, scn_place_some, scn_place_before, with_page_length, HasFields, FitsAt, scn_no_entry, size_stays, scn_stays, entry_here, kind_of_header, written_other}
 
 -- page p may be written: it isn't page 0, and stands below the length or at it
 pub record IsPlace (image : Image) (p : ℕ) : Type 0 where
   pub behind : 1 ≤ p
   pub there : p ≤ length image
-  pub most : p < 1048576
+  pub most : p < most_pages
 
 -- such a page that is no system page
 pub record IsPlain (image : Image) (p : ℕ) : Type 0 where
@@ -125,7 +126,7 @@ module _ (image : Image) (p : ℕ) (fields : HasFields image) (is : IsSoundImage
   entries = with_part (32 + 4 * i) (bytes_of 4 (image_scn image)) (page_at image s)
 
   abbrev raised_page : Page
-  raised_page = stamped (old_page s image) 10 (drop 16 entries) (image_scn image) s
+  raised_page = stamped (old_page s image) scn_kind (drop 16 entries) (image_scn image) s
 
   page_length : length (page_at image s) ≡ image_size image
   page_length = all_at (λ page. length page ≡ image_size image) image is.sizes s low
@@ -237,14 +238,14 @@ pub record IsPut (K : Page → Type 0) (b : Base) (image : Image) (p kind : ℕ)
   pub is : d.image ≡ with_page p (form_page p kind payload between) between
 
 -- K holds of each SCN page
-module _ (K : Page → Type 0) (scn_pages : (bytes : Page) → kind_of bytes ≡ 10 → K bytes) (b : Base) where
+module _ (K : Page → Type 0) (scn_pages : (bytes : Page) → kind_of bytes ≡ scn_kind → K bytes) (b : Base) where
   entry_is_written : (p : ℕ) (d : Draft) → has_entry d.image p ≡ true → Fits K b d → IsPlace d.image p → IsRaised K b d.image p (entry_written p d)
   unfolding entry_written
   entry_is_written p d has before at =
       let h : IsWhole d.image = before.whole in
       let low : scn_page_of d.image p < length d.image = scn_page_below d.image p h.fields h.sound.least at has in
       let fits : FitsAt d.image (scn_page_of d.image p) (raised_page d.image p h.fields h.sound low) = raised_fits d.image p h.fields h.sound low in
-      let of_kind : kind_of (raised_page d.image p h.fields h.sound low) ≡ 10 = fits.scn_page (place d.image p h.fields h.sound low) in
+      let of_kind : kind_of (raised_page d.image p h.fields h.sound low) ≡ scn_kind = fits.scn_page (place d.image p h.fields h.sound low) in
       let behind : 1 ≤ scn_page_of d.image p = let two = scn_place_some (image_size d.image) (p / entries_in (image_size d.image)) h.fields.size in omega arith in
       record {
         fits = fits_more K b (scn_page_of d.image p) 10 _ d behind before fits (scn_pages _ of_kind);
@@ -344,7 +345,7 @@ not_when true r h = absurd (some_none h)
     some_none e = cc
 
 -- what is read and written is below the length, and a raw page
-pub raw_facts : (image : Image) (p : ℕ) → not_raw image p ≡ None → (p < length image) × (kind_of (page_at image p) ≡ 8)
+pub raw_facts : (image : Image) (p : ℕ) → not_raw image p ≡ None → (p < length image) × (kind_of (page_at image p) ≡ raw_kind)
 unfolding not_raw
 raw_facts image p h =
     let one = no_first _ _ h in
@@ -352,7 +353,7 @@ raw_facts image p h =
     let three = no_first _ _ two.1 in
     let four = no_first _ _ three.1 in
     let inside : nat_le (length image) p ≡ false = not_when _ _ one.0 in
-    let raw : not (kind_of (page_at image p) == 8) ≡ false = not_when _ _ four.0 in (
+    let raw : not (kind_of (page_at image p) == raw_kind) ≡ false = not_when _ _ four.0 in (
       elim (leb_tells (length image) p) [ inl w ↦ absurd (true≢false (sym w.0 ∙ inside)) | inr w ↦ w.1 ],
       elim (eqb_tells (kind_of (page_at image p)) 8) [ inl w ↦ w.1 | inr w ↦ absurd (true≢false (ap not (sym w.0) ∙ raw)) ],
     )
@@ -362,12 +363,12 @@ pub raw_plain : (image : Image) (p : ℕ) → HasHeader image → IsSoundImage i
 raw_plain image p h is none =
     let raw = raw_facts image p none in
     let low : p < length image = raw.0 in
-    let kind : kind_of (page_at image p) ≡ 8 = raw.1 in
+    let kind : kind_of (page_at image p) ≡ raw_kind = raw.1 in
     let most = is.most in
     record {
       place = record {
         behind = elim (eqb_tells p 0) [
-          | inl w ↦ let first : kind_of (page_at image p) ≡ 1 = ap (λ (n : ℕ). kind_of (page_at image n)) w.1 ∙ header_kind (first_page image) h.header in absurd (omega arith)
+          | inl w ↦ let first : kind_of (page_at image p) ≡ header_kind = ap (λ (n : ℕ). kind_of (page_at image n)) w.1 ∙ kind_of_header (first_page image) h.header in absurd (omega arith)
           | inr w ↦ omega (arith, w.1)
         ];
         there = omega arith;
@@ -377,11 +378,11 @@ raw_plain image p h is none =
       no_scn_page = by_scn_page low kind (is_scn_place (image_size image) p) refl;
     }
   where
-    by_inventory : p < length image → kind_of (page_at image p) ≡ 8 → (t : Bool) → is_inventory_place (image_size image) p ≡ t → is_inventory_place (image_size image) p ≡ false
+    by_inventory : p < length image → kind_of (page_at image p) ≡ raw_kind → (t : Bool) → is_inventory_place (image_size image) p ≡ t → is_inventory_place (image_size image) p ≡ false
     by_inventory low kind true at = absurd (let two = is.sound.system.inventories p low at in omega arith)
     by_inventory low kind false at = at
 
-    by_scn_page : p < length image → kind_of (page_at image p) ≡ 8 → (t : Bool) → is_scn_place (image_size image) p ≡ t → is_scn_place (image_size image) p ≡ false
+    by_scn_page : p < length image → kind_of (page_at image p) ≡ raw_kind → (t : Bool) → is_scn_place (image_size image) p ≡ t → is_scn_place (image_size image) p ≡ false
     by_scn_page low kind true at = absurd (let ten = is.sound.system.scn_pages p low at in omega arith)
     by_scn_page low kind false at = at
 
@@ -400,8 +401,8 @@ short_text text none = elim (leb_tells 201 (length text)) [
 ]
 
 -- a text is put into a raw page
-pub text_fits : (K : Page → Type 0) → ((bytes : Page) → kind_of bytes ≡ 10 → K bytes) → ((bytes : Page) → kind_of bytes ≡ 8 → K bytes)
-    → (b : Base) (p : ℕ) (text : List ℕ) → HasHeader b.image → IsSoundImage b.image → not_raw b.image p ≡ None → length text ≤ 200 → Fits K b (put p 8 (text_payload text) (drafted b.image))
+pub text_fits : (K : Page → Type 0) → ((bytes : Page) → kind_of bytes ≡ scn_kind → K bytes) → ((bytes : Page) → kind_of bytes ≡ raw_kind → K bytes)
+    → (b : Base) (p : ℕ) (text : List ℕ) → HasHeader b.image → IsSoundImage b.image → not_raw b.image p ≡ None → length text ≤ 200 → Fits K b (put p raw_kind (text_payload text) (drafted b.image))
 text_fits K scn_pages raw_pages b p text h is none short =
     let fields : HasFields b.image = header_fields b.image h in
     let facts : SizeFacts (image_size b.image) = size_facts (image_size b.image) fields.size in

@@ -6,6 +6,7 @@ use Rattle.std.proofs.lemmas.Bool.{true≢false}
 use Rattle.nb_fields.specs.Page.{kind_of}
 use Rattle.nb_fields.specs.Payloads.{text_payload}
 use Rattle.nb_fields.specs.Places.{bits_in, is_inventory_place}
+use Rattle.nb_fields.specs.Kinds.{data_kind, raw_kind}
 use Rattle.nb_model.specs.declared.statement.Statement.TheVariants.{PageNew, Write, Free, Forced, Access}
 use Rattle.nb_model.specs.Account.{Base}
 use Rattle.nb_model.specs.Causes.{Cause, not_raw}
@@ -46,7 +47,7 @@ module _ (s : Seen) (header : HasHeader s.base.image) (is : IsSoundImage s.base.
 
   -- a data page
   abbrev IsData : ℕ → Type 0
-  IsData q = kind_of (page_at x q) ≡ 5
+  IsData q = kind_of (page_at x q) ≡ data_kind
 
   all_data : AllByRecursion IsData (pages_of_all x (chains x))
   all_data = chain_each x IsData (chains x)
@@ -85,7 +86,7 @@ module _ (s : Seen) (header : HasHeader s.base.image) (is : IsSoundImage s.base.
   raw_other : (p q : ℕ) → not_raw x p ≡ None → IsData q → q ≢ p
   raw_other p q none five e = absurd (omega (arith, (raw_facts x p none).1, five, ap (λ (n : ℕ). kind_of (page_at x n)) e))
 
-  raw_put : (p : ℕ) (text : List ℕ) → not_raw x p ≡ None → KeepsData (put p 8 (text_payload text) (drafted x)).strokes
+  raw_put : (p : ℕ) (text : List ℕ) → not_raw x p ≡ None → KeepsData (put p raw_kind (text_payload text) (drafted x)).strokes
   unfolding KeepsData
   raw_put p text raw q bytes five held =
       let plain : IsPlain x p = raw_plain x p header is raw in

@@ -7,6 +7,7 @@ use Rattle.std.proofs.lemmas.List.{drop_at, take_at, drop-drop}
 use Rattle.std.proofs.Math.Nat.{suc-mul}
 use Rattle.nb_fields.specs.Bytes.{number_of, bytes_of, part, number_in}
 use Rattle.nb_fields.proofs.NumberLemmas.{number_of-bytes_of}
+use Rattle.nb_fields.specs.Places.{most_pages}
 use Rattle.nb_model.specs.Image.{Page, Numbered}
 use Rattle.nb_model.specs.Levels.{Head, Test, first_fault, ends_before, behind, read_end, read_singles, read_runs, pages_in, barred_after, is_bad_number, is_first_page, end_mark, end_bytes, joined, numbered_from}
 use Rattle.nb_model.proofs.ImageLaws.{length-joined}
@@ -51,10 +52,10 @@ zero_test n t h = elim (eqb_tells n 0) [
   | inr w ↦ rw w.0 refl
 ]
 
-good_number : (count least n : ℕ) → (count ≡ 0 → n ≡ 0) → least ≤ n → n < 1048576 → is_bad_number count least n ≡ false
+good_number : (count least n : ℕ) → (count ≡ 0 → n ≡ 0) → least ≤ n → n < most_pages → is_bad_number count least n ≡ false
 good_number count least n begins low small =
     or_no _ _ (elim (eqb_tells count 0) [ inl w ↦ and_no_right (count == 0) (not (n == 0)) (ap not (eq_yes n 0 (begins w.1))) | inr w ↦ rw w.0 refl ])
-    (or_no _ _ (lt_no n least low) (le_no 1048576 n small))
+    (or_no _ _ (lt_no n least low) (le_no most_pages n small))
 
 -- four bytes at the front, and the next four
 pub number_first : (n : ℕ) (rest : List ℕ) → n < 4294967296 → number_in 0 4 (bytes_of 4 n ++ rest) ≡ n
@@ -74,7 +75,7 @@ abbrev pub run_tests : Head → (at count least barred : ℕ) (rest : List ℕ) 
 run_tests h at count least barred rest n m =
     (is_bad_number count least n || n == barred, at)
     ∷ ends_before 8 at rest
-    ∷ (m == 0 || (nat_lt 16 m || nat_lt 1048576 (n + m)), at + 4)
+    ∷ (m == 0 || (nat_lt 16 m || nat_lt most_pages (n + m)), at + 4)
     ∷ (n == 0 && nat_lt (length rest) (8 + h.size), at + length rest)
     ∷ (n == 0 && not (is_first_page h (part 8 h.size rest)), at + 8)
     ∷ ends_before (8 + m * h.size) at rest
@@ -155,7 +156,7 @@ four_longer : (a : ℕ) (x y : List ℕ) → length (bytes_of 4 a ++ (x ++ y)) �
 unfolding bytes_of
 four_longer a x y = omega (arith, length-append x y)
 
-pub single_read : (left : ℕ) (h : Head) (at count least n : ℕ) (page : Page) (more : List ℕ) (rs : List Numbered) → length page ≡ h.size → (count ≡ 0 → n ≡ 0) → least ≤ n → n < 1048576
+pub single_read : (left : ℕ) (h : Head) (at count least n : ℕ) (page : Page) (more : List ℕ) (rs : List Numbered) → length page ≡ h.size → (count ≡ 0 → n ≡ 0) → least ≤ n → n < most_pages
     → (n ≡ 0 → is_first_page h page ≡ true) → read_singles left h (at + 4 + h.size) (count + 1) (n + 1) more ≡ Ok rs
     → read_singles (suc left) h at count least (bytes_of 4 n ++ (page ++ more)) ≡ Ok ((n, page) ∷ rs)
 single_read left h at count least n page more rs size begins low small first later =
@@ -203,7 +204,7 @@ pub record IsRun (h : Head) (count least barred first : ℕ) (ps : List Page) : 
   pub begins : count ≡ 0 → first ≡ 0
   pub some : 1 ≤ length ps
   pub few : length ps ≤ 16
-  pub below : first + length ps ≤ 1048576
+  pub below : first + length ps ≤ most_pages
   pub sizes : AllByRecursion (λ p. length p ≡ h.size) ps
   pub head : first ≡ 0 → is_first_page h (get_or ps 0 []) ≡ true
 
@@ -220,14 +221,14 @@ run_read left h at count least barred first ps more rs run later =
     let past : drop (8 + m * h.size) rest ≡ more = sym (drop-drop (m * h.size) 8 rest) ∙ ap (drop (m * h.size)) front ∙ drop_at (joined ps) more (m * h.size) size in
     let page : part 8 h.size rest ≡ get_or ps 0 [] = ap (take h.size) front ∙ first_joined h.size ps more run.some run.sizes in
     let wide : h.size ≤ m * h.size = size_le m h.size run.some in
-    let small : first < 1048576 = omega (arith, run.below, run.some) in
+    let small : first < most_pages = omega (arith, run.below, run.some) in
     run_step left h at count least barred rest first m (number_first first (bytes_of 4 m ++ (joined ps ++ more)) (omega arith)) (number_second first m (joined ps ++ more) (omega (arith, run.few)))
     (lt_no (length rest) 4 (omega arith)) (eq_no first end_mark (omega arith)) (
       or_no _ _ (good_number count least first run.begins run.low small) (eq_no first barred run.apart),
       (
         lt_no (length rest) 8 (omega arith),
         (
-          or_no _ _ (eq_no m 0 (omega (arith, run.some))) (or_no _ _ (lt_no 16 m run.few) (lt_no 1048576 (first + m) run.below)),
+          or_no _ _ (eq_no m 0 (omega (arith, run.some))) (or_no _ _ (lt_no 16 m run.few) (lt_no most_pages (first + m) run.below)),
           (
             and_no_right (first == 0) (nat_lt (length rest) (8 + h.size)) (lt_no (length rest) (8 + h.size) (omega arith)),
             (zero_test first (is_first_page h (part 8 h.size rest)) (λ e. ap (is_first_page h) page ∙ run.head e), (lt_no (length rest) (8 + m * h.size) (omega arith), tt)),

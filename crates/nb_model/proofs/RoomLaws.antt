@@ -8,11 +8,13 @@ use Rattle.std.proofs.lemmas.Bool.Decides.{eqb_tells}
 use Rattle.nb_fields.specs.Bytes.{bytes_of, with_part}
 use Rattle.nb_fields.specs.Page.{kind_of, stamped}
 use Rattle.nb_fields.specs.Payloads.{data_payload}
-use Rattle.nb_fields.specs.Places.{is_inventory_place, is_scn_place, is_system_place}
+use Rattle.nb_fields.specs.Places.{is_inventory_place, is_scn_place, is_system_place, most_pages}
 use Rattle.nb_fields.proofs.NumberLemmas.{length-bytes_of}
 use Rattle.nb_fields.proofs.PageLemmas.{length-padded}
 use Rattle.nb_fields.proofs.PartLemmas.{length-with_part}
 use Rattle.nb_fields.proofs.SizeLemmas.{SizeFacts, size_facts}
+use Rattle.nb_fields.specs.States.{stalled_state}
+use Rattle.nb_fields.specs.Kinds.{header_kind, data_kind, scn_kind}
 use Rattle.nb_model.specs.Account.{Ask, Base}
 use Rattle.nb_model.specs.Backups.{Room, needs_taken, room_in}
 use Rattle.nb_model.specs.Causes.{broken_at}
@@ -29,13 +31,13 @@ use Rattle.nb_model.proofs.FitLaws.{IsWhole, Fits, Stays, form_page, fits_first,
 use Rattle.nb_model.proofs.NewSound.{HoldsOfKinds, plain_place, new_fits}
 use Rattle.nb_model.proofs.PutSound.{IsPlain, IsPut, header_fields, header_whole, old_length, plain_here}
 use Rattle.nb_model.proofs.RoundLaws.{IsNew, new_is_new}
-use Rattle.nb_model.proofs.SoundLaws.{all_at, header_kind, with_page_length}
+use Rattle.nb_model.proofs.SoundLaws.{all_at, kind_of_header, with_page_length}
 
 -- What K has to hold of: the pages of the inventories, a new page of the history, and a page that is linked to the next.
 pub record HoldsOfHistory (K : Page → Type 0) : Type 0 where
   pub kinds : HoldsOfKinds K
-  pub added : (old : Page) (scn number : ℕ) → 1024 ≤ length old → K (stamped old 5 (data_payload 0 1 []) scn number)
-  pub linked : (old : Page) (next scn number : ℕ) → 1024 ≤ length old → kind_of old ≡ 5 → K old → K (stamped old 5 (drop 16 (with_part 16 (bytes_of 4 next) old)) scn number)
+  pub added : (old : Page) (scn number : ℕ) → 1024 ≤ length old → K (stamped old data_kind (data_payload 0 1 []) scn number)
+  pub linked : (old : Page) (next scn number : ℕ) → 1024 ≤ length old → kind_of old ≡ data_kind → K old → K (stamped old data_kind (drop 16 (with_part 16 (bytes_of 4 next) old)) scn number)
 
 -- any page
 abbrev pub AnyPage : Page → Type 0
@@ -49,29 +51,29 @@ abbrev pub HoldsOfChain : (K : Page → Type 0) → Image → Type 0
 HoldsOfChain K image = (p : ℕ) → is_in_chain History image p ≡ true → K (page_at image p)
 
 -- a page of a chain is below the length, and of kind 5
-pub in_chain : (chain : Chain) (image : Image) (p : ℕ) → is_in_chain chain image p ≡ true → (p < length image) × (kind_of (page_at image p) ≡ 5)
+pub in_chain : (chain : Chain) (image : Image) (p : ℕ) → is_in_chain chain image p ≡ true → (p < length image) × (kind_of (page_at image p) ≡ data_kind)
 unfolding is_in_chain
 in_chain chain image p is =
     let parts = and_parts (nat_lt p (length image)) _ is in
-    (ltb-true p (length image) parts.0, eqb-true (kind_of (page_at image p)) 5 (and_parts (kind_of (page_at image p) == 5) _ parts.1).0)
+    (ltb-true p (length image) parts.0, eqb-true (kind_of (page_at image p)) 5 (and_parts (kind_of (page_at image p) == data_kind) _ parts.1).0)
 
 -- and has its owner
 pub chain_owner : (chain : Chain) (image : Image) (p : ℕ) → is_in_chain chain image p ≡ true → owner_in (page_at image p) ≡ owner_of chain
 unfolding is_in_chain
 chain_owner chain image p is =
-    let rest = (and_parts (kind_of (page_at image p) == 5) _ (and_parts (nat_lt p (length image)) _ is).1).1 in
+    let rest = (and_parts (kind_of (page_at image p) == data_kind) _ (and_parts (nat_lt p (length image)) _ is).1).1 in
     eqb-true (owner_in (page_at image p)) (owner_of chain) (and_parts (owner_in (page_at image p) == owner_of chain) _ rest).0
 
 -- such a page is no system page
 pub chain_plain : (chain : Chain) (image : Image) (p : ℕ) → HasHeader image → IsSoundImage image → is_in_chain chain image p ≡ true → IsPlain image p
 chain_plain chain image p h is in_it =
     let low : p < length image = (in_chain chain image p in_it).0 in
-    let kind : kind_of (page_at image p) ≡ 5 = (in_chain chain image p in_it).1 in
+    let kind : kind_of (page_at image p) ≡ data_kind = (in_chain chain image p in_it).1 in
     let most = is.most in
     record {
       place = record {
         behind = elim (eqb_tells p 0) [
-          | inl w ↦ let first : kind_of (page_at image p) ≡ 1 = ap (λ (n : ℕ). kind_of (page_at image n)) w.1 ∙ header_kind _ h.header in absurd (omega (arith, first, kind))
+          | inl w ↦ let first : kind_of (page_at image p) ≡ header_kind = ap (λ (n : ℕ). kind_of (page_at image n)) w.1 ∙ kind_of_header _ h.header in absurd (omega (arith, first, kind))
           | inr w ↦ omega (arith, w.1)
         ];
         there = omega (arith, low);
@@ -233,7 +235,7 @@ pub room_begun : (b : Base) (guid : List ℕ) (ask : Option Ask) (p slot : ℕ) 
     → HasPlainRoom (on_base (begin guid ask) b).image p slot
 unfolding on_base
 room_begun b guid ask p slot h is sixteen scn =
-    room_with b.image _ p slot (new_size 1 (image_scn b.image + 1) guid b.image h is (may_begin b.image h guid sixteen scn)) (omega (arith, control_long 1 (image_scn b.image + 1) guid b.image))
+    room_with b.image _ p slot (new_size 1 (image_scn b.image + 1) guid b.image h is (may_begin b.image h guid sixteen scn)) (omega (arith, control_long stalled_state (image_scn b.image + 1) guid b.image))
 
 -- A slot that is found is a place for a row.
 pub spot_room : (image : Image) (s : Spot) → HasHeader image → IsSoundImage image → IsSpotOf History image s → HasPlainRoom image s.page s.slot
@@ -266,7 +268,7 @@ module _ (b : Base) (h : HasHeader b.image) (is : IsSoundImage b.image) (unbroke
   link = drop 16 (with_part 16 (bytes_of 4 made.1) (page_at made.0.image last))
 
   abbrev d : Draft
-  d = put last 5 link made.0
+  d = put last data_kind link made.0
 
   pub last_in : is_in_chain History b.image last ≡ true
   last_in = let found = pages_found History b.image unbroken in last_of_all (λ q. is_in_chain History b.image q ≡ true) (found_pages History b.image) found.some found.each
@@ -281,7 +283,7 @@ module _ (b : Base) (h : HasHeader b.image) (is : IsSoundImage b.image) (unbroke
     pub made_fits : Fits K b made.0
     made_fits = new_fits K holds.kinds b (length b.image + 4) 5 (λ p. data_payload 0 1 []) (drafted b.image) refl data_short added (fits_first K b whole)
       where
-        added : (x : Image) (p : ℕ) → IsWhole x → 5 ≤ p → p < 1048576 → K (form_page p 5 (data_payload 0 1 []) x)
+        added : (x : Image) (p : ℕ) → IsWhole x → 5 ≤ p → p < most_pages → K (form_page p data_kind (data_payload 0 1 []) x)
         added x p w five most =
             let size : SizeFacts (image_size x) = size_facts (image_size x) w.fields.size in
             holds.added (old_page p x) (image_scn x) p (omega (arith, size.at_least, old_length x p 5 (data_payload 0 1 []) w.fields w.sound refl (omega (arith, size.at_least, data_short p))))
@@ -309,7 +311,7 @@ module _ (b : Base) (h : HasHeader b.image) (is : IsSoundImage b.image) (unbroke
       new : IsNew b.image 5 made
       new = new_is_new (length b.image + 4) 5 (λ p. data_payload 0 1 []) b.image whole refl data_short left
 
-      last_kind : kind_of (page_at made.0.image last) ≡ 5
+      last_kind : kind_of (page_at made.0.image last) ≡ data_kind
       last_kind = elim (eqb_tells last made.1) [
         | inl w ↦ ap (λ (n : ℕ). kind_of (page_at made.0.image n)) w.1 ∙ new.of_kind
         | inr w ↦ ap kind_of (new.others last (no_system (image_size b.image) last last_plain.no_inventory last_plain.no_scn_page) w.1) ∙ (in_chain History b.image last last_in).1
@@ -330,7 +332,7 @@ module _ (b : Base) (h : HasHeader b.image) (is : IsSoundImage b.image) (unbroke
             length-drop 16 (with_part 16 (bytes_of 4 made.1) (page_at made.0.image last)),
             length-with_part 16 (bytes_of 4 made.1) (page_at made.0.image last) (omega (arith, size.at_least, page_long, length-bytes_of 4 made.1)),
           ))
-          (subst (λ (old : Page). K (stamped old 5 link (image_scn made.0.image) last)) (sym (old_there made.0.image last (omega (arith, last_low, made_long))))
+          (subst (λ (old : Page). K (stamped old data_kind link (image_scn made.0.image) last)) (sym (old_there made.0.image last (omega (arith, last_low, made_long))))
           (holds.linked (page_at made.0.image last) made.1 (image_scn made.0.image) last (omega (arith, size.at_least, page_long)) last_kind
           (subst (λ (x : Image). K (page_at x last)) made_fits.is.is (page_keeps K last made.0.strokes b made_fits.each whole (chain last last_in)))))
 
@@ -339,7 +341,7 @@ module _ (b : Base) (h : HasHeader b.image) (is : IsSoundImage b.image) (unbroke
 
       link_room : HasPlainRoom d.image made.1 0
       link_room = record {
-        below = omega (arith, new.below, ap length link_put.is, with_page_length last (form_page last 5 link link_put.between) link_put.between (omega (arith, last_low, made_long, link_put.raises.long)), link_put.raises.long);
+        below = omega (arith, new.below, ap length link_put.is, with_page_length last (form_page last data_kind link link_put.between) link_put.between (omega (arith, last_low, made_long, link_put.raises.long)), link_put.raises.long);
         plain = record {
           behind = new.behind;
           no_inventory = ap (λ (s : ℕ). is_inventory_place s made.1) d_size ∙ (plain_place (image_size b.image) made.1 new.plain).0;
@@ -382,7 +384,7 @@ module _ (b : Base) (h : HasHeader b.image) (is : IsSoundImage b.image) (unbroke
           there = room_stays b _ s.page s.slot (fitting_stays K _ b (read_fits s).each whole) (spot_room b.image s h is (free_is_spot b.image s unbroken found));
         }
         by None found left =
-            let some : made.0.full ≡ false = put_full last 5 link made.0 left in
+            let some : made.0.full ≡ false = put_full last data_kind link made.0 left in
             record { fits = fits_broken K b _ d (link_put some).fits; there = subst (λ (x : Image). HasPlainRoom x made.1 0) (sym (link_put some).fits.is.is) (link_room some) }
 
   -- Each stroke fits, for any K that holds of such pages.
@@ -399,8 +401,8 @@ unfolding backup_slot bytes_of
 backup_length level scn time guid name sixteen short = length-padded 256 _ (omega (arith, sixteen, short, length-append guid name))
 
 -- A row is written at its place.
-pub slot_fits : (K : Page → Type 0) → ((bytes : Page) → kind_of bytes ≡ 10 → K bytes) → (b : Base) (p slot : ℕ) (row : Slot) → HasHeader b.image → IsSoundImage b.image → HasPlainRoom b.image p slot → length row ≡ 256
-    → K (stamped (page_at b.image p) 5 (drop 16 (with_part (32 + 256 * slot) row (page_at b.image p))) (image_scn b.image) p) → Fits K b (put_slot p slot row (drafted b.image))
+pub slot_fits : (K : Page → Type 0) → ((bytes : Page) → kind_of bytes ≡ scn_kind → K bytes) → (b : Base) (p slot : ℕ) (row : Slot) → HasHeader b.image → IsSoundImage b.image → HasPlainRoom b.image p slot → length row ≡ 256
+    → K (stamped (page_at b.image p) data_kind (drop 16 (with_part (32 + 256 * slot) row (page_at b.image p))) (image_scn b.image) p) → Fits K b (put_slot p slot row (drafted b.image))
 unfolding put_slot
 slot_fits K scn_pages b p slot row h is room long holds =
     let page : Page = page_at b.image p in
@@ -410,4 +412,4 @@ slot_fits K scn_pages b p slot row h is room long holds =
     (plain_here K scn_pages b p 5 (drop 16 (with_part (32 + 256 * slot) row page)) (drafted b.image) (fits_first K b (header_whole b.image h is))
     (record { place = record { behind = room.plain.behind; there = omega (arith, low); most = omega (arith, low, is.most) }; no_inventory = room.plain.no_inventory; no_scn_page = room.plain.no_scn_page }) refl
     (omega (arith, size.at_least, whole, room.plain.within, long, length-drop 16 (with_part (32 + 256 * slot) row page), length-with_part (32 + 256 * slot) row page (omega (arith, whole, room.plain.within, long))))
-    (subst (λ (old : Page). K (stamped old 5 (drop 16 (with_part (32 + 256 * slot) row page)) (image_scn b.image) p)) (sym (old_there b.image p low)) holds)).fits
+    (subst (λ (old : Page). K (stamped old data_kind (drop 16 (with_part (32 + 256 * slot) row page)) (image_scn b.image) p)) (sym (old_there b.image p low)) holds)).fits

@@ -6,7 +6,9 @@ use Rattle.std.proofs.lemmas.Bool.Decides.{leb_tells}
 use Rattle.nb_fields.specs.Bytes.{bytes_of, with_part}
 use Rattle.nb_fields.specs.Page.{kind_of}
 use Rattle.nb_fields.specs.Payloads.{data_payload}
-use Rattle.nb_fields.specs.Places.{bits_in, is_scn_place, is_system_place}
+use Rattle.nb_fields.specs.Places.{bits_in, is_scn_place, is_system_place, most_pages}
+use Rattle.nb_fields.specs.States.{stalled_state}
+use Rattle.nb_fields.specs.Kinds.{data_kind, scn_kind}
 use Rattle.nb_model.specs.Account.{Ask, Base}
 use Rattle.nb_model.specs.Backups.{Room, needs_taken, room_in}
 use Rattle.nb_model.specs.Causes.{broken_at, not_of_form, lowest_broken, too_short, short_for}
@@ -132,9 +134,9 @@ put_below p kind payload d header low =
     wrote_below p _ (raised p d) (omega (arith, low, before))
 
 -- what is needed of a place that may be given
-told : (image : Image) (p : ℕ) → is_system_place (image_size image) p ≡ false → (p == 1048576) ≡ false → first_not image (needed_at image p) ≡ None → HasItsEntry image p
+told : (image : Image) (p : ℕ) → is_system_place (image_size image) p ≡ false → (p == most_pages) ≡ false → first_not image (needed_at image p) ≡ None → HasItsEntry image p
 unfolding needed_at is_kept
-told image p plain low none = by (p == 1048576) low (is_kept image p) (ap (λ (t : Bool). t && is_kind image (system_kind image p) p) plain)
+told image p plain low none = by (p == most_pages) low (is_kept image p) (ap (λ (t : Bool). t && is_kind image (system_kind image p) p) plain)
     (both_none _ _ (sym (first_append image (maps_from (image_size image) (p / bits_in (image_size image) + 1) 0) _) ∙ none)).1
   where
     xs : List Need
@@ -163,7 +165,7 @@ last_there d p kind payload header low plain has =
     let high = longer.long in
     let q : ℕ = scn_page_of image p in
     let place : is_scn_place n q ≡ true = scn_there image p header in
-    let stays : is_kind image 10 q ≡ true → HasScn n q place (take_page p e).image = λ kind_is.
+    let stays : is_kind image scn_kind q ≡ true → HasScn n q place (take_page p e).image = λ kind_is.
     bit_has n q place 0 p e (put_has n q place p kind payload d (λ same. absurd (plain_apart n q place p plain same)) (record { header = header; size = refl; kind = kind_is })) in
     record {
       below = omega (arith, high, placed);
@@ -189,31 +191,31 @@ new_there (suc tries) kind payload n d h =
     last : Draft × ℕ
     last = (take_page p (put p kind (payload p) d), p)
 
-    by_place : IsMet more → (p == 1048576) ≡ false → first_not image (needed_at image p) ≡ None → (t : Bool) → is_system_place (image_size image) p ≡ t → IsMet (elim t as (λ z. Draft × ℕ) [ true ↦ more | false ↦ last ])
+    by_place : IsMet more → (p == most_pages) ≡ false → first_not image (needed_at image p) ≡ None → (t : Bool) → is_system_place (image_size image) p ≡ t → IsMet (elim t as (λ z. Draft × ℕ) [ true ↦ more | false ↦ last ])
     by_place again low none true is = again
     by_place again low none false is = λ left met. last_there d p kind (payload p) h.header (lowest_between image h.long).1 is (told image p is low none)
 
-    by_full : IsMet more → first_not image (needed_at image p) ≡ None → (t : Bool) → (p == 1048576) ≡ t
+    by_full : IsMet more → first_not image (needed_at image p) ≡ None → (t : Bool) → (p == most_pages) ≡ t
         → IsMet (elim t as (λ z. Draft × ℕ) [ true ↦ (no_page d, p) | false ↦ elim (is_system_place (image_size image) p) as (λ z. Draft × ℕ) [ true ↦ more | false ↦ last ] ])
     by_full again none true is = λ left met. absurd (true≢false left)
     by_full again none false is = by_place again is none (is_system_place (image_size image) p) refl
 
     by_need : IsMet more → (o : Option ℕ) → first_not image (needed_at image p) ≡ o → IsMet (elim o as (λ z. Draft × ℕ) [
       | Some r ↦ (record d { broken = r ∷ d.broken }, 0)
-      | None ↦ elim (p == 1048576) as (λ z. Draft × ℕ) [ true ↦ (no_page d, p) | false ↦ elim (is_system_place (image_size image) p) as (λ z. Draft × ℕ) [ true ↦ more | false ↦ last ] ]
+      | None ↦ elim (p == most_pages) as (λ z. Draft × ℕ) [ true ↦ (no_page d, p) | false ↦ elim (is_system_place (image_size image) p) as (λ z. Draft × ℕ) [ true ↦ more | false ↦ last ] ]
     ])
     by_need again (Some r) is = λ left met. absurd (some_none r d.broken met)
-    by_need again None is = by_full again is (p == 1048576) refl
+    by_need again None is = by_full again is (p == most_pages) refl
 
 -- A slot that is found.
 module _ (image : Image) (header : HasHeader image) (unbroken : broken_at (pages_of History image) ≡ None) where
   free_there : (s : Spot) → free_spot (spots History image) ≡ Some s → (needs_taken s.page (needs 10 (scn_page_of image s.page) (needs 2 (inventory_of image s.page) (drafted image)))).broken ≡ [] → IsThere image s.page
   free_there s found met =
       let read : Draft = needs 2 (inventory_of image s.page) (drafted image) in
-      let kind_is : is_kind read.image 10 (scn_page_of image s.page) ≡ true = (needs_met 10 (scn_page_of image s.page) read (taken_met s.page (needs 10 (scn_page_of image s.page) read) met)).0 in
+      let kind_is : is_kind read.image scn_kind (scn_page_of image s.page) ≡ true = (needs_met 10 (scn_page_of image s.page) read (taken_met s.page (needs 10 (scn_page_of image s.page) read) met)).0 in
       record {
         below = (in_chain History image s.page (free_is_spot image s unbroken found).page).0;
-        entry = λ has. ap (λ (x : Image). is_kind x 10 (scn_page_of image s.page)) (sym (needs_image 2 (inventory_of image s.page) (drafted image))) ∙ kind_is;
+        entry = λ has. ap (λ (x : Image). is_kind x scn_kind (scn_page_of image s.page)) (sym (needs_image 2 (inventory_of image s.page) (drafted image))) ∙ kind_is;
       }
 
   -- a page that is linked
@@ -221,8 +223,8 @@ module _ (image : Image) (header : HasHeader image) (unbroken : broken_at (pages
       → IsThere (grown History (found_pages History image) [] (drafted image)).0.image (grown History (found_pages History image) [] (drafted image)).1
   unfolding grown
   grown_there long left met =
-      let parts = append_none (other_kind x 5 last) d.broken met in
-      let new : IsThere x p = new_there (length image + 4) 5 (λ q. data_payload 0 1 []) (image_size image) (drafted image) (record { header = header; size_is = refl; long = long }) (put_full last 5 link made.0 left) (put_met last 5 link made.0 parts.1) in
+      let parts = append_none (other_kind x data_kind last) d.broken met in
+      let new : IsThere x p = new_there (length image + 4) 5 (λ q. data_payload 0 1 []) (image_size image) (drafted image) (record { header = header; size_is = refl; long = long }) (put_full last data_kind link made.0 left) (put_met last 5 link made.0 parts.1) in
       let x_long : LongDraft 0 (image_size image) made.0 = new_keeps (LongDraft 0 (image_size image)) (long_kept 0 (image_size image)) _ 5 _ (drafted image) (record { header = header; size_is = refl; long = omega arith }) in
       let m : ℕ = length x in
       let longer : LongDraft m (image_size x) d = put_keeps (LongDraft m (image_size x)) (long_kept m (image_size x)) last 5 link made.0 (record { header = x_long.header; size_is = refl; long = omega arith }) in
@@ -230,9 +232,9 @@ module _ (image : Image) (header : HasHeader image) (unbroken : broken_at (pages
       let below = new.below in
       let q : ℕ = scn_page_of x p in
       let place : is_scn_place (image_size x) q ≡ true = scn_there x p x_long.header in
-      let five : kind_of (page_at x last) ≡ 5 = (kind_parts x 5 last (other_met x 5 last parts.0)).1 in
-      let stays : is_kind x 10 q ≡ true → HasScn (image_size x) q place d.image = λ kind_is.
-      put_has (image_size x) q place last 5 link made.0 (λ same. absurd (let ten = ap (λ (i : ℕ). kind_of (page_at x i)) same ∙ (kind_parts x 10 q kind_is).1 in omega (arith, five, ten)))
+      let five : kind_of (page_at x last) ≡ data_kind = (kind_parts x data_kind last (other_met x data_kind last parts.0)).1 in
+      let stays : is_kind x scn_kind q ≡ true → HasScn (image_size x) q place d.image = λ kind_is.
+      put_has (image_size x) q place last 5 link made.0 (λ same. absurd (let ten = ap (λ (i : ℕ). kind_of (page_at x i)) same ∙ (kind_parts x scn_kind q kind_is).1 in omega (arith, five, ten)))
       (record { header = x_long.header; size = refl; kind = kind_is }) in
       record { below = omega (arith, high, below); entry = scn_page_moves x d.image p longer.size_is (λ kind_is. (stays kind_is).kind) new.entry }
     where
@@ -252,7 +254,7 @@ module _ (image : Image) (header : HasHeader image) (unbroken : broken_at (pages
       link = drop 16 (with_part 16 (bytes_of 4 p) (page_at x last))
 
       d : Draft
-      d = put last 5 link made.0
+      d = put last data_kind link made.0
 
   -- So the room that is kept is there.
   pub room_is_there : short_for (free_spot (spots History image)) image ≡ None → not_of_form (room_in image).draft ≡ None → (room_in image).draft.full ≡ false → IsThere (room_in image).draft.image (room_in image).page
@@ -306,15 +308,15 @@ pub begun_there : (b : Base) (guid : List ℕ) (ask : Option Ask) (p : ℕ) → 
 unfolding on_base
 begun_there b guid ask p header sixteen scn there =
     let old : Image = b.image in
-    let new : Image = with_control 1 (image_scn old + 1) guid old in
-    let long : length new ≡ length old = control_long 1 (image_scn old + 1) guid old in
+    let new : Image = with_control stalled_state (image_scn old + 1) guid old in
+    let long : length new ≡ length old = control_long stalled_state (image_scn old + 1) guid old in
     let below = there.below in
     let q : ℕ = scn_page_of old p in
     let some = scn_page_behind (image_size old) q (scn_there old p header) in
     record {
       below = omega (arith, below, long);
       entry = scn_page_moves old new p (size_then 1 (image_scn old + 1) guid old header (may_begin old header guid sixteen scn))
-          (λ kind_is. let parts = kind_parts old 10 q kind_is in
-          kind_from new 10 q (omega (arith, parts.0, long)) (ap kind_of (control_rest 1 (image_scn old + 1) guid old q (omega (arith, some))) ∙ parts.1))
+          (λ kind_is. let parts = kind_parts old scn_kind q kind_is in
+          kind_from new scn_kind q (omega (arith, parts.0, long)) (ap kind_of (control_rest stalled_state (image_scn old + 1) guid old q (omega (arith, some))) ∙ parts.1))
           there.entry;
     }

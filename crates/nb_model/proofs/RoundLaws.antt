@@ -3,11 +3,12 @@ use Rattle.std.proofs.Common.{◌≡◌, ◌≢◌, inl, inr, ℕ, zero, suc, �
 use Rattle.std.specs.Prelude.{Bool, true, false, ◌==◌, nat_lt, Option, Some, None}
 use Rattle.std.proofs.lemmas.Bool.{true≢false, and_from, or_parts, lt-ltb, eq-eqb, eqb-false}
 use Rattle.std.proofs.lemmas.Bool.Decides.{eqb_tells}
-use Rattle.nb_fields.specs.Places.{entries_in, bits_in, inventory_place, scn_place, is_inventory_place, is_scn_place, is_system_place}
+use Rattle.nb_fields.specs.Places.{entries_in, bits_in, inventory_place, scn_place, is_inventory_place, is_scn_place, is_system_place, most_pages}
 use Rattle.nb_fields.specs.Page.{kind_of, stamped}
 use Rattle.nb_fields.specs.Payloads.{bit_of}
 use Rattle.nb_fields.proofs.SizeLemmas.{SizeFacts, size_facts}
 use Rattle.nb_fields.proofs.PlaceLemmas.{bits-least}
+use Rattle.nb_fields.specs.Kinds.{inventory_kind, scn_kind}
 use Rattle.nb_model.specs.Image.{Page, Image, page_at, image_size, image_scn, with_page}
 use Rattle.nb_model.specs.Account.{base_of}
 use Rattle.nb_model.specs.Strokes.{page}
@@ -58,10 +59,10 @@ module _ (image : Image) (h : IsWhole image) (p : ℕ) (at : IsPlace image p) wh
   raises = (is_raised AnyPage (λ bytes e. tt) (base_of image) p (drafted image) (started image h) at).raises
 
   -- the SCN page of its entry is there
-  pub scn_page_found : has_entry image p ≡ true → is_kind image 10 (scn_page_of image p) ≡ true
+  pub scn_page_found : has_entry image p ≡ true → is_kind image scn_kind (scn_page_of image p) ≡ true
   scn_page_found has =
       let low = scn_page_below image p h.fields h.sound.least at has in
-      kind_found image 10 (scn_page_of image p) low (h.sound.sound.system.scn_pages (scn_page_of image p) low (scn_page_there (image_size image) (p / entries_in (image_size image)) h.fields.size))
+      kind_found image scn_kind (scn_page_of image p) low (h.sound.sound.system.scn_pages (scn_page_of image p) low (scn_page_there (image_size image) (p / entries_in (image_size image)) h.fields.size))
 
   raised_none : has_entry image p ≡ false → before ≡ drafted image
   unfolding raised
@@ -173,7 +174,7 @@ module _ (image : Image) (h : IsWhole image) (p : ℕ) (two : 2 ≤ p) (low : p 
   row = with_bit (bit_number image p) 0 (page_at image i)
 
   abbrev taken : Draft
-  taken = put i 2 (drop 16 row) (drafted image)
+  taken = put i inventory_kind (drop 16 row) (drafted image)
 
   i_before : i < p
   i_before = inventory_before (image_size image) p h.fields.size two
@@ -184,12 +185,12 @@ module _ (image : Image) (h : IsWhole image) (p : ℕ) (two : 2 ≤ p) (low : p 
   i_place : IsPlace image i
   i_place = record { behind = inventory_place_some (image_size image) (p / bits_in (image_size image)) h.fields.size; there = omega (arith, i_low); most = let most = h.sound.most in omega (arith, i_low) }
 
-  pub i_found : is_kind image 2 i ≡ true
-  i_found = kind_found image 2 i i_low (h.sound.sound.system.inventories i i_low (inventory_there (image_size image) (p / bits_in (image_size image)) h.fields.size))
+  pub i_found : is_kind image inventory_kind i ≡ true
+  i_found = kind_found image inventory_kind i i_low (h.sound.sound.system.inventories i i_low (inventory_there (image_size image) (p / bits_in (image_size image)) h.fields.size))
 
   pub take_is : take_page p (drafted image) ≡ taken
   unfolding set_bit
-  take_is = ap (put i 2 (drop 16 row)) (needs_found image 2 i i_found)
+  take_is = ap (put i inventory_kind (drop 16 row)) (needs_found image 2 i i_found)
 
   pub take_unbroken : (take_page p (drafted image)).broken ≡ []
   take_unbroken = ap (λ (d : Draft). d.broken) take_is ∙ put_unbroken image h i i_place 2 (drop 16 row)
@@ -206,7 +207,7 @@ module _ (image : Image) (h : IsWhole image) (p : ℕ) (two : 2 ≤ p) (low : p 
     where
       taken_there : (length (take_page p (drafted image)).image ≡ length image) × (p < length (take_page p (drafted image)).image)
       taken_there =
-          let long : length (put i 2 (drop 16 row) (drafted image)).image ≡ length image = put_long image h i i_place 2 (drop 16 row) i_low in
+          let long : length (put i inventory_kind (drop 16 row) (drafted image)).image ≡ length image = put_long image h i i_place 2 (drop 16 row) i_low in
           let same : length (take_page p (drafted image)).image ≡ length image = ap (λ (d : Draft). length d.image) take_is ∙ long in
           (same, omega (arith, same, low))
 
@@ -262,21 +263,21 @@ module _ (image : Image) (h : IsWhole image) (p : ℕ) (two : 2 ≤ p) (low : p 
       ]
 
 -- the inventory pages that a search reads are there, and so are the SCN pages
-maps_there : (image : Image) → IsWhole image → (p : ℕ) → p ≤ length image → 2 ≤ p → (j : ℕ) → 0 ≤ j → j < 0 + (p / bits_in (image_size image) + 1) → is_kind image 2 (inventory_place (image_size image) j) ≡ true
+maps_there : (image : Image) → IsWhole image → (p : ℕ) → p ≤ length image → 2 ≤ p → (j : ℕ) → 0 ≤ j → j < 0 + (p / bits_in (image_size image) + 1) → is_kind image inventory_kind (inventory_place (image_size image) j) ≡ true
 maps_there image h p low two j none few =
     let size : ℕ = image_size image in
     let before = inventory_before size p h.fields.size two in
     let r : ℕ = inventory_place size j in
     let there : r < length image = omega (arith, map_places_from size j (p / bits_in size) h.fields.size (omega (arith, few)), before, low) in
-    kind_found image 2 r there (h.sound.sound.system.inventories r there (inventory_there size j h.fields.size))
+    kind_found image inventory_kind r there (h.sound.sound.system.inventories r there (inventory_there size j h.fields.size))
 
 -- a new page needs nothing that isn't there
 pub needed_found : (image : Image) → IsWhole image → (p : ℕ) → 2 ≤ p → p ≤ length image → first_not image (needed_at image p) ≡ None
 unfolding needed_at
 needed_found image h p two low =
-    first_append image (maps_from (image_size image) (p / bits_in (image_size image) + 1) 0) (rest (p == 1048576))
-    ∙ ap (λ (o : Option ℕ). first_behind o (first_not image (rest (p == 1048576)))) (maps_found image (image_size image) (p / bits_in (image_size image) + 1) 0 (maps_there image h p low two))
-    ∙ behind_none (first_not image (rest (p == 1048576))) ∙ by_end (p == 1048576) refl
+    first_append image (maps_from (image_size image) (p / bits_in (image_size image) + 1) 0) (rest (p == most_pages))
+    ∙ ap (λ (o : Option ℕ). first_behind o (first_not image (rest (p == most_pages)))) (maps_found image (image_size image) (p / bits_in (image_size image) + 1) 0 (maps_there image h p low two))
+    ∙ behind_none (first_not image (rest (p == most_pages))) ∙ by_end (p == most_pages) refl
   where
     own : Bool → List Need
     own t = elim t [ true ↦ [] | false ↦ entry_page image p ]
@@ -287,18 +288,18 @@ needed_found image h p two low =
     before : inventory_of image p < p
     before = inventory_before (image_size image) p h.fields.size two
 
-    entry : (q : ℕ) → 1 ≤ q → q ≤ length image → q < 1048576 → first_not image (entry_page image q) ≡ None
+    entry : (q : ℕ) → 1 ≤ q → q ≤ length image → q < most_pages → first_not image (entry_page image q) ≡ None
     entry q behind there most = ready_none image q (λ has. scn_page_found image h q (record { behind = behind; there = there; most = most }) has)
 
-    by_own : p < 1048576 → (t : Bool) → first_not image (own t) ≡ None
+    by_own : p < most_pages → (t : Bool) → first_not image (own t) ≡ None
     by_own most true = first_none image
     by_own most false = entry p (omega (arith, two)) low most
 
-    by_end : (t : Bool) → (p == 1048576) ≡ t → first_not image (rest t) ≡ None
+    by_end : (t : Bool) → (p == most_pages) ≡ t → first_not image (rest t) ≡ None
     by_end true e = first_none image
     by_end false e =
         let long = h.sound.most in
-        let most : p < 1048576 = omega (arith, low, long, eqb-false p 1048576 e) in
+        let most : p < most_pages = omega (arith, low, long, eqb-false p most_pages e) in
         first_append image (entry_page image (inventory_of image p)) (own (is_kept image p))
         ∙ ap (λ (o : Option ℕ). first_behind o (first_not image (own (is_kept image p))))
         (entry (inventory_of image p) (inventory_place_some (image_size image) (p / bits_in (image_size image)) h.fields.size) (omega (arith, before, low)) (omega (arith, before, most)))
@@ -494,13 +495,13 @@ module _ (image : Image) (h : IsWhole image) (kind : ℕ) (payload : ℕ → Lis
   by_end left d t u = elim t as (λ z. Draft × ℕ) [ true ↦ (no_page d, p) | false ↦ by_place left d u ]
 
   abbrev by_need : ℕ → Draft → Option ℕ → Draft × ℕ
-  by_need left d o = elim o as (λ z. Draft × ℕ) [ Some q ↦ (record d { broken = q ∷ d.broken }, 0) | None ↦ by_end left d (p == 1048576) (is_system_place (image_size image) p) ]
+  by_need left d o = elim o as (λ z. Draft × ℕ) [ Some q ↦ (record d { broken = q ∷ d.broken }, 0) | None ↦ by_end left d (p == most_pages) (is_system_place (image_size image) p) ]
 
   new_is : (left : ℕ) → new (suc left) ≡ by_need left (drafted image) (first_not image (needed_at image p))
   unfolding new_within
   new_is left = refl
 
-  new_by : (left : ℕ) (t u : Bool) → (p == 1048576) ≡ t → is_system_place (image_size image) p ≡ u → new (suc left) ≡ by_end left (drafted image) t u
+  new_by : (left : ℕ) (t u : Bool) → (p == most_pages) ≡ t → is_system_place (image_size image) p ≡ u → new (suc left) ≡ by_end left (drafted image) t u
   new_by left t u e f =
       new_is left ∙ ap (by_need left (drafted image)) read
       ∙ ap (λ (x : Bool). by_end left (drafted image) x (is_system_place (image_size image) p)) e ∙ ap (λ (x : Bool). by_end left (drafted image) t x) f
@@ -509,29 +510,29 @@ module _ (image : Image) (h : IsWhole image) (kind : ℕ) (payload : ℕ → Lis
   unfolding new_within
   none_full = refl
 
-  end_full : (left : ℕ) → (p == 1048576) ≡ true → (new (suc left)).0.full ≡ true
+  end_full : (left : ℕ) → (p == most_pages) ≡ true → (new (suc left)).0.full ≡ true
   end_full left e = ap (λ (x : Draft × ℕ). x.0.full) (new_by left true (is_system_place (image_size image) p) e refl)
 
   pub found : (tries : ℕ) → (new tries).0.full ≡ false → IsFound image tries p
   found zero room = absurd (true≢false (sym none_full ∙ room))
-  found (suc left) room = by (p == 1048576) refl
+  found (suc left) room = by (p == most_pages) refl
     where
-      by : (t : Bool) → (p == 1048576) ≡ t → IsFound image (suc left) p
+      by : (t : Bool) → (p == most_pages) ≡ t → IsFound image (suc left) p
       by true e = absurd (true≢false (sym (end_full left e) ∙ room))
       by false e =
           let most = h.sound.most in
-          record { left = left; tries_is = refl; five = between.0; at = record { behind = omega (arith, between.0); there = between.1; most = omega (arith, between.1, most, eqb-false p 1048576 e) } }
+          record { left = left; tries_is = refl; five = between.0; at = record { behind = omega (arith, between.0); there = between.1; most = omega (arith, between.1, most, eqb-false p most_pages e) } }
 
   -- a system place, and then on
-  pub new_more : (left : ℕ) → p < 1048576 → is_system_place (image_size image) p ≡ true → new (suc left) ≡ joined_new (round p image) (new_within left kind payload (drafted (round p image).image))
-  new_more left below place = new_by left false true (eq_no p 1048576 (λ e. absurd (omega (arith, e, below)))) place ∙ join_new left kind payload (round p image)
+  pub new_more : (left : ℕ) → p < most_pages → is_system_place (image_size image) p ≡ true → new (suc left) ≡ joined_new (round p image) (new_within left kind payload (drafted (round p image).image))
+  new_more left below place = new_by left false true (eq_no p most_pages (λ e. absurd (omega (arith, e, below)))) place ∙ join_new left kind payload (round p image)
 
   -- or the new page
-  pub new_last : (left : ℕ) → p < 1048576 → is_system_place (image_size image) p ≡ false → new (suc left) ≡ (take_page p (put p kind (payload p) (drafted image)), p)
-  new_last left below place = new_by left false false (eq_no p 1048576 (λ e. absurd (omega (arith, e, below)))) place
+  pub new_last : (left : ℕ) → p < most_pages → is_system_place (image_size image) p ≡ false → new (suc left) ≡ (take_page p (put p kind (payload p) (drafted image)), p)
+  new_last left below place = new_by left false false (eq_no p most_pages (λ e. absurd (omega (arith, e, below)))) place
 
   -- where the search goes on
-  pub new_next : is_system_place (image_size image) p ≡ true → p < 1048576 → (q : ℕ) → 5 ≤ q → q ≤ p → is_free_page (round p image).image q ≡ false
+  pub new_next : is_system_place (image_size image) p ≡ true → p < most_pages → (q : ℕ) → 5 ≤ q → q ≤ p → is_free_page (round p image).image q ≡ false
   new_next place below q five le =
       let at : IsPlace image p = record { behind = omega (arith, between.0); there = between.1; most = below } in
       elim (eqb_tells q p) [
@@ -543,7 +544,7 @@ module _ (image : Image) (h : IsWhole image) (kind : ℕ) (payload : ℕ → Lis
 pub new_unbroken : (tries kind : ℕ) (payload : ℕ → List ℕ) (image : Image) → IsWhole image → (kind == 0) ≡ false → ((p : ℕ) → length (payload p) ≤ 1008) → (new_within tries kind payload (drafted image)).0.broken ≡ []
 unfolding new_within
 new_unbroken zero kind payload image h some room = refl
-new_unbroken (suc left) kind payload image h some room = by_full (λ x well_x. new_unbroken left kind payload x well_x some room) (p == 1048576) refl
+new_unbroken (suc left) kind payload image h some room = by_full (λ x well_x. new_unbroken left kind payload x well_x some room) (p == most_pages) refl
   where
     p : ℕ
     p = lowest_free image
@@ -551,20 +552,20 @@ new_unbroken (suc left) kind payload image h some room = by_full (λ x well_x. n
     bounds : (5 ≤ p) × (p ≤ length image)
     bounds = lowest_between image h.sound.least
 
-    at : (p == 1048576) ≡ false → IsPlace image p
-    at e = let most = h.sound.most in record { behind = omega (arith, bounds.0); there = bounds.1; most = omega (arith, bounds.1, most, eqb-false p 1048576 e) }
+    at : (p == most_pages) ≡ false → IsPlace image p
+    at e = let most = h.sound.most in record { behind = omega (arith, bounds.0); there = bounds.1; most = omega (arith, bounds.1, most, eqb-false p most_pages e) }
 
     two : 2 ≤ p
     two = omega (arith, bounds.0)
 
-    by_system : ((x : Image) → IsWhole x → (new_within left kind payload (drafted x)).0.broken ≡ []) → (below : (p == 1048576) ≡ false) → (u : Bool) → is_system_place (image_size image) p ≡ u
+    by_system : ((x : Image) → IsWhole x → (new_within left kind payload (drafted x)).0.broken ≡ []) → (below : (p == most_pages) ≡ false) → (u : Bool) → is_system_place (image_size image) p ≡ u
         → (new_within (suc left) kind payload (drafted image)).0.broken ≡ []
     by_system rest below true f =
         ap (λ (x : Draft × ℕ). x.0.broken) (new_more image h kind payload left (at below).most f)
         ∙ ap (λ (ps : List ℕ). ps ++ (round p image).broken) (rest (round p image).image (round_well image h p (at below) f two)) ∙ round_unbroken image h p (at below) f two
     by_system rest below false f = ap (λ (x : Draft × ℕ). x.0.broken) (new_last image h kind payload left (at below).most f) ∙ last_unbroken image h p kind (payload p) (at below) f some (room p) two
 
-    by_full : ((x : Image) → IsWhole x → (new_within left kind payload (drafted x)).0.broken ≡ []) → (t : Bool) → (p == 1048576) ≡ t → (new_within (suc left) kind payload (drafted image)).0.broken ≡ []
+    by_full : ((x : Image) → IsWhole x → (new_within left kind payload (drafted x)).0.broken ≡ []) → (t : Bool) → (p == most_pages) ≡ t → (new_within (suc left) kind payload (drafted image)).0.broken ≡ []
     by_full rest true e = ap (λ (x : Draft × ℕ). x.0.broken) (new_by image h kind payload left true (is_system_place (image_size image) p) e refl)
     by_full rest false e = by_system rest e (is_system_place (image_size image) p) refl
 

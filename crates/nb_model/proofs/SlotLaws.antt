@@ -11,6 +11,7 @@ use Rattle.nb_fields.specs.Payloads.{data_payload}
 use Rattle.nb_fields.proofs.NumberLemmas.{length-bytes_of, number_of-bytes_of}
 use Rattle.nb_fields.proofs.PageLemmas.{padded_whole, drop-page_of, length-page_of}
 use Rattle.nb_fields.proofs.PartLemmas.{drop-with_part, part-with_part, part-with_part_other, number_in-with_part, number_in-with_part_other, length-with_part}
+use Rattle.nb_fields.specs.Kinds.{data_kind}
 use Rattle.nb_model.specs.Image.{Page}
 use Rattle.nb_model.specs.Chains.{History, Slot, is_used, is_slot, next_in, owner_in, slots_from, slots_in}
 use Rattle.nb_model.specs.Stands.{is_history_page}
@@ -48,7 +49,7 @@ module _ (old : Page) (next scn number : ℕ) (long : 1024 ≤ length old) where
   whole = with_part 16 (bytes_of 4 next) old
 
   abbrev linked_page : Page
-  linked_page = stamped old 5 (drop 16 whole) scn number
+  linked_page = stamped old data_kind (drop 16 whole) scn number
 
   whole_long : length whole ≡ length old
   whole_long = length-with_part 16 (bytes_of 4 next) old (omega (arith, long, length-bytes_of 4 next))
@@ -62,38 +63,38 @@ module _ (old : Page) (next scn number : ℕ) (long : 1024 ≤ length old) where
   pub linked_slots : slots_in linked_page ≡ slots_in old
   linked_slots = same_slots 20 linked_page old behind_next (omega arith) page_long
 
-  pub linked_history : kind_of old ≡ 5 → is_history_page linked_page ≡ true → is_history_page old ≡ true
+  pub linked_history : kind_of old ≡ data_kind → is_history_page linked_page ≡ true → is_history_page old ≡ true
   unfolding is_history_page number_in
   linked_history kind is =
-      let rest = (and_parts (kind_of linked_page == 5) _ is).1 in
-      and_from (kind_of old == 5) _ (eq-eqb (kind_of old) 5 kind)
+      let rest = (and_parts (kind_of linked_page == data_kind) _ is).1 in
+      and_from (kind_of old == data_kind) _ (eq-eqb (kind_of old) 5 kind)
       (ap (λ (xs : List ℕ). number_of (take 4 xs) == 1 && list_all (is_slot History) (slots_in old)) (sym behind_next)
       ∙ ap (λ (ss : List Slot). owner_in linked_page == 1 && list_all (is_slot History) ss) (sym linked_slots) ∙ rest)
 
 -- A page that is stamped has the owner that its payload says.
-pub owner_behind : (old whole : Page) (scn number : ℕ) → length whole ≡ length old → owner_in (stamped old 5 (drop 16 whole) scn number) ≡ owner_in whole
+pub owner_behind : (old whole : Page) (scn number : ℕ) → length whole ≡ length old → owner_in (stamped old data_kind (drop 16 whole) scn number) ≡ owner_in whole
 unfolding number_in
 owner_behind old whole scn number long =
-    ap (λ (xs : List ℕ). number_of (take 4 xs)) (drop_same 16 (stamped old 5 (drop 16 whole) scn number) whole (stamped_behind old whole 5 scn number long) 20 (omega arith))
+    ap (λ (xs : List ℕ). number_of (take 4 xs)) (drop_same 16 (stamped old data_kind (drop 16 whole) scn number) whole (stamped_behind old whole 5 scn number long) 20 (omega arith))
 
 -- so where the next page is named
-pub linked_owner : (old : Page) (next scn number : ℕ) → 1024 ≤ length old → owner_in (stamped old 5 (drop 16 (with_part 16 (bytes_of 4 next) old)) scn number) ≡ owner_in old
+pub linked_owner : (old : Page) (next scn number : ℕ) → 1024 ≤ length old → owner_in (stamped old data_kind (drop 16 (with_part 16 (bytes_of 4 next) old)) scn number) ≡ owner_in old
 unfolding number_in
 linked_owner old next scn number long = ap (λ (xs : List ℕ). number_of (take 4 xs)) (behind_next old next scn number long)
 
 -- and the next page is that one
-pub linked_next : (old : Page) (next scn number : ℕ) → 1024 ≤ length old → next < 4294967296 → next_in (stamped old 5 (drop 16 (with_part 16 (bytes_of 4 next) old)) scn number) ≡ next
+pub linked_next : (old : Page) (next scn number : ℕ) → 1024 ≤ length old → next < 4294967296 → next_in (stamped old data_kind (drop 16 (with_part 16 (bytes_of 4 next) old)) scn number) ≡ next
 unfolding number_in
 linked_next old next scn number long small =
     ap (λ (xs : List ℕ). number_of (take 4 xs)) (stamped_behind old (with_part 16 (bytes_of 4 next) old) 5 scn number (whole_long old next scn number long))
     ∙ number_in-with_part 16 4 next old (omega (arith, small)) (omega (arith, long))
 
 -- of a new page
-pub new_owner : (old : Page) (next owner : ℕ) (slots : List ℕ) (scn number : ℕ) → owner < 4294967296 → owner_in (stamped old 5 (data_payload next owner slots) scn number) ≡ owner
+pub new_owner : (old : Page) (next owner : ℕ) (slots : List ℕ) (scn number : ℕ) → owner < 4294967296 → owner_in (stamped old data_kind (data_payload next owner slots) scn number) ≡ owner
 unfolding stamped number_in data_payload padded
 new_owner old next owner slots scn number small =
     let payload : List ℕ = data_payload next owner slots in
-    let page : Page = stamped old 5 payload scn number in
+    let page : Page = stamped old data_kind payload scn number in
     let rest : List ℕ = (replicate 8 0 ++ slots) ++ replicate (length old - 16 - length payload) 0 in
     let four : length (bytes_of 4 next) ≡ 4 = length-bytes_of 4 next in
     let behind : drop 20 page ≡ bytes_of 4 owner ++ rest =
@@ -105,14 +106,14 @@ new_owner old next owner slots scn number small =
 
 -- and where a slot is written
 pub written_owner : (slot : ℕ) (row : Slot) (page : Page) (scn number : ℕ) → length row ≡ 256 → 32 + 256 * slot + 256 ≤ length page
-    → owner_in (stamped page 5 (drop 16 (with_part (32 + 256 * slot) row page)) scn number) ≡ owner_in page
+    → owner_in (stamped page data_kind (drop 16 (with_part (32 + 256 * slot) row page)) scn number) ≡ owner_in page
 written_owner slot row page scn number long room =
     owner_behind page (with_part (32 + 256 * slot) row page) scn number (length-with_part (32 + 256 * slot) row page (omega (arith, long, room)))
     ∙ number_in-with_part_other (32 + 256 * slot) 256 20 4 row page long room (inr (omega arith))
 
 -- the next page stays where a slot is written
 pub written_next : (slot : ℕ) (row : Slot) (page : Page) (scn number : ℕ) → length row ≡ 256 → 32 + 256 * slot + 256 ≤ length page
-    → next_in (stamped page 5 (drop 16 (with_part (32 + 256 * slot) row page)) scn number) ≡ next_in page
+    → next_in (stamped page data_kind (drop 16 (with_part (32 + 256 * slot) row page)) scn number) ≡ next_in page
 unfolding number_in
 written_next slot row page scn number long room =
     ap (λ (xs : List ℕ). number_of (take 4 xs)) (stamped_behind page (with_part (32 + 256 * slot) row page) 5 scn number (length-with_part (32 + 256 * slot) row page (omega (arith, long, room))))
@@ -125,7 +126,7 @@ pub record IsSlotWritten (slot : ℕ) (row : Slot) (old new : Page) : Type 0 whe
   pub others : (j : ℕ) → j ≢ slot → part (32 + 256 * j) 256 new ≡ part (32 + 256 * j) 256 old
 
 pub slot_is_written : (slot : ℕ) (row : Slot) (page : Page) (scn number : ℕ) → length row ≡ 256 → 32 + 256 * slot + 256 ≤ length page
-    → IsSlotWritten slot row page (stamped page 5 (drop 16 (with_part (32 + 256 * slot) row page)) scn number)
+    → IsSlotWritten slot row page (stamped page data_kind (drop 16 (with_part (32 + 256 * slot) row page)) scn number)
 slot_is_written slot row page scn number long room = record {
   long = stamped_long page (drop 16 whole) 5 scn number (omega (arith, room, length-drop 16 whole, whole_long));
   here = ap (take 256) (behind (32 + 256 * slot) (omega arith)) ∙ part-with_part (32 + 256 * slot) 256 row page long (omega (arith, room));
@@ -138,8 +139,8 @@ slot_is_written slot row page scn number long room = record {
     whole_long : length whole ≡ length page
     whole_long = length-with_part (32 + 256 * slot) row page (omega (arith, long, room))
 
-    behind : (at : ℕ) → 16 ≤ at → drop at (stamped page 5 (drop 16 whole) scn number) ≡ drop at whole
-    behind at some = drop_same 16 (stamped page 5 (drop 16 whole) scn number) whole (stamped_behind page whole 5 scn number whole_long) at some
+    behind : (at : ℕ) → 16 ≤ at → drop at (stamped page data_kind (drop 16 whole) scn number) ≡ drop at whole
+    behind at some = drop_same 16 (stamped page data_kind (drop 16 whole) scn number) whole (stamped_behind page whole 5 scn number whole_long) at some
 
     apart : (j : ℕ) → j ≢ slot → (32 + 256 * slot + 256 ≤ 32 + 256 * j) ⊎ (32 + 256 * j + 256 ≤ 32 + 256 * slot)
     apart j other = elim (leb_tells (suc slot) j) [
@@ -173,10 +174,10 @@ module _ (P : Slot → Type 0) (page : Page) (zeros : is_zeros (drop 32 page) �
       (λ used. absurd (zeros_unused (part at 256 page) (front_zeros 256 (drop at page) none) used), zero_slots count (at + 256) (omega (arith, h)))
 
 -- A new page of the history uses none.
-pub new_slots : (P : Slot → Type 0) (old : Page) (scn number : ℕ) → AllByRecursion (λ row. is_used row ≡ true → P row) (slots_in (stamped old 5 (data_payload 0 1 []) scn number))
+pub new_slots : (P : Slot → Type 0) (old : Page) (scn number : ℕ) → AllByRecursion (λ row. is_used row ≡ true → P row) (slots_in (stamped old data_kind (data_payload 0 1 []) scn number))
 unfolding slots_in stamped data_payload padded
 new_slots P old scn number =
-    let page : Page = stamped old 5 (data_payload 0 1 []) scn number in
+    let page : Page = stamped old data_kind (data_payload 0 1 []) scn number in
     let payload : List ℕ = data_payload 0 1 [] in
     let long : length payload ≡ 16 = omega (arith, length-append (bytes_of 4 0) (bytes_of 4 1 ++ (replicate 8 0 ++ [])), length-append (bytes_of 4 1) (replicate 8 0 ++ []), length-bytes_of 4 0, length-bytes_of 4 1) in
     let behind : drop 32 page ≡ replicate (length old - 16 - length payload) 0 =
@@ -214,9 +215,9 @@ module _ (P : Slot → Type 0) (slot : ℕ) (row : Slot) (page : Page) (row_long
   unfolding slots_in
   rows_with_row before = subst (λ (k : ℕ). AllByRecursion P (slots_from ((k - 32) / 256) 32 with_row)) (sym with_long) (row_slots ((length page - 32) / 256) 32 0 (omega arith) before)
 
-  pub rows_written : (scn number : ℕ) → AllByRecursion P (slots_in page) → AllByRecursion P (slots_in (stamped page 5 (drop 16 with_row) scn number))
+  pub rows_written : (scn number : ℕ) → AllByRecursion P (slots_in page) → AllByRecursion P (slots_in (stamped page data_kind (drop 16 with_row) scn number))
   rows_written scn number before =
       subst (AllByRecursion P)
-      (sym (same_slots 16 (stamped page 5 (drop 16 with_row) scn number) with_row (stamped_behind page with_row 5 scn number with_long) (omega arith)
+      (sym (same_slots 16 (stamped page data_kind (drop 16 with_row) scn number) with_row (stamped_behind page with_row 5 scn number with_long) (omega arith)
       (stamped_long page (drop 16 with_row) 5 scn number (omega (arith, room, length-drop 16 with_row, with_long)) ∙ sym with_long)))
       (rows_with_row before)

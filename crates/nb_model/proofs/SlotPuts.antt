@@ -6,6 +6,7 @@ use Rattle.std.proofs.lemmas.Bool.{and_parts, and_from}
 use Rattle.nb_fields.specs.Bytes.{with_part}
 use Rattle.nb_fields.specs.Page.{stamped}
 use Rattle.nb_fields.specs.Places.{bits_in, entries_in, is_scn_place}
+use Rattle.nb_fields.specs.Kinds.{data_kind}
 use Rattle.nb_model.specs.Chains.{Chain, History, Slot, Spot, is_slot, next_in, slots_in, pages_of, found_pages, spots, put_slot}
 use Rattle.nb_model.specs.Forms.{drafted, raised, inventory_of, scn_page_of}
 use Rattle.nb_model.specs.Image.{Page, Image, page_at, image_size, image_scn}
@@ -84,7 +85,7 @@ module _ (x : Image) (header : HasHeader x) (is : IsSoundImage x) (neat : IsNeat
     y = (put_slot p s.slot bytes (drafted x)).image
 
     abbrev new : Page
-    new = stamped page 5 payload (image_scn x) p
+    new = stamped page data_kind payload (image_scn x) p
 
     old_long : length page ≡ image_size x
     old_long = all_at (λ (q : Page). length q ≡ image_size x) x is.sizes p its.held.below
@@ -94,7 +95,7 @@ module _ (x : Image) (header : HasHeader x) (is : IsSoundImage x) (neat : IsNeat
 
     new_is : page_at y p ≡ new
     unfolding put_slot
-    new_is = put_here x whole p spot_plain.place 5 payload ∙ ap (λ (old : Page). stamped old 5 payload (image_scn x) p) (old_there x p its.held.below)
+    new_is = put_here x whole p spot_plain.place 5 payload ∙ ap (λ (old : Page). stamped old data_kind payload (image_scn x) p) (old_there x p its.held.below)
 
     longer : length x ≤ length y
     unfolding put_slot

@@ -7,12 +7,13 @@ use Rattle.std.proofs.lemmas.Bool.{true≢false, eq-eqb, eqb-true, lt-ltb, ltb-t
 use Rattle.std.proofs.lemmas.Bool.Decides.{eqb_tells, leb_tells}
 use Rattle.nb_fields.specs.Bytes.{part, number_in, is_zeros}
 use Rattle.nb_fields.specs.Header.{is_marked, is_header}
-use Rattle.nb_fields.specs.Places.{is_page_size, entries_in, bits_in, inventory_place, scn_place, is_inventory_place, is_scn_place}
+use Rattle.nb_fields.specs.Places.{is_page_size, entries_in, bits_in, inventory_place, scn_place, is_inventory_place, is_scn_place, most_pages}
 use Rattle.nb_fields.specs.Page.{head_of, page_of, kind_of, stamp_of}
 use Rattle.nb_fields.specs.Payloads.{bit_of, entry_of}
 use Rattle.nb_fields.proofs.HeaderLemmas.{is_header-take}
 use Rattle.nb_fields.proofs.PartLemmas.{number_in-take, part-take}
 use Rattle.nb_fields.proofs.PlaceLemmas.{entries-least, bits-least}
+use Rattle.nb_fields.specs.Kinds.{header_kind, inventory_kind, scn_kind}
 use Rattle.nb_model.specs.Image.{Page, Image, page_at, first_page, image_size, image_state, image_scn, image_guid, with_page}
 use Rattle.nb_model.specs.Forms.{inventory_of, scn_page_of, bit_number, entry_number, scn_entry, is_free_page, has_entry}
 use Rattle.nb_model.specs.Sound.{IsOfSize, HasSystemPages, HasBitsBelow, HasEntries, HasStamps, IsSoundImage}
@@ -126,9 +127,9 @@ with_page_length p bytes image low = elim (leb_tells (suc p) (length image)) [
 ]
 
 -- a header's page is of kind 1
-pub header_kind : (first : Page) → is_header first ≡ true → kind_of first ≡ 1
+pub kind_of_header : (first : Page) → is_header first ≡ true → kind_of first ≡ header_kind
 unfolding is_header is_marked
-header_kind first is =
+kind_of_header first is =
     let marked = (and_parts (is_marked first) _ (and_parts (nat_le 64 (length first)) _ is).1).0 in
     eqb-true (kind_of first) 1 (and_parts _ _ (and_parts _ _ (and_parts _ _ marked).0).0).0
 
@@ -142,12 +143,12 @@ pub record HasFields (image : Image) : Type 0 where
 pub record FitsAt (image : Image) (p : ℕ) (bytes : Page) : Type 0 where
   pub head : p ≡ 0 → take 64 bytes ≡ take 64 (first_page image)
   pub there : p ≤ length image
-  pub most : p < 1048576
+  pub most : p < most_pages
   pub size : length bytes ≡ image_size image
   pub no_zeros : is_zeros bytes ≡ false
   pub stamp : stamp_of bytes ≡ image_scn image
-  pub inventory : is_inventory_place (image_size image) p ≡ true → kind_of bytes ≡ 2
-  pub scn_page : is_scn_place (image_size image) p ≡ true → kind_of bytes ≡ 10
+  pub inventory : is_inventory_place (image_size image) p ≡ true → kind_of bytes ≡ inventory_kind
+  pub scn_page : is_scn_place (image_size image) p ≡ true → kind_of bytes ≡ scn_kind
   pub bits : (q : ℕ) → inventory_of image q ≡ p → (bit_of bytes (bit_number image q) == 1) ≡ false → q < length image
   pub current : has_entry image p ≡ true → scn_entry image p ≡ image_scn image
   pub no_lower : (q : ℕ) → scn_page_of image q ≡ p → has_entry image q ≡ true → q < length image → scn_entry image q ≤ entry_of bytes (entry_number image q)

@@ -1,6 +1,7 @@
 -- What keeps an image sound: pages that fit, the control strokes of a backup, and its start and its end.
 use Rattle.std.proofs.Common.{◌≡◌, ℕ, ◌+◌, ◌<◌, ◌≤◌, List, [], ◌∷◌, length, refl, sym, ap, subst, ◌∙◌, arith}
 use Rattle.std.specs.Prelude.{Option, Some}
+use Rattle.nb_fields.specs.States.{stalled_state}
 use Rattle.nb_model.specs.Account.{Ask, Base}
 use Rattle.nb_model.specs.Backups.{room_in, close_backup}
 use Rattle.nb_model.specs.Chains.{backup_slot}
@@ -63,7 +64,7 @@ pub begin_keeps : (b : Base) (guid : List ℕ) (ask : Option Ask) → HasHeader 
 unfolding base_after on_base
 begin_keeps b guid ask header sound scn sixteen = control_keeps 1 (image_scn b.image + 1) guid b _ header sound (may_begin b.image header guid sixteen scn) refl
 
-pub ends_keep : (b : Base) → HasHeader b.image → IsSoundImage b.image → image_state b.image ≡ 1 → KeepsSound b (ends ∷ []) × (image_state (base_after b (ends ∷ [])).image ≡ 2)
+pub ends_keep : (b : Base) → HasHeader b.image → IsSoundImage b.image → image_state b.image ≡ stalled_state → KeepsSound b (ends ∷ []) × (image_state (base_after b (ends ∷ [])).image ≡ 2)
 unfolding base_after on_base
 ends_keep b header sound stalled = control_keeps 2 (image_scn b.image + 1) (image_guid b.image) b _ header sound (may_end b.image header stalled) refl
 
@@ -74,7 +75,7 @@ finish_keeps b header sound = control_keeps 0 (image_scn b.image) (image_guid b.
 -- The start of a backup: what stands after its strokes.
 pub record IsStarted (b new : Base) (page slot : ℕ) : Type 0 where
   pub keeps : StaysSound b new
-  pub state : image_state new.image ≡ 1
+  pub state : image_state new.image ≡ stalled_state
   pub frozen : new.frozen ≡ new.image
   pub room : HasPlainRoom new.image page slot
 

@@ -7,7 +7,7 @@ use Rattle.std.proofs.lemmas.Bool.{eqb-true, or_parts}
 use Rattle.std.proofs.lemmas.Bool.Decides.{leb_tells}
 use Rattle.std.proofs.lemmas.List.{append-nil, drop-drop, length-take-le, take-append-drop, drop_all}
 use Rattle.nb_fields.specs.Bytes.{number_of, bytes_of, number_in, part}
-use Rattle.nb_fields.specs.Places.{is_page_size}
+use Rattle.nb_fields.specs.Places.{is_page_size, most_pages}
 use Rattle.nb_model.specs.Image.{Page, Numbered}
 use Rattle.nb_model.specs.Levels.{Head, IsLevel, Contents, Stretch, AreRising, AreOfSize, first_fault, behind, head_then, head_in, begins_level, level_signature, level_bytes, body_bytes, single_bytes, run_bytes, runs_of, runs_behind, joined, numbered_from, end_bytes, end_mark, read_level, read_pages, read_end, read_singles, read_runs, pages_in, barred_after, with_head, is_bad_number, is_first_page}
 use Rattle.nb_model.proofs.GatherLaws.{AreRuns, joins, total, pages_of_runs, run_front, run_none}
@@ -171,8 +171,8 @@ module _ (h : Head) where
       let far : ℕ = 8 + m * h.size in
       let one = or_parts (is_bad_number count least n) (n == barred) clear.0 in
       let number = good count least n one.0 in
-      let counts = or_parts (m == 0) (nat_lt 16 m || nat_lt 1048576 (n + m)) clear.1.1.0 in
-      let most = or_parts (nat_lt 16 m) (nat_lt 1048576 (n + m)) counts.1 in
+      let counts = or_parts (m == 0) (nat_lt 16 m || nat_lt most_pages (n + m)) clear.1.1.0 in
+      let most = or_parts (nat_lt 16 m) (nat_lt most_pages (n + m)) counts.1 in
       let some : m ≢ 0 = not_same m 0 counts.0 in
       let long : far ≤ length rest = not_long (length rest) far clear.1.1.1.1.1.0 in
       let body : List ℕ = part 8 (m * h.size) rest in
@@ -188,7 +188,7 @@ module _ (h : Head) where
         begins = number.begins;
         some = omega (arith, cut.count, positive m some);
         few = omega (arith, cut.count, not_long 16 m most.0);
-        below = omega (arith, cut.count, not_long 1048576 (n + m) most.1);
+        below = omega (arith, cut.count, not_long most_pages (n + m) most.1);
         sizes = cut.sizes;
         head = head;
       } in
@@ -253,7 +253,7 @@ regathered h count least first ps (t ∷ ts) are = by (λ (l : List Page) (runs 
         ∙ ap (λ (l : List Stretch). record { first = first; pages = ps } ∷ l) more
 
 -- pages of consecutive numbers rise
-numbered_rise : (n : ℕ) (ps : List Page) (rs : List Numbered) → n + length ps ≤ 1048576 → AreRising (n + length ps) rs → AreRising n (numbered_from n ps ++ rs)
+numbered_rise : (n : ℕ) (ps : List Page) (rs : List Numbered) → n + length ps ≤ most_pages → AreRising (n + length ps) rs → AreRising n (numbered_from n ps ++ rs)
 unfolding numbered_from
 numbered_rise n [] rs low rise = subst (λ k. AreRising k rs) (let e : n + 0 ≡ n = omega arith in e) rise
 numbered_rise n (p ∷ ps) rs low rise =

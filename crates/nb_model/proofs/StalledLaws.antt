@@ -3,6 +3,7 @@ use Rattle.std.proofs.Common.{◌≡◌, ◌≢◌, inl, inr, ℕ, zero, suc, �
 use Rattle.std.specs.Prelude.{true, false, ◌==◌, Option, Some, None, max}
 use Rattle.std.proofs.lemmas.Bool.{true≢false}
 use Rattle.std.proofs.lemmas.Bool.Decides.{eqb_tells}
+use Rattle.nb_fields.specs.States.{stalled_state}
 use Rattle.nb_model.specs.Image.{Page, Image, page_at, first_page, image_size, image_state, image_scn, with_page}
 use Rattle.nb_model.specs.Account.{Base}
 use Rattle.nb_model.specs.Strokes.{page, merged_page, noted, on_base}
@@ -49,7 +50,7 @@ module _ (b : Base) (is : IsStalled b) (over : IsOverFrozen b) where
           absurd (omega (arith, entry, older, frozen_scn, current))
 
 -- A page that fits is written in the stalled state.
-module _ (b : Base) (p : ℕ) (bytes : Page) (whole : IsWhole b.image) (stalled : image_state b.image ≡ 1) (is : IsStalled b) (over : IsOverFrozen b)
+module _ (b : Base) (p : ℕ) (bytes : Page) (whole : IsWhole b.image) (stalled : image_state b.image ≡ stalled_state) (is : IsStalled b) (over : IsOverFrozen b)
     (fits : FitsAt b.image p (merged_page p bytes b.image)) where
   abbrev kept : Page
   kept = merged_page p bytes b.image
@@ -127,5 +128,5 @@ module _ (b : Base) (p : ℕ) (bytes : Page) (whole : IsWhole b.image) (stalled 
   })
 
 -- So does a crash keep it, for the entries that it leaves.
-pub left_stalled : (t : Trail) (b : Base) → IsLeft t b → AreInStep (bases_of t) → image_state b.image ≡ 1 → IsStalled t.base → IsStalled b
+pub left_stalled : (t : Trail) (b : Base) → IsLeft t b → AreInStep (bases_of t) → image_state b.image ≡ stalled_state → IsStalled t.base → IsStalled b
 left_stalled t b left steps stalled is = record { raised = (left.covered steps).raised stalled; old = subst HasOldEntries (sym left.rest.frozen) is.old }

@@ -6,6 +6,7 @@ use Rattle.std.proofs.lemmas.Bool.{true≢false, and_parts, eqb-true}
 use Rattle.std.proofs.lemmas.List.{take_at, drop_at}
 use Rattle.nb_fields.specs.Bytes.{number_of, number_in}
 use Rattle.nb_fields.specs.Header.{is_header, state_of, pending_of}
+use Rattle.nb_fields.specs.States.{stalled_state, applying_state}
 use Rattle.nb_host.specs.Files.{File, Files}
 use Rattle.nb_host.specs.Names.{same_name, is_delta, delta_suffix}
 use Rattle.nb_host.specs.declared.refusals.Refusal.{Refusal}
@@ -17,7 +18,7 @@ use Rattle.nb_model.specs.Levels.{Contents, first_fault, begins_level, read_leve
 use Rattle.nb_model.specs.Owner.{delta_name, owner, entry_of_files, entry_in}
 use Rattle.nb_model.specs.Sound.{IsSoundImage}
 use Rattle.nb_model.specs.Stands.{nil, IsKeptAs, GoesOnFrom, Belongs, to_base, to_record, IsRaised, IsSameImage, IsFrozenMain, HasSoundImages, HoldsItsRecord, KeepsRecords, NamesItsPast, FollowsHistory, is_applying, HasNoStrayDelta, IsStopped, HasApplyingStandbys, Stands}
-use Rattle.nb_model.proofs.SoundLaws.{header_kind}
+use Rattle.nb_model.proofs.SoundLaws.{kind_of_header}
 use Rattle.nb_model.proofs.RunLaws.{same_self, entry_same}
 
 -- two names are the same or not
@@ -80,13 +81,13 @@ unfolding read_level first_fault
 not_level bytes e = rw (e, read_level) refl
 
 pub header_no_level : (bytes : List ℕ) (c : Contents) → is_header bytes ≡ true → read_level bytes ≡ Ok c → ⊥
-header_no_level bytes c is reads = ok_err (read_level bytes) reads (not_level bytes (no_level_begins bytes (header_kind bytes is)))
+header_no_level bytes c is reads = ok_err (read_level bytes) reads (not_level bytes (no_level_begins bytes (kind_of_header bytes is)))
   where
     ok_err : (x : Result Contents ℕ) → x ≡ Ok c → x ≡ Err 0 → ⊥
     ok_err x a b = cc
 
-pub applying_state : (bytes : List ℕ) → IsTrue (is_applying bytes) → state_of bytes ≡ 3
-applying_state bytes is = eqb-true (state_of bytes) 3 (and_parts (is_header bytes) (state_of bytes == 3) is).1
+pub state_of_applying : (bytes : List ℕ) → IsTrue (is_applying bytes) → state_of bytes ≡ applying_state
+state_of_applying bytes is = eqb-true (state_of bytes) 3 (and_parts (is_header bytes) (state_of bytes == applying_state) is).1
 
 -- the entry of a file that is opened
 pub opened_entry : (name : List ℕ) (main delta : File) (bytes : List ℕ) (b : Base) → main ≡ Some bytes → owner name main delta ≡ Ok b → entry_of_files name main delta ≡ IsBase b
@@ -99,9 +100,9 @@ opened_entry name main delta bytes b there opens = ap (λ (f : File). entry_of_f
 -- What is asked of the files of one name, and of the entry that they give.
 pub record StandsUnder (files : Files) (kept : List Kept) (name : List ℕ) (entry : Entry) : Type 0 where
   pub same : entry ≡ entry_in files name
-  pub frozen : (b : Base) → entry ≡ IsBase b → image_state b.image ≡ 1 → IsRaised b.image b.diverted
+  pub frozen : (b : Base) → entry ≡ IsBase b → image_state b.image ≡ stalled_state → IsRaised b.image b.diverted
   pub sound : (b : Base) → entry ≡ IsBase b → IsSoundImage b.image
-  pub stalled : (b : Base) → entry ≡ IsBase b → image_state b.image ≡ 1 → (r : Kept) × IsKeptAs kept (image_guid b.image) r
+  pub stalled : (b : Base) → entry ≡ IsBase b → image_state b.image ≡ stalled_state → (r : Kept) × IsKeptAs kept (image_guid b.image) r
   pub past : (b : Base) → entry ≡ IsBase b → NamesItsPast kept b.image
   pub holds : (bytes : List ℕ) → files name ≡ Some bytes → HoldsItsRecord kept bytes
   pub no_stray : IsTrue (is_some (files (delta_name name))) → ((b : Base) × (entry ≡ IsBase b)) ⊎ ((bytes : List ℕ) × (files name ≡ Some bytes) × IsTrue (is_applying bytes))

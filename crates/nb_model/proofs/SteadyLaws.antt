@@ -2,6 +2,7 @@
 use Rattle.std.proofs.Common.{◌≡◌, ℕ, zero, suc, ◌+◌, ◌≤◌, List, [], ◌∷◌, ◌++◌, length, take, refl, sym, ap, subst, ◌∙◌, arith, append_assoc}
 use Rattle.std.specs.Prelude.{Bool, Option, true, false}
 use Rattle.std.proofs.lemmas.List.{append-nil}
+use Rattle.nb_fields.specs.States.{normal_state, stalled_state, merge_state}
 use Rattle.nb_model.specs.Going.{IsNamed}
 use Rattle.nb_model.specs.declared.statement.Statement.{Statement}
 use Rattle.nb_model.specs.Account.{Ask, Kept, Base}
@@ -143,7 +144,7 @@ pages_along kept statement on named s session t is w =
     rows_along kept (λ r. ⊥) ss t (no_rows_fit kept ss t.base (subst (λ (b : Base). AreFitting HasNoRows b ss) is (pages_fit statement on named s session header sound))) (λ r none. absurd none) w
 
 -- a backup begins, and goes on from the one that it asks for
-pub begin_along : (kept : List Kept) (t : Trail) (guid : List ℕ) (ask : Option Ask) → IsWellTrail kept t → image_state t.base.image ≡ 0 → length guid ≡ 16 → image_scn t.base.image ≤ 4294967293 → HasParent kept (record_of t guid ask)
+pub begin_along : (kept : List Kept) (t : Trail) (guid : List ℕ) (ask : Option Ask) → IsWellTrail kept t → image_state t.base.image ≡ normal_state → length guid ≡ 16 → image_scn t.base.image ≤ 4294967293 → HasParent kept (record_of t guid ask)
     → WellAlong kept t (made (begin guid ask ∷ []))
 unfolding made after_step after_stroke settles_at on_base
 begin_along kept t guid ask w normal sixteen room parent = (w, (good, parent), begin_well kept t.base w.base guid ask normal sixteen room)
@@ -157,17 +158,17 @@ begin_along kept t guid ask w normal sixteen room parent = (w, (good, parent), b
     good : IsBegun (record_of t guid ask)
     good = record {
       header = new_header 1 (image_scn t.base.image + 1) guid t.base.image header w.base.well.sound may;
-      state = new_state 1 (image_scn t.base.image + 1) guid t.base.image header w.base.well.sound may;
+      state = new_state stalled_state (image_scn t.base.image + 1) guid t.base.image header w.base.well.sound may;
       guid = new_guid 1 (image_scn t.base.image + 1) guid t.base.image header w.base.well.sound may;
       scn = new_scn 1 (image_scn t.base.image + 1) guid t.base.image header w.base.well.sound may;
-      old = control_old 1 (image_scn t.base.image + 1) guid t.base.image header w.base.well.sound may (omega arith);
+      old = control_old stalled_state (image_scn t.base.image + 1) guid t.base.image header w.base.well.sound may (omega arith);
     }
 
 -- the stalled state ends, and the merge
-pub ends_along : (kept : List Kept) (t : Trail) → IsWellTrail kept t → image_state t.base.image ≡ 1 → WellAlong kept t (made (ends ∷ []))
+pub ends_along : (kept : List Kept) (t : Trail) → IsWellTrail kept t → image_state t.base.image ≡ stalled_state → WellAlong kept t (made (ends ∷ []))
 unfolding made after_step after_stroke settles_at records_of
 ends_along kept t w stalled = (w, tt, subst (λ (rs : List Kept). IsWellTrail rs (settled (on_base ends t.base))) (sym (append-nil kept)) (ends_well kept t.base w.base stalled))
 
-pub finish_along : (kept : List Kept) (t : Trail) → IsWellTrail kept t → image_state t.base.image ≡ 2 → WellAlong kept t (made (finish ∷ []))
+pub finish_along : (kept : List Kept) (t : Trail) → IsWellTrail kept t → image_state t.base.image ≡ merge_state → WellAlong kept t (made (finish ∷ []))
 unfolding made after_step after_stroke settles_at records_of
 finish_along kept t w merge = (w, tt, subst (λ (rs : List Kept). IsWellTrail rs (settled (on_base finish t.base))) (sym (append-nil kept)) (finish_well kept t.base w.base merge))

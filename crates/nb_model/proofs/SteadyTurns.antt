@@ -4,6 +4,7 @@ use Rattle.std.specs.Prelude.{Bool, Option, Some, None, true, false, ◌==◌}
 use Rattle.std.specs.List.{AllByRecursion}
 use Rattle.std.proofs.lemmas.Bool.{eqb-true}
 use Rattle.std.proofs.lemmas.Bool.Decides.{eqb_tells}
+use Rattle.nb_fields.specs.States.{normal_state, stalled_state, merge_state}
 use Rattle.nb_host.specs.declared.refusals.Refusal.{Refusal}
 use Rattle.nb_model.specs.declared.reply.Reply.{Reply}
 use Rattle.nb_model.specs.declared.statement.Statement.{Statement}
@@ -109,7 +110,7 @@ module _ (kept : List Kept) (t : Trail) (now : Now) (session : ℕ) (base : t.ba
       → ((place : ℕ) → place ≢ session - 1 → Runs now place 1 → ⊥) → Is strokes turns
   alone_turn strokes turns along own alone = record { along = along; own = own; others = λ place b off runs recorded. absurd (alone place off runs) }
 
-  normal_alone : image_state t.base.image ≡ 0 → (place : ℕ) → place ≢ session - 1 → Runs now place 1 → ⊥
+  normal_alone : image_state t.base.image ≡ normal_state → (place : ℕ) → place ≢ session - 1 → Runs now place 1 → ⊥
   normal_alone normal place off runs = absurd (omega (arith, normal, same_state, runs.state))
 
   -- statements
@@ -146,9 +147,9 @@ module _ (kept : List Kept) (t : Trail) (now : Now) (session : ℕ) (base : t.ba
         none_some : (ask : Ask) → None ≡ Some ask → ⊥
         none_some ask e = cc
 
-    ended_turn : (reply : Reply) → image_state t.base.image ≢ 0 → ((place : ℕ) → place ≢ session - 1 → Runs now place 1 → ⊥) → Does (ends_by s session reply)
+    ended_turn : (reply : Reply) → image_state t.base.image ≢ normal_state → ((place : ℕ) → place ≢ session - 1 → Runs now place 1 → ⊥) → Does (ends_by s session reply)
     unfolding ends_by end_strokes
-    ended_turn reply some alone = by (image_state t.base.image == 1) refl
+    ended_turn reply some alone = by (image_state t.base.image == stalled_state) refl
       where
         turns : List Turn
         turns = (replicate (length t.base.diverted) Merges ++ Finishes reply ∷ []) ++ rest
@@ -157,7 +158,7 @@ module _ (kept : List Kept) (t : Trail) (now : Now) (session : ℕ) (base : t.ba
         with_strokes strokes along =
             alone_turn strokes turns along (merging_recorded (kept_along kept t (made strokes)) (after_steps t (made strokes)) turns (merge_turns (length t.base.diverted) reply rest all)) alone
 
-        by : (test : Bool) → (image_state t.base.image == 1) ≡ test → Is (elim test as (λ z. List Stroke) [ true ↦ ends ∷ [] | false ↦ [] ]) turns
+        by : (test : Bool) → (image_state t.base.image == stalled_state) ≡ test → Is (elim test as (λ z. List Stroke) [ true ↦ ends ∷ [] | false ↦ [] ]) turns
         by true is = with_strokes (ends ∷ []) (ends_along kept t w (eqb-true (image_state t.base.image) 1 is))
         by false is = no_stroke turns (merging_recorded kept t turns (merge_turns (length t.base.diverted) reply rest all))
 
@@ -197,7 +198,7 @@ module _ (kept : List Kept) (t : Trail) (now : Now) (session : ℕ) (base : t.ba
         let keeps = close_well kept t w b (next_time now.given) place recorded in
         alone_turn _ _ keeps.along (tt, beginnings_recorded _ _ rest all) only_one
 
-    finished_turn : (reply : Reply) (rest : List Turn) → AreBeginnings rest → image_state t.base.image ≡ 2 → Is (finish ∷ []) rest
+    finished_turn : (reply : Reply) (rest : List Turn) → AreBeginnings rest → image_state t.base.image ≡ merge_state → Is (finish ∷ []) rest
     finished_turn reply rest all merge = alone_turn (finish ∷ []) rest (finish_along kept t w merge) (beginnings_recorded _ _ rest all) only_one
 
   -- Whatever turn comes.

@@ -15,6 +15,7 @@ use Rattle.nb_fields.proofs.NumberLemmas.{length-bytes_of}
 use Rattle.nb_fields.proofs.PartLemmas.{length-with_part}
 use Rattle.nb_fields.proofs.PageLemmas.{length-page_of}
 use Rattle.nb_fields.proofs.FreshLaws.{taken_bits-free, bit_of-inventory}
+use Rattle.nb_fields.specs.Kinds.{inventory_kind, scn_kind}
 use Rattle.nb_model.specs.Image.{Page, Image, page_at, image_size, image_scn}
 use Rattle.nb_model.specs.Forms.{HasItsEntry, Draft, drafted, old_page, wrote, written, needs, is_kind, inventory_of, scn_page_of, bit_number, entry_number, has_entry, scn_entry, is_free_page, entry_written, entry_raised, raised, put, with_bit, set_bit, take_page, system_kind, system_payload, system_page, is_kept}
 use Rattle.nb_model.specs.Sound.{IsOfSize}
@@ -117,14 +118,14 @@ abbrev pub IsClear : Draft → Type 0
 IsClear d = (d.broken ≡ []) × (d.full ≡ false)
 
 -- an SCN page with an entry written
-entry_on : (d : Draft) (p : ℕ) → IsShaped d.image → is_kind d.image 10 (scn_page_of d.image p) ≡ true → IsRaisedOn d.image (entry_written p d).image p
+entry_on : (d : Draft) (p : ℕ) → IsShaped d.image → is_kind d.image scn_kind (scn_page_of d.image p) ≡ true → IsRaisedOn d.image (entry_written p d).image p
 unfolding entry_written
 entry_on d p h found = record {
   size = written_size x y s 10 some w;
   long = omega (arith, w.long, low);
   shaped = written_shaped x y s 10 some w h (omega (arith, low));
   kinds = λ r. elim (eqb_tells r s) [
-    | inl e ↦ ap (λ (n : ℕ). kind_of (page_at y n)) e.1 ∙ w.here ∙ sym (kind_parts x 10 s found).1 ∙ ap (λ (n : ℕ). kind_of (page_at x n)) (sym e.1)
+    | inl e ↦ ap (λ (n : ℕ). kind_of (page_at y n)) e.1 ∙ w.here ∙ sym (kind_parts x scn_kind s found).1 ∙ ap (λ (n : ℕ). kind_of (page_at x n)) (sym e.1)
     | inr e ↦ written_kinds x y s 10 some w r e.1
   ];
   others = w.others;
@@ -137,7 +138,7 @@ entry_on d p h found = record {
     s = scn_page_of x p
 
     low : s < length x
-    low = (kind_parts x 10 s found).0
+    low = (kind_parts x scn_kind s found).0
 
     some : 1 ≤ s
     some = omega (arith, scn_place_some (image_size x) (p / entries_in (image_size x)) h.size)
@@ -186,7 +187,7 @@ pub needs_found : (x : Image) (kind p : ℕ) → is_kind x kind p ≡ true → n
 unfolding needs
 needs_found x kind p e = ap (λ (t : Bool). elim t as (λ z. Draft) [ true ↦ drafted x | false ↦ record { image = x; strokes = []; broken = p ∷ []; full = false } ]) e
 
-raising : (x : Image) (p : ℕ) → IsShaped x → is_kind x 10 (scn_page_of x p) ≡ true → Raised x p (entry_raised p (drafted x))
+raising : (x : Image) (p : ℕ) → IsShaped x → is_kind x scn_kind (scn_page_of x p) ≡ true → Raised x p (entry_raised p (drafted x))
 unfolding entry_raised
 raising x p h e = either_raised x p (nat_lt (scn_entry x p) (image_scn x)) (entry_written p (drafted x)) (drafted x)
     (record { clear = entry_clear p x; on = entry_on (drafted x) p h e })
@@ -273,7 +274,7 @@ pub record Takes (x : Image) (p : ℕ) (d : Draft) : Type 0 where
   pub clear : IsClear d
   pub on : IsTakenOn x d.image p
 
-module _ (x : Image) (p : ℕ) (h : IsShaped x) (found : is_kind x 2 (inventory_of x p) ≡ true) (there : HasItsEntry x (inventory_of x p)) where
+module _ (x : Image) (p : ℕ) (h : IsShaped x) (found : is_kind x inventory_kind (inventory_of x p) ≡ true) (there : HasItsEntry x (inventory_of x p)) where
   abbrev i : ℕ
   i = inventory_of x p
 
@@ -281,7 +282,7 @@ module _ (x : Image) (p : ℕ) (h : IsShaped x) (found : is_kind x 2 (inventory_
   row = with_bit (bit_number x p) 0 (page_at x i)
 
   low : i < length x
-  low = (kind_parts x 2 i found).0
+  low = (kind_parts x inventory_kind i found).0
 
   i_long : length (page_at x i) ≡ image_size x
   i_long = all_at (λ page. length page ≡ image_size x) x h.sizes i low
@@ -290,7 +291,7 @@ module _ (x : Image) (p : ℕ) (h : IsShaped x) (found : is_kind x 2 (inventory_
   row_long = with_bit_length (bit_number x p) 0 (page_at x i) ∙ i_long
 
   abbrev taking : Draft
-  taking = put i 2 (drop 16 row) (drafted x)
+  taking = put i inventory_kind (drop 16 row) (drafted x)
 
   puts : Puts x i 2 (drop 16 row) taking
   puts =
@@ -302,7 +303,7 @@ module _ (x : Image) (p : ℕ) (h : IsShaped x) (found : is_kind x 2 (inventory_
 
   take_is : take_page p (drafted x) ≡ taking
   unfolding set_bit
-  take_is = ap (put i 2 (drop 16 row)) (needs_found x 2 i found)
+  take_is = ap (put i inventory_kind (drop 16 row)) (needs_found x 2 i found)
 
   -- a bit of that inventory page
   row_bit : (j : ℕ) → bit_of (page_at taking.image i) j ≡ bit_of row j
@@ -349,7 +350,7 @@ module _ (x : Image) (p : ℕ) (h : IsShaped x) (found : is_kind x 2 (inventory_
       long = omega (arith, on.long, low);
       shaped = on.shaped;
       kinds = λ r. elim (eqb_tells r i) [
-        | inl w ↦ ap (λ (n : ℕ). kind_of (page_at taking.image n)) w.1 ∙ on.here ∙ sym (kind_parts x 2 i found).1 ∙ ap (λ (n : ℕ). kind_of (page_at x n)) (sym w.1)
+        | inl w ↦ ap (λ (n : ℕ). kind_of (page_at taking.image n)) w.1 ∙ on.here ∙ sym (kind_parts x inventory_kind i found).1 ∙ ap (λ (n : ℕ). kind_of (page_at x n)) (sym w.1)
         | inr w ↦ on.kinds r w.1
       ];
       here = free_here;
@@ -362,8 +363,8 @@ has_moves : (x y : Image) (q : ℕ) → image_size y ≡ image_size x → has_en
 unfolding has_entry
 has_moves x y q same = ap (λ (s : ℕ). elim (q == 0 || is_scn_place s q) as (λ z. Bool) [ true ↦ false | false ↦ true ]) same
 
-pub scn_page_moves : (x y : Image) (q : ℕ) → image_size y ≡ image_size x → (is_kind x 10 (scn_page_of x q) ≡ true → is_kind y 10 (scn_page_of x q) ≡ true) → HasItsEntry x q → HasItsEntry y q
-scn_page_moves x y q same keeps there has = subst (λ (s : ℕ). is_kind y 10 (scn_place s (q / entries_in s)) ≡ true) (sym same) (keeps (there (sym (has_moves x y q same) ∙ has)))
+pub scn_page_moves : (x y : Image) (q : ℕ) → image_size y ≡ image_size x → (is_kind x scn_kind (scn_page_of x q) ≡ true → is_kind y scn_kind (scn_page_of x q) ≡ true) → HasItsEntry x q → HasItsEntry y q
+scn_page_moves x y q same keeps there has = subst (λ (s : ℕ). is_kind y scn_kind (scn_place s (q / entries_in s)) ≡ true) (sym same) (keeps (there (sym (has_moves x y q same) ∙ has)))
 
 -- a page that is of a kind stays so
 pub kind_moves : (x y : Image) (kind p : ℕ) → length x ≤ length y → kind_of (page_at y p) ≡ kind_of (page_at x p) → is_kind x kind p ≡ true → is_kind y kind p ≡ true
@@ -387,7 +388,7 @@ module _ (x y : Image) (p kind : ℕ) (payload : List ℕ) (size : IsTrue (is_pa
       (subst (λ (n : ℕ). is_scn_place (image_size x) n ≡ true) (sym e) (scn_page_there (image_size x) (p / entries_in (image_size x)) size))))
 
 -- all bits of a fresh inventory page say free
-fresh_bit : (size k : ℕ) (old : Page) (scn p i : ℕ) → length old ≡ size → i / 8 < size - 32 → bit_of (stamped old 2 (inventory_payload size k 0) scn p) i ≡ 1
+fresh_bit : (size k : ℕ) (old : Page) (scn p i : ℕ) → length old ≡ size → i / 8 < size - 32 → bit_of (stamped old inventory_kind (inventory_payload size k 0) scn p) i ≡ 1
 unfolding stamped
 fresh_bit size k old scn p i long byte =
     let g : ℕ = (generation_of old + 1) % 2 ^ 32 in
@@ -413,8 +414,8 @@ pub record IsVisited (x y : Image) (p kind : ℕ) : Type 0 where
   pub kinds : (r : ℕ) → r ≢ p → kind_of (page_at y r) ≡ kind_of (page_at x r)
   pub here : is_free_page y p ≡ false
   pub others : (q : ℕ) → q ≢ p → inventory_of x q ≢ p → is_free_page y q ≡ is_free_page x q
-  pub kept_map : is_kind x 2 p ≡ true → (q : ℕ) → q ≢ p → inventory_of x q ≡ p → is_free_page y q ≡ is_free_page x q
-  pub new_map : is_kind x 2 p ≡ false → (q : ℕ) → q ≢ p → inventory_of x q ≡ p → is_free_page y q ≡ true
+  pub kept_map : is_kind x inventory_kind p ≡ true → (q : ℕ) → q ≢ p → inventory_of x q ≡ p → is_free_page y q ≡ is_free_page x q
+  pub new_map : is_kind x inventory_kind p ≡ false → (q : ℕ) → q ≢ p → inventory_of x q ≡ p → is_free_page y q ≡ true
 
 -- The draft leaves it, and breaks nothing.
 pub record Visits (x : Image) (p kind : ℕ) (d : Draft) : Type 0 where
@@ -429,12 +430,12 @@ pub record IsStood (x y : Image) (p kind : ℕ) : Type 0 where
   pub of_kind : kind_of (page_at y p) ≡ kind
   pub kinds : (r : ℕ) → r ≢ p → kind_of (page_at y r) ≡ kind_of (page_at x r)
   pub others : (q : ℕ) → inventory_of x q ≢ p → is_free_page y q ≡ is_free_page x q
-  pub kept_map : is_kind x 2 p ≡ true → (q : ℕ) → inventory_of x q ≡ p → is_free_page y q ≡ is_free_page x q
-  pub new_map : is_kind x 2 p ≡ false → (q : ℕ) → inventory_of x q ≡ p → is_free_page y q ≡ true
+  pub kept_map : is_kind x inventory_kind p ≡ true → (q : ℕ) → inventory_of x q ≡ p → is_free_page y q ≡ is_free_page x q
+  pub new_map : is_kind x inventory_kind p ≡ false → (q : ℕ) → inventory_of x q ≡ p → is_free_page y q ≡ true
 
 -- what a new page at p needs is of its kind
 pub record IsReady (x : Image) (p : ℕ) : Type 0 where
-  pub map : is_kind x 2 (inventory_of x p) ≡ true
+  pub map : is_kind x inventory_kind (inventory_of x p) ≡ true
   pub map_entry : HasItsEntry x (inventory_of x p)
   pub entry : is_kept x p ≡ false → HasItsEntry x p
 
@@ -451,8 +452,8 @@ module _ (x : Image) (p kind : ℕ) (h : IsShaped x) (five : 5 ≤ p) (ready : I
   map_is : inventory_of m p ≡ inventory_of x p
   map_is = ap (λ (s : ℕ). inventory_place s (p / bits_in s)) on.size
 
-  map_there : is_kind m 2 (inventory_of m p) ≡ true
-  map_there = ap (is_kind m 2) map_is ∙ moves 2 (inventory_of x p) (λ e. absurd (omega (arith, e, map_before))) ready.map
+  map_there : is_kind m inventory_kind (inventory_of m p) ≡ true
+  map_there = ap (is_kind m inventory_kind) map_is ∙ moves 2 (inventory_of x p) (λ e. absurd (omega (arith, e, map_before))) ready.map
 
   entry_there : HasItsEntry m (inventory_of m p)
   entry_there = subst (HasItsEntry m) (sym map_is) (scn_page_moves x m (inventory_of x p) on.size (moves 10 (scn_page_of x (inventory_of x p)) (λ e. absurd (let before = map_entry_before x p h.size (omega (arith, five)) in omega (arith, e, before)))) ready.map_entry)
@@ -477,7 +478,7 @@ module _ (x : Image) (p kind : ℕ) (h : IsShaped x) (five : 5 ≤ p) (ready : I
   })
 
 -- a page of that kind stands there
-here_stood : (x : Image) (p kind : ℕ) → IsShaped x → is_kind x kind p ≡ true → (is_kind x 2 p ≡ false → (q : ℕ) → inventory_of x q ≢ p) → IsStood x x p kind
+here_stood : (x : Image) (p kind : ℕ) → IsShaped x → is_kind x kind p ≡ true → (is_kind x inventory_kind p ≡ false → (q : ℕ) → inventory_of x q ≢ p) → IsStood x x p kind
 here_stood x p kind h is no_map =
     let parts = kind_parts x kind p is in
     record {
@@ -505,7 +506,7 @@ put_stood x y p kind payload h on no_map = record {
 }
 
 -- and where one has, as one of free bits.
-fresh_stood : (x y : Image) (p k : ℕ) → IsShaped x → IsPutOn x y p 2 (inventory_payload (image_size x) k 0) → is_kind x 2 p ≡ false → IsStood x y p 2
+fresh_stood : (x y : Image) (p k : ℕ) → IsShaped x → IsPutOn x y p 2 (inventory_payload (image_size x) k 0) → is_kind x inventory_kind p ≡ false → IsStood x y p 2
 fresh_stood x y p k h on none = record {
   size = on.size;
   long = on.long;
@@ -549,7 +550,7 @@ module _ (x : Image) (p : ℕ) (h : IsShaped x) (five : 5 ≤ p) (below : p ≤ 
   unkept kind e none = ready.entry (unkept_is x p kind e none)
 
   of_map : is_inventory_place (image_size x) p ≡ true → Visits x p (system_kind x p) (take_page p (system_page p (drafted x)))
-  of_map map = subst (λ (n : ℕ). Visits x p n (take_page p (system_page p (drafted x)))) (sym kind) (subst (λ (d : Draft). Visits x p 2 (take_page p d)) (sym (system_is p 2 bits (drafted x) kind payload)) (by (is_kind x 2 p) refl))
+  of_map map = subst (λ (n : ℕ). Visits x p n (take_page p (system_page p (drafted x)))) (sym kind) (subst (λ (d : Draft). Visits x p 2 (take_page p d)) (sym (system_is p inventory_kind bits (drafted x) kind payload)) (by (is_kind x inventory_kind p) refl))
     where
       k : ℕ
       k = (p + 1) / bits_in (image_size x)
@@ -566,14 +567,14 @@ module _ (x : Image) (p : ℕ) (h : IsShaped x) (five : 5 ≤ p) (below : p ≤ 
       room : 16 + length bits ≤ image_size x
       room = let facts : SizeFacts (image_size x) = size_facts (image_size x) h.size in omega (arith, facts.at_least, inventory_length (image_size x) k 0)
 
-      by : (t : Bool) → is_kind x 2 p ≡ t → Visits x p 2 (take_page p (elim t as (λ z. Draft) [ true ↦ drafted x | false ↦ put p 2 bits (drafted x) ]))
+      by : (t : Bool) → is_kind x inventory_kind p ≡ t → Visits x p 2 (take_page p (elim t as (λ z. Draft) [ true ↦ drafted x | false ↦ put p inventory_kind bits (drafted x) ]))
       by true e = visits x p 2 h five ready (drafted x) (refl, refl) (here_stood x p 2 h e (λ no. absurd (true≢false (sym e ∙ no))))
       by false e =
-          let puts : Puts x p 2 bits (put p 2 bits (drafted x)) = put_on x p 2 bits h (unkept 2 kind e) (omega (arith, five)) below room in
-          visits x p 2 h five ready (put p 2 bits (drafted x)) puts.clear (fresh_stood x (put p 2 bits (drafted x)).image p k h puts.on e)
+          let puts : Puts x p 2 bits (put p inventory_kind bits (drafted x)) = put_on x p 2 bits h (unkept 2 kind e) (omega (arith, five)) below room in
+          visits x p 2 h five ready (put p inventory_kind bits (drafted x)) puts.clear (fresh_stood x (put p inventory_kind bits (drafted x)).image p k h puts.on e)
 
   of_entries : is_inventory_place (image_size x) p ≡ false → Visits x p (system_kind x p) (take_page p (system_page p (drafted x)))
-  of_entries map = subst (λ (n : ℕ). Visits x p n (take_page p (system_page p (drafted x)))) (sym kind) (subst (λ (d : Draft). Visits x p 10 (take_page p d)) (sym (system_is p 10 entries (drafted x) kind payload)) (by (is_kind x 10 p) refl))
+  of_entries map = subst (λ (n : ℕ). Visits x p n (take_page p (system_page p (drafted x)))) (sym kind) (subst (λ (d : Draft). Visits x p 10 (take_page p d)) (sym (system_is p scn_kind entries (drafted x) kind payload)) (by (is_kind x scn_kind p) refl))
     where
       entries : List ℕ
       entries = scn_payload (image_size x) (p / entries_in (image_size x)) (image_scn x)
@@ -587,11 +588,11 @@ module _ (x : Image) (p : ℕ) (h : IsShaped x) (five : 5 ≤ p) (below : p ≤ 
       room : 16 + length entries ≤ image_size x
       room = let facts : SizeFacts (image_size x) = size_facts (image_size x) h.size in omega (arith, facts.at_least, scn_length (image_size x) (p / entries_in (image_size x)) (image_scn x))
 
-      by : (t : Bool) → is_kind x 10 p ≡ t → Visits x p 10 (take_page p (elim t as (λ z. Draft) [ true ↦ drafted x | false ↦ put p 10 entries (drafted x) ]))
+      by : (t : Bool) → is_kind x scn_kind p ≡ t → Visits x p 10 (take_page p (elim t as (λ z. Draft) [ true ↦ drafted x | false ↦ put p scn_kind entries (drafted x) ]))
       by true e = visits x p 10 h five ready (drafted x) (refl, refl) (here_stood x p 10 h e (λ no. no_map_at x p h.size map))
       by false e =
-          let puts : Puts x p 10 entries (put p 10 entries (drafted x)) = put_on x p 10 entries h (unkept 10 kind e) (omega (arith, five)) below room in
-          visits x p 10 h five ready (put p 10 entries (drafted x)) puts.clear (put_stood x (put p 10 entries (drafted x)).image p 10 entries h puts.on (no_map_at x p h.size map))
+          let puts : Puts x p 10 entries (put p scn_kind entries (drafted x)) = put_on x p 10 entries h (unkept 10 kind e) (omega (arith, five)) below room in
+          visits x p 10 h five ready (put p scn_kind entries (drafted x)) puts.clear (put_stood x (put p scn_kind entries (drafted x)).image p 10 entries h puts.on (no_map_at x p h.size map))
 
   pub system_visits : Visits x p (system_kind x p) (take_page p (system_page p (drafted x)))
   system_visits = by (is_inventory_place (image_size x) p) refl

@@ -8,10 +8,11 @@ use Rattle.std.proofs.lemmas.Bool.Decides.{eqb_tells}
 use Rattle.nb_fields.specs.Bytes.{bytes_of, with_part}
 use Rattle.nb_fields.specs.Page.{stamped}
 use Rattle.nb_fields.specs.Payloads.{data_payload}
-use Rattle.nb_fields.specs.Places.{entries_in, bits_in, is_inventory_place, is_scn_place, is_system_place}
+use Rattle.nb_fields.specs.Places.{entries_in, bits_in, is_inventory_place, is_scn_place, is_system_place, most_pages}
 use Rattle.nb_fields.proofs.NumberLemmas.{length-bytes_of}
 use Rattle.nb_fields.proofs.PartLemmas.{length-with_part}
 use Rattle.nb_fields.proofs.SizeLemmas.{SizeFacts, size_facts}
+use Rattle.nb_fields.specs.Kinds.{inventory_kind, data_kind}
 use Rattle.nb_model.specs.Account.{Base, base_of}
 use Rattle.nb_model.specs.Chains.{Chain, Slot, Spot, owner_of, owner_in, spots_of, free_spot, put_slot, last_of, grown, place_at, place_slot}
 use Rattle.nb_model.specs.Forms.{Draft, drafted, old_page, put, with_bit, set_bit, give_page, inventory_of, bit_number, new_within, new_page}
@@ -102,8 +103,8 @@ module _ (image : Image) (h : IsWhole image) (bit p : ℕ) (two : 2 ≤ p) (low 
   bit_place : IsPlace image i
   bit_place = record { behind = inventory_place_some (image_size image) (p / bits_in (image_size image)) h.fields.size; there = omega (arith, bit_inventory); most = let most = h.sound.most in omega (arith, bit_inventory, most) }
 
-  bit_is : set_bit bit p (drafted image) ≡ put i 2 row (drafted image)
-  bit_is = set_bit_is bit p image (kind_found image 2 i bit_inventory (h.sound.sound.system.inventories i bit_inventory (inventory_there (image_size image) (p / bits_in (image_size image)) h.fields.size)))
+  bit_is : set_bit bit p (drafted image) ≡ put i inventory_kind row (drafted image)
+  bit_is = set_bit_is bit p image (kind_found image inventory_kind i bit_inventory (h.sound.sound.system.inventories i bit_inventory (inventory_there (image_size image) (p / bits_in (image_size image)) h.fields.size)))
 
   pub bit_size : image_size (set_bit bit p (drafted image)).image ≡ image_size image
   bit_size = ap (λ (x : Draft). image_size x.image) bit_is ∙ put_size image h i bit_place 2 row
@@ -190,7 +191,7 @@ module _ (b : Base) (d : Draft) (k : Keeps b d) where
     pub goes : Goes b d made.0
     pub page : IsTablePage made.0.image made.1
 
-  pub goes_new : (payload : ℕ → List ℕ) → ((p : ℕ) → length (payload p) ≤ 1008) → ((old : Page) (scn p : ℕ) → p ≢ 1 → p < 1048576 → owner_in (stamped old 5 (payload p) scn p) ≢ 1)
+  pub goes_new : (payload : ℕ → List ℕ) → ((p : ℕ) → length (payload p) ≤ 1008) → ((old : Page) (scn p : ℕ) → p ≢ 1 → p < most_pages → owner_in (stamped old data_kind (payload p) scn p) ≢ 1)
       → (new_page 5 payload d).0.full ≡ false → GoesToNew (new_page 5 payload d)
   goes_new payload room owner left = record {
     goes = record {
@@ -232,7 +233,7 @@ module _ (b : Base) (d : Draft) (k : Keeps b d) where
           let alone : Fits AnyPage (base_of d.image) new.0 = new_fits AnyPage any_kinds (base_of d.image) tries 5 payload (drafted d.image) refl room (λ x p w five most. tt) (fits_first AnyPage (base_of d.image) whole) in
           omega (arith, (fitting_stays AnyPage new.0.strokes (base_of d.image) alone.each whole).longer, ap length alone.is.is)
 
-      most : new.1 < 1048576
+      most : new.1 < most_pages
       most = let all = new_whole.sound.most in omega (arith, is_new.below, all)
 
       new_owner_is : owner_in (page_at new.0.image new.1) ≢ 1
@@ -267,10 +268,10 @@ module _ (b : Base) (d : Draft) (k : Keeps b d) where
       let payload : List ℕ = drop 16 (with_part (32 + 256 * slot) bytes old) in
       goes_put p 5 payload page refl
       (omega (arith, size.at_least, old_long, within, long, length-drop 16 (with_part (32 + 256 * slot) bytes old), length-with_part (32 + 256 * slot) bytes old (omega (arith, old_long, within, long))))
-      (λ e. page.owner (sym (ap (λ (x : Page). owner_in (stamped x 5 payload (image_scn d.image) p)) (old_there d.image p page.below) ∙ written_owner slot bytes old (image_scn d.image) p long (omega (arith, old_long, within))) ∙ e))
+      (λ e. page.owner (sym (ap (λ (x : Page). owner_in (stamped x data_kind payload (image_scn d.image) p)) (old_there d.image p page.below) ∙ written_owner slot bytes old (image_scn d.image) p long (omega (arith, old_long, within))) ∙ e))
 
   -- The next page is named in a page.
-  pub goes_link : (p next : ℕ) → IsTablePage d.image p → Goes b d (put p 5 (drop 16 (with_part 16 (bytes_of 4 next) (page_at d.image p))) d)
+  pub goes_link : (p next : ℕ) → IsTablePage d.image p → Goes b d (put p data_kind (drop 16 (with_part 16 (bytes_of 4 next) (page_at d.image p))) d)
   goes_link p next page =
       let size = size_facts_here in
       let old : Page = page_at d.image p in
@@ -279,13 +280,13 @@ module _ (b : Base) (d : Draft) (k : Keeps b d) where
       let four : length (bytes_of 4 next) ≡ 4 = length-bytes_of 4 next in
       goes_put p 5 payload page refl
       (omega (arith, size.at_least, old_long, length-drop 16 (with_part 16 (bytes_of 4 next) old), length-with_part 16 (bytes_of 4 next) old (omega (arith, size.at_least, old_long, four))))
-      (λ e. page.owner (sym (ap (λ (x : Page). owner_in (stamped x 5 payload (image_scn d.image) p)) (old_there d.image p page.below) ∙ linked_owner old next (image_scn d.image) p (omega (arith, size.at_least, old_long))) ∙ e))
+      (λ e. page.owner (sym (ap (λ (x : Page). owner_in (stamped x data_kind payload (image_scn d.image) p)) (old_there d.image p page.below) ∙ linked_owner old next (image_scn d.image) p (omega (arith, size.at_least, old_long))) ∙ e))
 
 -- where a page was left for all, it was left before
 pub place_left : (chain : Chain) (room : Option Spot) (pages : List ℕ) (bytes : Slot) (d : Draft) → (place_at chain room pages bytes d).full ≡ false → d.full ≡ false
 unfolding put_slot grown
-place_left chain (Some s) pages bytes d left = put_full s.page 5 (drop 16 (with_part (32 + 256 * s.slot) bytes (page_at d.image s.page))) d left
-place_left chain None pages bytes d left = new_left (put_full (last_of pages) 5 (drop 16 (with_part 16 (bytes_of 4 made.1) (page_at made.0.image (last_of pages)))) made.0 left)
+place_left chain (Some s) pages bytes d left = put_full s.page data_kind (drop 16 (with_part (32 + 256 * s.slot) bytes (page_at d.image s.page))) d left
+place_left chain None pages bytes d left = new_left (put_full (last_of pages) data_kind (drop 16 (with_part 16 (bytes_of 4 made.1) (page_at made.0.image (last_of pages)))) made.0 left)
   where
     made : Draft × ℕ
     made = new_page 5 (λ p. data_payload 0 (owner_of chain) bytes) d
@@ -312,7 +313,7 @@ module _ (b : Base) (d : Draft) (k : Keeps b d) (chain : Chain) (pages : List �
   pub goes_grown : (grown chain pages bytes d).0.full ≡ false → Goes b d (grown chain pages bytes d).0
   unfolding grown
   goes_grown left =
-      let one : GoesToNew b d k made = made_goes (put_full last 5 (drop 16 (with_part 16 (bytes_of 4 made.1) (page_at made.0.image last))) made.0 left) in
+      let one : GoesToNew b d k made = made_goes (put_full last data_kind (drop 16 (with_part 16 (bytes_of 4 made.1) (page_at made.0.image last))) made.0 left) in
       goes_broken b d _ _ (goes_both b d made.0 _ one.goes (goes_link b made.0 one.goes.keeps last made.1 (last_of_all (IsTablePage made.0.image) pages some (all_pages b d made.0 pages one.goes each))))
 
   -- at a place that is in its page

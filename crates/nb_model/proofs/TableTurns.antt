@@ -5,10 +5,11 @@ use Rattle.std.specs.Prelude.{Bool, true, false, nat_lt, Some, None}
 use Rattle.std.specs.List.{AllByRecursion}
 use Rattle.std.proofs.lemmas.Bool.{true≢false, and_parts, leb-true}
 use Rattle.nb_fields.specs.Bytes.{bytes_of}
-use Rattle.nb_fields.specs.Places.{is_inventory_place}
+use Rattle.nb_fields.specs.Places.{is_inventory_place, most_pages}
 use Rattle.nb_fields.specs.Page.{stamped}
 use Rattle.nb_fields.specs.Payloads.{data_payload}
 use Rattle.nb_fields.proofs.PageLemmas.{length-padded}
+use Rattle.nb_fields.specs.Kinds.{data_kind}
 use Rattle.nb_host.specs.declared.refusals.Refusal.{Refusal}
 use Rattle.nb_model.specs.declared.reply.Reply.{Reply}
 use Rattle.nb_model.specs.declared.reply.Reply.TheVariants.{Done}
@@ -78,7 +79,7 @@ module _ (image : Image) (h : HasHeader image) (is : IsSoundImage image) where
   catalogue_other e = absurd (omega (arith, e))
 
   -- The first page of a table's rows is no system page, so it isn't the number that stands for the history.
-  pub rows_owner : (first : ℕ) → broken_at (pages_of (RowsFrom first) image) ≡ None → (owner_of (RowsFrom first) ≢ 1) × (first < 1048576)
+  pub rows_owner : (first : ℕ) → broken_at (pages_of (RowsFrom first) image) ≡ None → (owner_of (RowsFrom first) ≢ 1) × (first < most_pages)
   rows_owner first unbroken =
       let in_it : is_in_chain (RowsFrom first) image first ≡ true = first_found (RowsFrom first) image unbroken in
       let plain = chain_plain (RowsFrom first) image first h is in_it in
@@ -124,7 +125,7 @@ module _ (s : Seen) (h : HasHeader s.base.image) (is : IsSoundImage s.base.image
   unfolding free_spot
   create_keeps table named = create_either (TurnKeeps s) s denied table (λ may. says_draft s (created image table) Done (goes may).keeps)
     where
-      owner : (old : Page) (scn p : ℕ) → p ≢ 1 → p < 1048576 → owner_in (stamped old 5 (data_payload 0 p []) scn p) ≢ 1
+      owner : (old : Page) (scn p : ℕ) → p ≢ 1 → p < most_pages → owner_in (stamped old data_kind (data_payload 0 p []) scn p) ≢ 1
       owner old scn p one most e = one (sym (new_owner old 0 p [] scn p (omega (arith, most))) ∙ e)
 
       goes : MayCreate image table → Goes s.base (new_first image).0 (created image table)

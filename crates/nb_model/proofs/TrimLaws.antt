@@ -5,6 +5,7 @@ use Rattle.std.proofs.lemmas.Bool.{cases_lt}
 use Rattle.std.proofs.lemmas.List.{get_or_append_left, get_or-append_right}
 use Rattle.nb_fields.specs.Bytes.{is_zeros}
 use Rattle.nb_fields.specs.Header.{is_header}
+use Rattle.nb_fields.specs.States.{normal_state}
 use Rattle.nb_model.specs.Account.{Base}
 use Rattle.nb_model.specs.Image.{Page, Image, page_at, first_page, image_scn, image_guid, trimmed}
 use Rattle.nb_model.specs.Owner.{main_page}
@@ -91,13 +92,13 @@ trimmed_zeros image p past low =
     ∙ all_at (λ (z : Page). is_zeros z ≡ true) cut.rest cut.zeros (p - length (trimmed image)) (omega (arith, past, low, ap length cut.is, length-append (trimmed image) cut.rest))
 
 -- The end of a merge, as it computes.
-pub finish_base : (b : Base) → on_base finish b ≡ record b { image = with_control 0 (image_scn b.image) (image_guid b.image) (trimmed b.image); diverted = [] }
+pub finish_base : (b : Base) → on_base finish b ≡ record b { image = with_control normal_state (image_scn b.image) (image_guid b.image) (trimmed b.image); diverted = [] }
 unfolding on_base
 finish_base b = refl
 
 -- Where no page is zeros, it changes page 0 alone.
-pub finish_full : (b : Base) → HasNoZeros b.image → on_base finish b ≡ record b { image = with_control 0 (image_scn b.image) (image_guid b.image) b.image; diverted = [] }
-finish_full b full = finish_base b ∙ ap (λ (x : Image). record b { image = with_control 0 (image_scn b.image) (image_guid b.image) x; diverted = [] }) (trimmed-no_zeros b.image full)
+pub finish_full : (b : Base) → HasNoZeros b.image → on_base finish b ≡ record b { image = with_control normal_state (image_scn b.image) (image_guid b.image) b.image; diverted = [] }
+finish_full b full = finish_base b ∙ ap (λ (x : Image). record b { image = with_control normal_state (image_scn b.image) (image_guid b.image) x; diverted = [] }) (trimmed-no_zeros b.image full)
 
 -- After it no page of zeros stands at the end, so it is an image that a main file may have.
 pub finish_whole : (b : Base) → HasHeader b.image → IsTrimmed (on_base finish b).image
@@ -107,11 +108,11 @@ finish_whole b header = subst (λ (x : Image). IsTrimmed x) (sym (ap (λ (c : Ba
     may : MayControl 0 (image_scn b.image) (image_guid b.image) b.image
     may = may_finish b.image header
 
-    other : is_zeros (controlled 0 (image_scn b.image) (image_guid b.image) (first_page b.image)) ≡ false
-    other = header-other (controlled 0 (image_scn b.image) (image_guid b.image) (first_page b.image))
+    other : is_zeros (controlled normal_state (image_scn b.image) (image_guid b.image) (first_page b.image)) ≡ false
+    other = header-other (controlled normal_state (image_scn b.image) (image_guid b.image) (first_page b.image))
         (control_header 0 (image_scn b.image) (image_guid b.image) (first_page b.image) (header-long (first_page b.image) header.header) may.sixteen header.header may.sound (omega arith) may.four)
 
-    by : (x : Image) → IsTrimmed x → first_page x ≡ first_page b.image → IsTrimmed (with_control 0 (image_scn b.image) (image_guid b.image) x)
+    by : (x : Image) → IsTrimmed x → first_page x ≡ first_page b.image → IsTrimmed (with_control normal_state (image_scn b.image) (image_guid b.image) x)
     by [] whole first = whole
     by (p ∷ ps) whole first =
-        trimmed-before [] (controlled 0 (image_scn b.image) (image_guid b.image) p) ps (ap (λ (y : Page). is_zeros (controlled 0 (image_scn b.image) (image_guid b.image) y)) first ∙ other) (trimmed-drop 1 (p ∷ ps) whole)
+        trimmed-before [] (controlled normal_state (image_scn b.image) (image_guid b.image) p) ps (ap (λ (y : Page). is_zeros (controlled normal_state (image_scn b.image) (image_guid b.image) y)) first ∙ other) (trimmed-drop 1 (p ∷ ps) whole)

@@ -3,6 +3,7 @@ use Rattle.std.proofs.Common.{◌≡◌, ◌≢◌, inl, inr, ℕ, zero, suc, �
 use Rattle.std.specs.Prelude.{Bool, true, false, not, ◌==◌, nat_lt, Option, Some, None, is_none}
 use Rattle.std.proofs.lemmas.Bool.{true≢false, eqb-true, lt-ltb}
 use Rattle.std.proofs.lemmas.Bool.Decides.{leb_tells}
+use Rattle.nb_fields.specs.States.{normal_state, stalled_state}
 use Rattle.nb_host.specs.declared.refusals.Refusal.{Refusal}
 use Rattle.nb_host.specs.declared.refusals.Refusal.TheVariants.{WrongState, NoHistory, NoGuid}
 use Rattle.nb_model.specs.declared.reply.Reply.{Reply}
@@ -70,13 +71,13 @@ not_more m n r none = elim (leb_tells n m) [ inl w ↦ w.1 | inr w ↦ absurd (t
 -- `begin`
 pub record MayBegin (image : Image) : Type 0 where
   pub writable : is_read_only image ≡ false
-  pub normal : image_state image ≡ 0
+  pub normal : image_state image ≡ normal_state
   pub scn : image_scn image ≤ 4294967293
 
-begin_facts : (image : Image) → first_cause (read_only image ∷ not_state 0 image ∷ no_scn image ∷ []) ≡ None → MayBegin image
+begin_facts : (image : Image) → first_cause (read_only image ∷ not_state normal_state image ∷ no_scn image ∷ []) ≡ None → MayBegin image
 begin_facts image none =
     let a = no_first (read_only image) _ none in
-    let b = no_first (not_state 0 image) _ a.1 in
+    let b = no_first (not_state normal_state image) _ a.1 in
     record { writable = not_when (is_read_only image) _ a.0; normal = is_not (image_state image) 0 _ b.0; scn = not_more 4294967293 (image_scn image) _ (no_first (no_scn image) _ b.1).0 }
 
 abbrev pub begun : Seen → Outcome
@@ -91,18 +92,18 @@ begun s = record {
 
 pub begin_either : (P : Outcome → Type 0) (s : Seen) → ((r : Refusal) → P (refused s r)) → (MayBegin s.base.image → P (begun s)) → P (begin_turn s)
 unfolding begin_turn
-begin_either P s denied done = unless_either P s (first_cause (read_only s.base.image ∷ not_state 0 s.base.image ∷ no_scn s.base.image ∷ [])) (begun s) denied (λ none. done (begin_facts s.base.image none))
+begin_either P s denied done = unless_either P s (first_cause (read_only s.base.image ∷ not_state normal_state s.base.image ∷ no_scn s.base.image ∷ [])) (begun s) denied (λ none. done (begin_facts s.base.image none))
 
 -- `end`
 pub record MayEnd (s : Seen) (session : ℕ) : Type 0 where
-  pub other : image_state s.base.image ≢ 0
+  pub other : image_state s.base.image ≢ normal_state
   pub alone : runs_other s.running session ≡ None
 
-end_facts : (s : Seen) (session : ℕ) → first_cause (when (image_state s.base.image == 0) (WrongState 0) ∷ runs_other s.running session ∷ []) ≡ None → MayEnd s session
+end_facts : (s : Seen) (session : ℕ) → first_cause (when (image_state s.base.image == normal_state) (WrongState 0) ∷ runs_other s.running session ∷ []) ≡ None → MayEnd s session
 end_facts s session none =
-    let a = no_first (when (image_state s.base.image == 0) (WrongState 0)) _ none in
+    let a = no_first (when (image_state s.base.image == normal_state) (WrongState 0)) _ none in
     record {
-      other = λ e. true≢false (sym (ap (λ (n : ℕ). n == 0) e) ∙ not_when (image_state s.base.image == 0) _ a.0);
+      other = λ e. true≢false (sym (ap (λ (n : ℕ). n == 0) e) ∙ not_when (image_state s.base.image == normal_state) _ a.0);
       alone = (no_first (runs_other s.running session) _ a.1).0;
     }
 
@@ -112,7 +113,7 @@ ended s session = ends_by s session (Scn (end_scn s.base.image))
 pub end_either : (P : Outcome → Type 0) (s : Seen) (session : ℕ) → ((r : Refusal) → P (refused s r)) → (MayEnd s session → P (ended s session)) → P (end_turn s session)
 unfolding end_turn
 end_either P s session denied done =
-    unless_either P s (first_cause (when (image_state s.base.image == 0) (WrongState 0) ∷ runs_other s.running session ∷ [])) (ended s session) denied (λ none. done (end_facts s session none))
+    unless_either P s (first_cause (when (image_state s.base.image == normal_state) (WrongState 0) ∷ runs_other s.running session ∷ [])) (ended s session) denied (λ none. done (end_facts s session none))
 
 -- no other session runs
 pub its_own : (other session : ℕ) → runs_other (Some other) session ≡ None → other ≡ session
@@ -130,7 +131,7 @@ pub record MayStart (s : Seen) (name : List ℕ) : Type 0 where
 abbrev pub start_cause : Seen → (name : List ℕ) → (missing : Cause) → Cause
 start_cause s name missing = first_cause (
     read_only s.base.image
-    ∷ not_state 0 s.base.image
+    ∷ not_state normal_state s.base.image
     ∷ not_free name (s.entry name)
     ∷ broken_at (pages_of History s.base.image)
     ∷ missing
@@ -145,7 +146,7 @@ start_facts s name missing none =
     let image : Image = s.base.image in
     let d : Draft = (room_in image).draft in
     let a = no_first (read_only image) _ none in
-    let b = no_first (not_state 0 image) _ a.1 in
+    let b = no_first (not_state normal_state image) _ a.1 in
     let c = no_first (not_free name (s.entry name)) _ b.1 in
     let e = no_first (broken_at (pages_of History image)) _ c.1 in
     let f = no_first missing _ e.1 in
@@ -210,13 +211,13 @@ since_either P s session guid name denied done = since_row P s session name (λ 
 
 -- `copy`
 pub record MayCopy (s : Seen) (name : List ℕ) : Type 0 where
-  pub stalled : image_state s.base.image ≡ 1
+  pub stalled : image_state s.base.image ≡ stalled_state
   pub alone : s.running ≡ None
   pub free : is_free_entry (s.entry name) ≡ true
 
-copy_facts : (s : Seen) (name : List ℕ) → first_cause (not_state 1 s.base.image ∷ runs_any s.running ∷ not_free name (s.entry name) ∷ []) ≡ None → MayCopy s name
+copy_facts : (s : Seen) (name : List ℕ) → first_cause (not_state stalled_state s.base.image ∷ runs_any s.running ∷ not_free name (s.entry name) ∷ []) ≡ None → MayCopy s name
 copy_facts s name none =
-    let a = no_first (not_state 1 s.base.image) _ none in
+    let a = no_first (not_state stalled_state s.base.image) _ none in
     let b = no_first (runs_any s.running) _ a.1 in
     record { stalled = is_not (image_state s.base.image) 1 _ a.0; alone = by s.running b.0; free = is_so (is_free_entry (s.entry name)) _ (no_first (not_free name (s.entry name)) _ b.1).0 }
   where
@@ -237,7 +238,7 @@ copied s session name = record {
 pub copy_either : (P : Outcome → Type 0) (s : Seen) (session : ℕ) (name : List ℕ) → ((r : Refusal) → P (refused s r)) → (MayCopy s name → P (copied s session name)) → P (copy_turn s session name)
 unfolding copy_turn
 copy_either P s session name denied done =
-    unless_either P s (first_cause (not_state 1 s.base.image ∷ runs_any s.running ∷ not_free name (s.entry name) ∷ [])) (copied s session name) denied (λ none. done (copy_facts s name none))
+    unless_either P s (first_cause (not_state stalled_state s.base.image ∷ runs_any s.running ∷ not_free name (s.entry name) ∷ [])) (copied s session name) denied (λ none. done (copy_facts s name none))
 
 -- what is still to be given after a statement on pages: `show cache` takes a number of pages that are held
 abbrev pub left_by : Statement → Given → Given

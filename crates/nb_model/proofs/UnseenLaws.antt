@@ -5,6 +5,7 @@ use Rattle.std.proofs.lemmas.Bool.Decides.{leb_tells}
 use Rattle.nb_fields.specs.Bytes.{is_zeros}
 use Rattle.nb_fields.specs.Free.{is_free_file}
 use Rattle.nb_fields.specs.Header.{is_header, size_of, state_of}
+use Rattle.nb_fields.specs.States.{applying_state}
 use Rattle.nb_host.specs.Files.{File}
 use Rattle.nb_model.specs.Account.{Entry, Missing, Plain, IsBase}
 use Rattle.nb_model.specs.Causes.{is_free_entry}
@@ -73,7 +74,7 @@ free_unseen (Missing delta) free header state = no_header header
 free_unseen (Plain bytes delta) free header state =
     let front : take 64 (first_page (image_in bytes)) ≡ take 64 bytes = image_front bytes header in
     let same : state_of (first_page (image_in bytes)) ≡ state_of bytes = same-number (first_page (image_in bytes)) bytes front 22 2 (omega arith) in
-    let three : state_of bytes ≡ 3 = (free_header bytes (and_parts _ (is_free_file (Some bytes)) free).1 (sym (same-header (first_page (image_in bytes)) bytes front) ∙ header)).0 in
+    let three : state_of bytes ≡ applying_state = (free_header bytes (and_parts _ (is_free_file (Some bytes)) free).1 (sym (same-header (first_page (image_in bytes)) bytes front) ∙ header)).0 in
     absurd (omega (arith, same, three, state))
 free_unseen (IsBase b) free header state = false_true free
 

@@ -1,6 +1,7 @@
 -- Causes that aren't the refusal of words which name no job.
 use Rattle.std.proofs.Common.{◌≡◌, ◌≢◌, ℕ, List, [], ◌∷◌, length, map}
 use Rattle.nb_fields.specs.Header.{is_header, size_of}
+use Rattle.nb_fields.specs.Places.{most_pages}
 use Rattle.std.specs.Prelude.{Bool, Option, Some, None, Result, Ok, Err, true, false, nat_lt, not, min, ◌/◌, ◌%◌, ◌==◌, ◌||◌}
 use Rattle.std.specs.List.{AllByRecursion}
 use Rattle.nb_host.specs.declared.refusals.Refusal.{Refusal}
@@ -41,7 +42,7 @@ other_database bytes = by (is_header bytes)
 
     by : (t : Bool) → IsOther (elim t as (λ z. Cause) [
       | false ↦ Some (NotDatabase 0)
-      | true ↦ first_cause (when (not (length bytes % size_of bytes == 0) || nat_lt pages 5) (NotDatabase (min pages 1048576)) ∷ when (nat_lt 1048576 pages) (NotDatabase 1048576) ∷ [])
+      | true ↦ first_cause (when (not (length bytes % size_of bytes == 0) || nat_lt pages 5) (NotDatabase (min pages most_pages)) ∷ when (nat_lt most_pages pages) (NotDatabase most_pages) ∷ [])
     ])
     by false = λ e. cc
     by true = other_first _ (other_when _ _ (λ e. cc), (other_when _ _ (λ e. cc), tt))

@@ -7,6 +7,7 @@ use Rattle.std.proofs.lemmas.List.{append-nil}
 use Rattle.std.proofs.lemmas.Bool.Decides.{eqb_tells, leb_tells}
 use Rattle.nb_fields.specs.Places.{is_scn_place}
 use Rattle.nb_fields.specs.Header.{state_of, size_of}
+use Rattle.nb_fields.specs.States.{stalled_state, merge_state}
 use Rattle.nb_model.specs.Image.{Page, Image, page_at, first_page, image_size, image_state, is_forced, with_page}
 use Rattle.nb_model.specs.Account.{Base}
 use Rattle.nb_model.specs.Strokes.{page, noted, on_base}
@@ -49,7 +50,7 @@ module _ (b : Base) (p : ℕ) (bytes : Page) (some : 1 ≤ p) (low : p < length 
   put_frozen = refl
 
   -- outside the stalled state no entry is noted
-  pub put_diverted : image_state b.image ≢ 1 → (on_base (page p bytes) b).diverted ≡ b.diverted
+  pub put_diverted : image_state b.image ≢ stalled_state → (on_base (page p bytes) b).diverted ≡ b.diverted
   unfolding on_base
   put_diverted main = elim (eqb_tells (image_state b.image) 1) [
     | inl w ↦ absurd (main w.1)
@@ -59,7 +60,7 @@ module _ (b : Base) (p : ℕ) (bytes : Page) (some : 1 ≤ p) (low : p < length 
   -- and in it one more at most
   pub put_longer : (more : List ℕ) × ((on_base (page p bytes) b).diverted ≡ b.diverted ++ more)
   unfolding on_base noted
-  put_longer = by (image_state b.image == 1) (list_any (nat_eq p) b.diverted)
+  put_longer = by (image_state b.image == stalled_state) (list_any (nat_eq p) b.diverted)
     where
       by : (stalled any : Bool) → (more : List ℕ) × ((elim stalled as (λ z. List ℕ) [ true ↦ elim any as (λ z. List ℕ) [ true ↦ b.diverted | false ↦ b.diverted ++ p ∷ [] ] | false ↦ b.diverted ]) ≡ b.diverted ++ more)
       by true true = ([], sym (append-nil b.diverted))
@@ -67,7 +68,7 @@ module _ (b : Base) (p : ℕ) (bytes : Page) (some : 1 ≤ p) (low : p < length 
       by false any = ([], sym (append-nil b.diverted))
 
 -- It is the page that is seen.
-module _ (t : Trail) (p : ℕ) (some : 1 ≤ p) (low : p < length t.base.image) (main : image_state t.base.image ≢ 1) where
+module _ (t : Trail) (p : ℕ) (some : 1 ≤ p) (low : p < length t.base.image) (main : image_state t.base.image ≢ stalled_state) where
   abbrev own : Page
   own = page_at t.base.image p
 
@@ -76,7 +77,7 @@ module _ (t : Trail) (p : ℕ) (some : 1 ≤ p) (low : p < length t.base.image) 
     inside : p < length b.image
     inside = omega (arith, low, long)
 
-    main_b : image_state b.image ≢ 1
+    main_b : image_state b.image ≢ stalled_state
     main_b e = main (sym (ap state_of first) ∙ e)
 
     long_put : length (on_base (page p own) b).image ≡ length t.base.image
@@ -164,7 +165,7 @@ module _ (t : Trail) (p : ℕ) (some : 1 ≤ p) (low : p < length t.base.image) 
   }
 
 -- The way begins where the files are behind,
-pub way_start : (f t : Trail) (b : Base) → IsBehind f t → image_state t.base.image ≢ 1 → IsFirm f b → IsOnTheWay f t b
+pub way_start : (f t : Trail) (b : Base) → IsBehind f t → image_state t.base.image ≢ stalled_state → IsFirm f b → IsOnTheWay f t b
 way_start f t b is main left = record {
   long = left.mixed.long ∙ is.long;
   first = left.mixed.first ∙ is.first;
@@ -232,7 +233,7 @@ module _ (f t : Trail) (p : ℕ) (bytes : Page) (is : IsBehind f t) (some : 1 �
       longer.1 ∙ ap (λ (x : List ℕ). x ++ longer.0) is.diverted.1 ∙ append_assoc f.base.diverted is.diverted.0 longer.0,
     );
     merging = λ m.
-        let merges : image_state t.base.image ≡ 2 = sym (ap state_of first) ∙ m in
+        let merges : image_state t.base.image ≡ merge_state = sym (ap state_of first) ∙ m in
         is.merging merges ∙ sym (put_diverted t.base p bytes some low (λ stalled. absurd (omega (arith, stalled, merges))));
   })
     where

@@ -4,6 +4,7 @@ use Rattle.std.specs.Prelude.{IsTrue, true, Contains}
 use Rattle.nb_fields.specs.Fresh.{fresh}
 use Rattle.nb_fields.specs.Places.{is_page_size}
 use Rattle.nb_fields.specs.Header.{is_header}
+use Rattle.nb_fields.specs.States.{normal_state, stalled_state}
 use Rattle.nb_model.specs.Going.{IsNamed}
 use Rattle.nb_model.specs.declared.statement.Statement.{Statement}
 use Rattle.nb_model.specs.Image.{Page, Image, first_page, image_state, image_scn, image_guid, with_page}
@@ -59,7 +60,7 @@ module _ (kept : List Kept) (t : Trail) (b : Base) (w : IsWellTrail kept t) (lef
   none_left [] ys e = refl
   none_left (x ∷ xs) ys e = absurd (let long = ap length e in omega arith)
 
-  left_told : image_state b.image ≡ 0 → b ≡ base_of b.image
+  left_told : image_state b.image ≡ normal_state → b ≡ base_of b.image
   left_told normal =
       let is : t.base ≡ base_of t.base.image = w.base.normal (sym left_state ∙ normal) in
       told_whole b (left.rest.frozen ∙ ap (λ (c : Base). c.frozen) is) (none_left b.diverted left.rest.diverted.0 (sym (ap (λ (c : Base). c.diverted) is) ∙ left.rest.diverted.1))
@@ -82,7 +83,7 @@ module _ (kept : List Kept) (t : Trail) (b : Base) (w : IsWellTrail kept t) (lef
   }
 
 -- A well database, settled, is a well trail.
-pub settled_well : (kept : List Kept) (b : Base) → IsWellBaseIn kept b → (image_state b.image ≡ 1 → IsOverFrozen b) → IsWellTrail kept (settled b)
+pub settled_well : (kept : List Kept) (b : Base) → IsWellBaseIn kept b → (image_state b.image ≡ stalled_state → IsOverFrozen b) → IsWellTrail kept (settled b)
 settled_well kept b w over = record {
   base = w;
   over = over;
@@ -143,7 +144,7 @@ module _ (kept : List Kept) (t : Trail) (p : ℕ) (bytes : Page) (w : IsWellTrai
   sound : IsSoundImage later_base.image
   sound = subst IsSoundImage (sym image_is) (page_sound now p page_now whole.fields whole.sound fits)
 
-  told : image_state later_base.image ≡ 0 → later_base ≡ base_of later_base.image
+  told : image_state later_base.image ≡ normal_state → later_base ≡ base_of later_base.image
   told normal =
       let one : IsQuiet (page p bytes) t.base = quiet (page p bytes) t.base tt (sym state ∙ normal) in
       let is : t.base ≡ base_of now = w.base.normal (sym state ∙ normal) in
@@ -160,7 +161,7 @@ module _ (kept : List Kept) (t : Trail) (p : ℕ) (bytes : Page) (w : IsWellTrai
       past = past_with kept (AllGoOn later) (λ r. GoesOn r later_base.image) last_goes_on later_base.image past_now;
     };
     normal = told;
-    stalled = λ stalled. let one : image_state now ≡ 1 = sym state ∙ stalled in stroke_stalled t.base p bytes whole one (w.base.stalled one) (w.over one) fits;
+    stalled = λ stalled. let one : image_state now ≡ stalled_state = sym state ∙ stalled in stroke_stalled t.base p bytes whole one (w.base.stalled one) (w.over one) fits;
     backup = λ stalled. of_record kept t.base later_base frozen guid (w.base.backup (sym state ∙ stalled));
     merge = λ merge. frozen ∙ w.base.merge (sym state ∙ merge);
   }
@@ -168,8 +169,8 @@ module _ (kept : List Kept) (t : Trail) (p : ℕ) (bytes : Page) (w : IsWellTrai
   pub stroke_well : IsWellTrail kept (after_stroke (page p bytes) t)
   stroke_well = record {
     base = subst (IsWellBaseIn kept) base_is base_well;
-    over = subst (λ (b : Base). image_state b.image ≡ 1 → IsOverFrozen b) base_is
-        (λ stalled. let one : image_state now ≡ 1 = sym state ∙ stalled in stroke_over t.base p bytes whole one (w.base.stalled one) (w.over one) fits);
+    over = subst (λ (b : Base). image_state b.image ≡ stalled_state → IsOverFrozen b) base_is
+        (λ stalled. let one : image_state now ≡ stalled_state = sym state ∙ stalled in stroke_over t.base p bytes whole one (w.base.stalled one) (w.over one) fits);
     sound = trail_goes_on (page p bytes) t w.sound (subst (IsEarlier now) (sym image_is) (write_goes_on p page_now now fits.there fits.head fits.no_lower)) (base_covered kept later_base base_well) sound;
     past = bases_after (λ m. NamesPast kept (AllGoOn later) m.image) (page p bytes) t (λ m here. past_with kept (AllGoOn t) (AllGoOn later) go_on m.image (w.past m here)) past_now;
   }
@@ -201,7 +202,7 @@ settling_well kept t w = settled_well kept t.base w.base w.over
 -- in the normal state a well database is one that its image tells whole
 pub well_normal : (kept : List Kept) (b : Base) → IsWellBase kept b → IsWellBaseIn kept b
 well_normal kept b w =
-    let normal : image_state b.image ≡ 0 = w.well.state in
+    let normal : image_state b.image ≡ normal_state = w.well.state in
     record {
       state = omega arith;
       well = subst (λ (n : ℕ). IsWellIn kept n b.image) (sym normal) w.well;

@@ -7,6 +7,8 @@ use Rattle.nb_fields.specs.Bytes.{number_of, number_in, part}
 use Rattle.nb_fields.specs.Header.{is_header, state_of, size_of, scn_of, guid_of}
 use Rattle.nb_fields.proofs.HeaderLemmas.{is_header-take}
 use Rattle.nb_fields.proofs.PartLemmas.{part-take}
+use Rattle.nb_fields.specs.Places.{most_pages}
+use Rattle.nb_fields.specs.States.{stalled_state}
 use Rattle.nb_host.specs.Files.{Files}
 use Rattle.nb_host.specs.declared.refusals.Refusal.{Refusal}
 use Rattle.nb_model.specs.Image.{Page, Image, image_size, first_page, cut}
@@ -50,11 +52,11 @@ module _ (p : Page) (rest : List ℕ) (long : 64 ≤ length p) where
   header = sym (is_header-take (p ++ rest)) ∙ ap is_header front ∙ is_header-take p
 
 -- so many whole pages as a database may have
-good_length : (bytes : List ℕ) (n size : ℕ) → size_of bytes ≡ size → length bytes ≡ n * size → 0 < size → 5 ≤ n → n ≤ 1048576 → is_bad_length bytes ≡ false
+good_length : (bytes : List ℕ) (n size : ℕ) → size_of bytes ≡ size → length bytes ≡ n * size → 0 < size → 5 ≤ n → n ≤ most_pages → is_bad_length bytes ≡ false
 good_length bytes n size e long some least most =
     let whole : length bytes % size_of bytes ≡ 0 = ap (λ x. length bytes % x) e ∙ ap (λ x. x % size) long ∙ mul-mod_left n size in
     let count : length bytes / size_of bytes ≡ n = ap (λ x. length bytes / x) e ∙ ap (λ x. x / size) long ∙ mul-div_cancel n some in
-    or_no _ _ (ap not (eq_yes _ _ whole)) (or_no _ _ (ap (λ x. nat_lt x 5) count ∙ lt_no n 5 least) (ap (λ x. nat_lt 1048576 x) count ∙ lt_no 1048576 n most))
+    or_no _ _ (ap not (eq_yes _ _ whole)) (or_no _ _ (ap (λ x. nat_lt x 5) count ∙ lt_no n 5 least) (ap (λ x. nat_lt most_pages x) count ∙ lt_no most_pages n most))
 
 when_false : (t : Bool) (r : Refusal) → t ≡ false → when t r ≡ None
 when_false t r e = rw e refl
@@ -63,7 +65,7 @@ two_none : (a b : Cause) → a ≡ None → b ≡ None → first_cause (a ∷ b 
 unfolding first_cause
 two_none a b ea eb = rw (ea, first_cause) (rw (eb, first_cause) refl)
 
-is_whole : (name bytes : List ℕ) → is_header bytes ≡ true → state_of bytes ≡ 1 → is_bad_length bytes ≡ false → not_whole name bytes ≡ None
+is_whole : (name bytes : List ℕ) → is_header bytes ≡ true → state_of bytes ≡ stalled_state → is_bad_length bytes ≡ false → not_whole name bytes ≡ None
 unfolding not_whole
 is_whole name bytes header state good =
     rw (header, not_whole) (two_none _ _ (when_false _ _ (ap not (eq_yes _ _ state))) (when_false _ _ good))
@@ -108,7 +110,7 @@ copy_accepted files r zeros name holds =
     let least : 5 ≤ n = omega (arith, holds.whole.least, length-append r.image zeros) in
     let all : length bytes ≡ n * size = length-joined size pages sizes in
     let is_header_too : is_header bytes ≡ true = ap is_header is ∙ header p rest long ∙ holds.begun.header in
-    let state : state_of bytes ≡ 1 = ap state_of is ∙ number p rest long 22 2 (omega arith) ∙ holds.begun.state in
+    let state : state_of bytes ≡ stalled_state = ap state_of is ∙ number p rest long 22 2 (omega arith) ∙ holds.begun.state in
     let size_too : size_of bytes ≡ size = ap size_of is ∙ number p rest long 24 4 (omega arith) in
     let scn : scn_of bytes ≡ r.scn + 1 = ap scn_of is ∙ number p rest long 28 4 (omega arith) ∙ holds.begun.scn in
     let guid : guid_of bytes ≡ r.guid = ap guid_of is ∙ field p rest long 32 16 (omega arith) ∙ holds.begun.guid in

@@ -2,6 +2,7 @@
 use Rattle.std.specs.Prelude.{ℕ, zero, suc, ◌+◌, ◌-◌, ◌/◌, List, [], ◌∷◌, ◌++◌, length, replicate, Option, Some, None, is_none, Bool, true, false, ◌&&◌, ◌||◌, ◌==◌, not, nat_eq, min}
 use Rattle.nb_fields.specs.Places.{bits_in}
 use Rattle.nb_fields.specs.Page.{kind_of}
+use Rattle.nb_fields.specs.States.{normal_state, stalled_state}
 use Rattle.nb_host.specs.Names.{same_name}
 use Rattle.nb_host.specs.declared.refusals.Refusal.TheVariants.{NoHistory, NoGuid}
 use Rattle.nb_model.specs.declared.reply.Reply.TheVariants.{Pages, Level, PagesShown}
@@ -50,7 +51,7 @@ starts s session name ask missing =
     let room : Room = room_in image in
     unless s (first_cause (
     read_only image
-    ∷ not_state 0 image
+    ∷ not_state normal_state image
     ∷ not_free name (s.entry name)
     ∷ broken_at (pages_of History image)
     ∷ missing
@@ -105,7 +106,7 @@ close_backup s b = record {
 -- `copy to 'NAME'`
 unfoldable pub copy_turn : Seen → (session : ℕ) (name : List ℕ) → Outcome
 copy_turn s session name =
-    unless s (first_cause (not_state 1 s.base.image ∷ runs_any s.running ∷ not_free name (s.entry name) ∷ []))
+    unless s (first_cause (not_state stalled_state s.base.image ∷ runs_any s.running ∷ not_free name (s.entry name) ∷ []))
     (record {
       strokes = [];
       reply = None;

@@ -4,6 +4,8 @@ use Rattle.nb_fields.specs.Page.{kind_of}
 use Rattle.nb_fields.specs.Header.{is_header, size_of}
 use Rattle.nb_fields.specs.Free.{is_free_file}
 use Rattle.nb_fields.specs.Payloads.{text_length}
+use Rattle.nb_fields.specs.Places.{most_pages}
+use Rattle.nb_fields.specs.Kinds.{inventory_kind, raw_kind}
 use Rattle.nb_host.specs.declared.refusals.Refusal.{Refusal}
 use Rattle.nb_host.specs.declared.refusals.Refusal.TheVariants.{FileExists, NotDatabase, WrongState, PageRange, NotAllocated, SystemPage, Full, ScnExhausted, Access, TextLong, BackupRunning}
 use Rattle.nb_model.specs.Image.{Image, page_at, image_state, image_scn, is_read_only}
@@ -46,9 +48,9 @@ not_kind image kind p = when (not (is_kind image kind p)) (NotDatabase p)
 unfoldable pub not_raw : Image → ℕ → Cause
 not_raw image p = first_cause (
     past_end image p
-    ∷ not_kind image 2 (inventory_of image p)
+    ∷ not_kind image inventory_kind (inventory_of image p)
     ∷ when (is_free_page image p) (NotAllocated p)
-    ∷ when (not (kind_of (page_at image p) == 8)) (SystemPage p)
+    ∷ when (not (kind_of (page_at image p) == raw_kind)) (SystemPage p)
     ∷ [])
 
 -- the raw page has a text of no form
@@ -74,7 +76,7 @@ not_of_form d = lowest_broken d.broken
 
 -- the change finds no page for a new one
 abbrev pub no_room : Draft → Cause
-no_room d = when d.full (Full 1048576)
+no_room d = when d.full (Full most_pages)
 
 -- the database is too short for a new page
 abbrev pub too_short : Image → Cause
@@ -112,8 +114,8 @@ not_database bytes =
       | true ↦
           let pages : ℕ = length bytes / size_of bytes in
           first_cause (
-          when (not (length bytes % size_of bytes == 0) || nat_lt pages 5) (NotDatabase (min pages 1048576))
-          ∷ when (nat_lt 1048576 pages) (NotDatabase 1048576)
+          when (not (length bytes % size_of bytes == 0) || nat_lt pages 5) (NotDatabase (min pages most_pages))
+          ∷ when (nat_lt most_pages pages) (NotDatabase most_pages)
           ∷ [])
     ]
 

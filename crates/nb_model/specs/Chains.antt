@@ -4,6 +4,7 @@ use Rattle.std.specs.List.{list_all}
 use Rattle.nb_fields.specs.Bytes.{bytes_of, with_part, part, number_in, padded}
 use Rattle.nb_fields.specs.Page.{kind_of}
 use Rattle.nb_fields.specs.Payloads.{data_payload}
+use Rattle.nb_fields.specs.Kinds.{data_kind}
 use Rattle.nb_host.specs.Names.{is_name, same_name}
 use Rattle.nb_model.specs.TableNames.{is_table_name}
 use Rattle.nb_model.specs.Image.{Page, Image, page_at}
@@ -102,7 +103,7 @@ slots_in page = slots_from ((length page - 32) / 256) 32 page
 -- page p is below the length and is a page of the chain
 unfoldable pub is_in_chain : Chain → Image → ℕ → Bool
 is_in_chain chain image p =
-    nat_lt p (length image) && (kind_of (page_at image p) == 5 && (owner_in (page_at image p) == owner_of chain && list_all (is_slot chain) (slots_in (page_at image p))))
+    nat_lt p (length image) && (kind_of (page_at image p) == data_kind && (owner_in (page_at image p) == owner_of chain && list_all (is_slot chain) (slots_in (page_at image p))))
 
 -- one page before the others, if they are a chain
 abbrev pub linked : ℕ → Result (List ℕ) ℕ → Result (List ℕ) ℕ
@@ -174,7 +175,7 @@ backup_spot test image = last_such (λ s. is_used s.bytes && test s.bytes) (spot
 
 -- the slot of page p is written
 unfoldable pub put_slot : (p slot : ℕ) → Slot → Draft → Draft
-put_slot p slot bytes d = put p 5 (drop 16 (with_part (32 + 256 * slot) bytes (page_at d.image p))) d
+put_slot p slot bytes d = put p data_kind (drop 16 (with_part (32 + 256 * slot) bytes (page_at d.image p))) d
 
 abbrev pub last_of : List ℕ → ℕ
 last_of [] = 0
@@ -185,7 +186,7 @@ last_of (p ∷ q ∷ qs) = last_of (q ∷ qs)
 unfoldable pub grown : Chain → (pages : List ℕ) (slots : List ℕ) → Draft → Draft × ℕ
 grown chain pages slots d =
     let made : Draft × ℕ = new_page 5 (λ p. data_payload 0 (owner_of chain) slots) d in
-    (wants made.0.image 5 (last_of pages) (put (last_of pages) 5 (drop 16 (with_part 16 (bytes_of 4 made.1) (page_at made.0.image (last_of pages)))) made.0), made.1)
+    (wants made.0.image 5 (last_of pages) (put (last_of pages) data_kind (drop 16 (with_part 16 (bytes_of 4 made.1) (page_at made.0.image (last_of pages)))) made.0), made.1)
 
 -- The slot is written at that place of the chain. Where there is none, a new page holds it before the last page is linked to it:
 -- the link is the moment at which it is there. The page of the slot has to be a data page then.

@@ -3,6 +3,7 @@ use Rattle.std.specs.Prelude.{◌≡◌, ℕ, ◌<◌, ◌≤◌, List, [], ◌�
 use Rattle.std.specs.List.{AllByRecursion}
 use Rattle.nb_fields.specs.Payloads.{entry_of}
 use Rattle.nb_fields.specs.Places.{is_page_size}
+use Rattle.nb_fields.specs.States.{stalled_state}
 use Rattle.nb_model.specs.Image.{Page, Image, image_size, image_state, image_scn}
 use Rattle.nb_model.specs.Account.{Base}
 use Rattle.nb_model.specs.Forms.{scn_page_of, scn_entry, has_entry, entry_number}
@@ -20,7 +21,7 @@ pub record IsEarlier (image now : Image) : Type 0 where
 pub record IsCovered (b : Base) : Type 0 where
   pub size : IsTrue (is_page_size (image_size b.image))
   pub entries : HasEntries b.image
-  pub raised : image_state b.image ≡ 1 → IsRaised b.image b.diverted
+  pub raised : image_state b.image ≡ stalled_state → IsRaised b.image b.diverted
 
 -- each is covered, and was before all after it
 abbrev pub AreInStep : List Base → Type 0

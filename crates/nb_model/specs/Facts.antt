@@ -3,6 +3,7 @@ use Rattle.std.specs.Prelude.{ℕ, zero, suc, ◌+◌, List, [], ◌∷◌, leng
 use Rattle.nb_fields.specs.Bytes.{is_zeros}
 use Rattle.nb_fields.specs.Page.{kind_of, stamp_of}
 use Rattle.nb_fields.specs.Places.{bits_in, is_inventory_place, is_scn_place}
+use Rattle.nb_fields.specs.Kinds.{inventory_kind, scn_kind}
 use Rattle.nb_model.specs.Image.{Image, page_at, first_page, image_size, image_scn}
 use Rattle.nb_model.specs.Forms.{inventory_of, scn_page_of, scn_entry, has_entry, is_free_page}
 use Rattle.nb_model.specs.declared.fact.Fact.{Fact}
@@ -16,7 +17,7 @@ is_blank image p = nat_lt p (length image) && is_zeros (page_at image p)
 abbrev pub lacks_system : Image → (p : ℕ) → Bool
 lacks_system image p =
     nat_lt p (length image)
-    && ((is_inventory_place (image_size image) p && not (kind_of (page_at image p) == 2)) || (is_scn_place (image_size image) p && not (kind_of (page_at image p) == 10)))
+    && ((is_inventory_place (image_size image) p && not (kind_of (page_at image p) == inventory_kind)) || (is_scn_place (image_size image) p && not (kind_of (page_at image p) == scn_kind)))
 
 -- page p is at or past the end, and taken
 abbrev pub is_taken_past : Image → (p : ℕ) → Bool

@@ -5,9 +5,10 @@
 use Rattle.std.specs.Prelude.{◌≡◌, ℕ, zero, suc, ◌+◌, ◌-◌, ◌*◌, ◌/◌, ◌%◌, ◌^◌, List, [], ◌∷◌, ◌++◌, length, drop, replicate, slice_set, slice_index, Option, Some, None, Bool, true, false, ◌&&◌, ◌||◌, ◌==◌, nat_lt}
 use Rattle.std.specs.Int.{bit_at}
 use Rattle.nb_fields.specs.Bytes.{bytes_of, with_part}
-use Rattle.nb_fields.specs.Places.{entries_in, bits_in, inventory_place, scn_place, is_inventory_place, is_scn_place, is_system_place}
+use Rattle.nb_fields.specs.Places.{entries_in, bits_in, inventory_place, scn_place, is_inventory_place, is_scn_place, is_system_place, most_pages}
 use Rattle.nb_fields.specs.Page.{kind_of, stamped}
 use Rattle.nb_fields.specs.Payloads.{bit_of, entry_of, inventory_payload, scn_payload}
+use Rattle.nb_fields.specs.Kinds.{inventory_kind, scn_kind}
 use Rattle.nb_model.specs.Image.{Page, Image, page_at, image_size, image_scn, with_page}
 use Rattle.nb_model.specs.Strokes.{Stroke, page, merged_page}
 
@@ -78,7 +79,7 @@ has_entry image p = elim (p == 0 || is_scn_place (image_size image) p) [ true �
 
 -- the SCN page that has the entry of page p is there, if it has one
 abbrev pub HasItsEntry : Image → ℕ → Type 0
-HasItsEntry image p = has_entry image p ≡ true → is_kind image 10 (scn_page_of image p) ≡ true
+HasItsEntry image p = has_entry image p ≡ true → is_kind image scn_kind (scn_page_of image p) ≡ true
 
 -- the SCN page of page p with the current SCN as that entry
 unfoldable pub entry_written : ℕ → Draft → Draft
@@ -107,7 +108,7 @@ with_bit i bit inventory =
 -- the bit of page p is set: 0 for taken, 1 for free
 unfoldable pub set_bit : (bit p : ℕ) → Draft → Draft
 set_bit bit p d =
-    put (inventory_of d.image p) 2 (drop 16 (with_bit (bit_number d.image p) bit (page_at d.image (inventory_of d.image p))))
+    put (inventory_of d.image p) inventory_kind (drop 16 (with_bit (bit_number d.image p) bit (page_at d.image (inventory_of d.image p))))
     (needs 2 (inventory_of d.image p) d)
 
 -- page p is taken, or given back
@@ -165,11 +166,11 @@ first_not image (n ∷ ns) = elim (is_kind image n.kind n.page) [ true ↦ first
 -- so many inventory pages from the k-th on
 unfoldable pub maps_from : (size count k : ℕ) → List Need
 maps_from size zero k = []
-maps_from size (suc count) k = record { kind = 2; page = inventory_place size k } ∷ maps_from size count (k + 1)
+maps_from size (suc count) k = record { kind = inventory_kind; page = inventory_place size k } ∷ maps_from size count (k + 1)
 
 -- the SCN page with the entry of page p, if it has one
 unfoldable pub entry_page : Image → ℕ → List Need
-entry_page image p = elim (has_entry image p) [ true ↦ record { kind = 10; page = scn_page_of image p } ∷ [] | false ↦ [] ]
+entry_page image p = elim (has_entry image p) [ true ↦ record { kind = scn_kind; page = scn_page_of image p } ∷ [] | false ↦ [] ]
 
 -- page p is the system page of its place already
 unfoldable pub is_kept : Image → ℕ → Bool
@@ -178,7 +179,7 @@ is_kept image p = is_system_place (image_size image) p && is_kind image (system_
 -- What a new page needs of page p: the inventory pages up to its own, and, where page p may be given, the SCN pages of that inventory page,
 -- and of page p if it is written.
 unfoldable pub needed_at : Image → ℕ → List Need
-needed_at image p = maps_from (image_size image) (p / bits_in (image_size image) + 1) 0 ++ elim (p == 1048576) [
+needed_at image p = maps_from (image_size image) (p / bits_in (image_size image) + 1) 0 ++ elim (p == most_pages) [
   | true ↦ []
   | false ↦ entry_page image (inventory_of image p) ++ elim (is_kept image p) [ true ↦ [] | false ↦ entry_page image p ]
 ]
@@ -192,7 +193,7 @@ new_within (suc tries) kind payload d =
     let p : ℕ = lowest_free d.image in
     elim (first_not d.image (needed_at d.image p)) [
       | Some q ↦ (record d { broken = q ∷ d.broken }, 0)
-      | None ↦ elim (p == 1048576) [
+      | None ↦ elim (p == most_pages) [
         | true ↦ (no_page d, p)
         | false ↦ elim (is_system_place (image_size d.image) p) [
           | true ↦ new_within tries kind payload (take_page p (system_page p d))

@@ -2,6 +2,7 @@
 use Rattle.std.specs.Prelude.{ℕ, ◌-◌, List, [], ◌∷◌, Some, None, Result, Ok, Err, Bool, true, false, ◌||◌, ◌==◌, not, nat_lt}
 use Rattle.nb_fields.specs.Page.{stamp_of}
 use Rattle.nb_fields.specs.Header.{state_of, size_of, scn_of, guid_of, pending_of}
+use Rattle.nb_fields.specs.States.{stalled_state, merge_state, applying_state}
 use Rattle.nb_host.specs.Files.{Files, File}
 use Rattle.nb_host.specs.Names.{same_name}
 use Rattle.nb_host.specs.declared.refusals.Refusal.{Refusal}
@@ -43,7 +44,7 @@ not_finishing name standby c = first_cause (
 
 -- the level file can't be merged into a standby in the normal or the applying state
 unfoldable pub not_mergeable : (standby name : List ℕ) → Contents → Cause
-not_mergeable standby name c = elim (state_of standby == 3) [ true ↦ not_finishing name standby c | false ↦ not_next name standby c ]
+not_mergeable standby name c = elim (state_of standby == applying_state) [ true ↦ not_finishing name standby c | false ↦ not_next name standby c ]
 
 -- the level file that was read, or the refusal
 unfoldable pub in_place_of : (standby name bytes : List ℕ) → Result Contents Refusal
@@ -57,7 +58,7 @@ unfoldable pub not_standby : (name : List ℕ) → File → Cause
 not_standby name None = Some (NoFile name)
 not_standby name (Some bytes) = first_cause (
     not_database bytes
-    ∷ when (state_of bytes == 1 || state_of bytes == 2) (WrongState (state_of bytes))
+    ∷ when (state_of bytes == stalled_state || state_of bytes == merge_state) (WrongState (state_of bytes))
     ∷ [])
 
 -- the bytes under a name that is there

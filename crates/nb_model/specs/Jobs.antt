@@ -2,6 +2,7 @@
 -- fixup and merging in place are one turn without an opening.
 use Rattle.std.specs.Prelude.{◌≡◌, ℕ, Bool, List, [], ◌∷◌, length, replicate, Option, Some, None, is_some, Ok, Err, true, false, not, ◌==◌}
 use Rattle.nb_fields.specs.Header.{state_of}
+use Rattle.nb_fields.specs.States.{stalled_state}
 use Rattle.nb_host.specs.Files.{File, Files}
 use Rattle.nb_host.specs.declared.refusals.Refusal.{Refusal}
 use Rattle.nb_host.specs.declared.refusals.Refusal.TheVariants.{NoFile, WrongState, DeltaPresent}
@@ -107,7 +108,7 @@ unfoldable pub not_fixable : (name : List ℕ) → (main delta : File) → Cause
 not_fixable name None delta = Some (NoFile name)
 not_fixable name (Some bytes) delta = first_cause (
     not_database bytes
-    ∷ when (not (state_of bytes == 1)) (WrongState (state_of bytes))
+    ∷ when (not (state_of bytes == stalled_state)) (WrongState (state_of bytes))
     ∷ when (is_some delta) (DeltaPresent (delta_name name))
     ∷ [])
 

@@ -2,6 +2,7 @@
 use Rattle.std.specs.Prelude.{ℕ, List, length, Bool, ◌&&◌, ◌==◌, not, nat_eq}
 use Rattle.std.specs.List.{filter, list_any, range_with_len}
 use Rattle.nb_fields.specs.Page.{kind_of}
+use Rattle.nb_fields.specs.Kinds.{data_kind}
 use Rattle.nb_model.specs.Image.{Image, page_at}
 use Rattle.nb_model.specs.Forms.{is_free_page}
 use Rattle.nb_model.specs.Rows.{chains, pages_of_all}
@@ -12,7 +13,7 @@ is_among p ps = list_any (nat_eq p) ps
 
 -- page p is a data page, and taken
 abbrev pub is_taken_data : Image → (p : ℕ) → Bool
-is_taken_data image p = not (is_free_page image p) && kind_of (page_at image p) == 5
+is_taken_data image p = not (is_free_page image p) && kind_of (page_at image p) == data_kind
 
 -- the pages of the chains of the catalogue, of the history, and of each table of the catalogue
 abbrev pub reached : Image → List ℕ

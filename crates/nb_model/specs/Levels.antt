@@ -4,9 +4,10 @@
 -- 102 pages of consecutive numbers stand together in runs of at most 16.
 use Rattle.std.specs.Prelude.{◌≡◌, ℕ, zero, suc, ◌+◌, ◌*◌, ◌^◌, ◌<◌, ◌≤◌, List, [], ◌∷◌, ◌++◌, length, take, drop, Option, Some, None, Result, Ok, Err, Bool, true, false, ◌&&◌, ◌||◌, ◌==◌, not, nat_le, nat_lt, IsTrue, codes}
 use Rattle.nb_fields.specs.Bytes.{bytes_of, number_in, part}
-use Rattle.nb_fields.specs.Places.{is_page_size}
+use Rattle.nb_fields.specs.Places.{is_page_size, most_pages}
 use Rattle.nb_fields.specs.Page.{stamp_of}
 use Rattle.nb_fields.specs.Header.{is_header, state_of, size_of, scn_of, guid_of}
+use Rattle.nb_fields.specs.States.{stalled_state}
 use Rattle.nb_host.specs.Names.{same_name}
 use Rattle.nb_model.specs.Image.{Page, Image, Numbered, image_size}
 use Rattle.nb_model.specs.Account.{Ask, Kept}
@@ -136,12 +137,12 @@ count_in kept ask = elim (ask.level == 0) [ true ↦ length kept.image | false �
 -- Page 0 in a level file is a header in the stalled state, of the head's page size and GUID, with the SCN after the head's.
 unfoldable pub is_first_page : Head → Page → Bool
 is_first_page h p =
-    is_header p && (state_of p == 1 && (size_of p == h.size && (same_name (guid_of p) h.guid && scn_of p == h.scn + 1)))
+    is_header p && (state_of p == stalled_state && (size_of p == h.size && (same_name (guid_of p) h.guid && scn_of p == h.scn + 1)))
 
 -- numbers rise from the least one on, and are those of pages of a database
 abbrev pub AreRising : (least : ℕ) → List Numbered → Type 0
 AreRising least [] = Unit {0}
-AreRising least (r ∷ rs) = (least ≤ r.0) × (r.0 < 1048576) × AreRising (r.0 + 1) rs
+AreRising least (r ∷ rs) = (least ≤ r.0) × (r.0 < most_pages) × AreRising (r.0 + 1) rs
 
 -- each page is of that size
 abbrev pub AreOfSize : (size : ℕ) → List Numbered → Type 0
@@ -205,7 +206,7 @@ read_end at count rest = elim (first_fault (
 
 -- a page's number that may not stand after so many pages, where the least that may is `least`
 abbrev pub is_bad_number : (count least n : ℕ) → Bool
-is_bad_number count least n = (count == 0 && not (n == 0)) || (nat_lt n least || nat_le 1048576 n)
+is_bad_number count least n = (count == 0 && not (n == 0)) || (nat_lt n least || nat_le most_pages n)
 
 -- Version 101 from this place on, after so many pages: the pages, or the first broken place. The least number that may come
 -- is `least`. There are no more pages than `left`.
@@ -251,7 +252,7 @@ read_runs (suc left) h at count least barred rest = elim (nat_lt (length rest) 4
         elim (first_fault (
         (is_bad_number count least n || n == barred, at)
         ∷ ends_before 8 at rest
-        ∷ (m == 0 || (nat_lt 16 m || nat_lt 1048576 (n + m)), at + 4)
+        ∷ (m == 0 || (nat_lt 16 m || nat_lt most_pages (n + m)), at + 4)
         ∷ (n == 0 && nat_lt (length rest) (8 + h.size), at + length rest)
         ∷ (n == 0 && not (is_first_page h (part 8 h.size rest)), at + 8)
         ∷ ends_before (8 + m * h.size) at rest

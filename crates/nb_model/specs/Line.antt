@@ -2,6 +2,7 @@
 use Rattle.std.specs.Prelude.{◌+◌, length, ◌<◌, ◌≤◌, ◌||◌, ◌==◌, ℕ, IsTrue, ◌≡◌, List, [], ◌∷◌, ◌++◌, Some, true}
 use Rattle.std.specs.List.{AllByRecursion}
 use Rattle.nb_fields.specs.Bytes.{is_zeros}
+use Rattle.nb_fields.specs.Places.{most_pages}
 use Rattle.nb_host.specs.Files.{Files}
 use Rattle.nb_model.specs.Image.{Image, image_size}
 use Rattle.nb_model.specs.Account.{Ask, Kept}
@@ -75,6 +76,6 @@ pub record HoldsFirst (files : Files) (r : Kept) (zeros : Image) (name : List �
   pub is : files name ≡ Some (joined (r.image ++ zeros))
   pub zero : AreZeroPages zeros
   pub sizes : IsOfSize (image_size r.image) zeros
-  pub most : length (r.image ++ zeros) ≤ 1048576
+  pub most : length (r.image ++ zeros) ≤ most_pages
   pub whole : IsSoundImage r.image
   pub begun : IsBegun r

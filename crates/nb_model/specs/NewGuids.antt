@@ -1,6 +1,7 @@
 -- GUIDs that are new. That those which the outside gives are new is a premise of what rests on it.
 use Rattle.std.specs.Prelude.{◌≡◌, ◌≢◌, ℕ, List, [], ◌∷◌, length, Ok, Some, IsTrue, true, false, Contains}
 use Rattle.nb_fields.specs.Header.{is_header, state_of, guid_of, pending_of}
+use Rattle.nb_fields.specs.States.{stalled_state}
 use Rattle.nb_host.specs.Crash.{Leaves}
 use Rattle.nb_host.specs.Names.{is_delta}
 use Rattle.nb_host.specs.World.{World}
@@ -18,7 +19,7 @@ guids_in (other ∷ ss) = guids_in ss
 -- The bytes don't name the GUID: not as a level file, not as a database in the stalled state, and not as a standby that waits for it.
 pub record IsUnnamed (bytes guid : List ℕ) : Type 0 where
   pub level : (c : Contents) → read_level bytes ≡ Ok c → c.head.guid ≢ guid
-  pub stalled : is_header bytes ≡ true → state_of bytes ≡ 1 → guid_of bytes ≢ guid
+  pub stalled : is_header bytes ≡ true → state_of bytes ≡ stalled_state → guid_of bytes ≢ guid
   pub pending : IsTrue (is_applying bytes) → pending_of bytes ≢ guid
 
 -- A GUID is new: it isn't nil, no record has it, and no file that a crash leaves names it. What reads is among what a crash leaves.

@@ -2,6 +2,7 @@
 use Rattle.std.specs.Prelude.{ℕ, zero, suc, ◌+◌, List, [], ◌∷◌, ◌++◌, length, take, drop, replicate, Option, Some, None, Result, Ok, Err, true, false, ◌==◌, nat_eq, nat_lt, max}
 use Rattle.nb_fields.specs.Header.{state_of, size_of}
 use Rattle.nb_fields.specs.Table.{table_of, slot_place, page_in}
+use Rattle.nb_fields.specs.States.{stalled_state}
 use Rattle.nb_host.specs.Files.{File, Files}
 use Rattle.nb_host.specs.Names.{delta_suffix}
 use Rattle.nb_host.specs.declared.refusals.Refusal.{Refusal}
@@ -50,7 +51,7 @@ owned size main delta table = owned_from size main delta table (max (length main
 unfoldable pub diverted_base : (bytes delta table : List ℕ) → Base
 diverted_base bytes delta table = record {
   image = owned (size_of bytes) (image_in bytes) delta table;
-  frozen = elim (state_of bytes == 1) [ true ↦ image_in bytes | false ↦ [] ];
+  frozen = elim (state_of bytes == stalled_state) [ true ↦ image_in bytes | false ↦ [] ];
   diverted = table;
 }
 

@@ -4,6 +4,8 @@ use Rattle.std.specs.List.{flat_map}
 use Rattle.sha2.specs.Sha256.{sha256}
 use Rattle.nb_fields.specs.Bytes.{with_part}
 use Rattle.nb_fields.specs.Payloads.{text_payload, text_of}
+use Rattle.nb_fields.specs.States.{normal_state, stalled_state}
+use Rattle.nb_fields.specs.Kinds.{raw_kind}
 use Rattle.nb_host.specs.declared.refusals.Refusal.TheVariants.{WrongState}
 use Rattle.nb_model.specs.declared.reply.Reply.{Reply}
 use Rattle.nb_model.specs.declared.reply.Reply.TheVariants.{Done, PageMade, Value, Scn, HeaderShown, ImageShown, CacheShown}
@@ -24,7 +26,7 @@ new_turn s =
 -- `write N 'TEXT'`
 unfoldable pub write_turn : Seen → ℕ → List ℕ → Outcome
 write_turn s p text =
-    changes s (not_raw s.base.image p ∷ read_only s.base.image ∷ too_long text ∷ []) (put p 8 (text_payload text) (drafted s.base.image)) Done
+    changes s (not_raw s.base.image p ∷ read_only s.base.image ∷ too_long text ∷ []) (put p raw_kind (text_payload text) (drafted s.base.image)) Done
 
 -- `read N`
 unfoldable pub read_turn : Seen → ℕ → Outcome
@@ -39,7 +41,7 @@ free_turn s p = changes s (not_raw s.base.image p ∷ read_only s.base.image ∷
 -- `alter database begin backup`
 unfoldable pub begin_turn : Seen → Outcome
 begin_turn s =
-    unless s (first_cause (read_only s.base.image ∷ not_state 0 s.base.image ∷ no_scn s.base.image ∷ []))
+    unless s (first_cause (read_only s.base.image ∷ not_state normal_state s.base.image ∷ no_scn s.base.image ∷ []))
     (record {
       strokes = begin (next_guid s.given) None ∷ [];
       reply = Some (Scn (image_scn s.base.image + 1));
@@ -51,11 +53,11 @@ begin_turn s =
 
 -- the stroke that ends the stalled state; a merge that was stopped goes on without one
 unfoldable pub end_strokes : Image → List Stroke
-end_strokes image = elim (image_state image == 1) [ true ↦ ends ∷ [] | false ↦ [] ]
+end_strokes image = elim (image_state image == stalled_state) [ true ↦ ends ∷ [] | false ↦ [] ]
 
 -- the SCN after it
 unfoldable pub end_scn : Image → ℕ
-end_scn image = elim (image_state image == 1) [ true ↦ image_scn image + 1 | false ↦ image_scn image ]
+end_scn image = elim (image_state image == stalled_state) [ true ↦ image_scn image + 1 | false ↦ image_scn image ]
 
 -- The stalled state ends, and a turn is left for each page that was diverted, and one to finish. All of them are this session's.
 unfoldable pub ends_by : Seen → (session : ℕ) → Reply → Outcome
@@ -71,7 +73,7 @@ ends_by s session reply = record {
 -- `alter database end backup`
 unfoldable pub end_turn : Seen → (session : ℕ) → Outcome
 end_turn s session =
-    unless s (first_cause (when (image_state s.base.image == 0) (WrongState 0) ∷ runs_other s.running session ∷ []))
+    unless s (first_cause (when (image_state s.base.image == normal_state) (WrongState 0) ∷ runs_other s.running session ∷ []))
     (ends_by s session (Scn (end_scn s.base.image)))
 
 -- page 0 with one byte changed
@@ -84,11 +86,11 @@ forced_turn s on = unless s (read_only s.base.image) (says s Done (byte_strokes 
 
 -- `access read_only`, `access read_write`
 unfoldable pub access_turn : Seen → (closed : Bool) → Outcome
-access_turn s closed = unless s (not_state 0 s.base.image) (says s Done (byte_strokes 65 (flag closed) s.base.image))
+access_turn s closed = unless s (not_state normal_state s.base.image) (says s Done (byte_strokes 65 (flag closed) s.base.image))
 
 -- how many entries the difference file has
 unfoldable pub delta_count : Base → ℕ
-delta_count b = elim (image_state b.image == 0) [ true ↦ 0 | false ↦ length b.diverted ]
+delta_count b = elim (image_state b.image == normal_state) [ true ↦ 0 | false ↦ length b.diverted ]
 
 -- `show header`
 unfoldable pub header_turn : Seen → Outcome

@@ -1,6 +1,7 @@
 -- What a crash leaves where forced writes are off: each page by itself is that of some image since the last settled point.
 use Rattle.std.specs.Prelude.{◌≡◌, ℕ, ◌<◌, ◌≤◌, List, length, take, drop, Contains, true}
 use Rattle.nb_fields.specs.Places.{is_scn_place}
+use Rattle.nb_fields.specs.States.{stalled_state}
 use Rattle.nb_model.specs.Image.{Image, page_at, first_page, image_size, image_state, image_scn}
 use Rattle.nb_model.specs.Sound.{SoundInventory}
 use Rattle.nb_model.specs.Stands.{IsRaised}
@@ -18,7 +19,7 @@ pub record IsPagewise (images : List Image) (image : Image) (diverted : List ℕ
   pub header : IsOfSome images (λ m. drop 64 (first_page image) ≡ drop 64 (first_page m))
   pub each : (p : ℕ) → 1 ≤ p → p < length image → IsOfSome images (λ m. (p < length m) × (page_at image p ≡ page_at m p))
   pub sound : SoundInventory image
-  pub raised : image_state image ≡ 1 → IsRaised image diverted
+  pub raised : image_state image ≡ stalled_state → IsRaised image diverted
 
 -- what a crash leaves agrees with what reads now in its length, its SCN and its SCN pages
 pub record AgreesWith (image now : Image) : Type 0 where

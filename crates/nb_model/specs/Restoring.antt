@@ -2,6 +2,8 @@
 use Rattle.std.specs.Prelude.{ℕ, ◌+◌, ◌-◌, ◌/◌, ◌%◌, List, [], ◌∷◌, length, Some, None, Result, Ok, Err, Bool, true, false, ◌||◌, ◌==◌, not, nat_lt}
 use Rattle.nb_fields.specs.Bytes.{number_in}
 use Rattle.nb_fields.specs.Header.{is_header, signature, state_of, size_of, scn_of, guid_of}
+use Rattle.nb_fields.specs.Places.{most_pages}
+use Rattle.nb_fields.specs.States.{stalled_state}
 use Rattle.nb_host.specs.Files.{Files}
 use Rattle.nb_host.specs.Names.{same_name}
 use Rattle.nb_host.specs.declared.refusals.Refusal.{Refusal}
@@ -31,14 +33,14 @@ level_link c = record { guid = c.head.guid; scn = c.head.scn; size = c.head.size
 
 -- no number of whole pages that a database may have
 abbrev pub is_bad_length : List ℕ → Bool
-is_bad_length bytes = not (length bytes % size_of bytes == 0) || (nat_lt (length bytes / size_of bytes) 5 || nat_lt 1048576 (length bytes / size_of bytes))
+is_bad_length bytes = not (length bytes % size_of bytes == 0) || (nat_lt (length bytes / size_of bytes) 5 || nat_lt most_pages (length bytes / size_of bytes))
 
 -- whole pages are no level 0
 unfoldable pub not_whole : (name bytes : List ℕ) → Cause
 not_whole name bytes = elim (is_header bytes) [
   | false ↦ Some (BadLevel name 0)
   | true ↦ first_cause (
-      when (not (state_of bytes == 1)) (BadLevel name 22)
+      when (not (state_of bytes == stalled_state)) (BadLevel name 22)
       ∷ when (is_bad_length bytes) (BadLevel name (length bytes))
       ∷ [])
 ]

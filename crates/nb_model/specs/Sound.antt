@@ -2,9 +2,10 @@
 use Rattle.std.specs.Prelude.{◌≡◌, ℕ, ◌<◌, ◌≤◌, length, true, false}
 use Rattle.std.specs.List.{AllByRecursion}
 use Rattle.nb_fields.specs.Bytes.{is_zeros}
-use Rattle.nb_fields.specs.Places.{is_inventory_place, is_scn_place}
+use Rattle.nb_fields.specs.Places.{is_inventory_place, is_scn_place, most_pages}
 use Rattle.nb_fields.specs.Header.{is_header}
 use Rattle.nb_fields.specs.Page.{kind_of, stamp_of}
+use Rattle.nb_fields.specs.Kinds.{inventory_kind, scn_kind}
 use Rattle.nb_model.specs.Image.{Image, page_at, first_page, image_size, image_scn}
 use Rattle.nb_model.specs.Forms.{inventory_of, scn_page_of, scn_entry, has_entry, is_free_page}
 
@@ -23,8 +24,8 @@ IsOfSize size = AllByRecursion (λ page. length page ≡ size)
 
 -- each system place below the length holds its system page
 pub record HasSystemPages (image : Image) : Type 0 where
-  pub inventories : (p : ℕ) → p < length image → is_inventory_place (image_size image) p ≡ true → kind_of (page_at image p) ≡ 2
-  pub scn_pages : (p : ℕ) → p < length image → is_scn_place (image_size image) p ≡ true → kind_of (page_at image p) ≡ 10
+  pub inventories : (p : ℕ) → p < length image → is_inventory_place (image_size image) p ≡ true → kind_of (page_at image p) ≡ inventory_kind
+  pub scn_pages : (p : ℕ) → p < length image → is_scn_place (image_size image) p ≡ true → kind_of (page_at image p) ≡ scn_kind
 
 -- a taken bit is that of a page below the length
 abbrev pub HasBitsBelow : Image → Type 0
@@ -53,5 +54,5 @@ pub record SoundInventory (image : Image) : Type 0 where
 pub record IsSoundImage (image : Image) : Type 0 where
   pub sound : SoundInventory image
   pub least : 5 ≤ length image
-  pub most : length image ≤ 1048576
+  pub most : length image ≤ most_pages
   pub sizes : IsOfSize (image_size image) image

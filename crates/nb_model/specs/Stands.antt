@@ -5,6 +5,8 @@ use Rattle.nb_fields.specs.Bytes.{is_zeros}
 use Rattle.nb_fields.specs.Page.{kind_of, stamp_of}
 use Rattle.nb_fields.specs.Header.{is_header, state_of, size_of, guid_of, pending_of}
 use Rattle.nb_fields.specs.Table.{page_in}
+use Rattle.nb_fields.specs.States.{stalled_state, applying_state}
+use Rattle.nb_fields.specs.Kinds.{data_kind}
 use Rattle.nb_host.specs.Files.{Files}
 use Rattle.nb_host.specs.Names.{is_delta}
 use Rattle.nb_model.specs.Image.{Page, Image, page_at, first_page, image_size, image_state, image_scn, image_guid}
@@ -47,12 +49,12 @@ HasOldEntries image = (p : ℕ) → has_entry image p ≡ true → scn_page_of i
 
 -- 2. What is diverted since a begin is raised. (That the main file is the frozen image is part of the first.)
 abbrev pub IsFrozenMain : Account → Type 0
-IsFrozenMain account = (name : List ℕ) (b : Base) → account.entry name ≡ IsBase b → image_state b.image ≡ 1 → IsRaised b.image b.diverted
+IsFrozenMain account = (name : List ℕ) (b : Base) → account.entry name ≡ IsBase b → image_state b.image ≡ stalled_state → IsRaised b.image b.diverted
 
 -- The image as the begin of its backup left it. The begin raised the SCN, so no entry is current.
 pub record IsBegun (r : Kept) : Type 0 where
   pub header : IsTrue (is_header (first_page r.image))
-  pub state : image_state r.image ≡ 1
+  pub state : image_state r.image ≡ stalled_state
   pub guid : image_guid r.image ≡ r.guid
   pub scn : image_scn r.image ≡ r.scn + 1
   pub old : HasOldEntries r.image
@@ -99,19 +101,19 @@ pub record IsCopyOf (r : Kept) (bytes : List ℕ) : Type 0 where
 -- a file that is a level and has the GUID of a record holds that record
 pub record HoldsItsRecord (kept : List Kept) (bytes : List ℕ) : Type 0 where
   pub level : (c : Contents) (r : Kept) → read_level bytes ≡ Ok c → IsKeptAs kept c.head.guid r → IsFileOf kept c.version r bytes
-  pub copy : (r : Kept) → is_header bytes ≡ true → state_of bytes ≡ 1 → length bytes % size_of bytes ≡ 0 → IsKeptAs kept (guid_of bytes) r → IsCopyOf r bytes
+  pub copy : (r : Kept) → is_header bytes ≡ true → state_of bytes ≡ stalled_state → length bytes % size_of bytes ≡ 0 → IsKeptAs kept (guid_of bytes) r → IsCopyOf r bytes
 
 -- 4. GUIDs tell records apart, none is nil, a stalled database has its record, and files hold the records that they name. No job reads a
 -- difference file as one of them.
 pub record KeepsRecords (files : Files) (account : Account) : Type 0 where
   pub distinct : (r q : Kept) → Contains account.kept r → Contains account.kept q → r.guid ≡ q.guid → r ≡ q
   pub not_nil : (r : Kept) → Contains account.kept r → r.guid ≢ nil
-  pub stalled : (name : List ℕ) (b : Base) → account.entry name ≡ IsBase b → image_state b.image ≡ 1 → (r : Kept) × IsKeptAs account.kept (image_guid b.image) r
+  pub stalled : (name : List ℕ) (b : Base) → account.entry name ≡ IsBase b → image_state b.image ≡ stalled_state → (r : Kept) × IsKeptAs account.kept (image_guid b.image) r
   pub levels : (name bytes : List ℕ) → is_delta name ≡ false → files name ≡ Some bytes → HoldsItsRecord account.kept bytes
 
 -- the page is one of the history, whether the history's chain reaches it or not
 unfoldable pub is_history_page : Page → Bool
-is_history_page page = kind_of page == 5 && (owner_in page == 1 && list_all (is_slot History) (slots_in page))
+is_history_page page = kind_of page == data_kind && (owner_in page == 1 && list_all (is_slot History) (slots_in page))
 
 -- the image goes on from the record
 pub record GoesOn (r : Kept) (image : Image) : Type 0 where
@@ -154,7 +156,7 @@ pub record FollowsHistory (account : Account) : Type 0 where
 
 -- a file of the header form in the applying state
 abbrev pub is_applying : List ℕ → Bool
-is_applying bytes = is_header bytes && state_of bytes == 3
+is_applying bytes = is_header bytes && state_of bytes == applying_state
 
 -- 6. A difference file stands beside a database or a standby in the applying state alone.
 abbrev pub HasNoStrayDelta : Files → Account → Type 0

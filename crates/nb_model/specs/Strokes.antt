@@ -2,6 +2,7 @@
 use Rattle.std.specs.Prelude.{ℕ, zero, suc, ◌+◌, ◌%◌, ◌^◌, List, [], ◌∷◌, ◌++◌, take, drop, replicate, Option, true, false, ◌==◌, nat_eq}
 use Rattle.std.specs.List.{list_any}
 use Rattle.nb_fields.specs.Bytes.{bytes_of, with_part, number_in}
+use Rattle.nb_fields.specs.States.{normal_state, stalled_state, merge_state}
 use Rattle.nb_model.specs.Image.{Page, Image, first_page, image_state, image_scn, image_guid, image_size, image_in, with_page, trimmed, Numbered, overwritten}
 use Rattle.nb_model.specs.Account.{Ask, Kept, Base, base_of, Entry, Missing, Plain, IsBase, Account, with_entry}
 
@@ -61,14 +62,14 @@ unfoldable pub on_base : Stroke → Base → Base
 on_base (make image) b = base_of image
 on_base (page p bytes) b = record b {
   image = with_page p (merged_page p bytes b.image) b.image;
-  diverted = elim (image_state b.image == 1) [ true ↦ noted p b.diverted | false ↦ b.diverted ];
+  diverted = elim (image_state b.image == stalled_state) [ true ↦ noted p b.diverted | false ↦ b.diverted ];
 }
 on_base (begin guid ask) b =
-    let now : Image = with_control 1 (image_scn b.image + 1) guid b.image in
+    let now : Image = with_control stalled_state (image_scn b.image + 1) guid b.image in
     record { image = now; frozen = now; diverted = [] }
-on_base ends b = record b { image = with_control 2 (image_scn b.image + 1) (image_guid b.image) b.image; frozen = [] }
+on_base ends b = record b { image = with_control merge_state (image_scn b.image + 1) (image_guid b.image) b.image; frozen = [] }
 -- the main file alone has the image then, and pages of zeros at its end are none of it
-on_base finish b = record b { image = with_control 0 (image_scn b.image) (image_guid b.image) (trimmed b.image); diverted = [] }
+on_base finish b = record b { image = with_control normal_state (image_scn b.image) (image_guid b.image) (trimmed b.image); diverted = [] }
 on_base fix b = base_of (fixed b.image)
 on_base (merge records) b = base_of (merged records b.image)
 

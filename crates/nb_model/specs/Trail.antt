@@ -5,6 +5,7 @@
 -- step, the SCN entries that are left cover the pages that are left.
 use Rattle.std.specs.Prelude.{◌≡◌, ℕ, ◌<◌, ◌≤◌, List, [], ◌∷◌, ◌++◌, length, Contains, Bool, true, false, ◌||◌, ◌==◌, nat_le, Ok}
 use Rattle.nb_fields.specs.Places.{is_scn_place}
+use Rattle.nb_fields.specs.States.{merge_state}
 use Rattle.nb_host.specs.Files.{File, Files}
 use Rattle.nb_model.specs.Image.{Page, Image, page_at, first_page, image_size, image_state, is_forced}
 use Rattle.nb_model.specs.Account.{Base}
@@ -88,7 +89,7 @@ pub record IsMixture (bases : List Base) (now image : Image) : Type 0 where
 pub record IsRest (t : Trail) (b : Base) : Type 0 where
   pub frozen : b.frozen ≡ t.base.frozen
   pub diverted : (rest : List ℕ) × (t.base.diverted ≡ b.diverted ++ rest)
-  pub merging : image_state t.base.image ≡ 2 → b.diverted ≡ t.base.diverted
+  pub merging : image_state t.base.image ≡ merge_state → b.diverted ≡ t.base.diverted
   pub whole : t.earlier ≡ [] → b ≡ t.base
 
 -- What a crash may leave of the database: each page by itself is one that was seen since the settled point. Where all that was seen is in

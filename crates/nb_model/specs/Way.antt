@@ -1,6 +1,7 @@
 -- How far a search for new pages has come, told on the image as it stood before, and what a new page needs of the page that it comes to next.
 use Rattle.std.specs.Prelude.{◌≡◌, ℕ, ◌+◌, ◌-◌, ◌/◌, List, [], ◌++◌, length, true, false, ◌&&◌, ◌==◌, nat_lt}
-use Rattle.nb_fields.specs.Places.{bits_in, is_inventory_place, is_scn_place}
+use Rattle.nb_fields.specs.Places.{bits_in, is_inventory_place, is_scn_place, most_pages}
+use Rattle.nb_fields.specs.Kinds.{inventory_kind, scn_kind}
 use Rattle.nb_model.specs.Image.{Image, image_size}
 use Rattle.nb_model.specs.Forms.{is_kind, inventory_of, scn_page_of, free_from, Need, maps_from, entry_page, is_kept}
 
@@ -31,14 +32,14 @@ own_entry_on image made p = elim (is_kept image p) [ true ↦ [] | false ↦ ent
 
 -- all that a new page needs of page p, where the search comes to it next
 abbrev pub needed_on : (image : Image) (from made fresh p : ℕ) → List Need
-needed_on image from made fresh p = maps_on image from fresh p ++ elim (p == 1048576) [ true ↦ [] | false ↦ map_entry_on image from made p ++ own_entry_on image made p ]
+needed_on image from made fresh p = maps_on image from fresh p ++ elim (p == most_pages) [ true ↦ [] | false ↦ map_entry_on image from made p ++ own_entry_on image made p ]
 
 -- the SCN place that was passed last without its page, after page p: the same, or p
 pub data IsMadeBehind (image : Image) (p made m : ℕ) : Type 0 where
-  same_made : m ≡ made → (is_scn_place (image_size image) p ≡ true → is_kind image 10 p ≡ true) → IsMadeBehind image p made m
-  made_here : m ≡ p → is_scn_place (image_size image) p ≡ true → is_kind image 10 p ≡ false → IsMadeBehind image p made m
+  same_made : m ≡ made → (is_scn_place (image_size image) p ≡ true → is_kind image scn_kind p ≡ true) → IsMadeBehind image p made m
+  made_here : m ≡ p → is_scn_place (image_size image) p ≡ true → is_kind image scn_kind p ≡ false → IsMadeBehind image p made m
 
 -- and the place of an inventory page
 pub data IsFreshBehind (image : Image) (p fresh f : ℕ) : Type 0 where
-  same_fresh : f ≡ fresh → (is_inventory_place (image_size image) p ≡ true → is_kind image 2 p ≡ true) → IsFreshBehind image p fresh f
-  fresh_here : f ≡ p → is_inventory_place (image_size image) p ≡ true → is_kind image 2 p ≡ false → IsFreshBehind image p fresh f
+  same_fresh : f ≡ fresh → (is_inventory_place (image_size image) p ≡ true → is_kind image inventory_kind p ≡ true) → IsFreshBehind image p fresh f
+  fresh_here : f ≡ p → is_inventory_place (image_size image) p ≡ true → is_kind image inventory_kind p ≡ false → IsFreshBehind image p fresh f

@@ -1,6 +1,7 @@
 -- What is kept true of a database, and the statements that keep it.
 use Rattle.std.specs.Prelude.{◌≡◌, ℕ, ◌<◌, ◌≤◌, List, [], Bool, true, false}
 use Rattle.nb_fields.specs.Header.{is_header}
+use Rattle.nb_fields.specs.States.{normal_state, stalled_state, merge_state}
 use Rattle.nb_model.specs.declared.statement.Statement.{Statement}
 use Rattle.nb_model.specs.declared.statement.Statement.TheVariants.{BeginBackup, EndBackup, Backup, BackupSince, CopyTo}
 use Rattle.nb_model.specs.Image.{Image, first_page, image_state, image_scn, image_guid}
@@ -40,10 +41,10 @@ pub record IsOfRecord (kept : List Kept) (b : Base) : Type 0 where
 pub record IsWellBaseIn (kept : List Kept) (b : Base) : Type 0 where
   pub state : image_state b.image ≤ 2
   pub well : IsWellIn kept (image_state b.image) b.image
-  pub normal : image_state b.image ≡ 0 → b ≡ base_of b.image
-  pub stalled : image_state b.image ≡ 1 → IsStalled b
-  pub backup : image_state b.image ≡ 1 → IsOfRecord kept b
-  pub merge : image_state b.image ≡ 2 → b.frozen ≡ []
+  pub normal : image_state b.image ≡ normal_state → b ≡ base_of b.image
+  pub stalled : image_state b.image ≡ stalled_state → IsStalled b
+  pub backup : image_state b.image ≡ stalled_state → IsOfRecord kept b
+  pub merge : image_state b.image ≡ merge_state → b.frozen ≡ []
 
 -- A statement on raw pages, on tables or on a byte of the header, or one that shows or checks what stands, gives leaked pages back, or waits
 -- for it to be durable: any but those that begin, end or copy a backup. After the first statement of a run, creating and opening do nothing.

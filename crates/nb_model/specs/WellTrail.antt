@@ -1,5 +1,6 @@
 -- What is kept true of a trail, so that whatever a crash leaves of it is well.
 use Rattle.std.specs.Prelude.{◌≡◌, ℕ, ◌<◌, List, length, take, Some, None, Contains}
+use Rattle.nb_fields.specs.States.{stalled_state}
 use Rattle.nb_model.specs.Image.{page_at, first_page, image_state}
 use Rattle.nb_model.specs.Account.{Kept, Base}
 use Rattle.nb_model.specs.Owner.{entry_for}
@@ -28,6 +29,6 @@ AllGoOn t r = (b : Base) → Contains (bases_of t) b → GoesOn r b.image
 -- The last database is well. All of them are sound and in step, and from each backup that one of them names all go on.
 pub record IsWellTrail (kept : List Kept) (t : Trail) : Type 0 where
   pub base : IsWellBaseIn kept t.base
-  pub over : image_state t.base.image ≡ 1 → IsOverFrozen t.base
+  pub over : image_state t.base.image ≡ stalled_state → IsOverFrozen t.base
   pub sound : IsSoundTrail t
   pub past : (b : Base) → Contains (bases_of t) b → NamesPast kept (AllGoOn t) b.image

@@ -28,6 +28,7 @@ ghost use Rattle.nb_model.specs.declared.statement.Statement.{Statement};
 ghost use Rattle.nb_fields.specs.Fresh.{fresh};
 ghost use Rattle.nb_fields.specs.Page.{stamp_of};
 ghost use Rattle.nb_fields.specs.Places.{is_page_size};
+ghost use Rattle.nb_fields.specs.States.{normal_state, stalled_state, merge_state};
 ghost use Rattle.nb_host.specs.Files.{File, Files};
 ghost use Rattle.nb_host.specs.Names.{is_delta};
 ghost use Rattle.nb_host.specs.declared.refusals.Refusal.{Refusal};
@@ -120,7 +121,7 @@ pub fn a_merge_changes_no_image()
 /// no page of zeros it changes page 0 alone.
 pub fn a_merge_ends_without_zeros_behind()
     ensures whole { (b : Base) → HasHeader b.image → trimmed (on_base finish b).image ≡ (on_base finish b).image }
-    ensures full { (b : Base) → HasNoZeros b.image → on_base finish b ≡ record b { image = with_control 0 (image_scn b.image) (image_guid b.image) b.image; diverted = [] } }
+    ensures full { (b : Base) → HasNoZeros b.image → on_base finish b ≡ record b { image = with_control normal_state (image_scn b.image) (image_guid b.image) b.image; diverted = [] } }
 {}
 
 /// The strokes that a short form drafts lead to the image that it drafts.
@@ -219,7 +220,7 @@ pub fn trails_stay_sound()
 /// what was seen last.
 pub fn mixtures_are_pagewise()
     ensures pagewise { (bases : List Base) (now : Base) (image : Image) (diverted : List ℕ) → IsMixture bases now.image image → Contains bases now → SoundInventory image
-        → (image_state image ≡ 1 → IsRaised image diverted) → IsPagewise (images bases) image diverted }
+        → (image_state image ≡ stalled_state → IsRaised image diverted) → IsPagewise (images bases) image diverted }
     ensures agrees { (t : Trail) (b : Base) → IsFirm t b → AgreesWith b.image t.base.image }
     ensures lineage { (bases : List Base) (s : ℕ) (now : Base) (image : Image) → IsMixture bases now.image image → Contains bases now → s < stamp_of (first_page now.image) → IsMixed (images bases) s image }
 {}
@@ -262,10 +263,10 @@ pub fn well_trails_stay_well()
 
 /// A well trail begins after each control stroke of a backup. A begin keeps the record of its backup.
 pub fn control_strokes_keep_well()
-    ensures begin { (kept : List Kept) (b : Base) (guid : List ℕ) (ask : Option Ask) → IsWellBaseIn kept b → image_state b.image ≡ 0 → length guid ≡ 16 → image_scn b.image ≤ 4294967293
+    ensures begin { (kept : List Kept) (b : Base) (guid : List ℕ) (ask : Option Ask) → IsWellBaseIn kept b → image_state b.image ≡ normal_state → length guid ≡ 16 → image_scn b.image ≤ 4294967293
         → IsWellTrail (kept ++ records_of (begin guid ask) b) (settled (on_base (begin guid ask) b)) }
-    ensures ends { (kept : List Kept) (b : Base) → IsWellBaseIn kept b → image_state b.image ≡ 1 → IsWellTrail kept (settled (on_base ends b)) }
-    ensures finish { (kept : List Kept) (b : Base) → IsWellBaseIn kept b → image_state b.image ≡ 2 → IsWellTrail kept (settled (on_base finish b)) }
+    ensures ends { (kept : List Kept) (b : Base) → IsWellBaseIn kept b → image_state b.image ≡ stalled_state → IsWellTrail kept (settled (on_base ends b)) }
+    ensures finish { (kept : List Kept) (b : Base) → IsWellBaseIn kept b → image_state b.image ≡ merge_state → IsWellTrail kept (settled (on_base finish b)) }
 {}
 
 /// What turns have seen of their database is well after each of their steps, whatever backups and copies are under way, with the records of

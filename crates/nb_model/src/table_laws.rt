@@ -13,6 +13,7 @@ ghost use Rattle.nb_model.specs.declared.reply.Reply.TheVariants.{Done, Rows, Va
 ghost use Rattle.nb_model.specs.declared.statement.Statement.TheVariants.{Access as SetAccess, CreateTable, Delete, DropTable, Forced, Free, Get, Insert, PageNew, Scan, Update, Write};
 ghost use Rattle.nb_fields.specs.Fresh.{fresh};
 ghost use Rattle.nb_fields.specs.Places.{is_page_size};
+ghost use Rattle.nb_fields.specs.States.{stalled_state};
 ghost use Rattle.std.specs.Prelude.{Bool, IsTrue, List, None, Option, Some, [], is_some, length, true, ℕ, ◌<◌, ◌∷◌, ◌≡◌, ◌≤◌};
 
 /// The keys of a table's rows rise, so that two tables have the same rows where each key has the same text in both.
@@ -81,6 +82,6 @@ pub fn raw_pages_keep_rows()
 /// So do the control strokes of a backup.
 pub fn control_strokes_keep_rows()
     ensures begins { (b : Base) (guid : List ℕ) (ask : Option Ask) → HasHeader b.image → IsSoundImage b.image → IsNeat b.image → image_scn b.image ≤ 4294967293 → length guid ≡ 16 → KeepsRows b (begin guid ask ∷ []) }
-    ensures ends { (b : Base) → HasHeader b.image → IsSoundImage b.image → IsNeat b.image → image_state b.image ≡ 1 → KeepsRows b (ends_stroke ∷ []) }
+    ensures ends { (b : Base) → HasHeader b.image → IsSoundImage b.image → IsNeat b.image → image_state b.image ≡ stalled_state → KeepsRows b (ends_stroke ∷ []) }
     ensures finishes { (b : Base) → HasHeader b.image → IsSoundImage b.image → IsNeat b.image → KeepsRows b (finish ∷ []) }
 {}

@@ -2,6 +2,7 @@
 ghost use Rattle.std.specs.Prelude.{◌≡◌, ◌≢◌, ◌<◌, ◌≤◌, ℕ, [], Bool, length, true, false};
 ghost use Rattle.nb_model.specs.Account.{Base};
 ghost use Rattle.nb_fields.specs.Places.{is_scn_place};
+ghost use Rattle.nb_fields.specs.States.{stalled_state};
 ghost use Rattle.nb_model.specs.Behind.{IsBehind, IsEntering, IsOnTheWay, IsRead};
 ghost use Rattle.nb_model.specs.Image.{Page, page_at, image_size, image_state, is_forced};
 ghost use Rattle.nb_model.specs.Earlier.{AreInStep, IsCovered};
@@ -27,10 +28,10 @@ pub fn files_may_be_behind()
 /// While pages that wait go out one by one, what is left stays on the way: SCN pages first, and then each other page. What reads has the
 /// pages that are out as they are seen, and once none waits it is what is seen.
 pub fn pages_go_out()
-    ensures start { (f t : Trail) (b : Base) → IsBehind f t → image_state t.base.image ≢ 1 → IsFirm f b → IsOnTheWay f t b }
-    ensures scn_page { (f t : Trail) (b : Base) (p : ℕ) → 1 ≤ p → p < length t.base.image → image_state t.base.image ≢ 1 → is_scn_place (image_size t.base.image) p ≡ true → IsOnTheWay f t b
+    ensures start { (f t : Trail) (b : Base) → IsBehind f t → image_state t.base.image ≢ stalled_state → IsFirm f b → IsOnTheWay f t b }
+    ensures scn_page { (f t : Trail) (b : Base) (p : ℕ) → 1 ≤ p → p < length t.base.image → image_state t.base.image ≢ stalled_state → is_scn_place (image_size t.base.image) p ≡ true → IsOnTheWay f t b
         → IsOnTheWay f t (on_base (page_stroke p (page_at t.base.image p)) b) }
-    ensures other { (t : Trail) (b : Base) (p : ℕ) → 1 ≤ p → p < length t.base.image → image_state t.base.image ≢ 1 → is_scn_place (image_size t.base.image) p ≡ false → t.earlier ≢ [] → IsFirm t b
+    ensures other { (t : Trail) (b : Base) (p : ℕ) → 1 ≤ p → p < length t.base.image → image_state t.base.image ≢ stalled_state → is_scn_place (image_size t.base.image) p ≡ false → t.earlier ≢ [] → IsFirm t b
         → IsFirm t (on_base (page_stroke p (page_at t.base.image p)) b) }
     ensures reads { (f t : Trail) (waits : ℕ → Bool) (r : Base) → IsBehind f t → t.earlier ≢ [] → IsRead f t waits r → ((p : ℕ) → is_scn_place (image_size t.base.image) p ≡ true → waits p ≡ false) → IsFirm t r }
     ensures done { (f t : Trail) (waits : ℕ → Bool) (r : Base) → IsRead f t waits r → ((p : ℕ) → waits p ≡ false) → r ≡ t.base }

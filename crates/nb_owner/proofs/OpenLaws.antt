@@ -6,6 +6,7 @@ use Rattle.std.specs.List.{AllByRecursion, IsDistinct}
 use Rattle.std.specs.Map.{keys_of, lookup_entry, remove_entry}
 use Rattle.std.proofs.lemmas.Bool.{true≢false, eqb-false}
 use Rattle.std.proofs.lemmas.Bool.Decides.{leb_tells}
+use Rattle.nb_fields.specs.States.{normal_state, stalled_state, merge_state}
 use Rattle.lru.specs.LruCache.{lru_cache, promoted, put_entries}
 use Rattle.nb_model.specs.Image.{Page, Image, page_at, first_page, image_scn, image_guid, trimmed, with_page}
 use Rattle.nb_model.specs.Account.{Ask, Base}
@@ -52,11 +53,11 @@ module _ (pages : Pages) (once : IsDistinct nat_eq (keys_of pages)) where
       (All-dropped 0 pages once (λ e. e.1.bytes ≡ page_at before e.0) (λ e. e.1.bytes ≡ page_at (with_control state scn guid before) e.0)
       (λ e apart of. of ∙ sym (with_control-behind state scn guid before e.0 (λ first. eqb-false 0 e.0 apart (sym first)))) all)
 
-  begun_image : (b : Base) (guid : List ℕ) (ask : Option Ask) → (on_base (begin guid ask) b).image ≡ with_control 1 (image_scn b.image + 1) guid b.image
+  begun_image : (b : Base) (guid : List ℕ) (ask : Option Ask) → (on_base (begin guid ask) b).image ≡ with_control stalled_state (image_scn b.image + 1) guid b.image
   unfolding on_base
   begun_image b guid ask = refl
 
-  ended_image : (b : Base) → (on_base ends b).image ≡ with_control 2 (image_scn b.image + 1) (image_guid b.image) b.image
+  ended_image : (b : Base) → (on_base ends b).image ≡ with_control merge_state (image_scn b.image + 1) (image_guid b.image) b.image
   unfolding on_base
   ended_image b = refl
 
@@ -137,9 +138,9 @@ of_finished pages once t count filled all =
     seen q = ⊎_elim (λ low. trimmed_at t.base.image q (omega (arith, low, few, filled))) (trimmed_past t.base.image q)
 
     each : (es : Pages) → AllByRecursion (λ e. ((e.1.bytes ≡ page_at t.base.image e.0) × (e.0 ≢ 0)) × Outside (length t.base.image - (length t.base.image - count)) (length t.base.image) e) es
-        → AreOf (with_control 0 (image_scn t.base.image) (image_guid t.base.image) (trimmed t.base.image)) es
+        → AreOf (with_control normal_state (image_scn t.base.image) (image_guid t.base.image) (trimmed t.base.image)) es
     each [] all = tt
-    each (e ∷ es) all = (all.0.0.0 ∙ sym (seen e.0 all.0.1) ∙ sym (with_control-behind 0 (image_scn t.base.image) (image_guid t.base.image) (trimmed t.base.image) e.0 all.0.0.1), each es all.1)
+    each (e ∷ es) all = (all.0.0.0 ∙ sym (seen e.0 all.0.1) ∙ sym (with_control-behind normal_state (image_scn t.base.image) (image_guid t.base.image) (trimmed t.base.image) e.0 all.0.0.1), each es all.1)
 
 none_at : (pages : Pages) (n : ℕ) → NoneWaits pages → option_and_then (λ (e : ℕ × Slot). option_map (λ _. e.0) e.1.rank) (slice_get pages n) ≡ None
 none_at [] n none = refl

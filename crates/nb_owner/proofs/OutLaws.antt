@@ -5,6 +5,7 @@ use Rattle.std.proofs.lemmas.Bool.{true≢false}
 use Rattle.std.proofs.lemmas.Bool.Decides.{eqb_tells}
 use Rattle.nb_fields.specs.Places.{is_scn_place}
 use Rattle.nb_fields.specs.Header.{state_of, size_of}
+use Rattle.nb_fields.specs.States.{normal_state}
 use Rattle.nb_host.specs.Files.{Files}
 use Rattle.nb_host.specs.World.{World}
 use Rattle.nb_host.specs.Crash.{LeavesAll}
@@ -37,7 +38,7 @@ quiet_more old mid new names P before quiet =
 
 -- One page goes out, while P holds of what is left.
 module _ (held : Held) (f t : Trail) (P : Base → Type 0) (same : (b : Base) → P b → (length b.image ≡ length t.base.image) × (first_page b.image ≡ first_page t.base.image))
-    (p rank : ℕ) (waiting : IsWaiting t p rank) (normal : image_state t.base.image ≡ 0) (size : length (page_at t.base.image p) ≡ image_size t.base.image)
+    (p rank : ℕ) (waiting : IsWaiting t p rank) (normal : image_state t.base.image ≡ normal_state) (size : length (page_at t.base.image p) ≡ image_size t.base.image)
     (put_on : (b : Base) → P b → P (on_base (page p (page_at t.base.image p)) b)) where
   abbrev own : Page
   own = page_at t.base.image p
@@ -103,7 +104,7 @@ module _ (held : Held) (f t : Trail) (P : Base → Type 0) (same : (b : Base) �
       none_some e = cc
 
 -- The way begins: SCN pages are to go out first, or none waits.
-module _ (w : World) (held : Held) (t : Trail) (is : IsOpen w held t) (normal : image_state t.base.image ≡ 0) where
+module _ (w : World) (held : Held) (t : Trail) (is : IsOpen w held t) (normal : image_state t.base.image ≡ normal_state) where
   no_drafts : held.files.drafted ≡ 0
   no_drafts = is.waits.stalled (λ stalled. absurd (omega (arith, stalled, normal)))
 
@@ -167,7 +168,7 @@ out_open w held f t out none = record {
 }
 
 -- in the normal state the rank goes by whether it is an SCN page
-pub rank_normal : (image : Image) (p : ℕ) → image_state image ≡ 0 → rank_for image p ≡ elim (is_scn_place (image_size image) p) as (λ z. ℕ) [ true ↦ 2 | false ↦ 3 ]
+pub rank_normal : (image : Image) (p : ℕ) → image_state image ≡ normal_state → rank_for image p ≡ elim (is_scn_place (image_size image) p) as (λ z. ℕ) [ true ↦ 2 | false ↦ 3 ]
 unfolding rank_for
 rank_normal image p normal = elim (eqb_tells (image_state image) 1) [
   | inl w ↦ absurd (omega (arith, w.1, normal))
@@ -175,7 +176,7 @@ rank_normal image p normal = elim (eqb_tells (image_state image) 1) [
 ]
 
 -- The rank of a page that waits tells whether it is an SCN page.
-module _ (t : Trail) (p rank : ℕ) (waiting : IsWaiting t p rank) (normal : image_state t.base.image ≡ 0) where
+module _ (t : Trail) (p rank : ℕ) (waiting : IsWaiting t p rank) (normal : image_state t.base.image ≡ normal_state) where
   rank_is : rank ≡ elim (is_scn_place (image_size t.base.image) p) as (λ z. ℕ) [ true ↦ 2 | false ↦ 3 ]
   rank_is = waiting.ranked ∙ rank_normal t.base.image p normal
 
@@ -194,7 +195,7 @@ module _ (t : Trail) (p rank : ℕ) (waiting : IsWaiting t p rank) (normal : ima
       by false plain = plain
 
 -- where only later ranks wait, no SCN page does
-pub none_scn : (t : Trail) (pages : Pages) → image_state t.base.image ≡ 0 → ((p rank : ℕ) → rank_of pages p ≡ Some rank → IsWaiting t p rank) → ((p rank : ℕ) → rank_of pages p ≡ Some rank → 2 < rank) → NoScnWaits t pages
+pub none_scn : (t : Trail) (pages : Pages) → image_state t.base.image ≡ normal_state → ((p rank : ℕ) → rank_of pages p ≡ Some rank → IsWaiting t p rank) → ((p rank : ℕ) → rank_of pages p ≡ Some rank → 2 < rank) → NoScnWaits t pages
 none_scn t pages normal each high p at = by (rank_of pages p) refl
   where
     by : (o : Option ℕ) → rank_of pages p ≡ o → waits pages p ≡ false

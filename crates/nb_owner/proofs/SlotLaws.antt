@@ -3,6 +3,7 @@ use Rattle.std.proofs.Common.{◌≡◌, ◌≢◌, inl, inr, ℕ, ◌<◌, ◌�
 use Rattle.std.specs.Prelude.{true, Option, Some, None, is_some}
 use Rattle.std.proofs.lemmas.Bool.{true≢false}
 use Rattle.std.proofs.lemmas.Bool.Decides.{eqb_tells}
+use Rattle.nb_fields.specs.States.{stalled_state}
 use Rattle.nb_host.specs.World.{World}
 use Rattle.nb_host.specs.Moments.{IsTimely}
 use Rattle.nb_change.specs.Changes.{Only, Changes}
@@ -19,7 +20,7 @@ use Rattle.nb_owner.proofs.RankLaws.{rank_marked, rank_marked_other, waits_there
 use Rattle.nb_owner.proofs.WaitLaws.{drafted_waits}
 
 -- The way begins.
-pub start_slots : (w : World) (held : Held) (t : Trail) (is : IsOpen w held t) → held.files.state ≡ 1 → t.earlier ≢ [] → GoesSlot w held is.sees t
+pub start_slots : (w : World) (held : Held) (t : Trail) (is : IsOpen w held t) → held.files.state ≡ stalled_state → t.earlier ≢ [] → GoesSlot w held is.sees t
 start_slots w held t is stalled unsettled = record {
   goes = goes_in w held.files is.sees t (waits held.pages) is.files is.waits.behind is.agrees stalled unsettled
       (omega (arith, ap length is.waits.drafts.all, length-append is.sees.base.diverted is.waits.drafts.drafts, is.waits.drafts.many)) is.waits.clean (drafted_waits held.pages held.files.drafted is.sees t is.waits)

@@ -7,8 +7,9 @@ use Rattle.std.proofs.lemmas.Bool.Decides.{eqb_tells, leb_tells}
 use Rattle.std.proofs.lemmas.List.{append-nil}
 use Rattle.lru.specs.LruCache.{lru_cache, put_entries}
 use Rattle.nb_fields.specs.Bytes.{is_zeros, number_in}
-use Rattle.nb_fields.specs.Places.{is_scn_place}
+use Rattle.nb_fields.specs.Places.{is_scn_place, most_pages}
 use Rattle.nb_fields.specs.Header.{is_header, state_of, size_of}
+use Rattle.nb_fields.specs.States.{normal_state, stalled_state}
 use Rattle.nb_host.specs.Calls.{IsStill}
 use Rattle.nb_host.specs.World.{World}
 use Rattle.std.specs.Option.{option_and_then}
@@ -244,11 +245,11 @@ may_wait_parts held p is =
 -- The rank goes by page 0.
 rank_same : (a b : Image) (p : ℕ) → first_page a ≡ first_page b → rank_for a p ≡ rank_for b p
 unfolding rank_for
-rank_same a b p first = ap (λ (x : Page). elim (state_of x == 1) as (λ z. ℕ) [ true ↦ 0 | false ↦ elim (is_scn_place (size_of x) p) as (λ z. ℕ) [ true ↦ 2 | false ↦ 3 ] ]) first
+rank_same a b p first = ap (λ (x : Page). elim (state_of x == stalled_state) as (λ z. ℕ) [ true ↦ 0 | false ↦ elim (is_scn_place (size_of x) p) as (λ z. ℕ) [ true ↦ 2 | false ↦ 3 ] ]) first
 
 -- One more page waits.
 module _ (w : World) (held : Held) (t : Trail) (is : IsOpen w held t) (valid : IsValid (cache_of held) held.files.page_size) (p rank : ℕ) (bytes : Page)
-    (some : 1 ≤ p) (low : p < held.files.count) (below : p < 1048576) (wide : length bytes ≡ held.files.page_size) (other : is_zeros bytes ≡ false) (early : held.files.state ≤ 1) (loose : is_forced t.base.image ≡ false)
+    (some : 1 ≤ p) (low : p < held.files.count) (below : p < most_pages) (wide : length bytes ≡ held.files.page_size) (other : is_zeros bytes ≡ false) (early : held.files.state ≤ 1) (loose : is_forced t.base.image ≡ false)
     (drops_none : dropped (cache_of held) p ≡ None) (ranked : rank ≡ rank_for t.base.image p) where
   abbrev later_t : Trail
   later_t = after_stroke (page p bytes) t
@@ -287,19 +288,19 @@ module _ (w : World) (held : Held) (t : Trail) (is : IsOpen w held t) (valid : I
   more : (xs : List ℕ) × ((after_stroke (page p bytes) t).base.diverted ≡ t.base.diverted ++ xs)
   more = let longer = put_longer t.base p bytes some low_t in (longer.0, ap (λ (b : Base). b.diverted) base_is ∙ longer.1)
 
-  table_main : image_state t.base.image ≢ 1 → (after_stroke (page p bytes) t).base.diverted ≡ t.base.diverted
+  table_main : image_state t.base.image ≢ stalled_state → (after_stroke (page p bytes) t).base.diverted ≡ t.base.diverted
   table_main main = ap (λ (b : Base). b.diverted) base_is ∙ put_diverted t.base p bytes some low_t main
 
-  table_there : image_state t.base.image ≡ 1 → (k : ℕ) → entry_for p t.base.diverted ≡ Some k → (after_stroke (page p bytes) t).base.diverted ≡ t.base.diverted
+  table_there : image_state t.base.image ≡ stalled_state → (k : ℕ) → entry_for p t.base.diverted ≡ Some k → (after_stroke (page p bytes) t).base.diverted ≡ t.base.diverted
   table_there stalled k at = ap (λ (b : Base). b.diverted) base_is ∙ stroke-stalled t.base p bytes stalled ∙ noted-there p t.base.diverted k at
 
-  table_new : image_state t.base.image ≡ 1 → entry_for p t.base.diverted ≡ None → (after_stroke (page p bytes) t).base.diverted ≡ t.base.diverted ++ p ∷ []
+  table_new : image_state t.base.image ≡ stalled_state → entry_for p t.base.diverted ≡ None → (after_stroke (page p bytes) t).base.diverted ≡ t.base.diverted ++ p ∷ []
   table_new stalled none = ap (λ (b : Base). b.diverted) base_is ∙ stroke-stalled t.base p bytes stalled ∙ noted-new p t.base.diverted none
 
   named_own : image_state (after_stroke (page p bytes) t).base.image ≡ 1 → (k : ℕ) × (entry_for p (after_stroke (page p bytes) t).base.diverted ≡ Some k)
   named_own stalled = by (entry_for p t.base.diverted) refl
     where
-      stalled_t : image_state t.base.image ≡ 1
+      stalled_t : image_state t.base.image ≡ stalled_state
       stalled_t = sym (ap state_of first) ∙ stalled
 
       by : (x : Option ℕ) → entry_for p t.base.diverted ≡ x → (k : ℕ) × (entry_for p later_t.base.diverted ≡ Some k)
@@ -363,7 +364,7 @@ module _ (w : World) (held : Held) (t : Trail) (is : IsOpen w held t) (valid : I
   -- With these entries, of which so many are drafted.
   module _ (entries : List ℕ) (drafted : ℕ) (entries_are : entries ≡ (after_stroke (page p bytes) t).base.diverted)
       (drafts : AreDrafted (with_rank p (Some rank) (put_entries nat_eq (lru_cache held.pages held.cap) p (record { bytes = bytes; rank = rank_of held.pages p }))) drafted is.sees (after_stroke (page p bytes) t))
-      (plain : image_state t.base.image ≢ 1 → drafted ≡ 0) where
+      (plain : image_state t.base.image ≢ stalled_state → drafted ≡ 0) where
     waits_more : Waits (with_rank p (Some rank) (put_entries nat_eq (lru_cache held.pages held.cap) p (record { bytes = bytes; rank = rank_of held.pages p }))) drafted is.sees (after_stroke (page p bytes) t)
     waits_more = record {
       behind = wait_behind is.sees t p bytes is.waits.behind some low_t loose;
@@ -401,15 +402,15 @@ module _ (w : World) (held : Held) (t : Trail) (is : IsOpen w held t) (valid : I
   same_drafts : (after_stroke (page p bytes) t).base.diverted ≡ t.base.diverted → AreDrafted (with_rank p (Some rank) (put_entries nat_eq (lru_cache held.pages held.cap) p (record { bytes = bytes; rank = rank_of held.pages p }))) held.files.drafted is.sees (after_stroke (page p bytes) t)
   same_drafts same = record { drafts = is.waits.drafts.drafts; all = same ∙ is.waits.drafts.all; many = is.waits.drafts.many; wait = all_still is.waits.drafts.drafts is.waits.drafts.wait }
 
-  pub wait_main : image_state t.base.image ≢ 1 → IsOpen w (record held { pages = with_rank p (Some rank) (put_entries nat_eq (lru_cache held.pages held.cap) p (record { bytes = bytes; rank = rank_of held.pages p })) }) (after_stroke (page p bytes) t)
+  pub wait_main : image_state t.base.image ≢ stalled_state → IsOpen w (record held { pages = with_rank p (Some rank) (put_entries nat_eq (lru_cache held.pages held.cap) p (record { bytes = bytes; rank = rank_of held.pages p })) }) (after_stroke (page p bytes) t)
   wait_main main = wait_open held.files.entries held.files.drafted (is.agrees.entries ∙ sym (table_main main)) (same_drafts (table_main main)) is.waits.stalled
 
-  pub wait_there : image_state t.base.image ≡ 1 → (k : ℕ) → entry_for p t.base.diverted ≡ Some k
+  pub wait_there : image_state t.base.image ≡ stalled_state → (k : ℕ) → entry_for p t.base.diverted ≡ Some k
       → IsOpen w (record held { pages = with_rank p (Some rank) (put_entries nat_eq (lru_cache held.pages held.cap) p (record { bytes = bytes; rank = rank_of held.pages p })) }) (after_stroke (page p bytes) t)
   wait_there stalled k at = wait_open held.files.entries held.files.drafted (is.agrees.entries ∙ sym (table_there stalled k at)) (same_drafts (table_there stalled k at)) is.waits.stalled
 
   -- or one is drafted.
-  pub wait_new : image_state t.base.image ≡ 1 → entry_for p t.base.diverted ≡ None
+  pub wait_new : image_state t.base.image ≡ stalled_state → entry_for p t.base.diverted ≡ None
       → IsOpen w (record { files = record held.files { entries = held.files.entries ++ p ∷ []; drafted = held.files.drafted + 1 }; pages = with_rank p (Some rank) (put_entries nat_eq (lru_cache held.pages held.cap) p (record { bytes = bytes; rank = rank_of held.pages p })); cap = held.cap }) (after_stroke (page p bytes) t)
   wait_new stalled none = wait_open (held.files.entries ++ p ∷ []) (held.files.drafted + 1) (ap (λ (xs : List ℕ). xs ++ p ∷ []) is.agrees.entries ∙ sym (table_new stalled none)) (record {
     drafts = is.waits.drafts.drafts ++ p ∷ [];
@@ -429,10 +430,10 @@ ranked_in files b p agrees = ap (λ n. rank_in n files.page_size p) agrees.state
 
 -- A page is in memory, where it waits, and has an entry in the stalled state.
 module _ (w : World) (held : Held) (t : Trail) (is : IsOpen w held t) (valid : IsValid (cache_of held) held.files.page_size) (p : ℕ) (bytes : Page)
-    (some : 1 ≤ p) (low : p < held.files.count) (below : p < 1048576) (wide : length bytes ≡ held.files.page_size) (other : is_zeros bytes ≡ false) (early : held.files.state ≤ 1) (loose : is_forced t.base.image ≡ false) (drops_none : dropped (cache_of held) p ≡ None)
+    (some : 1 ≤ p) (low : p < held.files.count) (below : p < most_pages) (wide : length bytes ≡ held.files.page_size) (other : is_zeros bytes ≡ false) (early : held.files.state ≤ 1) (loose : is_forced t.base.image ≡ false) (drops_none : dropped (cache_of held) p ≡ None)
     (after : Held)
     (pages_are : after.pages ≡ with_rank p (Some (rank_in held.files.state held.files.page_size p)) (put_entries nat_eq (lru_cache held.pages held.cap) p (record { bytes = bytes; rank = rank_of held.pages p })))
-    (cap_is : after.cap ≡ held.cap) (normal : held.files.state ≡ 0 → after.files ≡ held.files) (drafts : held.files.state ≡ 1 → Drafts p held.files after.files) where
+    (cap_is : after.cap ≡ held.cap) (normal : held.files.state ≡ normal_state → after.files ≡ held.files) (drafts : held.files.state ≡ stalled_state → Drafts p held.files after.files) where
   abbrev rank : ℕ
   rank = rank_in held.files.state held.files.page_size p
 
@@ -449,8 +450,8 @@ module _ (w : World) (held : Held) (t : Trail) (is : IsOpen w held t) (valid : I
   held_open = elim (eqb_tells held.files.state 0) [
     | inl e ↦ with_files held.files (normal e.1) (wait_main w held t is valid p rank bytes some low below wide other early loose drops_none ranked (λ stalled. absurd (omega (arith, e.1, stalled, is.agrees.state))))
     | inr e ↦
-        let one : held.files.state ≡ 1 = omega (arith, e.1, early) in
-        let stalled : image_state t.base.image ≡ 1 = sym is.agrees.state ∙ one in
+        let one : held.files.state ≡ stalled_state = omega (arith, e.1, early) in
+        let stalled : image_state t.base.image ≡ stalled_state = sym is.agrees.state ∙ one in
         ⊎_elim
         (λ has. with_files held.files has.1 (wait_there w held t is valid p rank bytes some low below wide other early loose drops_none ranked stalled has.0.0 (ap (entry_for p) (sym is.agrees.entries) ∙ has.0.1)))
         (λ none. with_files (record held.files { entries = held.files.entries ++ p ∷ []; drafted = held.files.drafted + 1 }) none.1

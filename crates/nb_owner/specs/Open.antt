@@ -4,7 +4,8 @@ use Rattle.std.specs.List.{AllByRecursion, IsDistinct}
 use Rattle.std.specs.Map.{keys_of, remove_entry}
 use Rattle.lru.specs.LruCache.{lru_cache, put_entries}
 use Rattle.nb_fields.specs.Bytes.{is_zeros}
-use Rattle.nb_fields.specs.Places.{is_scn_place}
+use Rattle.nb_fields.specs.Places.{is_scn_place, most_pages}
+use Rattle.nb_fields.specs.States.{normal_state, stalled_state}
 use Rattle.nb_host.specs.Files.{Files}
 use Rattle.nb_host.specs.World.{World}
 use Rattle.nb_host.specs.Crash.{LeavesAll}
@@ -44,9 +45,9 @@ waits pages p = is_some (rank_of pages p)
 pub record IsWaiting (t : Trail) (p rank : ℕ) : Type 0 where
   pub some : 1 ≤ p
   pub low : p < length t.base.image
-  pub below : p < 1048576
+  pub below : p < most_pages
   pub early : image_state t.base.image ≤ 1
-  pub named : image_state t.base.image ≡ 1 → (k : ℕ) × (entry_for p t.base.diverted ≡ Some k)
+  pub named : image_state t.base.image ≡ stalled_state → (k : ℕ) × (entry_for p t.base.diverted ≡ Some k)
   pub loose : is_forced t.base.image ≡ false
   pub ranked : rank ≡ rank_for t.base.image p
   pub sized : length (page_at t.base.image p) ≡ image_size t.base.image
@@ -64,7 +65,7 @@ pub record AreDrafted (pages : Pages) (drafted : ℕ) (f t : Trail) : Type 0 whe
 pub record Waits (pages : Pages) (drafted : ℕ) (f t : Trail) : Type 0 where
   pub behind : IsBehind f t
   pub drafts : AreDrafted pages drafted f t
-  pub stalled : image_state t.base.image ≢ 1 → drafted ≡ 0
+  pub stalled : image_state t.base.image ≢ stalled_state → drafted ≡ 0
   pub clean : (p : ℕ) → waits pages p ≡ false → page_at f.base.image p ≡ page_at t.base.image p
   pub each : (p rank : ℕ) → rank_of pages p ≡ Some rank → IsWaiting t p rank
 
@@ -111,7 +112,7 @@ pub record GoesOut (w : World) (held : Held) (f t : Trail) (P : Base → Type 0)
   pub pages : AreOf t.base.image held.pages
   pub behind : IsBehind f t
   pub each : (p rank : ℕ) → rank_of held.pages p ≡ Some rank → IsWaiting t p rank
-  pub normal : image_state t.base.image ≡ 0
+  pub normal : image_state t.base.image ≡ normal_state
   pub drafted : held.files.drafted ≡ 0
 
 -- The pages that wait are on their way into their slots, in the stalled state.
@@ -126,7 +127,7 @@ but_drafts files = record files { drafted = 0 }
 
 -- the rank of a page, by the state: 0 for its slot, 2 for an SCN page of the main file, 3 for another page of it
 abbrev pub rank_in : (state size p : ℕ) → ℕ
-rank_in state size p = elim (state == 1) [ true ↦ 0 | false ↦ elim (is_scn_place size p) [ true ↦ 2 | false ↦ 3 ] ]
+rank_in state size p = elim (state == stalled_state) [ true ↦ 0 | false ↦ elim (is_scn_place size p) [ true ↦ 2 | false ↦ 3 ] ]
 
 -- the pages in memory, whether they wait or not
 abbrev pub bare : Pages → List (ℕ × List ℕ)

@@ -2,6 +2,7 @@
 // end.
 ghost use Rattle.std.specs.Prelude.{◌≡◌, ◌<◌, ◌+◌, ◌-◌, [], ◌∷◌, length, slice_index, nat_eq, IsTrue, OnOk, None};
 ghost use Rattle.std.specs.Map.{remove_entry};
+ghost use Rattle.nb_fields.specs.States.{normal_state, stalled_state, merge_state};
 ghost use Rattle.nb_host.specs.Causes.{CountsFault};
 ghost use Rattle.nb_change.specs.Gave.{GaveNothing};
 ghost use Rattle.nb_model.specs.Owner.{delta_name};
@@ -20,13 +21,13 @@ impl Pair {
     /// Ends the stalled state: what waits is written out, and from now on the pages of the difference file may be merged back. Its state is
     /// then 2, and its SCN one higher.
     pub fn end<H: Host>(&mut self, host: &mut H) -> Result<(), HostFault>
-        requires stalled { self.old.files.state ≡ 1 }
+        requires stalled { self.old.files.state ≡ stalled_state }
         ensures takes { (t : Trail) → IsTrue H.tells → IsOpen (H.world host.old) self.old t
             → Takes result (H.world host.old) (H.world host.new) self.old.files.name (IsOpen (H.world host.new) self.new) t (ends ∷ []) }
         ensures others { OnOk result (bare self.new.pages ≡ bare (behind_first self.old.pages)) }
         ensures cap { self.new.cap ≡ self.old.cap }
         ensures gave { GaveNothing (H.world host.old) (H.world host.new) }
-        ensures state { OnOk result (self.new.files.state ≡ 2) }
+        ensures state { OnOk result (self.new.files.state ≡ merge_state) }
         ensures name { self.new.files.name ≡ self.old.files.name }
         ensures page_size { self.new.files.page_size ≡ self.old.files.page_size }
         ensures entries { self.new.files.entries ≡ self.old.files.entries }
@@ -39,7 +40,7 @@ impl Pair {
 
     /// Ends the stalled state, where no page waits.
     fn end_files<H: Host>(&mut self, host: &mut H) -> Result<(), HostFault>
-        requires stalled { self.old.files.state ≡ 1 }
+        requires stalled { self.old.files.state ≡ stalled_state }
         requires none { NoneWaits self.old.pages }
         requires no_drafts { self.old.files.drafted ≡ 0 }
         ensures takes { (t : Trail) → IsTrue H.tells → IsOpen (H.world host.old) self.old t
@@ -47,7 +48,7 @@ impl Pair {
         ensures others { OnOk result (self.new.pages ≡ behind_first self.old.pages) }
         ensures cap { self.new.cap ≡ self.old.cap }
         ensures gave { GaveNothing (H.world host.old) (H.world host.new) }
-        ensures state { OnOk result (self.new.files.state ≡ 2) }
+        ensures state { OnOk result (self.new.files.state ≡ merge_state) }
         ensures name { self.new.files.name ≡ self.old.files.name }
         ensures page_size { self.new.files.page_size ≡ self.old.files.page_size }
         ensures entries { self.new.files.entries ≡ self.old.files.entries }
@@ -61,7 +62,7 @@ impl Pair {
     /// Writes the page of entry `k` from its slot into the main file, zeros past its end and all. It changes no page of the database, none in
     /// memory, and nothing else in its files, whatever they hold.
     pub fn merge_entry<H: Host>(&mut self, host: &mut H, k: u32) -> Result<(), HostFault>
-        requires merge { self.old.files.state ≡ 2 }
+        requires merge { self.old.files.state ≡ merge_state }
         requires inside { k < length self.old.files.entries }
         ensures takes { (t : Trail) → IsTrue H.tells → IsOpen (H.world host.old) self.old t
             → Takes result (H.world host.old) (H.world host.new) self.old.files.name (IsOpen (H.world host.new) self.new) t [] }
@@ -78,14 +79,14 @@ impl Pair {
     /// Ends the merge, once every entry is equal in both files: its state is 0 again, pages of zeros at its end are pages no longer, and the
     /// difference file is removed.
     pub fn finish<H: Host>(&mut self, host: &mut H) -> Result<(), HostFault>
-        requires merge { self.old.files.state ≡ 2 }
+        requires merge { self.old.files.state ≡ merge_state }
         ensures takes { (t : Trail) → IsTrue H.tells → IsOpen (H.world host.old) self.old t → AreMerged (H.world host.old) self.old.files (length self.old.files.entries)
             → Takes result (H.world host.old) (H.world host.new) self.old.files.name (IsOpen (H.world host.new) self.new) t (finish_stroke ∷ []) }
         ensures others { OnOk result (self.new.pages ≡ but_below (self.old.files.count - self.new.files.count) self.old.files.count (behind_first self.old.pages)) }
         ensures gone { IsTrue H.tells → OnOk result ((H.world host.new).files (delta_name self.old.files.name) ≡ None) }
         ensures cap { self.new.cap ≡ self.old.cap }
         ensures gave { GaveNothing (H.world host.old) (H.world host.new) }
-        ensures state { OnOk result (self.new.files.state ≡ 0) }
+        ensures state { OnOk result (self.new.files.state ≡ normal_state) }
         ensures name { self.new.files.name ≡ self.old.files.name }
         ensures page_size { self.new.files.page_size ≡ self.old.files.page_size }
         ensures cause { CountsFault result (H.faults host.old) (H.faults host.new) }
@@ -98,7 +99,7 @@ impl Pair {
 
     /// Ends the merge of the two files. Page 0 is held no longer.
     fn finish_files<H: Host>(&mut self, host: &mut H) -> Result<(), HostFault>
-        requires merge { self.old.files.state ≡ 2 }
+        requires merge { self.old.files.state ≡ merge_state }
         ensures takes { (t : Trail) → IsTrue H.tells → IsOpen (H.world host.old) self.old t → AreMerged (H.world host.old) self.old.files (length self.old.files.entries)
             → Takes result (H.world host.old) (H.world host.new) self.old.files.name (AreOpen (H.world host.new) self.new.files) t (finish_stroke ∷ []) }
         ensures others { OnOk result (self.new.pages ≡ behind_first self.old.pages) }
@@ -106,7 +107,7 @@ impl Pair {
         ensures gone { IsTrue H.tells → OnOk result ((H.world host.new).files (delta_name self.old.files.name) ≡ None) }
         ensures cap { self.new.cap ≡ self.old.cap }
         ensures gave { GaveNothing (H.world host.old) (H.world host.new) }
-        ensures state { OnOk result (self.new.files.state ≡ 0) }
+        ensures state { OnOk result (self.new.files.state ≡ normal_state) }
         ensures name { self.new.files.name ≡ self.old.files.name }
         ensures page_size { self.new.files.page_size ≡ self.old.files.page_size }
         ensures cause { CountsFault result (H.faults host.old) (H.faults host.new) }

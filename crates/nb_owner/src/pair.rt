@@ -1,7 +1,8 @@
 // Pages are read and written, in memory and in the files.
 ghost use Rattle.std.specs.Prelude.{◌≡◌, ◌≢◌, ◌⊎◌, ◌<◌, ◌≤◌, ◌+◌, ℕ, [], ◌∷◌, length, IsTrue, IsSome, IsOk, IfErr, OnOk, OnErr, None, true, false, nat_eq};
 ghost use Rattle.nb_fields.specs.Bytes.{is_zeros};
-ghost use Rattle.nb_fields.specs.Places.{is_page_size};
+ghost use Rattle.nb_fields.specs.Places.{is_page_size, most_pages};
+ghost use Rattle.nb_fields.specs.States.{normal_state, stalled_state, merge_state};
 ghost use Rattle.nb_host.specs.Causes.{CountsFault, CountsRun};
 ghost use Rattle.nb_change.specs.Gave.{GaveNothing};
 ghost use Rattle.nb_page.specs.Quiet.{Quiet};
@@ -31,6 +32,7 @@ pub struct Pair {
 
 impl Model for Pair {
     ghost use Rattle.std.specs.Prelude.{◌≡◌, vec_len};
+    ghost use Rattle.nb_fields.specs.States.{merge_state};
     ghost use Rattle.nb_cache.specs.Held.{NoneWaits};
     ghost use Rattle.nb_owner.specs.Open.{Held, IsValid};
 
@@ -39,14 +41,14 @@ impl Model for Pair {
     ghost view = { λ p. record { files = p.files; pages = p.cache.pages; cap = p.cache.cap } };
 
     // No page is in memory twice, and in the merge state none waits to be written.
-    ghost invariant = { λ p. IsValid p.cache p.files.page_size × (vec_len p.page ≡ p.files.page_size) × (p.files.state ≡ 2 → NoneWaits p.cache.pages) };
+    ghost invariant = { λ p. IsValid p.cache p.files.page_size × (vec_len p.page ≡ p.files.page_size) × (p.files.state ≡ merge_state → NoneWaits p.cache.pages) };
 }
 
 impl Pair {
     /// How many pages the database has.
     pub fn count(&self) -> u32
         ensures value { result ≡ self.now.files.count }
-        ensures most { result ≤ 1048576 }
+        ensures most { result ≤ most_pages }
     {
         self.files.count()
     }
@@ -77,7 +79,7 @@ impl Pair {
     /// How many pages the difference file holds; none in the normal state.
     pub fn delta_count(&self) -> u32
         ensures value { result ≡ length self.now.files.entries }
-        ensures most { result ≤ 1048576 }
+        ensures most { result ≤ most_pages }
     {
         self.files.delta_count()
     }
@@ -85,7 +87,7 @@ impl Pair {
     /// How many pages the main file has, as it is frozen in the stalled state.
     pub fn main_count(&self) -> u32
         ensures value { result ≡ self.now.files.main_count }
-        ensures most { result ≤ 1048576 }
+        ensures most { result ≤ most_pages }
     {
         self.files.main_count()
     }
@@ -193,16 +195,16 @@ impl Pair {
     /// where writes are forced.
     pub fn write<H: Host>(&mut self, host: &mut H, number: u32, page: &[u8]) -> Result<(), RunError>
         requires size { length page.now ≡ self.old.files.page_size }
-        requires most { number < 1048576 }
+        requires most { number < most_pages }
         requires some { is_zeros page.now ≡ false }
         requires low { number ≤ self.old.files.count }
         requires control_block { number ≡ 0 → IsTrue H.tells → HasBlock (H.world host.old) self.old page.now }
         ensures takes { (t : Trail) → IsTrue H.tells → IsOpen (H.world host.old) self.old t
             → Takes result (H.world host.old) (H.world host.new) self.old.files.name (IsOpen (H.world host.new) self.new) t (page_stroke number page.now ∷ []) }
         ensures touches { (t : Trail) → IsTrue H.tells → IsOpen (H.world host.old) self.old t → WritesIn (H.world host.old) (H.world host.new) self.old.files.state self.old.files.name }
-        ensures merged { (t : Trail) (k : ℕ) → IsTrue H.tells → IsOpen (H.world host.old) self.old t → self.old.files.state ≡ 2
+        ensures merged { (t : Trail) (k : ℕ) → IsTrue H.tells → IsOpen (H.world host.old) self.old t → self.old.files.state ≡ merge_state
             → AreMerged (H.world host.old) self.old.files k → OnOk result (AreMerged (H.world host.new) self.new.files k) }
-        ensures waits { may_wait self.old number ≡ true → (self.old.files.state ≡ 0 → IsOk result) × IfErr result (λ error. error ≡ RunError.Memory) × (host.new ≡ host.old) × OnOk result (waits self.new.pages number ≡ true) }
+        ensures waits { may_wait self.old number ≡ true → (self.old.files.state ≡ normal_state → IsOk result) × IfErr result (λ error. error ≡ RunError.Memory) × (host.new ≡ host.old) × OnOk result (waits self.new.pages number ≡ true) }
         ensures others { may_wait self.old number ≡ true → (p : ℕ) → p ≢ number → rank_of self.new.pages p ≡ rank_of self.old.pages p }
         ensures goes_out { may_wait self.old number ≡ false → OnOk result (NoneWaits self.new.pages) }
         ensures used { OnOk result (bare self.new.pages ≡ used (bare self.old.pages) self.old.cap number page.now) }
@@ -213,7 +215,7 @@ impl Pair {
         ensures gave { GaveNothing (H.world host.old) (H.world host.new) }
         ensures reads { (H.world host.new).reads ≡ (H.world host.old).reads }
         ensures state { self.new.files.state ≡ self.old.files.state }
-        ensures entries { self.old.files.state ≡ 2 → self.new.files.entries ≡ self.old.files.entries }
+        ensures entries { self.old.files.state ≡ merge_state → self.new.files.entries ≡ self.old.files.entries }
         ensures name { self.new.files.name ≡ self.old.files.name }
         ensures page_size { self.new.files.page_size ≡ self.old.files.page_size }
         ensures cause { CountsRun result (H.faults host.old) (H.faults host.new) }
@@ -221,7 +223,7 @@ impl Pair {
             → Strikes (H.world host.old) (H.world host.new) self.old.files.name t [] × IsOpen (H.world host.new) self.new t }
         ensures forced { (t : Trail) → IsTrue H.tells → IsOpen (H.world host.old) self.old t → is_forced t.base.image ≡ true → result ≡ Err RunError.Memory → (self.new ≡ self.old) × (host.new ≡ host.old) }
         ensures idle { NoneWaits self.old.pages → self.old.files.drafted ≡ 0 → result ≡ Err RunError.Memory → (self.new ≡ self.old) × (host.new ≡ host.old) }
-        ensures takes_none { self.old.files.state ≢ 1 → IfErr result (λ error. error ≢ RunError.Memory) }
+        ensures takes_none { self.old.files.state ≢ stalled_state → IfErr result (λ error. error ≢ RunError.Memory) }
     {
         if self.may_wait(number) {
             self.hold(host, number, page)?;
@@ -240,14 +242,14 @@ impl Pair {
         page: &[u8],
     ) -> Result<(), RunError>
         requires size { length page.now ≡ self.old.files.page_size }
-        requires most { number < 1048576 }
+        requires most { number < most_pages }
         requires some { is_zeros page.now ≡ false }
         requires none { NoneWaits self.old.pages }
         requires no_drafts { self.old.files.drafted ≡ 0 }
         ensures takes { (t : Trail) → IsTrue H.tells → IsOpen (H.world host.old) self.old t → Fits number page.now t.base.image
             → Takes result (H.world host.old) (H.world host.new) self.old.files.name (IsOpen (H.world host.new) self.new) t (page_stroke number page.now ∷ []) }
         ensures touches { (t : Trail) → IsTrue H.tells → IsOpen (H.world host.old) self.old t → WritesIn (H.world host.old) (H.world host.new) self.old.files.state self.old.files.name }
-        ensures merged { (t : Trail) (k : ℕ) → IsTrue H.tells → IsOpen (H.world host.old) self.old t → Fits number page.now t.base.image → self.old.files.state ≡ 2
+        ensures merged { (t : Trail) (k : ℕ) → IsTrue H.tells → IsOpen (H.world host.old) self.old t → Fits number page.now t.base.image → self.old.files.state ≡ merge_state
             → AreMerged (H.world host.old) self.old.files k → OnOk result (AreMerged (H.world host.new) self.new.files k) }
         ensures used { OnOk result (bare self.new.pages ≡ used (bare self.old.pages) self.old.cap number page.now) }
         ensures none { OnOk result (NoneWaits self.new.pages) }
@@ -258,12 +260,12 @@ impl Pair {
         ensures gave { GaveNothing (H.world host.old) (H.world host.new) }
         ensures reads { (H.world host.new).reads ≡ (H.world host.old).reads }
         ensures state { self.new.files.state ≡ self.old.files.state }
-        ensures entries { self.old.files.state ≡ 2 → self.new.files.entries ≡ self.old.files.entries }
+        ensures entries { self.old.files.state ≡ merge_state → self.new.files.entries ≡ self.old.files.entries }
         ensures name { self.new.files.name ≡ self.old.files.name }
         ensures page_size { self.new.files.page_size ≡ self.old.files.page_size }
         ensures cause { CountsRun result (H.faults host.old) (H.faults host.new) }
         ensures on_memory { result ≡ Err RunError.Memory → (self.new ≡ self.old) × (host.new ≡ host.old) }
-        ensures takes_none { self.old.files.state ≢ 1 → IfErr result (λ error. error ≢ RunError.Memory) }
+        ensures takes_none { self.old.files.state ≢ stalled_state → IfErr result (λ error. error ≢ RunError.Memory) }
     {
         self.files.write(host, number, page)?;
         self.cache.keep(number, page);
@@ -276,7 +278,7 @@ impl Pair {
             → Takes result (H.world host.old) (H.world host.new) self.old.files.name (IsOpen (H.world host.new) self.new) t [] }
         ensures touches { (t : Trail) → IsTrue H.tells → IsOpen (H.world host.old) self.old t → WritesIn (H.world host.old) (H.world host.new) self.old.files.state self.old.files.name }
         ensures settled { (t : Trail) → IsTrue H.tells → IsOpen (H.world host.old) self.old t → OnOk result (IsOpen (H.world host.new) self.new (settled t.base)) }
-        ensures merged { (k : ℕ) → self.old.files.state ≡ 2 → AreMerged (H.world host.old) self.old.files k → AreMerged (H.world host.new) self.new.files k }
+        ensures merged { (k : ℕ) → self.old.files.state ≡ merge_state → AreMerged (H.world host.old) self.old.files k → AreMerged (H.world host.new) self.new.files k }
         ensures files { but_drafts self.new.files ≡ but_drafts self.old.files }
         ensures bare { bare self.new.pages ≡ bare self.old.pages }
         ensures cap { self.new.cap ≡ self.old.cap }
@@ -312,7 +314,7 @@ impl Pair {
         into: &mut [u8],
     ) -> Result<(), HostFault>
         requires size { length into.old ≡ self.old.files.page_size }
-        ensures page { (t : Trail) → IsTrue H.tells → IsOpen (H.world host.old) self.old t → self.old.files.state ≡ 1 → number < length t.base.frozen → OnOk result (into.new ≡ page_at t.base.frozen number) }
+        ensures page { (t : Trail) → IsTrue H.tells → IsOpen (H.world host.old) self.old t → self.old.files.state ≡ stalled_state → number < length t.base.frozen → OnOk result (into.new ≡ page_at t.base.frozen number) }
         ensures open { (t : Trail) → IsTrue H.tells → IsOpen (H.world host.old) self.old t → IsOpen (H.world host.new) self.new t }
         ensures same { self.new ≡ self.old }
         ensures quiet { Quiet (H.world host.old) (H.world host.new) }

@@ -2,7 +2,8 @@
 // good before any other page follows. In the stalled state pages go into their slots first, which are kept for good before any
 // allocation page names them.
 ghost use Rattle.std.specs.Prelude.{◌≡◌, ◌≢◌, ◌<◌, ◌≤◌, ℕ, [], length, IsTrue, IsOk, IfErr, OnOk, OnErr, MatchOption, Some, None, true, false, nat_eq};
-ghost use Rattle.nb_fields.specs.Places.{is_scn_place};
+ghost use Rattle.nb_fields.specs.Places.{is_scn_place, most_pages};
+ghost use Rattle.nb_fields.specs.States.{normal_state, stalled_state, merge_state};
 ghost use Rattle.nb_host.specs.Causes.{CountsFault};
 ghost use Rattle.nb_host.specs.declared.faults.RunError.TheVariants.{Memory};
 ghost use Rattle.nb_change.specs.Changes.{Only, Changes};
@@ -58,13 +59,13 @@ impl Pair {
         page: &[u8],
     ) -> Result<(), RunError>
         requires size { length page.now ≡ self.old.files.page_size }
-        requires below { number < 1048576 }
+        requires below { number < most_pages }
         requires early { self.old.files.state ≤ 1 }
         requires drops_none { dropped (cache_of self.old) number ≡ None }
         ensures held { OnOk result (self.new.pages ≡ with_rank number (Some (rank_in self.old.files.state self.old.files.page_size number))
             (put_entries nat_eq (lru_cache self.old.pages self.old.cap) number (record { bytes = page.now; rank = rank_of self.old.pages number }))) }
-        ensures normal { self.old.files.state ≡ 0 → IsOk result × (self.new.files ≡ self.old.files) }
-        ensures drafts { self.old.files.state ≡ 1 → OnOk result (Drafts number self.old.files self.new.files) }
+        ensures normal { self.old.files.state ≡ normal_state → IsOk result × (self.new.files ≡ self.old.files) }
+        ensures drafts { self.old.files.state ≡ stalled_state → OnOk result (Drafts number self.old.files self.new.files) }
         ensures cap { self.new.cap ≡ self.old.cap }
         ensures no_call { host.new ≡ host.old }
         ensures only_memory { IfErr result (λ error. (error ≡ Memory) × (self.new ≡ self.old)) }
@@ -82,7 +83,7 @@ impl Pair {
 
     /// The rank of a page of the main file.
     fn main_rank(&self, number: u32) -> u8
-        requires below { number < 1048576 }
+        requires below { number < most_pages }
         ensures { result ≡ elim (is_scn_place self.now.files.page_size number) [ true ↦ 2 | false ↦ 3 ] }
     {
         if is_scn_place(self.files.page_size(), number) {
@@ -119,7 +120,7 @@ impl Pair {
     /// The page that goes out next, where one waits.
     fn next_page(&self) -> Option<u32>
         ensures next { MatchOption result (NoneWaits self.now.pages) (λ p. (rank : ℕ) × (rank_of self.now.pages p ≡ Some rank)) }
-        ensures merge { self.now.files.state ≡ 2 → result ≡ None }
+        ensures merge { self.now.files.state ≡ merge_state → result ≡ None }
     {
         match self.cache.next_dirty() {
             Some((number, _)) => Some(number),
@@ -188,9 +189,9 @@ impl Pair {
 
     /// Writes the SCN pages that wait, and keeps them for good.
     fn put_first<H: Host>(&mut self, host: &mut H) -> Result<(), HostFault>
-        ensures left { (t : Trail) → IsTrue H.tells → IsOpen (H.world host.old) self.old t → t.earlier ≢ [] → image_state t.base.image ≡ 0
+        ensures left { (t : Trail) → IsTrue H.tells → IsOpen (H.world host.old) self.old t → t.earlier ≢ [] → image_state t.base.image ≡ normal_state
             → Changes (H.world host.old) (H.world host.new) (Only self.old.files.name) (StandsIn self.old.files.name t) }
-        ensures out { (t : Trail) (is : IsOpen (H.world host.old) self.old t) → IsTrue H.tells → t.earlier ≢ [] → image_state t.base.image ≡ 0
+        ensures out { (t : Trail) (is : IsOpen (H.world host.old) self.old t) → IsTrue H.tells → t.earlier ≢ [] → image_state t.base.image ≡ normal_state
             → OnOk result (GoesOut (H.world host.new) self.new is.sees t (IsFirm t) × NoScnWaits t self.new.pages) }
         ensures files { self.new.files ≡ self.old.files }
         ensures bare { bare self.new.pages ≡ bare self.old.pages }
@@ -212,9 +213,9 @@ impl Pair {
     /// Writes all that waits in the normal state, where something does.
     fn put_main<H: Host>(&mut self, host: &mut H) -> Result<(), HostFault>
         requires some { (p rank : ℕ) × (rank_of self.old.pages p ≡ Some rank) }
-        ensures left { (t : Trail) → IsTrue H.tells → IsOpen (H.world host.old) self.old t → image_state t.base.image ≡ 0
+        ensures left { (t : Trail) → IsTrue H.tells → IsOpen (H.world host.old) self.old t → image_state t.base.image ≡ normal_state
             → Changes (H.world host.old) (H.world host.new) (Only self.old.files.name) (StandsIn self.old.files.name t) }
-        ensures out { (t : Trail) → IsTrue H.tells → IsOpen (H.world host.old) self.old t → image_state t.base.image ≡ 0 → OnOk result (IsOpen (H.world host.new) self.new t) }
+        ensures out { (t : Trail) → IsTrue H.tells → IsOpen (H.world host.old) self.old t → image_state t.base.image ≡ normal_state → OnOk result (IsOpen (H.world host.new) self.new t) }
         ensures none { OnOk result (NoneWaits self.new.pages) }
         ensures files { self.new.files ≡ self.old.files }
         ensures bare { bare self.new.pages ≡ bare self.old.pages }
@@ -267,7 +268,7 @@ impl Pair {
 
     /// Brings the drafted entries into the table, in the stalled state, once no page waits.
     fn enter<H: Host>(&mut self, host: &mut H) -> Result<(), HostFault>
-        requires stalled { self.old.files.state ≡ 1 }
+        requires stalled { self.old.files.state ≡ stalled_state }
         requires none { NoneWaits self.old.pages }
         ensures left { (f t : Trail) → IsTrue H.tells → GoesSlot (H.world host.old) self.old f t
             → Changes (H.world host.old) (H.world host.new) (Only (delta_name self.old.files.name)) (StandsIn self.old.files.name t) }
@@ -286,7 +287,7 @@ impl Pair {
 
     /// Writes all that waits in the stalled state: pages into their slots, and then their entries.
     fn put_delta<H: Host>(&mut self, host: &mut H) -> Result<(), HostFault>
-        requires stalled { self.old.files.state ≡ 1 }
+        requires stalled { self.old.files.state ≡ stalled_state }
         requires some { (p rank : ℕ) × (rank_of self.old.pages p ≡ Some rank) }
         ensures left { (t : Trail) → IsTrue H.tells → IsOpen (H.world host.old) self.old t
             → Changes (H.world host.old) (H.world host.new) (Only (delta_name self.old.files.name)) (StandsIn self.old.files.name t) }
@@ -337,7 +338,7 @@ impl Pair {
         ensures touches { (t : Trail) → IsTrue H.tells → IsOpen (H.world host.old) self.old t → WritesIn (H.world host.old) (H.world host.new) self.old.files.state self.old.files.name }
         ensures no_drafts { OnOk result (self.new.files.drafted ≡ 0) }
         ensures idle { self.old.files.drafted ≡ 0 → IsOk result × (self.new ≡ self.old) × (host.new ≡ host.old) }
-        ensures merge { self.old.files.state ≡ 2 → IsOk result × (self.new ≡ self.old) × (host.new ≡ host.old) }
+        ensures merge { self.old.files.state ≡ merge_state → IsOk result × (self.new ≡ self.old) × (host.new ≡ host.old) }
         ensures files { but_drafts self.new.files ≡ but_drafts self.old.files }
         ensures pages { self.new.pages ≡ self.old.pages }
         ensures cap { self.new.cap ≡ self.old.cap }
@@ -365,7 +366,7 @@ impl Pair {
         ensures idle { NoneWaits self.old.pages → self.old.files.drafted ≡ 0 → IsOk result × (self.new ≡ self.old) × (host.new ≡ host.old) }
         ensures at_settled { (t : Trail) → IsTrue H.tells → IsOpen (H.world host.old) self.old t → t.earlier ≡ [] → IsOk result × (self.new ≡ self.old) × (host.new ≡ host.old) }
         ensures at_forced { (t : Trail) → IsTrue H.tells → IsOpen (H.world host.old) self.old t → is_forced t.base.image ≡ true → IsOk result × (self.new ≡ self.old) × (host.new ≡ host.old) }
-        ensures outside { self.old.files.state ≡ 2 → IsOk result × (self.new ≡ self.old) × (host.new ≡ host.old) }
+        ensures outside { self.old.files.state ≡ merge_state → IsOk result × (self.new ≡ self.old) × (host.new ≡ host.old) }
         ensures files { but_drafts self.new.files ≡ but_drafts self.old.files }
         ensures bare { bare self.new.pages ≡ bare self.old.pages }
         ensures cap { self.new.cap ≡ self.old.cap }

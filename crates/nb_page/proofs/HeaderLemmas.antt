@@ -12,6 +12,7 @@ use Rattle.nb_fields.specs.Free.{is_unfinished}
 use Rattle.nb_fields.specs.Payloads.{control_block}
 use Rattle.nb_fields.proofs.PageLemmas.{written_next, part-append}
 use Rattle.nb_fields.proofs.HeaderLemmas.{is_header-long}
+use Rattle.nb_fields.specs.States.{stalled_state, applying_state}
 use Rattle.nb_page.specs.declared.header.Header.{Header}
 use Rattle.nb_page.specs.Header.{header_in, HasForm}
 
@@ -42,10 +43,10 @@ control_block_written p0 p1 p2 p3 p4 p5 p6 p7 size state scn guid pending len ro
 
 -- a restore was stopped, by the fields that were read
 pub is_unfinished-fields : (first : List ℕ) (header : Header) → is_header first ≡ true → header ≡ header_in first
-    → is_unfinished first ≡ ((header.state == 3) && is_zeros header.pending)
+    → is_unfinished first ≡ ((header.state == applying_state) && is_zeros header.pending)
 unfolding header_in
 is_unfinished-fields first header form read =
-    ap (λ b. b && (state_of first == 3) && is_zeros (pending_of first)) form ∙ ap (λ (h : Header). (h.state == 3) && is_zeros h.pending) (sym read)
+    ap (λ b. b && (state_of first == applying_state) && is_zeros (pending_of first)) form ∙ ap (λ (h : Header). (h.state == applying_state) && is_zeros h.pending) (sym read)
 
 pub length-control_block : (size state scn : ℕ) (guid pending : List ℕ) → length guid ≡ 16 → length pending ≡ 16 → length (control_block size state scn guid pending) ≡ 48
 unfolding control_block bytes_of
@@ -73,9 +74,9 @@ header_in-control_block page header long guid_len pending_len size_fits state_fi
 -- what the form asks of the fields, as the test of it
 pub is_sound-form : (header : Header) → HasForm header → is_sound header.state header.page_size header.scn ≡ true
 is_sound-form header form =
-    let room : (not (header.state == 1) || nat_lt header.scn 4294967295) ≡ true = ⊎_elim
-    (λ stalled. or_right (not (header.state == 1)) (nat_lt header.scn 4294967295) (lt-ltb header.scn 4294967295 (form.room stalled)))
-    (λ other. or_left (not (header.state == 1)) (nat_lt header.scn 4294967295) (not_from_false (header.state == 1) (ne_eqb header.state 1 other)))
+    let room : (not (header.state == stalled_state) || nat_lt header.scn 4294967295) ≡ true = ⊎_elim
+    (λ stalled. or_right (not (header.state == stalled_state)) (nat_lt header.scn 4294967295) (lt-ltb header.scn 4294967295 (form.room stalled)))
+    (λ other. or_left (not (header.state == stalled_state)) (nat_lt header.scn 4294967295) (not_from_false (header.state == stalled_state) (ne_eqb header.state 1 other)))
     (cases_eq header.state 1) in
     and_from (nat_le header.state 3 && is_page_size header.page_size && nat_le 1 header.scn) _
     (and_from (nat_le header.state 3 && is_page_size header.page_size) (nat_le 1 header.scn)

@@ -3,6 +3,7 @@ use Rattle.std.specs.Prelude.{◌≡◌, ℕ, ◌<◌, ◌≤◌, IsTrue, List}
 use Rattle.nb_fields.specs.Places.{is_page_size}
 use Rattle.nb_fields.specs.Header.{state_of, size_of, scn_of, guid_of, pending_of}
 use Rattle.nb_fields.specs.Payloads.{control_block}
+use Rattle.nb_fields.specs.States.{stalled_state}
 use Rattle.nb_page.specs.declared.header.Header.{Header}
 
 -- the header in the first 64 bytes
@@ -18,4 +19,4 @@ pub record HasForm (header : Header) : Type 0 where
   pub size : IsTrue (is_page_size header.page_size)
   pub state : header.state ≤ 3
   pub scn : 1 ≤ header.scn
-  pub room : header.state ≡ 1 → header.scn < 4294967295
+  pub room : header.state ≡ stalled_state → header.scn < 4294967295

@@ -1,5 +1,5 @@
 ghost use Rattle.std.specs.Prelude.{◌≡◌, ◌+◌, ◌-◌, ◌*◌, ◌<◌, ◌≤◌, IsTrue, false};
-ghost use Rattle.nb_fields.specs.Places.{is_page_size, is_system_place, plain_places};
+ghost use Rattle.nb_fields.specs.Places.{is_page_size, is_system_place, plain_places, most_pages};
 ghost use Rattle.nb_fields.specs.Fresh.{next_plain, fresh_count, fresh_kind};
 
 use nb_fields::{PageKind, is_inventory_place, is_scn_place, is_system_place};
@@ -8,7 +8,7 @@ use nb_fields::{PageKind, is_inventory_place, is_scn_place, is_system_place};
 #[tactic(auto, unfolding(nb_fields::specs::Fresh::next_plain))]
 fn next_plain(size: u32, page: u32) -> u32
     requires size { IsTrue (is_page_size size) }
-    requires below { page + 1 < 1048576 }
+    requires below { page + 1 < most_pages }
     ensures value { result ≡ next_plain size page }
     ensures least { page ≤ result }
     ensures most { result ≤ page + 2 }
@@ -26,7 +26,7 @@ fn next_plain(size: u32, page: u32) -> u32
 #[tactic(auto, unfolding(nb_fields::specs::Fresh::fresh_kind))]
 pub(crate) fn fresh_kind(size: u32, page: u32) -> PageKind
     requires size { IsTrue (is_page_size size) }
-    requires below { page < 1048576 }
+    requires below { page < most_pages }
     ensures { result ≡ fresh_kind size page }
 {
     if page == 0 {

@@ -3,6 +3,7 @@ ghost use Rattle.nb_fields.specs.Bytes.{with_part};
 ghost use Rattle.nb_fields.specs.Places.{is_page_size};
 ghost use Rattle.nb_fields.specs.Page.{kind_of, number_of_page};
 ghost use Rattle.nb_fields.specs.Header.{is_header, is_marked, is_sound};
+ghost use Rattle.nb_fields.specs.Kinds.{header_kind};
 ghost use Rattle.nb_page.specs.Header.{header_in, block_of, HasForm};
 
 use nb_fields::layouts::{head, header};
@@ -85,7 +86,7 @@ pub fn read_header(first: &[u8]) -> Option<Header>
 pub fn write_header(page: &mut [u8], header: &Header)
     requires { IsTrue (is_page_size (length page.old)) }
     ensures read_back { header_in page.new ≡ header.now }
-    ensures form { kind_of page.old ≡ 1 → number_of_page page.old ≡ 0 → HasForm header.now
+    ensures form { kind_of page.old ≡ header_kind → number_of_page page.old ≡ 0 → HasForm header.now
         → IsTrue (is_header page.new) }
     ensures written { page.new ≡ with_part 16 (block_of header.now) page.old }
 {

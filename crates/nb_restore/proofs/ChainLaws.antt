@@ -9,6 +9,7 @@ use Rattle.nb_fields.specs.Free.{is_free_file}
 use Rattle.nb_fields.specs.Header.{is_header, signature, state_of, size_of}
 use Rattle.nb_fields.proofs.HeaderLemmas.{is_header-take}
 use Rattle.nb_fields.proofs.PartLemmas.{number_in-take}
+use Rattle.nb_fields.specs.States.{stalled_state}
 use Rattle.nb_host.specs.Files.{File, Files}
 use Rattle.nb_host.specs.Names.{same_name}
 use Rattle.nb_host.specs.declared.refusals.Refusal.{Refusal}
@@ -198,10 +199,10 @@ split_chain files name others links e = by (files name) refl e
 pub record IsCopy (bytes : List ℕ) (l : Link) : Type 0 where
   pub is : l ≡ whole_link bytes
   pub header : is_header bytes ≡ true
-  pub stalled : state_of bytes ≡ 1
+  pub stalled : state_of bytes ≡ stalled_state
   pub whole : is_bad_length bytes ≡ false
 
-whole_parts : (name bytes : List ℕ) → not_whole name bytes ≡ None → (is_header bytes ≡ true) × (state_of bytes ≡ 1) × (is_bad_length bytes ≡ false)
+whole_parts : (name bytes : List ℕ) → not_whole name bytes ≡ None → (is_header bytes ≡ true) × (state_of bytes ≡ stalled_state) × (is_bad_length bytes ≡ false)
 unfolding not_whole
 whole_parts name bytes e = by (is_header bytes) refl e
   where
@@ -211,13 +212,13 @@ whole_parts name bytes e = by (is_header bytes) refl e
     by : (header : Bool) → is_header bytes ≡ header
         → elim header as (λ x. Cause) [
           | false ↦ Some (BadLevel name 0)
-          | true ↦ first_cause (when (not (state_of bytes == 1)) (BadLevel name 22) ∷ when (is_bad_length bytes) (BadLevel name (length bytes)) ∷ [])
-        ] ≡ None → (is_header bytes ≡ true) × (state_of bytes ≡ 1) × (is_bad_length bytes ≡ false)
+          | true ↦ first_cause (when (not (state_of bytes == stalled_state)) (BadLevel name 22) ∷ when (is_bad_length bytes) (BadLevel name (length bytes)) ∷ [])
+        ] ≡ None → (is_header bytes ≡ true) × (state_of bytes ≡ stalled_state) × (is_bad_length bytes ≡ false)
     by false is h = absurd (some_none (BadLevel name 0) h)
     by true is h =
         let state = clear_head _ _ h in
         let long = clear_head _ _ state.1 in
-        (is, eqb-true (state_of bytes) 1 (test_passed (state_of bytes == 1) (BadLevel name 22) state.0), when_clear (is_bad_length bytes) (BadLevel name (length bytes)) long.0)
+        (is, eqb-true (state_of bytes) 1 (test_passed (state_of bytes == stalled_state) (BadLevel name 22) state.0), when_clear (is_bad_length bytes) (BadLevel name (length bytes)) long.0)
 
 pub copy_of : (name bytes : List ℕ) (l : Link) → first_link name bytes ≡ Ok l → IsCopy bytes l
 unfolding first_link

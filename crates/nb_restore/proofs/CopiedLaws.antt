@@ -3,6 +3,7 @@ use Rattle.std.proofs.Common.{◌≡◌, inl, inr, ℕ, zero, suc, ◌+◌, ◌-
 use Rattle.std.specs.Prelude.{Some}
 use Rattle.std.proofs.lemmas.Bool.{cases_lt}
 use Rattle.std.proofs.lemmas.List.{take_all, drop_all, set_split, length-replicate}
+use Rattle.nb_fields.specs.Places.{most_pages}
 use Rattle.nb_host.specs.Files.{File, padded, put_at, with_page}
 use Rattle.nb_model.specs.Image.{Page, Image, Numbered, first_page, written_at, overwritten}
 use Rattle.nb_model.specs.Levels.{joined}
@@ -108,7 +109,7 @@ overwrites_joined size xs ys a b c p q r first second start image holds =
     subst (λ (x : Image). Holds size start r x c) (sym (overwritten-append size xs ys image)) (second start (overwritten size xs image) (first start image holds))
 
 -- one page that isn't page 0 is written
-pub overwrites_page : (size n : ℕ) (page : Page) (before after : File) (first : Page) → 1 ≤ n → n < 1048576 → length page ≡ size → after ≡ with_page before (n * length page) page → Overwrites size ((n, page) ∷ []) before after first first
+pub overwrites_page : (size n : ℕ) (page : Page) (before after : File) (first : Page) → 1 ≤ n → n < most_pages → length page ≡ size → after ≡ with_page before (n * length page) page → Overwrites size ((n, page) ∷ []) before after first first
 overwrites_page size zero page before after first some below long put start image holds = absurd (omega arith)
 overwrites_page size (suc n) page before after first some below long put start [] holds = absurd (none holds.some)
   where

@@ -5,10 +5,11 @@ use Rattle.std.proofs.lemmas.Bool.{and_parts, and_from}
 use Rattle.std.proofs.lemmas.List.{take-append-le}
 use Rattle.nb_fields.specs.Bytes.{bytes_of, with_part, number_in, is_zeros}
 use Rattle.nb_fields.specs.Header.{is_header, is_marked, is_sound, state_of, size_of, scn_of, guid_of, pending_of}
-use Rattle.nb_fields.specs.Places.{is_page_size}
+use Rattle.nb_fields.specs.Places.{is_page_size, most_pages}
 use Rattle.nb_fields.proofs.HeaderLemmas.{is_header-long}
 use Rattle.nb_fields.proofs.PartLemmas.{length-with_part, number_in-with_part, number_in-with_part_other}
 use Rattle.nb_fields.proofs.SizeLemmas.{size_facts}
+use Rattle.nb_fields.specs.States.{normal_state}
 use Rattle.nb_host.specs.Files.{File, bytes_of as file_bytes, put_at, with_page}
 use Rattle.nb_host.specs.Crash.{PageLeft}
 use Rattle.nb_page.specs.declared.header.Header.{Header}
@@ -43,7 +44,7 @@ module _ (page : Page) (is : is_header page ≡ true) where
   pub normal-length : length (normal_page page) ≡ length page
   normal-length = length-with_part 22 (bytes_of 2 0) page (omega (arith, two, long))
 
-  pub normal-state : state_of (normal_page page) ≡ 0
+  pub normal-state : state_of (normal_page page) ≡ normal_state
   normal-state = number_in-with_part 22 2 0 page (omega arith) (omega (arith, long))
 
   -- any other field stays
@@ -79,7 +80,7 @@ unfolding fixed
 fixed-first p ps = refl
 
 -- with page 0 over the page in its place the file holds the image
-whole : (size : ℕ) (p : Page) (ps : Image) → IsTrue (is_page_size size) → IsOfSize size (p ∷ ps) → is_header p ≡ true → size_of p ≡ size → 5 ≤ length (p ∷ ps) → length (p ∷ ps) ≤ 1048576
+whole : (size : ℕ) (p : Page) (ps : Image) → IsTrue (is_page_size size) → IsOfSize size (p ∷ ps) → is_header p ≡ true → size_of p ≡ size → 5 ≤ length (p ∷ ps) → length (p ∷ ps) ≤ most_pages
     → HoldsMain (fixed (trimmed (p ∷ ps))) (Some (joined (normal_page p ∷ ps)))
 whole size p ps is sizes header same least most =
     let rest : Trimming ps = trimming ps in

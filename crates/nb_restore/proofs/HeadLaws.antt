@@ -3,6 +3,7 @@ use Rattle.std.proofs.Common.{◌≡◌, ◌≢◌, ◌⊎◌, inl, inr, ℕ, �
 use Rattle.std.specs.Prelude.{true, ◌==◌, Ok}
 use Rattle.std.proofs.lemmas.Bool.{and_parts, cases_eq, eqb-true}
 use Rattle.nb_fields.specs.Header.{is_header, state_of, size_of}
+use Rattle.nb_fields.specs.States.{stalled_state}
 use Rattle.nb_model.specs.Image.{Page, Image, Numbered, first_page, written_at, overwritten}
 use Rattle.nb_model.specs.Levels.{Head, Contents, AreRising, is_first_page, read_level}
 use Rattle.nb_model.specs.Restoring.{Link, all_over}
@@ -54,7 +55,7 @@ first_page-head : (h : Head) (page : Page) → is_first_page h page ≡ true →
 unfolding is_first_page
 first_page-head h page is =
     let one = and_parts (is_header page) _ is in
-    let two = and_parts (state_of page == 1) _ one.1 in
+    let two = and_parts (state_of page == stalled_state) _ one.1 in
     let three = and_parts (size_of page == h.size) _ two.1 in (one.0, eqb-true (size_of page) h.size three.0)
 
 -- of pages with rising numbers only the first can be page 0

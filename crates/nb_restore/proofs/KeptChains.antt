@@ -20,7 +20,7 @@ use Rattle.nb_model.specs.Sound.{HasNoZeros, IsSoundImage}
 use Rattle.nb_model.specs.Stands.{to_record, Stands}
 use Rattle.nb_model.proofs.ChainLaws.{kept_accepted, step_there}
 use Rattle.nb_model.proofs.ReadLaws.{eq_no, eq_yes}
-use Rattle.nb_model.proofs.SoundLaws.{header_kind}
+use Rattle.nb_model.proofs.SoundLaws.{kind_of_header}
 use Rattle.nb_model.proofs.StandsLaws.{no_level_begins, not_level}
 use Rattle.nb_model.proofs.WholeLaws.{chain_accepted, chain_gives, copy_accepted, verdict_there, first_fields}
 use Rattle.nb_restore.specs.Kept.{AreLinksOf, GiveLast, HoldChain, HoldLevels, HoldsCopy, HoldsLevel, IsLinkOf}
@@ -200,4 +200,4 @@ pages_refused k last name bytes begins signed = rw (begins, next_link) (rw (sign
 
 pub copy_behind : (files : Files) (k : ℕ) (last : Link) (name : List ℕ) (names : List (List ℕ)) (bytes : List ℕ) → files name ≡ Some bytes → is_header bytes ≡ true → next_links files k last (name ∷ names) ≡ Err (ChainLevel name 0 k)
 copy_behind files k last name names bytes there header =
-    next_refused files k last name names bytes (ChainLevel name 0 k) there (pages_refused k last name bytes (no_level_begins bytes (header_kind bytes header)) (header_signed bytes header))
+    next_refused files k last name names bytes (ChainLevel name 0 k) there (pages_refused k last name bytes (no_level_begins bytes (kind_of_header bytes header)) (header_signed bytes header))

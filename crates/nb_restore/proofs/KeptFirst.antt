@@ -5,6 +5,7 @@ use Rattle.std.proofs.lemmas.Bool.{true≢false, eqb-true, or_parts}
 use Rattle.std.proofs.lemmas.Bool.Decides.{leb_tells}
 use Rattle.nb_fields.specs.Header.{is_header, size_of, guid_of}
 use Rattle.nb_fields.proofs.SizeLemmas.{size_facts}
+use Rattle.nb_fields.specs.Places.{most_pages}
 use Rattle.nb_host.specs.Files.{Files}
 use Rattle.nb_host.specs.Names.{is_delta}
 use Rattle.nb_model.specs.Image.{Page, Image, image_size, image_in}
@@ -30,14 +31,14 @@ no_less m n e = elim (leb_tells (suc n) m) [ inl w ↦ absurd (true≢false (sym
 record HasGoodLength (bytes : List ℕ) : Type 0 where
   whole : length bytes % size_of bytes ≡ 0
   least : 5 ≤ length bytes / size_of bytes
-  most : length bytes / size_of bytes ≤ 1048576
+  most : length bytes / size_of bytes ≤ most_pages
 
 good_length : (bytes : List ℕ) → is_bad_length bytes ≡ false → HasGoodLength bytes
 good_length bytes good =
     let count : ℕ = length bytes / size_of bytes in
-    let parts = or_parts (not (length bytes % size_of bytes == 0)) (nat_lt count 5 || nat_lt 1048576 count) good in
-    let counts = or_parts (nat_lt count 5) (nat_lt 1048576 count) parts.1 in
-    record { whole = eqb-true (length bytes % size_of bytes) 0 (not_false _ parts.0); least = no_less 5 count counts.0; most = no_less count 1048576 counts.1 }
+    let parts = or_parts (not (length bytes % size_of bytes == 0)) (nat_lt count 5 || nat_lt most_pages count) good in
+    let counts = or_parts (nat_lt count 5) (nat_lt most_pages count) parts.1 in
+    record { whole = eqb-true (length bytes % size_of bytes) 0 (not_false _ parts.0); least = no_less 5 count counts.0; most = no_less count most_pages counts.1 }
 
 is_formed : (bytes : List ℕ) → is_header bytes ≡ true → HasGoodLength bytes → not_database bytes ≡ None
 is_formed bytes header good =
@@ -66,7 +67,7 @@ kept_first files account stands name bytes plain there l copy r named =
         is = there ∙ ap (λ (x : List ℕ). Some x) (is.is ∙ ap (λ (x : Image). joined (x ++ is.rest)) image);
         zero = is.zeros;
         sizes = all-right (λ (page : Page). length page ≡ image_size r.image) r.image is.rest (subst (λ (x : Image). IsOfSize (image_size x) (x ++ is.rest)) image is.sizes);
-        most = subst (λ (x : Image). length (x ++ is.rest) ≤ 1048576) image is.most;
+        most = subst (λ (x : Image). length (x ++ is.rest) ≤ most_pages) image is.most;
         whole = sound;
         begun = begun_with None r begun;
       };

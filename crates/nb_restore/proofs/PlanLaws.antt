@@ -5,6 +5,7 @@ use Rattle.std.proofs.lemmas.Bool.{and_parts, eqb-true, true≢false}
 use Rattle.nb_fields.specs.Bytes.{number_in, is_zeros}
 use Rattle.nb_fields.specs.Header.{is_header, is_marked, signature, version}
 use Rattle.nb_fields.specs.Page.{kind_of, number_of_page}
+use Rattle.nb_fields.specs.Kinds.{header_kind}
 use Rattle.nb_host.specs.Files.{File}
 use Rattle.nb_host.specs.Calls.{ReadsPage}
 use Rattle.nb_page.specs.declared.header.Header.{Header}
@@ -21,7 +22,7 @@ pub page_0_read : (size : ℕ) (ps : List Page) (file : File) (page after : Page
 page_0_read size ps file page after b there sizes some long whole read = read_whole size ps 0 (omega (arith, some)) sizes file page after b there long whole read
 
 -- it is page 0, by its mark
-marked : (page : Page) → is_header page ≡ true → (kind_of page ≡ 1) × (number_of_page page ≡ 0)
+marked : (page : Page) → is_header page ≡ true → (kind_of page ≡ header_kind) × (number_of_page page ≡ 0)
 unfolding is_marked
 marked page is =
     let parts = both (number_in 0 1 page == 1) (number_in 12 4 page == 0) (number_in 16 4 page == signature) (number_in 20 2 page == version) (and_parts (is_marked page) _ (form page is)).0 in
@@ -36,7 +37,7 @@ marked page is =
 abbrev pub unfinished : Header → Header
 unfinished h = record h { state = 3; pending = replicate 16 0 }
 
-pub unfinished_page : (h : Header) (page after : Page) → HasForm h → is_header page ≡ true → header_in after ≡ unfinished h → (kind_of page ≡ 1 → number_of_page page ≡ 0 → HasForm (unfinished h) → IsTrue (is_header after)) → IsUnfinishedPage after
+pub unfinished_page : (h : Header) (page after : Page) → HasForm h → is_header page ≡ true → header_in after ≡ unfinished h → (kind_of page ≡ header_kind → number_of_page page ≡ 0 → HasForm (unfinished h) → IsTrue (is_header after)) → IsUnfinishedPage after
 unfolding header_in
 unfinished_page h page after formed is reads writes =
     let mark = marked page is in

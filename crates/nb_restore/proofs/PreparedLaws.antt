@@ -6,6 +6,7 @@ use Rattle.std.proofs.lemmas.Bool.{and_parts}
 use Rattle.nb_fields.specs.Free.{is_free_file}
 use Rattle.nb_fields.specs.Header.{is_header, size_of}
 use Rattle.nb_fields.proofs.SizeLemmas.{size_facts}
+use Rattle.nb_fields.specs.Places.{most_pages}
 use Rattle.nb_host.specs.Files.{Files}
 use Rattle.nb_host.specs.declared.faults.Fault.{Fault}
 use Rattle.nb_host.specs.declared.faults.Fault.TheVariants.{Refused, Device, Memory}
@@ -51,7 +52,7 @@ module _ (files : Files) (target : List ℕ) (names : List (List ℕ)) (count : 
   free : is_free_file (files target) ≡ true
   free = free_file files target accepted.free
 
-  module _ (first : First) (listed : IsFirstOf files names first) (form : HasForm first.header) (least : 5 ≤ first.pages) (most : first.pages ≤ 1048576) where
+  module _ (first : First) (listed : IsFirstOf files names first) (form : HasForm first.header) (least : 5 ≤ first.pages) (most : first.pages ≤ most_pages) where
     pub says : FirstSays (files name) name (Ok first)
     says = subst (λ (ns : List (List ℕ)). IsFirstOf files ns first) named listed
 

@@ -1,6 +1,7 @@
 -- What a plan gives: the target holds level 0, and then all that is written over it.
 use Rattle.std.proofs.Common.{◌≡◌, ◌≢◌, ℕ, ◌*◌, ◌≤◌, List, [], ◌∷◌, ◌++◌, length, drop, sym, ap, subst, ◌∙◌, arith}
 use Rattle.std.specs.Prelude.{Some, Ok}
+use Rattle.nb_fields.specs.Places.{most_pages}
 use Rattle.nb_host.specs.Files.{File, Files, bytes_of}
 use Rattle.nb_model.specs.Image.{Page, first_page}
 use Rattle.nb_model.specs.Levels.{joined}
@@ -13,7 +14,7 @@ use Rattle.nb_restore.specs.Sources.{IsLevel0, AreReady}
 use Rattle.nb_restore.proofs.HeadLaws.{HasHead, AllHeaded}
 
 -- with all of level 0 after its start the target holds level 0, but for its page 0
-pub level_0_holds : (size : ℕ) (page first : Page) (ps : List Page) (after : File) → length page ≡ size → IsOfSize size ps → 1 ≤ length ps → length ps ≤ 1048576 → first ≡ first_page ps → after ≡ Some (page ++ drop size (joined ps))
+pub level_0_holds : (size : ℕ) (page first : Page) (ps : List Page) (after : File) → length page ≡ size → IsOfSize size ps → 1 ≤ length ps → length ps ≤ most_pages → first ≡ first_page ps → after ≡ Some (page ++ drop size (joined ps))
     → Holds size page first ps after
 level_0_holds size page first ps after long sizes some most is copied =
     let one : 1 * size ≡ size = omega arith in

@@ -7,6 +7,7 @@ use Rattle.nb_fields.specs.Bytes.{is_zeros}
 use Rattle.nb_fields.specs.Free.{is_free_file, is_unfinished}
 use Rattle.nb_fields.specs.Header.{is_header, state_of, pending_of}
 use Rattle.nb_fields.proofs.HeaderLemmas.{is_free_file-take}
+use Rattle.nb_fields.specs.States.{applying_state}
 use Rattle.nb_host.specs.Files.{File, Files, bytes_of, padded, put_at, with_page}
 use Rattle.nb_host.specs.World.{World}
 use Rattle.nb_host.specs.Crash.{Leaves, PageLeft, IsDurable}
@@ -40,7 +41,7 @@ free_page : (page : Page) → IsUnfinishedPage page → IsFree (Some page)
 unfolding is_free_file
 free_page page is =
     or_right (is_zeros (take 64 page)) (is_unfinished page)
-    (and_from (is_header page && state_of page == 3) (is_zeros (pending_of page)) (and_from (is_header page) (state_of page == 3) is.header (ap (λ n. n == 3) is.state)) is.pending)
+    (and_from (is_header page && state_of page == applying_state) (is_zeros (pending_of page)) (and_from (is_header page) (state_of page == applying_state) is.header (ap (λ n. n == 3) is.state)) is.pending)
 
 -- a file that begins with such a page
 pub free_front : (page : Page) (file : File) → IsUnfinishedPage page → BeginsWith (take 64 page) file → IsFree file

@@ -1,5 +1,6 @@
 -- What the target reads as while the pages of a chain are written into it.
 use Rattle.std.specs.Prelude.{◌≡◌, ℕ, ◌≤◌, List, ◌∷◌, length, take, drop, Some, Result, Ok, Err}
+use Rattle.nb_fields.specs.Places.{most_pages}
 use Rattle.nb_host.specs.Files.{File, bytes_of}
 use Rattle.nb_host.specs.declared.faults.Fault.{Fault}
 use Rattle.nb_host.specs.declared.faults.Fault.TheVariants.{Refused, Device, Memory}
@@ -30,7 +31,7 @@ pub record Holds (size : ℕ) (start first : Page) (image : Image) (file : File)
   pub long : length start ≡ size
   pub sizes : IsOfSize size image
   pub some : 1 ≤ length image
-  pub most : length image ≤ 1048576
+  pub most : length image ≤ most_pages
   pub page_0 : first ≡ first_page image
 
 -- these pages were written over those of the image

@@ -2,6 +2,7 @@
 use Rattle.std.specs.Prelude.{◌≡◌, ℕ, ◌+◌, List, [], ◌∷◌, Some, Ok, true, false}
 use Rattle.std.specs.List.{AllByRecursion}
 use Rattle.nb_fields.specs.Header.{is_header, state_of, guid_of}
+use Rattle.nb_fields.specs.States.{stalled_state}
 use Rattle.nb_host.specs.Files.{Files}
 use Rattle.nb_host.specs.Names.{is_delta}
 use Rattle.nb_model.specs.Account.{Kept}
@@ -44,7 +45,7 @@ pub record HoldsCopy (files : Files) (kept : List Kept) (name : List ℕ) (r : K
   pub bytes : List ℕ
   pub there : files name ≡ Some bytes
   pub header : is_header bytes ≡ true
-  pub stalled : state_of bytes ≡ 1
+  pub stalled : state_of bytes ≡ stalled_state
   pub whole : is_bad_length bytes ≡ false
   pub kept_as : IsKeptAs kept (guid_of bytes) r
 

@@ -1,6 +1,7 @@
 -- The files of a chain, as they are read again once it is accepted.
 use Rattle.std.specs.Prelude.{◌≡◌, ◌≢◌, ℕ, ◌≤◌, List, [], ◌∷◌, length, Some, Result, Ok, Err, true}
 use Rattle.nb_fields.specs.Header.{is_header, size_of}
+use Rattle.nb_fields.specs.Places.{most_pages}
 use Rattle.nb_host.specs.Files.{Files, bytes_of}
 use Rattle.nb_host.specs.declared.faults.Fault.{Fault}
 use Rattle.nb_host.specs.declared.faults.Fault.TheVariants.{Refused, Device, Memory}
@@ -25,7 +26,7 @@ pub record IsLevel0 (files : Files) (target name : List ℕ) (size count : ℕ) 
   pub long : length pages ≡ count
   pub sizes : IsOfSize size pages
   pub least : 5 ≤ count
-  pub most : count ≤ 1048576
+  pub most : count ≤ most_pages
   pub header : is_header (first_page pages) ≡ true
   pub same : size_of (first_page pages) ≡ size
 

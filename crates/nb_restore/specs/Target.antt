@@ -3,6 +3,7 @@ use Rattle.std.specs.Prelude.{◌≡◌, ◌⊎◌, ℕ, List, true}
 use Rattle.nb_fields.specs.Bytes.{is_zeros}
 use Rattle.nb_fields.specs.Free.{is_free_file}
 use Rattle.nb_fields.specs.Header.{is_header, state_of, pending_of}
+use Rattle.nb_fields.specs.States.{applying_state}
 use Rattle.nb_host.specs.Files.{File, Files}
 use Rattle.nb_host.specs.World.{World}
 use Rattle.nb_host.specs.Crash.{IsDurable}
@@ -39,7 +40,7 @@ ReadsOr old new name made = (new.files name ≡ old.files name) ⊎ made (new.fi
 -- a page that stands for a restore that goes on: a header in state 3 with a nil pending GUID
 pub record IsUnfinishedPage (page : Page) : Type 0 where
   pub header : is_header page ≡ true
-  pub state : state_of page ≡ 3
+  pub state : state_of page ≡ applying_state
   pub pending : is_zeros (pending_of page) ≡ true
 
 -- All that a restore goes by: level 0, the readers of the level files after it, page 0, and the page that stands in its place.

@@ -1,7 +1,7 @@
 ghost use Rattle.std.specs.Prelude.{◌≡◌, ◌≤◌, IsTrue, IfOk, List, Some, length, true};
 ghost use Rattle.nb_host.specs.Causes.{CountsDevice};
 ghost use Rattle.nb_fields.specs.Header.{is_header};
-ghost use Rattle.nb_fields.specs.Places.{is_page_size};
+ghost use Rattle.nb_fields.specs.Places.{is_page_size, most_pages};
 ghost use Rattle.nb_model.specs.Image.{Page, first_page};
 ghost use Rattle.nb_model.specs.Levels.{joined};
 ghost use Rattle.nb_model.specs.Sound.{IsOfSize};
@@ -48,7 +48,7 @@ fn accept<H: Host>(
     ensures first { IsTrue H.tells → IfOk result (λ chain. IsFirstOf (H.world host.old).files files.now chain.first) }
     ensures form { IfOk result (λ chain. HasForm chain.first.header) }
     ensures least { IfOk result (λ chain. 5 ≤ chain.first.pages) }
-    ensures pages { IfOk result (λ chain. chain.first.pages ≤ 1048576) }
+    ensures pages { IfOk result (λ chain. chain.first.pages ≤ most_pages) }
     ensures quiet { Quiet (H.world host.old) (H.world host.new) }
     ensures cause { CountsDevice result (H.faults host.old) (H.faults host.new) }
 {
@@ -102,7 +102,7 @@ pub(crate) fn prepare<H: Host>(
     ensures answer { IsTrue H.tells → PlanSays (H.world host.old).files target.now files.now result }
     ensures size { IfOk result (λ plan. IsTrue (is_page_size (length plan.page.items))) }
     ensures first { IfOk result (λ plan. length plan.first.items ≡ length plan.page.items) }
-    ensures most { IfOk result (λ plan. plan.pages ≤ 1048576) }
+    ensures most { IfOk result (λ plan. plan.pages ≤ most_pages) }
     ensures readers { IfOk result (λ plan. AreOfPages (length plan.page.items) plan.readers.items) }
     ensures quiet { Quiet (H.world host.old) (H.world host.new) }
     ensures cause { CountsDevice result (H.faults host.old) (H.faults host.new) }

@@ -1,5 +1,5 @@
 ghost use Rattle.std.specs.Prelude.{◌≡◌, ◌≢◌, ◌+◌, ◌^◌, ◌++◌, ◌≤◌, ◌<◌, ℕ, IsTrue, List, Ok, OnOk, Some, [], ◌∷◌, length, take, drop};
-ghost use Rattle.nb_fields.specs.Places.{is_page_size};
+ghost use Rattle.nb_fields.specs.Places.{is_page_size, most_pages};
 ghost use Rattle.nb_host.specs.Causes.{CountsDevice, CountsFault};
 ghost use Rattle.nb_host.specs.Files.{bytes_of, with_bytes};
 ghost use Rattle.nb_change.specs.Changes.{Changes, Only, Moved};
@@ -25,7 +25,7 @@ fn put_page<H: Host>(
 ) -> Result<(), HostFault>
     requires size { IsTrue (is_page_size (length page.now)) }
     requires first { length first.old ≡ length page.now }
-    requires below { number < 1048576 }
+    requires below { number < most_pages }
     ensures left { IsTrue H.tells → Changes (H.world host.old) (H.world host.new) (Only target.now) (Moved (H.world host.old) target.now KeepsFront) }
     ensures pages { IsTrue H.tells → OnOk result (Overwrites (length page.now) ((number, page.now) ∷ []) ((H.world host.old).files target.now) ((H.world host.new).files target.now) first.old first.new) }
     ensures gave { GaveNothing (H.world host.old) (H.world host.new) }
@@ -87,7 +87,7 @@ pub(crate) fn copy_pages<H: Host>(
     piece: &mut [u8],
 ) -> Result<(), Fault>
     requires size { IsTrue (is_page_size page_size) }
-    requires most { pages ≤ 1048576 }
+    requires most { pages ≤ most_pages }
     requires piece { 0 < length piece.old }
     ensures left { IsTrue H.tells → Changes (H.world host.old) (H.world host.new) (Only target.now) (Moved (H.world host.old) target.now KeepsFront) }
     ensures pages { IsTrue H.tells → (ps : List Page) (start : Page) → file.now ≢ target.now → (H.world host.old).files file.now ≡ Some (joined ps) → IsOfSize page_size ps → length ps ≡ pages

@@ -1,5 +1,5 @@
 ghost use Rattle.std.specs.Prelude.{◌≡◌, ◌*◌, ◌<◌, ◌≤◌, IsTrue, List, OnOk, Some, [], length};
-ghost use Rattle.nb_fields.specs.Places.{is_page_size};
+ghost use Rattle.nb_fields.specs.Places.{is_page_size, most_pages};
 ghost use Rattle.nb_host.specs.Causes.{CountsDevice, CountsFault};
 ghost use Rattle.nb_change.specs.Changes.{Changes, Only, Remade};
 ghost use Rattle.nb_change.specs.Gave.{GaveNothing};
@@ -41,7 +41,7 @@ pub(crate) fn write_target<H: Host>(
     piece: &mut [u8],
 ) -> Result<(), Fault>
     requires size { IsTrue (is_page_size (length page.old)) }
-    requires most { pages ≤ 1048576 }
+    requires most { pages ≤ most_pages }
     requires piece { 0 < length piece.old }
     requires readers { AreOfPages (length page.old) readers.items }
     requires first { length first.old ≡ length page.old }

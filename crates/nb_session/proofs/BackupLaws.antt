@@ -4,6 +4,7 @@ use Rattle.std.specs.Prelude.{Bool, Result, Ok, Err, IfErr, Some, None, true, fa
 use Rattle.std.specs.List.{slice_index_or}
 use Rattle.std.proofs.lemmas.List.{append-nil}
 use Rattle.nb_fields.specs.Free.{is_free_file}
+use Rattle.nb_fields.specs.States.{stalled_state}
 use Rattle.nb_host.specs.Files.{Files}
 use Rattle.nb_host.specs.Names.{is_delta}
 use Rattle.nb_host.specs.World.{World}
@@ -482,7 +483,7 @@ module _ (old new : World) (a b : Held) (t : Trail) (now : Now) (session : ℕ) 
 
 -- What a further turn may rely on.
 pub record MayGoOn (held : Held) (t : Trail) (copier : Backed) : Type 0 where
-  pub stalled : held.files.state ≡ 1
+  pub stalled : held.files.state ≡ stalled_state
   pub entry : HasItsEntry t.base.image copier.backing.page
   pub below : copier.backing.page < length t.base.image
   pub apart : OfFiles (name_of held) copier.backing.name → ⊥

@@ -3,6 +3,7 @@ use Rattle.std.proofs.Common.{◌≡◌, inr, ℕ, zero, suc, ◌-◌, ◌≤◌
 use Rattle.std.specs.Prelude.{Bool, Result, Ok, Err, Option, Some, None, Contains, true, false}
 use Rattle.std.specs.List.{slice_index_or}
 use Rattle.std.proofs.lemmas.List.{append-nil}
+use Rattle.nb_fields.specs.States.{stalled_state}
 use Rattle.nb_host.specs.Files.{Files}
 use Rattle.nb_host.specs.Names.{is_delta}
 use Rattle.nb_host.specs.World.{World}
@@ -249,7 +250,7 @@ said_pages pages More said is = is
 said_pages pages Finished said is = is
 
 -- in that state
-pub stalled_now : (w : World) (held : Held) (t : Trail) (now : Now) (place : ℕ) → IsReady w held t now → Runs now place 1 → held.files.state ≡ 1
+pub stalled_now : (w : World) (held : Held) (t : Trail) (now : Now) (place : ℕ) → IsReady w held t now → Runs now place 1 → held.files.state ≡ stalled_state
 stalled_now w held t now place ready runs = ready.opened.files.agrees.state ∙ ap (λ (b : Base). image_state b.image) ready.base ∙ runs.state
 
 module _ (old mid : World) (a b : Held) (t : Trail) (now : Now) (session : ℕ) (copy later : Copying) (pages : ℕ) (ready : IsReady old a t now) (apart : IsApart a copy.name) (reads : Leaves old copy.name (old.files copy.name)) where
@@ -369,6 +370,6 @@ module _ (old mid : World) (a b : Held) (t : Trail) (now : Now) (session : ℕ) 
 
 -- the session whose copy it is has it to do in the stalled state
 pub copying_stalled : {sound : Bool} (w : World) (held : Held) (t : Trail) (now : Now) (session : ℕ) (left : ℕ) (name : List ℕ) (more : List Turn) → IsReady w held t now → IsGoing sound now
-    → slice_index_or now.todo (session - 1) [] ≡ copy_first left (ClosesCopy name) ∷ (copy_rest left (ClosesCopy name) ++ more) → held.files.state ≡ 1
+    → slice_index_or now.todo (session - 1) [] ≡ copy_first left (ClosesCopy name) ∷ (copy_rest left (ClosesCopy name) ++ more) → held.files.state ≡ stalled_state
 copying_stalled {sound = sound} w held t now session left name more ready going here =
     stalled_now w held t now (session - 1) ready (copying_at now (session - 1) left name more (subst (IsAt sound now (session - 1)) here (going.each (session - 1)))).0

@@ -3,6 +3,7 @@ use Rattle.std.proofs.Common.{◌≡◌, ◌≢◌, ◌⊎◌, inl, inr, ℕ, �
 use Rattle.std.specs.Prelude.{◌==◌, Some}
 use Rattle.std.specs.List.{AllByRecursion, slice_index_or}
 use Rattle.std.proofs.lemmas.List.{append-nil, append_cancel_right}
+use Rattle.nb_fields.specs.States.{stalled_state}
 use Rattle.nb_host.specs.World.{World}
 use Rattle.nb_host.specs.declared.refusals.Refusal.{Refusal}
 use Rattle.nb_model.specs.declared.reply.Reply.{Reply}
@@ -51,7 +52,7 @@ module _ (session : ℕ) (now : Now) (making : IsMaking now) where
 
   ends_take : (reply : Reply) → Taking (ends_by s session reply)
   unfolding ends_by end_strokes guids_in
-  ends_take reply = inl (by (image_state s.base.image == 1), refl)
+  ends_take reply = inl (by (image_state s.base.image == stalled_state), refl)
     where
       by : (b : Bool) → guids_in (elim b as (λ z. List Stroke) [ true ↦ ends ∷ [] | false ↦ [] ]) ≡ []
       by true = refl

@@ -1,6 +1,7 @@
 -- What is shown of the header of an open database.
 use Rattle.std.proofs.Common.{◌≡◌, ℕ, List, length, refl, sym, ap, ◌∙◌}
 use Rattle.std.specs.Prelude.{Bool, Ok, Some, true, false, ◌==◌}
+use Rattle.nb_fields.specs.States.{normal_state}
 use Rattle.nb_host.specs.World.{World}
 use Rattle.nb_model.specs.declared.reply.Reply.{Reply}
 use Rattle.nb_model.specs.declared.reply.Reply.TheVariants.{HeaderShown}
@@ -26,11 +27,11 @@ header_does w held t s reply base quiet is shown = record {
 }
 
 -- in the normal state no entry counts
-pub delta_none : (b : Base) → image_state b.image ≡ 0 → delta_count b ≡ 0
+pub delta_none : (b : Base) → image_state b.image ≡ normal_state → delta_count b ≡ 0
 unfolding delta_count
 delta_none b normal = ap (λ (n : ℕ). elim (n == 0) as (λ z. ℕ) [ true ↦ 0 | false ↦ length b.diverted ]) normal
 
-pub delta_some : (b : Base) → (image_state b.image == 0) ≡ false → delta_count b ≡ length b.diverted
+pub delta_some : (b : Base) → (image_state b.image == normal_state) ≡ false → delta_count b ≡ length b.diverted
 unfolding delta_count
 delta_some b other = ap (λ (t : Bool). elim t as (λ z. ℕ) [ true ↦ 0 | false ↦ length b.diverted ]) other
 

@@ -4,6 +4,7 @@ use Rattle.std.specs.Prelude.{Result, Ok, Err, Option, Some, None, Bool, true, f
 use Rattle.std.specs.List.{slice_index_or}
 use Rattle.std.proofs.lemmas.Bool.Decides.{eqb_tells}
 use Rattle.std.proofs.lemmas.List.{append-nil}
+use Rattle.nb_fields.specs.States.{normal_state, stalled_state}
 use Rattle.nb_host.specs.World.{World}
 use Rattle.nb_host.specs.declared.faults.Fault.{Fault}
 use Rattle.nb_host.specs.declared.faults.Fault.TheVariants.{Refused, Device}
@@ -75,7 +76,7 @@ abbrev ending : Seen → (session : ℕ) → Outcome
 ending s session = ends_by s session (Scn (end_scn s.base.image))
 
 abbrev end_causes : Seen → (session : ℕ) → Cause
-end_causes s session = first_cause (when (image_state s.base.image == 0) (WrongState 0) ∷ runs_other s.running session ∷ [])
+end_causes s session = first_cause (when (image_state s.base.image == normal_state) (WrongState 0) ∷ runs_other s.running session ∷ [])
 
 end_turn_is : (s : Seen) (session : ℕ) → end_turn s session ≡ unless s (end_causes s session) (ending s session)
 unfolding end_turn
@@ -114,7 +115,7 @@ own_runs session = elim (eqb_tells session session) [
   | inr w ↦ absurd (w.1 refl)
 ]
 
-none_against : (s : Seen) (session : ℕ) → image_state s.base.image ≡ 1 → s.running ≡ Some session → end_causes s session ≡ None
+none_against : (s : Seen) (session : ℕ) → image_state s.base.image ≡ stalled_state → s.running ≡ Some session → end_causes s session ≡ None
 none_against s session stalled runs =
     cause_none _ _ (ap (λ (n : ℕ). when (n == 0) (WrongState 0)) stalled) (ap (λ (r : Option ℕ). runs_other r session) runs ∙ own_runs session)
 
@@ -122,7 +123,7 @@ unopposed : (s : Seen) (session : ℕ) → (unless s None (ending s session)).re
 unfolding unless
 unopposed s session = ends_reply s session (Scn (end_scn s.base.image))
 
-end_quiet : (s : Seen) (session : ℕ) → image_state s.base.image ≡ 1 → s.running ≡ Some session → (end_turn s session).reply ≡ None
+end_quiet : (s : Seen) (session : ℕ) → image_state s.base.image ≡ stalled_state → s.running ≡ Some session → (end_turn s session).reply ≡ None
 end_quiet s session stalled runs =
     ap (λ (o : Outcome). o.reply) (end_turn_is s session) ∙ ap (λ (c : Cause). (unless s c (ending s session)).reply) (none_against s session stalled runs) ∙ unopposed s session
 
@@ -134,7 +135,7 @@ ends_diverted b false = refl
 
 end_diverted : (b : Base) (image : Image) → (base_after b (end_strokes image)).diverted ≡ b.diverted
 unfolding end_strokes
-end_diverted b image = ends_diverted b (image_state image == 1)
+end_diverted b image = ends_diverted b (image_state image == stalled_state)
 
 ends_is : (session : ℕ) (reply : Reply) (now : Now) → outcome session (Ends reply) now ≡ ends_by (seen_now now) session reply
 unfolding outcome turn

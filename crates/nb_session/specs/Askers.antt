@@ -2,6 +2,7 @@
 use Rattle.std.proofs.Common.{sym, ◌∙◌}
 use Rattle.std.specs.Prelude.{◌≡◌, ◌≢◌, ◌<◌, ◌^◌, ℕ, zero, suc, ◌+◌, ◌-◌, Bool, false, List, [], ◌∷◌, ◌++◌, length, map, replicate, Option, Some, None}
 use Rattle.std.specs.List.{AllByRecursion, list_any, slice_index_or}
+use Rattle.nb_fields.specs.States.{merge_state}
 use Rattle.nb_model.specs.declared.statement.Statement.{Statement}
 use Rattle.nb_model.specs.declared.statement.Statement.TheVariants.{EndBackup, Backup as BackupTo, BackupSince, CopyTo, Check, Reclaim, CreateTable, DropTable, Insert, Update, Delete, Get, Scan}
 use Rattle.nb_model.specs.Outcomes.{Turn, Begins, Copies, ClosesBackup, ClosesCopy, Ends, Merges, Finishes}
@@ -133,7 +134,7 @@ left_of asker = (length asker.statements, task_left asker.task)
 
 -- A merge of this session is under way, and so many entries are not merged yet.
 pub record IsMerging (session left : ℕ) (held : Held) : Type 0 where
-  pub state : held.files.state ≡ 2
+  pub state : held.files.state ≡ merge_state
   pub running : held.running ≡ Some session
   pub rest : length held.files.entries ≡ held.merged + left
 

@@ -1,6 +1,7 @@
 // Backups and copies of the frozen file, which take a turn for each page.
 ghost use Rattle.std.specs.Prelude.{◌≡◌, ◌≢◌, ◌<◌, length, ℕ, ◌-◌, List, [], ◌∷◌, ◌++◌, None, Some, false, IsTrue, IfOk};
 ghost use Rattle.std.specs.List.{slice_index_or};
+ghost use Rattle.nb_fields.specs.States.{merge_state};
 ghost use Rattle.nb_host.specs.Names.{is_delta};
 ghost use Rattle.nb_host.specs.Causes.{CountsDevice, CountsRun};
 ghost use Rattle.nb_model.specs.declared.statement.Statement.TheVariants.{CopyTo};
@@ -68,7 +69,7 @@ fn start<H: Host>(
         → KnowsFree 0 (H.world host.old).files s (file_asked statement.now) → (file_asked statement.now ≡ delta_name engine.old.files.name → ⊥) → GaveAtMost (H.world host.old) (H.world host.new) (next_guid s.given)
         → StartsBackup result (H.world host.old) (H.world host.new) engine.old engine.new t (file_asked statement.now) (next_guid s.given) (first_turn s session statement.now) }
     ensures asks { (t : Trail) → IsTrue H.tells → IsOpen (H.world host.old) engine.old t → (guid : List ℕ) × (length guid ≡ 16) × GaveAtMost (H.world host.old) (H.world host.new) guid }
-    ensures stays { engine.old.files.state ≡ 2 → engine.new ≡ engine.old }
+    ensures stays { engine.old.files.state ≡ merge_state → engine.new ≡ engine.old }
     ensures size { IfOk result (λ copier. copier.page_size ≡ engine.old.files.page_size) }
     ensures page_size { engine.new.files.page_size ≡ engine.old.files.page_size }
     ensures cap { engine.new.cap ≡ engine.old.cap }

@@ -5,6 +5,7 @@ use Rattle.std.proofs.Math.Nat.{le-div_iff_mul-le}
 use Rattle.std.proofs.lemmas.Bool.Decides.{leb_tells}
 use Rattle.nb_fields.specs.Places.{is_page_size, bits_in, inventory_place}
 use Rattle.nb_fields.proofs.PlaceLemmas.{bits-least}
+use Rattle.nb_fields.specs.Kinds.{inventory_kind}
 use Rattle.nb_host.specs.declared.refusals.Refusal.{Refusal}
 use Rattle.nb_host.specs.declared.refusals.Refusal.TheVariants.{NotDatabase}
 use Rattle.nb_model.specs.Image.{Image, image_size}
@@ -48,7 +49,7 @@ module _ (image : Image) (size_is : IsTrue (is_page_size (image_size image))) wh
   -- one page more
   found_on : (k p : ℕ) (d : Draft) → IsFound image k p d → IsFound image (k + 1) p (needs 2 (inventory_place (image_size d.image) k) d)
   unfolding needs
-  found_on k p d is = by (is_kind d.image 2 (inventory_place (image_size d.image) k))
+  found_on k p d is = by (is_kind d.image inventory_kind (inventory_place (image_size d.image) k))
     where
       rises : place k ≤ place (k + 1)
       rises = place_rises (image_size image) k size_is
@@ -70,7 +71,7 @@ module _ (image : Image) (size_is : IsTrue (is_page_size (image_size image))) wh
   found_behind (suc count) k p d is = found_behind count (k + 1) p (needs 2 (inventory_place (image_size d.image) k) d) (found_on k p d is)
 
   -- the first that isn't there is what is found
-  pub need_broken : (count k : ℕ) → is_kind image 2 (place k) ≡ false → not_of_form (needs_inventories (suc count) k (drafted image)) ≡ Some (NotDatabase (place k))
+  pub need_broken : (count k : ℕ) → is_kind image inventory_kind (place k) ≡ false → not_of_form (needs_inventories (suc count) k (drafted image)) ≡ Some (NotDatabase (place k))
   unfolding needs_inventories needs lowest_broken
   need_broken count k broken =
       found_behind count (k + 1) (place k) (needs 2 (place k) (drafted image)) (record {
@@ -83,7 +84,7 @@ module _ (image : Image) (size_is : IsTrue (is_page_size (image_size image))) wh
       })
 
   -- one that is there changes nothing
-  pub need_there : (count k : ℕ) → is_kind image 2 (place k) ≡ true → needs_inventories (suc count) k (drafted image) ≡ needs_inventories count (k + 1) (drafted image)
+  pub need_there : (count k : ℕ) → is_kind image inventory_kind (place k) ≡ true → needs_inventories (suc count) k (drafted image) ≡ needs_inventories count (k + 1) (drafted image)
   unfolding needs_inventories needs
   need_there count k there =
       ap (λ (t : Bool). needs_inventories count (k + 1) (elim t as (λ z. Draft) [ true ↦ drafted image | false ↦ record (drafted image) { broken = place k ∷ [] } ])) there
@@ -105,15 +106,15 @@ pub needs_begun : (image : Image) → NeedsFrom image 0
 unfolding all_needed
 needs_begun image = let all : needed_in image - 0 ≡ needed_in image = omega arith in ap (λ (n : ℕ). needs_inventories n 0 (drafted image)) all
 
-kind_there : (image : Image) (p : ℕ) → not_kind image 2 p ≡ None → is_kind image 2 p ≡ true
-kind_there image p none = by (is_kind image 2 p) none
+kind_there : (image : Image) (p : ℕ) → not_kind image inventory_kind p ≡ None → is_kind image inventory_kind p ≡ true
+kind_there image p none = by (is_kind image inventory_kind p) none
   where
     by : (t : Bool) → when (not t) (NotDatabase p) ≡ None → t ≡ true
     by true e = refl
     by false e = cc
 
-kind_broken : (image : Image) (p : ℕ) (r : Refusal) → not_kind image 2 p ≡ Some r → (is_kind image 2 p ≡ false) × (Some (NotDatabase p) ≡ Some r)
-kind_broken image p r some = by (is_kind image 2 p) some
+kind_broken : (image : Image) (p : ℕ) (r : Refusal) → not_kind image inventory_kind p ≡ Some r → (is_kind image inventory_kind p ≡ false) × (Some (NotDatabase p) ≡ Some r)
+kind_broken image p r some = by (is_kind image inventory_kind p) some
   where
     by : (t : Bool) → when (not t) (NotDatabase p) ≡ Some r → (t ≡ false) × (Some (NotDatabase p) ≡ Some r)
     by true e = absurd (cc)
@@ -136,16 +137,16 @@ module _ (image : Image) (size : ℕ) (is_size : IsTrue (is_page_size size)) (sa
       behind : (n : ℕ) → k ≤ n / bits_in (image_size image) → n / bits_in (image_size image) + 1 - k ≡ suc (n / bits_in (image_size image) + 1 - suc k)
       behind n most = omega (arith, most)
 
-  pub needs_next : k * bits_in size < length image → not_kind image 2 (inventory_place size k) ≡ None → NeedsFrom image k → NeedsFrom image (k + 1)
+  pub needs_next : k * bits_in size < length image → not_kind image inventory_kind (inventory_place size k) ≡ None → NeedsFrom image k → NeedsFrom image (k + 1)
   needs_next low there from =
       let next : k + 1 ≡ suc k = omega arith in
       ap (λ (n : ℕ). needs_inventories (needed_in image - n) (k + 1) (drafted image)) next
-      ∙ sym (need_there image its_size (needed_in image - suc k) k (kind_there image _ (subst (λ (s : ℕ). not_kind image 2 (inventory_place s k) ≡ None) same there)))
+      ∙ sym (need_there image its_size (needed_in image - suc k) k (kind_there image _ (subst (λ (s : ℕ). not_kind image inventory_kind (inventory_place s k) ≡ None) same there)))
       ∙ ap (λ (n : ℕ). needs_inventories n k (drafted image)) (sym (needs_more low)) ∙ from
 
-  pub needs_refused : k * bits_in size < length image → NeedsFrom image k → (r : Refusal) → not_kind image 2 (inventory_place size k) ≡ Some r → not_of_form (all_needed image) ≡ Some r
+  pub needs_refused : k * bits_in size < length image → NeedsFrom image k → (r : Refusal) → not_kind image inventory_kind (inventory_place size k) ≡ Some r → not_of_form (all_needed image) ≡ Some r
   needs_refused low from r some =
-      let broken = kind_broken image _ r (subst (λ (s : ℕ). not_kind image 2 (inventory_place s k) ≡ Some r) same some) in
+      let broken = kind_broken image _ r (subst (λ (s : ℕ). not_kind image inventory_kind (inventory_place s k) ≡ Some r) same some) in
       ap not_of_form (sym from) ∙ ap (λ (n : ℕ). not_of_form (needs_inventories n k (drafted image))) (needs_more low)
       ∙ need_broken image its_size (needed_in image - suc k) k broken.0 ∙ broken.1
 

@@ -3,6 +3,7 @@ use Rattle.std.proofs.Common.{◌≡◌, ℕ, List, [], length, sym, ap, subst, 
 use Rattle.std.specs.Prelude.{Some, None, Result}
 use Rattle.sha2.specs.Sha256.{sha256}
 use Rattle.nb_fields.specs.Places.{inventory_place}
+use Rattle.nb_fields.specs.Kinds.{inventory_kind}
 use Rattle.nb_host.specs.declared.faults.Fault.{Fault}
 use Rattle.nb_host.specs.declared.refusals.Refusal.{Refusal}
 use Rattle.nb_model.specs.declared.reply.Reply.TheVariants.{Refused}
@@ -18,8 +19,8 @@ use Rattle.nb_shown.specs.Counts.{counts_below}
 use Rattle.nb_shown.specs.Replies.{bytes_of_image, image_shown, pages_shown}
 
 -- the same test, by the page size
-pub tested_at : {T : Type 0} (result : Result T Fault) (image : Image) (n m k : ℕ) → n ≡ m → Tested result (not_kind image 2 (inventory_place n k)) → Tested result (not_kind image 2 (inventory_place m k))
-tested_at result image n m k same tested = subst (λ (size : ℕ). Tested result (not_kind image 2 (inventory_place size k))) same tested
+pub tested_at : {T : Type 0} (result : Result T Fault) (image : Image) (n m k : ℕ) → n ≡ m → Tested result (not_kind image inventory_kind (inventory_place n k)) → Tested result (not_kind image inventory_kind (inventory_place m k))
+tested_at result image n m k same tested = subst (λ (size : ℕ). Tested result (not_kind image inventory_kind (inventory_place size k))) same tested
 
 -- the pages
 pub pages_refused : (s : Seen) (r : Refusal) → not_of_form (all_needed s.base.image) ≡ Some r → pages_turn s ≡ says s (Refused r) []

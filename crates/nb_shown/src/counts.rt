@@ -1,5 +1,6 @@
 // How many pages there are of each kind.
 ghost use Rattle.std.specs.Prelude.{◌≡◌, ◌+◌, ◌<◌, ℕ, true, false};
+ghost use Rattle.nb_fields.specs.Places.{most_pages};
 ghost use Rattle.nb_model.specs.Image.{Image};
 ghost use Rattle.nb_shown.specs.Counts.{counts_below, sum_of, with_page};
 
@@ -37,7 +38,7 @@ impl PageCounts {
 
     /// Counts a free page.
     pub(crate) fn add_free(&mut self)
-        requires room { sum_of self.old < 1048576 }
+        requires room { sum_of self.old < most_pages }
         ensures counts { (kind : ℕ) → self.new ≡ with_page true kind self.old }
         ensures sum { sum_of self.new ≡ sum_of self.old + 1 }
     {
@@ -46,7 +47,7 @@ impl PageCounts {
 
     /// Counts a taken page of that kind.
     pub(crate) fn add_taken(&mut self, kind: u8)
-        requires room { sum_of self.old < 1048576 }
+        requires room { sum_of self.old < most_pages }
         ensures counts { self.new ≡ with_page false kind self.old }
         ensures sum { sum_of self.new ≡ sum_of self.old + 1 }
     {

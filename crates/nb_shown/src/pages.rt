@@ -1,6 +1,7 @@
 // The pages of a database are counted, by their bits and their kinds.
 ghost use Rattle.std.specs.Prelude.{◌≡◌, ◌≢◌, ◌+◌, ◌-◌, ◌*◌, ◌<◌, ◌≤◌, ℕ, IsTrue, IfErr, IfOk, OnOk, length, min, not};
-ghost use Rattle.nb_fields.specs.Places.{is_page_size, bits_in, inventory_place};
+ghost use Rattle.nb_fields.specs.Places.{is_page_size, bits_in, inventory_place, most_pages};
+ghost use Rattle.nb_fields.specs.Kinds.{inventory_kind};
 ghost use Rattle.nb_host.specs.Causes.{CountsDevice, CountsFault};
 ghost use Rattle.nb_host.specs.declared.faults.Fault.TheVariants.{Memory};
 ghost use Rattle.nb_page.specs.Quiet.{Quiet};
@@ -33,7 +34,7 @@ fn read_map<H: Host>(
     requires size { IsTrue (is_page_size (length map.old)) }
     requires room { length map.old ≡ engine.old.files.page_size }
     requires low { 0 < place }
-    ensures reads { (t : Trail) → IsTrue H.tells → IsOpen (H.world host.old) engine.old t → Reads result t.base.image (not_kind t.base.image 2 place) place map.new }
+    ensures reads { (t : Trail) → IsTrue H.tells → IsOpen (H.world host.old) engine.old t → Reads result t.base.image (not_kind t.base.image inventory_kind place) place map.new }
     ensures open { (t : Trail) → IsTrue H.tells → IsOpen (H.world host.old) engine.old t → IsOpen (H.world host.new) engine.new t }
     ensures same { but_pages engine.new ≡ but_pages engine.old }
     ensures quiet { Quiet (H.world host.old) (H.world host.new) }
@@ -62,7 +63,7 @@ fn count_page<H: Host>(
 ) -> Result<(), HostFault>
     requires size { IsTrue (is_page_size (length page.old)) }
     requires room { length page.old ≡ engine.old.files.page_size }
-    requires few { sum_of counts.old < 1048576 }
+    requires few { sum_of counts.old < most_pages }
     ensures counts { (t : Trail) → IsTrue H.tells → IsOpen (H.world host.old) engine.old t → number < length t.base.image → used ≡ not (is_free_page t.base.image number)
         → counts.old ≡ counts_below t.base.image number → OnOk result (counts.new ≡ counts_below t.base.image (number + 1)) }
     ensures sum { OnOk result (sum_of counts.new ≡ sum_of counts.old + 1) }
@@ -96,7 +97,7 @@ fn count_covered<H: Host>(
     requires room { length page.old ≡ engine.old.files.page_size }
     requires map { length map.now ≡ length page.old }
     requires covered { len ≤ bits_in (length page.old) }
-    requires most { first + len ≤ 1048576 }
+    requires most { first + len ≤ most_pages }
     requires sum { sum_of counts.old ≡ first }
     ensures counts { (k : ℕ) (t : Trail) → IsTrue H.tells → IsOpen (H.world host.old) engine.old t → first ≡ k * bits_in (length page.old)
         → map.now ≡ page_at t.base.image (inventory_place (length page.old) k) → first + len ≤ length t.base.image
@@ -132,7 +133,7 @@ fn count_next<H: Host>(
     requires first { first ≡ k * bits_in (length page.old) }
     requires below { first < engine.old.files.count }
     requires sum { sum_of counts.old ≡ first }
-    ensures test { (t : Trail) → IsTrue H.tells → IsOpen (H.world host.old) engine.old t → Tested result (not_kind t.base.image 2 (inventory_place (length page.old) k)) }
+    ensures test { (t : Trail) → IsTrue H.tells → IsOpen (H.world host.old) engine.old t → Tested result (not_kind t.base.image inventory_kind (inventory_place (length page.old) k)) }
     ensures counts { (t : Trail) → IsTrue H.tells → IsOpen (H.world host.old) engine.old t → counts.old ≡ counts_below t.base.image first → IfOk result (λ end. counts.new ≡ counts_below t.base.image end) }
     ensures end { IfOk result (λ end. end ≡ min engine.old.files.count (first + bits_in (length page.old))) }
     ensures sum { IfOk result (λ end. sum_of counts.new ≡ end) }

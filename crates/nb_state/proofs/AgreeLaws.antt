@@ -5,6 +5,7 @@ use Rattle.std.proofs.lemmas.Bool.Decides.{eqb_tells}
 use Rattle.nb_fields.specs.Bytes.{number_in, part}
 use Rattle.nb_fields.specs.Header.{is_header, scn_of, guid_of}
 use Rattle.nb_fields.proofs.PartLemmas.{part-take}
+use Rattle.nb_fields.specs.States.{merge_state}
 use Rattle.nb_host.specs.World.{World}
 use Rattle.nb_model.specs.Image.{Page, Image, first_page, image_scn, image_guid}
 use Rattle.nb_model.specs.Account.{Base}
@@ -82,8 +83,8 @@ module _ (t : Trail) (p : ℕ) (bytes : Page) (fits : Fits p bytes t.base.image)
     }
 
     -- the database is open after it
-    pub open_written : (old new : World) (after : Held) → (p ≡ 0 → after ≡ flagged) → (0 < p → after ≡ same) → IsOpen old held t → pair.files.state ≡ held.files.state → (held.files.state ≡ 2 → pair.files.entries ≡ held.files.entries)
-        → PairOpen new pair (after_stroke (page p bytes) t) → (held.files.state ≡ 2 → AreMerged new pair.files held.merged) → IsOpen new after (after_stroke (page p bytes) t)
+    pub open_written : (old new : World) (after : Held) → (p ≡ 0 → after ≡ flagged) → (0 < p → after ≡ same) → IsOpen old held t → pair.files.state ≡ held.files.state → (held.files.state ≡ merge_state → pair.files.entries ≡ held.files.entries)
+        → PairOpen new pair (after_stroke (page p bytes) t) → (held.files.state ≡ merge_state → AreMerged new pair.files held.merged) → IsOpen new after (after_stroke (page p bytes) t)
     open_written old new after first other is state entries opened merged = elim (eqb_tells p 0) [
       | inl w ↦ subst (λ (h : Held). IsOpen new h (after_stroke (page p bytes) t)) (sym (first w.1)) (record { files = opened; agrees = agrees_first w.1 is.agrees; merged = λ s. merged (sym state ∙ s); most = most })
       | inr w ↦
@@ -91,7 +92,7 @@ module _ (t : Trail) (p : ℕ) (bytes : Page) (fits : Fits p bytes t.base.image)
           subst (λ (h : Held). IsOpen new h (after_stroke (page p bytes) t)) (sym (other some)) (record { files = opened; agrees = agrees_other some is.agrees; merged = λ s. merged (sym state ∙ s); most = most })
     ]
       where
-        most : pair.files.state ≡ 2 → held.merged ≤ length pair.files.entries
+        most : pair.files.state ≡ merge_state → held.merged ≤ length pair.files.entries
         most s = subst (λ (es : List ℕ). held.merged ≤ length es) (sym (entries (sym state ∙ s))) (is.most (sym state ∙ s))
 
         above : (n : ℕ) → (n ≡ 0 → ⊥) → 0 < n
@@ -100,7 +101,7 @@ module _ (t : Trail) (p : ℕ) (bytes : Page) (fits : Fits p bytes t.base.image)
 
 -- The two files and the pages in memory alone are others.
 pub goes_files : (held : Held) (pair : Rattle.nb_owner.specs.Open.Held) → pair.files.name ≡ held.files.name → pair.files.page_size ≡ held.files.page_size → pair.files.state ≡ held.files.state
-    → held.files.count ≤ pair.files.count → (held.files.state ≡ 2 → pair.files.entries ≡ held.files.entries) → pair.cap ≡ held.cap → Goes held (record held { files = pair.files; pages = pair.pages; cap = pair.cap })
+    → held.files.count ≤ pair.files.count → (held.files.state ≡ merge_state → pair.files.entries ≡ held.files.entries) → pair.cap ≡ held.cap → Goes held (record held { files = pair.files; pages = pair.pages; cap = pair.cap })
 goes_files held pair name size state longer entries cap = record { name = name; page_size = size; state = state; longer = longer; entries = entries; running = refl; merged = refl; cap = cap }
 
 -- and the flags

@@ -3,6 +3,7 @@ use Rattle.std.proofs.Common.{◌≡◌, ◌≢◌, ◌⊎◌, ⊎_elim, ℕ, �
 use Rattle.std.specs.Prelude.{Bool, true, false, Option, Some, None, Result, Ok, Err}
 use Rattle.std.proofs.lemmas.Bool.{eq-eqb, ne_eqb}
 use Rattle.nb_fields.specs.Header.{is_header, state_of}
+use Rattle.nb_fields.specs.States.{normal_state, stalled_state, merge_state}
 use Rattle.nb_host.specs.World.{World}
 use Rattle.nb_host.specs.Calls.{IsStill}
 use Rattle.nb_host.specs.Moments.{IsNow, IsTimely, Passes}
@@ -69,11 +70,11 @@ state_control : (before after : Base) (state scn : ℕ) (guid : List ℕ) → is
 state_control before after state scn guid header sixteen low is =
     ap image_state is ∙ ap state_of (with_control-first state scn guid before.image (some_page before.image header)) ∙ control_state state scn guid (first_page before.image) (header-long (first_page before.image) header) sixteen low
 
-begun_image : (b : Base) (guid : List ℕ) (ask : Option Ask) → (on_base (begin guid ask) b).image ≡ with_control 1 (image_scn b.image + 1) guid b.image
+begun_image : (b : Base) (guid : List ℕ) (ask : Option Ask) → (on_base (begin guid ask) b).image ≡ with_control stalled_state (image_scn b.image + 1) guid b.image
 unfolding on_base
 begun_image b guid ask = refl
 
-ended_image : (b : Base) → (on_base ends b).image ≡ with_control 2 (image_scn b.image + 1) (image_guid b.image) b.image
+ended_image : (b : Base) → (on_base ends b).image ≡ with_control merge_state (image_scn b.image + 1) (image_guid b.image) b.image
 unfolding on_base
 ended_image b = refl
 
@@ -86,10 +87,10 @@ module _ (old new : World) (held : Held) (t : Trail) (is : IsOpen old held t) (p
     abbrev begun : Base
     begun = (after_stroke (begin guid ask) t).base
 
-    begun_is : begun.image ≡ with_control 1 (image_scn t.base.image + 1) guid t.base.image
+    begun_is : begun.image ≡ with_control stalled_state (image_scn t.base.image + 1) guid t.base.image
     begun_is = ap (λ (b : Base). b.image) (trail_base (begin guid ask) t) ∙ begun_image t.base guid ask
 
-    stalled : pair.files.state ≡ 1
+    stalled : pair.files.state ≡ stalled_state
     stalled = opened.agrees.state ∙ state_control t.base begun 1 (image_scn t.base.image + 1) guid header sixteen (omega arith) begun_is
 
     pub open_begun : IsOpen new (record held { files = pair.files; pages = pair.pages; cap = pair.cap; scn = held.scn + 1; guid = guid }) (after_stroke (begin guid ask) t)
@@ -102,7 +103,7 @@ module _ (old new : World) (held : Held) (t : Trail) (is : IsOpen old held t) (p
     }
 
   -- the stalled state has ended
-  module _ (session : ℕ) (sixteen : length held.guid ≡ 16) (stalled : held.files.state ≡ 1) (opened : PairOpen new pair (after_stroke ends t)) where
+  module _ (session : ℕ) (sixteen : length held.guid ≡ 16) (stalled : held.files.state ≡ stalled_state) (opened : PairOpen new pair (after_stroke ends t)) where
     abbrev ended : Base
     ended = (after_stroke ends t).base
 
@@ -135,13 +136,13 @@ module _ (old new : World) (held : Held) (t : Trail) (is : IsOpen old held t) (p
     cut_header : is_header (first_page (trimmed t.base.image)) ≡ true
     cut_header = ap is_header front ∙ header
 
-    finished_is : finished.image ≡ with_control 0 (image_scn t.base.image) (image_guid t.base.image) (trimmed t.base.image)
+    finished_is : finished.image ≡ with_control normal_state (image_scn t.base.image) (image_guid t.base.image) (trimmed t.base.image)
     finished_is = ap (λ (b : Base). b.image) (trail_base finish t ∙ finish_base t.base)
 
     sixteen_there : length (image_guid t.base.image) ≡ 16
     sixteen_there = ap length (sym is.agrees.guid) ∙ sixteen
 
-    normal : pair.files.state ≡ 0
+    normal : pair.files.state ≡ normal_state
     normal = opened.agrees.state ∙ state_control cut finished 0 (image_scn t.base.image) (image_guid t.base.image) cut_header sixteen_there (omega arith) finished_is
 
     pub open_finished : IsOpen new (record held { files = pair.files; pages = pair.pages; cap = pair.cap; running = None }) (after_stroke finish t)
@@ -177,12 +178,12 @@ open_struck w held t session strokes none is =
     subst (λ (ss : List Stroke). IsOpen w (record held { running = Some session; merged = 0 }) (after_strokes t ss)) (sym none) (open_again w held t session is)
 
 -- all entries are merged
-pub all_merged : (w : World) (held : Held) (t : Trail) → IsOpen w held t → held.files.state ≡ 2 → length held.files.entries ≤ held.merged → AreMerged w held.files (length held.files.entries)
+pub all_merged : (w : World) (held : Held) (t : Trail) → IsOpen w held t → held.files.state ≡ merge_state → length held.files.entries ≤ held.merged → AreMerged w held.files (length held.files.entries)
 all_merged w held t is merges all j low inside = is.merged merges j (omega (arith, low, all)) inside
 
 -- what waits goes out, and both files may be kept for good
 pub open_out : (old new : World) (held : Held) (pair : Rattle.nb_owner.specs.Open.Held) (t u : Trail) → IsOpen old held t → u.base ≡ t.base → but_drafts pair.files ≡ but_drafts held.files → PairOpen new pair u
-    → (held.files.state ≡ 2 → AreMerged old held.files held.merged → AreMerged new pair.files held.merged) → IsOpen new (record held { files = pair.files; pages = pair.pages; cap = pair.cap }) u
+    → (held.files.state ≡ merge_state → AreMerged old held.files held.merged → AreMerged new pair.files held.merged) → IsOpen new (record held { files = pair.files; pages = pair.pages; cap = pair.cap }) u
 open_out old new held pair t u is base same opened merged = record {
   files = opened;
   agrees = subst (λ (b : Base). AgreesWith (record held { files = pair.files; pages = pair.pages; cap = pair.cap }) b) (sym base)
@@ -193,7 +194,7 @@ open_out old new held pair t u is base same opened merged = record {
 
 -- a write wanted memory
 pub open_wanting : (old new : World) (held : Held) (pair : Rattle.nb_owner.specs.Open.Held) (t : Trail) → IsOpen old held t → pair.files.state ≡ held.files.state → PairOpen new pair t
-    → held.files.state ≢ 2 → IsOpen new (record held { files = pair.files; pages = pair.pages; cap = pair.cap }) t
+    → held.files.state ≢ merge_state → IsOpen new (record held { files = pair.files; pages = pair.pages; cap = pair.cap }) t
 open_wanting old new held pair t is state opened out = record {
   files = opened;
   agrees = record { scn = is.agrees.scn; four = is.agrees.four; guid = is.agrees.guid; read_only = is.agrees.read_only };
@@ -202,19 +203,19 @@ open_wanting old new held pair t is state opened out = record {
 }
 
 -- the strokes of an end
-pub end_stalled : (image : Image) → image_state image ≡ 1 → end_strokes image ≡ ends ∷ []
+pub end_stalled : (image : Image) → image_state image ≡ stalled_state → end_strokes image ≡ ends ∷ []
 unfolding end_strokes
 end_stalled image one = ap (λ (b : Bool). elim b as (λ z. List Stroke) [ true ↦ ends ∷ [] | false ↦ [] ]) (eq-eqb (image_state image) 1 one)
 
-pub end_other : (image : Image) → (image_state image ≡ 1 → ⊥) → end_strokes image ≡ []
+pub end_other : (image : Image) → (image_state image ≡ stalled_state → ⊥) → end_strokes image ≡ []
 unfolding end_strokes
 end_other image ne = ap (λ (b : Bool). elim b as (λ z. List Stroke) [ true ↦ ends ∷ [] | false ↦ [] ]) (ne_eqb (image_state image) 1 ne)
 
-pub scn_stalled : (image : Image) → image_state image ≡ 1 → end_scn image ≡ image_scn image + 1
+pub scn_stalled : (image : Image) → image_state image ≡ stalled_state → end_scn image ≡ image_scn image + 1
 unfolding end_scn
 scn_stalled image one = ap (λ (b : Bool). elim b as (λ z. ℕ) [ true ↦ image_scn image + 1 | false ↦ image_scn image ]) (eq-eqb (image_state image) 1 one)
 
-pub scn_other : (image : Image) → (image_state image ≡ 1 → ⊥) → end_scn image ≡ image_scn image
+pub scn_other : (image : Image) → (image_state image ≡ stalled_state → ⊥) → end_scn image ≡ image_scn image
 unfolding end_scn
 scn_other image ne = ap (λ (b : Bool). elim b as (λ z. ℕ) [ true ↦ image_scn image + 1 | false ↦ image_scn image ]) (ne_eqb (image_state image) 1 ne)
 

@@ -1,5 +1,6 @@
 -- What a call does that is one turn of the table of turns.
 use Rattle.std.specs.Prelude.{◌≡◌, ◌≤◌, List, [], Bool, true, false, Option, Some, None, Result, Ok, Err}
+use Rattle.nb_fields.specs.States.{merge_state}
 use Rattle.nb_host.specs.World.{World}
 use Rattle.nb_host.specs.declared.faults.Fault.{Fault}
 use Rattle.nb_host.specs.declared.faults.Fault.TheVariants.{Refused, Device, Memory}
@@ -70,7 +71,7 @@ pub record Goes (before after : Held) : Type 0 where
   pub page_size : after.files.page_size ≡ before.files.page_size
   pub state : after.files.state ≡ before.files.state
   pub longer : before.files.count ≤ after.files.count
-  pub entries : before.files.state ≡ 2 → after.files.entries ≡ before.files.entries
+  pub entries : before.files.state ≡ merge_state → after.files.entries ≡ before.files.entries
   pub running : after.running ≡ before.running
   pub merged : after.merged ≡ before.merged
   pub cap : after.cap ≡ before.cap

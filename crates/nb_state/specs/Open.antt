@@ -1,5 +1,6 @@
 -- A database that is open.
 use Rattle.std.specs.Prelude.{◌≡◌, ◌<◌, ◌≤◌, ℕ, List, [], length, Option, Bool}
+use Rattle.nb_fields.specs.States.{merge_state}
 use Rattle.nb_host.specs.World.{World}
 use Rattle.nb_model.specs.Account.{Base}
 use Rattle.nb_model.specs.Image.{Page, image_scn, image_guid, is_read_only}
@@ -57,5 +58,5 @@ pub record AgreesWith (held : Held) (b : Base) : Type 0 where
 pub record IsOpen (w : World) (held : Held) (t : Trail) : Type 0 where
   pub files : IsPairOpen w (pair_of held) t
   pub agrees : AgreesWith held t.base
-  pub merged : held.files.state ≡ 2 → AreMerged w held.files held.merged
-  pub most : held.files.state ≡ 2 → held.merged ≤ length held.files.entries
+  pub merged : held.files.state ≡ merge_state → AreMerged w held.files held.merged
+  pub most : held.files.state ≡ merge_state → held.merged ≤ length held.files.entries

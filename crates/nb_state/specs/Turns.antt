@@ -1,5 +1,6 @@
 -- The turns of a backup: begin, end, and the merge.
 use Rattle.std.specs.Prelude.{◌≡◌, ◌⊎◌, ℕ, ◌+◌, ◌<◌, ◌≤◌, List, [], ◌∷◌, ◌++◌, length, Option, Some, None, Result, Ok, Err, OnOk, IfOk, slice_index, ◌==◌}
+use Rattle.nb_fields.specs.States.{normal_state, merge_state}
 use Rattle.nb_host.specs.Files.{Files}
 use Rattle.nb_host.specs.World.{World}
 use Rattle.nb_host.specs.declared.faults.Fault.{Fault}
@@ -24,11 +25,11 @@ use Rattle.nb_state.specs.declared.turns.Progress.TheVariants.{More, Finished}
 
 -- why no backup begins
 abbrev pub begin_cause : Image → Cause
-begin_cause image = first_cause (not_state 0 image ∷ no_scn image ∷ [])
+begin_cause image = first_cause (not_state normal_state image ∷ no_scn image ∷ [])
 
 -- why no merge begins
 abbrev pub end_cause : Image → (running : Option ℕ) → (session : ℕ) → Cause
-end_cause image running session = first_cause (when (image_state image == 0) (WrongState 0) ∷ runs_other running session ∷ [])
+end_cause image running session = first_cause (when (image_state image == normal_state) (WrongState 0) ∷ runs_other running session ∷ [])
 
 -- this GUID was given, or none
 abbrev pub GaveAtMost : (old new : World) (guid : List ℕ) → Type 0
@@ -62,7 +63,7 @@ pub record Ends (result : Result ℕ Fault) (old new : World) (before after : He
 -- How far a merge has come after one turn more, whatever the host tells.
 abbrev pub GoesOn : Progress → (before after : Held) → Type 0
 GoesOn More before after =
-    (before.merged < length before.files.entries) × (after.merged ≡ before.merged + 1) × (after.files.state ≡ 2) × (after.running ≡ before.running) × (after.files.entries ≡ before.files.entries)
+    (before.merged < length before.files.entries) × (after.merged ≡ before.merged + 1) × (after.files.state ≡ merge_state) × (after.running ≡ before.running) × (after.files.entries ≡ before.files.entries)
 GoesOn Finished before after = length before.files.entries ≤ before.merged
 
 -- What a turn of a merge changes of the files, whatever they hold: one page of the main file, that of the next entry; or after the last one the

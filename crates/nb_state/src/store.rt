@@ -1,6 +1,7 @@
 ghost use Rattle.std.specs.Prelude.{◌≡◌, ◌≢◌, ◌≤◌, ◌<◌, ◌+◌, ◌∷◌, [], length, IsTrue, IsSome, IsOk, IfErr, OnOk, true, false, not, ◌==◌};
 ghost use Rattle.nb_fields.specs.Bytes.{is_zeros, number_in};
-ghost use Rattle.nb_fields.specs.Places.{is_page_size};
+ghost use Rattle.nb_fields.specs.Places.{is_page_size, most_pages};
+ghost use Rattle.nb_fields.specs.States.{normal_state, stalled_state};
 ghost use Rattle.nb_host.specs.Causes.{CountsFault, CountsRun};
 ghost use Rattle.nb_host.specs.Faults.{as_answer};
 ghost use Rattle.nb_change.specs.Gave.{GaveNothing};
@@ -55,7 +56,7 @@ impl Store {
     /// How many pages the database has.
     pub fn count(&self) -> u32
         ensures value { result ≡ self.now.files.count }
-        ensures most { result ≤ 1048576 }
+        ensures most { result ≤ most_pages }
     {
         self.pair.count()
     }
@@ -120,7 +121,7 @@ impl Store {
     /// How many pages the main file has.
     pub fn main_count(&self) -> u32
         ensures value { result ≡ self.now.files.main_count }
-        ensures most { result ≤ 1048576 }
+        ensures most { result ≤ most_pages }
     {
         self.pair.main_count()
     }
@@ -170,7 +171,7 @@ impl Store {
         into: &mut [u8],
     ) -> Result<(), HostFault>
         requires size { length into.old ≡ self.old.files.page_size }
-        ensures page { (t : Trail) → IsTrue H.tells → IsOpen (H.world host.old) self.old t → self.old.files.state ≡ 1 → number < length t.base.frozen → OnOk result (into.new ≡ page_at t.base.frozen number) }
+        ensures page { (t : Trail) → IsTrue H.tells → IsOpen (H.world host.old) self.old t → self.old.files.state ≡ stalled_state → number < length t.base.frozen → OnOk result (into.new ≡ page_at t.base.frozen number) }
         ensures open { (t : Trail) → IsTrue H.tells → IsOpen (H.world host.old) self.old t → IsOpen (H.world host.new) self.new t }
         ensures same { self.new ≡ self.old }
         ensures quiet { Quiet (H.world host.old) (H.world host.new) }
@@ -188,7 +189,7 @@ impl Store {
     /// where writes are forced.
     pub fn write<H: Host>(&mut self, host: &mut H, number: u32, page: &[u8]) -> Result<(), RunError>
         requires size { length page.now ≡ self.old.files.page_size }
-        requires most { number < 1048576 }
+        requires most { number < most_pages }
         requires some { is_zeros page.now ≡ false }
         requires low { number ≤ self.old.files.count }
         requires control_block { number ≡ 0 → IsTrue H.tells → HasBlock (H.world host.old) self.old page.now }
@@ -199,12 +200,12 @@ impl Store {
         ensures goes { Goes self.old self.new }
         ensures reads { (H.world host.new).reads ≡ (H.world host.old).reads }
         ensures cause { CountsRun result (H.faults host.old) (H.faults host.new) }
-        ensures waits { may_wait (pair_of self.old) number ≡ true → (self.old.files.state ≡ 0 → IsOk result) × IfErr result (λ error. error ≡ RunError.Memory) × (host.new ≡ host.old) }
+        ensures waits { may_wait (pair_of self.old) number ≡ true → (self.old.files.state ≡ normal_state → IsOk result) × IfErr result (λ error. error ≡ RunError.Memory) × (host.new ≡ host.old) }
         ensures on_memory { (t : Trail) → IsTrue H.tells → IsOpen (H.world host.old) self.old t → result ≡ Err RunError.Memory
             → Strikes (H.world host.old) (H.world host.new) (name_of self.old) t [] × IsOpen (H.world host.new) self.new t }
         ensures idle { NoPageWaits self.old → result ≡ Err RunError.Memory → (self.new ≡ self.old) × (host.new ≡ host.old) }
         ensures forced { (t : Trail) → IsTrue H.tells → IsOpen (H.world host.old) self.old t → self.old.files.forced ≡ true → result ≡ Err RunError.Memory → (self.new ≡ self.old) × (host.new ≡ host.old) }
-        ensures takes_none { self.old.files.state ≢ 1 → IfErr result (λ error. error ≢ RunError.Memory) }
+        ensures takes_none { self.old.files.state ≢ stalled_state → IfErr result (λ error. error ≢ RunError.Memory) }
     {
         self.pair.write(host, number, page)?;
         self.take_access(number, page);

@@ -1,5 +1,6 @@
 // The turns of a backup: begin, end, and the merge.
 ghost use Rattle.std.specs.Prelude.{◌≡◌, ◌≢◌, ◌<◌, ◌≤◌, ◌+◌, ℕ, List, [], ◌∷◌, length, IsTrue, IfErr, IfOk, OnOk, Option, Some};
+ghost use Rattle.nb_fields.specs.States.{normal_state, stalled_state, merge_state};
 ghost use Rattle.nb_host.specs.Causes.{CountsDevice, CountsFault};
 ghost use Rattle.nb_host.specs.declared.faults.Fault.TheVariants.{Memory};
 ghost use Rattle.nb_change.specs.Gave.{GaveNothing};
@@ -39,7 +40,7 @@ impl Store {
     /// Tests whether a backup may begin. The refusals are `WrongState` and `ScnExhausted`, in this order.
     fn check_begin(&self) -> Result<(), Fault>
         ensures test { (image : Image) → self.now.files.state ≡ image_state image → self.now.scn ≡ image_scn image → Tested result (begin_cause image) }
-        ensures normal { OnOk result (self.now.files.state ≡ 0) }
+        ensures normal { OnOk result (self.now.files.state ≡ normal_state) }
         ensures scn { OnOk result (self.now.scn < 4294967294) }
         ensures cause { (faults : ℕ) → CountsDevice result faults faults }
         ensures takes_none { IfErr result (λ fault. fault ≢ Memory) }
@@ -86,7 +87,7 @@ impl Store {
         ensures begins { (t : Trail) (guid : List ℕ) (ask : Option Ask) → IsTrue H.tells → IsOpen (H.world host.old) self.old t → GaveAtMost (H.world host.old) (H.world host.new) guid
             → Begins result (H.world host.old) (H.world host.new) self.old self.new t guid ask }
         ensures asks { IsTrue H.tells → (guid : List ℕ) × (length guid ≡ 16) × GaveAtMost (H.world host.old) (H.world host.new) guid }
-        ensures stays { self.old.files.state ≡ 2 → self.new ≡ self.old }
+        ensures stays { self.old.files.state ≡ merge_state → self.new ≡ self.old }
         ensures page_size { self.new.files.page_size ≡ self.old.files.page_size }
         ensures cap { self.new.cap ≡ self.old.cap }
         ensures cause { CountsDevice result (H.faults host.old) (H.faults host.new) }
@@ -100,7 +101,7 @@ impl Store {
 
     /// Begins a backup with that GUID, in the normal state. It answers the new SCN.
     fn begin_with<H: Host>(&mut self, host: &mut H, guid: &[u8; 16]) -> Result<u32, HostFault>
-        requires normal { self.old.files.state ≡ 0 }
+        requires normal { self.old.files.state ≡ normal_state }
         requires scn { self.old.scn < 4294967294 }
         ensures takes { (t : Trail) (ask : Option Ask) → IsTrue H.tells → IsOpen (H.world host.old) self.old t
             → Takes result (H.world host.old) (H.world host.new) (name_of self.old) (IsOpen (H.world host.new) self.new) t (begin_stroke guid.now ask ∷ []) }
@@ -124,7 +125,7 @@ impl Store {
     pub fn end<H: Host>(&mut self, host: &mut H, session: u32) -> Result<u32, Fault>
         ensures ends { (t : Trail) → IsTrue H.tells → IsOpen (H.world host.old) self.old t → Ends result (H.world host.old) (H.world host.new) self.old self.new t session }
         ensures stays { (other : ℕ) → self.old.running ≡ Some other → other ≢ session → self.new ≡ self.old }
-        ensures merge { OnOk result ((self.new.files.state ≡ 2) × (self.new.running ≡ Some session) × (self.new.merged ≡ 0)) }
+        ensures merge { OnOk result ((self.new.files.state ≡ merge_state) × (self.new.running ≡ Some session) × (self.new.merged ≡ 0)) }
         ensures page_size { self.new.files.page_size ≡ self.old.files.page_size }
         ensures cap { self.new.cap ≡ self.old.cap }
         ensures cause { CountsDevice result (H.faults host.old) (H.faults host.new) }
@@ -142,12 +143,12 @@ impl Store {
 
     /// Ends the stalled state for that session. It answers the new SCN.
     fn end_stalled<H: Host>(&mut self, host: &mut H, session: u32) -> Result<u32, HostFault>
-        requires stalled { self.old.files.state ≡ 1 }
+        requires stalled { self.old.files.state ≡ stalled_state }
         ensures takes { (t : Trail) → IsTrue H.tells → IsOpen (H.world host.old) self.old t
             → Takes result (H.world host.old) (H.world host.new) (name_of self.old) (IsOpen (H.world host.new) self.new) t (ends_stroke ∷ []) }
         ensures answer { self.old.scn < 4294967295 → IfOk result (λ scn. scn ≡ self.old.scn + 1) }
         ensures begins { OnOk result ((self.new.running ≡ Some session) × (self.new.merged ≡ 0)) }
-        ensures state { OnOk result (self.new.files.state ≡ 2) }
+        ensures state { OnOk result (self.new.files.state ≡ merge_state) }
         ensures gave { GaveNothing (H.world host.old) (H.world host.new) }
         ensures name { name_of self.new ≡ name_of self.old }
         ensures page_size { self.new.files.page_size ≡ self.old.files.page_size }
@@ -165,7 +166,7 @@ impl Store {
     /// Merges the next entry, which changes one page of the main file and nothing else, or finishes the merge, which removes the difference
     /// file. Whatever the files hold.
     pub fn merge_turn<H: Host>(&mut self, host: &mut H) -> Result<Progress, HostFault>
-        requires merge { self.old.files.state ≡ 2 }
+        requires merge { self.old.files.state ≡ merge_state }
         ensures merges { (t : Trail) → IsTrue H.tells → IsOpen (H.world host.old) self.old t → Merges result (H.world host.old) (H.world host.new) self.old self.new t }
         ensures goes { IfOk result (λ progress. GoesOn progress self.old self.new) }
         ensures puts { IsTrue H.tells → IfOk result (λ progress. PutsOn progress (H.world host.old).files (H.world host.new).files self.old) }

@@ -1,6 +1,7 @@
 -- What a row's turn does, once its table's rows are come by.
 use Rattle.std.proofs.Common.{◌≡◌, ℕ, List, [], ◌∷◌, refl, sym, ap, ◌∙◌}
 use Rattle.std.specs.Prelude.{true, false, Option, Some, None, Result, Ok, Err, IfOk, is_some}
+use Rattle.nb_fields.specs.Kinds.{data_kind}
 use Rattle.nb_host.specs.World.{World}
 use Rattle.nb_host.specs.declared.faults.Fault.{Fault}
 use Rattle.nb_host.specs.declared.refusals.Refusal.{Refusal}
@@ -57,10 +58,10 @@ module _ (s : Seen) (chain : Chain) (key : ℕ) (bytes : Slot) where
       ∙ ap (λ (c : Cause). unless s c (says s Done (put_slot row.page row.slot bytes (drafted image)).strokes)) (slot_alone image row.page row.slot bytes)
 
 -- the page of a row that was found is a data page
-pub found_kind : (image : Image) (chain : Chain) → broken_at (pages_of chain image) ≡ None → (key : ℕ) (row : Found) → Some row ≡ found_at (row_spot key (spots chain image)) → not_kind image 5 row.place.page ≡ None
+pub found_kind : (image : Image) (chain : Chain) → broken_at (pages_of chain image) ≡ None → (key : ℕ) (row : Found) → Some row ≡ found_at (row_spot key (spots chain image)) → not_kind image data_kind row.place.page ≡ None
 found_kind image chain formed key row found =
     let at = found_some (row_spot key (spots chain image)) row found in
-    ap (λ (n : ℕ). not_kind image 5 n) at.page ∙ row_kind chain image formed key at.spot at.is
+    ap (λ (n : ℕ). not_kind image data_kind n) at.page ∙ row_kind chain image formed key at.spot at.is
 
 -- so a call that writes it does that
 pub row_does : (result : Result (Unit {0}) Fault) (old new : World) (a b : Held) (t : Trail) (s : Seen) (chain : Chain) (key : ℕ) (bytes : Slot) (row : Found) → t.base ≡ s.base → Some row ≡ found_at (row_spot key (spots chain t.base.image))

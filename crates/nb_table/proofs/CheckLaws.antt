@@ -2,6 +2,7 @@
 use Rattle.std.proofs.Common.{◌≡◌, ◌≢◌, ℕ, zero, suc, ◌-◌, ◌<◌, List, [], ◌∷◌, ◌++◌, length, refl, sym, ap, subst, ◌∙◌, arith}
 use Rattle.std.specs.Prelude.{min, Option, Some, None, Ok}
 use Rattle.std.proofs.lemmas.List.{append-nil}
+use Rattle.nb_fields.specs.Kinds.{data_kind}
 use Rattle.nb_host.specs.declared.refusals.Refusal.{Refusal}
 use Rattle.nb_host.specs.declared.refusals.Refusal.TheVariants.{NotDatabase}
 use Rattle.nb_model.specs.Causes.{Cause, lowest_of, lowest_broken}
@@ -81,7 +82,7 @@ module _ (chain : Chain) (image : Image) (pages noted : List ℕ) (left number :
   data_here : not_data image (owner_of chain) number ≡ None
   data_here =
       let parts = in_chain chain image number one.in_it in
-      owner_is image (owner_of chain) number (kind_is image 5 number parts.0 parts.1) (chain_owner chain image number one.in_it)
+      owner_is image (owner_of chain) number (kind_is image data_kind number parts.0 parts.1) (chain_owner chain image number one.in_it)
 
   onward : (found : Option ℕ) (next : ℕ) → need_cause found ≡ lowest_broken next_behind → next ≡ next_in (page_at image number) → next ≢ 0 → Checks chain image pages noted left next found
   onward found next lowest link some = record {

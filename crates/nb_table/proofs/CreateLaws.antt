@@ -4,6 +4,7 @@ use Rattle.std.specs.Prelude.{Bool, true, not, Some, None, Result, Ok, Err, IfEr
 use Rattle.std.proofs.lemmas.Bool.Decides.{leb_tells}
 use Rattle.nb_fields.specs.Bytes.{with_part}
 use Rattle.nb_fields.specs.Payloads.{data_payload}
+use Rattle.nb_fields.specs.Kinds.{data_kind}
 use Rattle.nb_host.specs.World.{World}
 use Rattle.nb_host.specs.declared.faults.Fault.{Fault}
 use Rattle.nb_host.specs.declared.refusals.Refusal.TheVariants.{NotDatabase}
@@ -128,8 +129,8 @@ module _ (t : Trail) (table : List ℕ) where
   image_then = image_is t 0 new_first.0 (new_keeps (IsOf t.base) (drafts_are t.base) (length x + 4) 5 first (drafted x) (drafted_is t.base)) xs refl
 
   -- the last page is a data page still
-  pub data_then : (last : ℕ) → is_kind new_first.0.image 5 last ≡ true → is_kind u.base.image 5 last ≡ true
-  data_then last kind = ap (λ (z : Image). is_kind z 5 last) image_then ∙ kind
+  pub data_then : (last : ℕ) → is_kind new_first.0.image data_kind last ≡ true → is_kind u.base.image data_kind last ≡ true
+  data_then last kind = ap (λ (z : Image). is_kind z data_kind last) image_then ∙ kind
 
   -- at a place
   module _ (place : Place) (none : unmade_behind x new_first.0 place.page ≡ None) where
@@ -145,8 +146,8 @@ module _ (t : Trail) (table : List ℕ) where
     first_none : unmade x new_first.0 ≡ None
     first_none = clear_made x new_first.0 clear.long clear.free.clear
 
-    pub kind_then : not_kind u.base.image 5 place.page ≡ None
-    kind_then = ap (λ (t : Bool). when (not t) (NotDatabase place.page)) (ap (λ (z : Image). is_kind z 5 place.page) image_then ∙ clear.free.kind)
+    pub kind_then : not_kind u.base.image data_kind place.page ≡ None
+    kind_then = ap (λ (t : Bool). when (not t) (NotDatabase place.page)) (ap (λ (z : Image). is_kind z data_kind place.page) image_then ∙ clear.free.kind)
 
     entry_then : entry_cause u.base.image place.page ≡ None
     entry_then = ap (λ (z : Image). entry_cause z place.page) image_then ∙ clear.free.entry

@@ -1,6 +1,7 @@
 -- The turn of a table that is made, by its causes.
 use Rattle.std.proofs.Common.{◌≡◌, ℕ, ◌<◌, ◌≤◌, List, [], ◌∷◌, ◌++◌, length, refl, sym, ap, ◌∙◌, arith}
 use Rattle.std.specs.Prelude.{Bool, true, false, Option, Some, None, is_some, nat_le, min}
+use Rattle.nb_fields.specs.Kinds.{data_kind}
 use Rattle.nb_host.specs.declared.refusals.Refusal.{Refusal}
 use Rattle.nb_host.specs.declared.refusals.Refusal.TheVariants.{TableExists, TooManyTables}
 use Rattle.nb_model.specs.declared.reply.Reply.TheVariants.{Done, Refused}
@@ -122,8 +123,8 @@ module _ (image : Image) where
   pub new_formed : (table : List ℕ) → new_cause image table ≡ None → broken_at (pages_of Catalogue image) ≡ None
   new_formed table none = (no_first (broken_at (pages_of Catalogue image)) _ none).0
 
-  pub place_data : broken_at (pages_of Catalogue image) ≡ None → (place : Place) → Some place ≡ places (free_spot (spots Catalogue image)) → (place.page < length image) × (not_kind image 5 place.page ≡ None)
+  pub place_data : broken_at (pages_of Catalogue image) ≡ None → (place : Place) → Some place ≡ places (free_spot (spots Catalogue image)) → (place.page < length image) × (not_kind image data_kind place.page ≡ None)
   place_data formed place e =
       let at : IsPlaceOf (free_spot (spots Catalogue image)) place = place_some (free_spot (spots Catalogue image)) place e in
-      let kind : not_kind image 5 place.page ≡ None = ap (λ (n : ℕ). not_kind image 5 n) at.page ∙ free_kind Catalogue image formed at.spot at.is in
+      let kind : not_kind image data_kind place.page ≡ None = ap (λ (n : ℕ). not_kind image data_kind n) at.page ∙ free_kind Catalogue image formed at.spot at.is in
       (data_there image place.page kind, kind)

@@ -6,6 +6,8 @@ use Rattle.std.proofs.lemmas.List.{append-nil}
 use Rattle.nb_fields.specs.Bytes.{with_part}
 use Rattle.nb_fields.proofs.PartLemmas.{length-with_part}
 use Rattle.nb_fields.proofs.SizeLemmas.{SizeFacts, size_facts}
+use Rattle.nb_fields.specs.Places.{most_pages}
+use Rattle.nb_fields.specs.Kinds.{inventory_kind, data_kind}
 use Rattle.nb_host.specs.declared.refusals.Refusal.TheVariants.{Full}
 use Rattle.nb_model.specs.Causes.{lowest_broken, not_of_form, no_room, when}
 use Rattle.nb_model.specs.Chains.{RowsFrom, Slot, Spot, first_in, found_pages, free_slot, put_slot}
@@ -25,9 +27,9 @@ AreBelow x = AllByRecursion (λ q. (1 ≤ q) × (q < length x))
 
 module _ (x : Image) (shaped : IsShaped x) where
   -- a slot of a data page becomes another
-  module _ (p slot : ℕ) (bytes : Slot) (some : 1 ≤ p) (kind : is_kind x 5 p ≡ true) (inside : 32 + 256 * slot + length bytes ≤ image_size x) where
+  module _ (p slot : ℕ) (bytes : Slot) (some : 1 ≤ p) (kind : is_kind x data_kind p ≡ true) (inside : 32 + 256 * slot + length bytes ≤ image_size x) where
     low : p < length x
-    low = (kind_parts x 5 p kind).0
+    low = (kind_parts x data_kind p kind).0
 
     entry_low : scn_page_of x p < length x
     entry_low = let least = shaped.least in elim (scn_place_before (image_size x) p shaped.size) [ inl two ↦ omega (arith, two, least) | inr le ↦ omega (arith, le, low) ]
@@ -45,7 +47,7 @@ module _ (x : Image) (shaped : IsShaped x) where
         let none : Notes x (drafted x) [] = notes_none x shaped in
         subst (Notes x (put_slot p slot bytes (drafted x))) (append-nil (entry_broken x p))
         (notes_put x p entry_low (drafted x) [] 5 (drop 16 (with_part (32 + 256 * slot) bytes (page_at x p))) none some low slot_room
-        (kept_raised p 5 p (drafted x) x [] none (notes_raised x p entry_low (drafted x) [] none) (inl kind)))
+        (kept_raised p data_kind p (drafted x) x [] none (notes_raised x p entry_low (drafted x) [] none) (inl kind)))
 
   -- pages are given back one after the other
   pub given_noted : (pages : List ℕ) (d : Draft) (noted : List ℕ) → AreBelow x pages → Notes x d noted → Notes x (all_given pages d) (drop_broken x pages noted)
@@ -61,7 +63,7 @@ noted_lowest x d noted h = lowest_same d.broken noted h.to h.back
 give_full : (p : ℕ) (d : Draft) → (give_page p d).full ≡ d.full
 unfolding set_bit
 give_full p d =
-    put_full (inventory_of d.image p) 2 (drop 16 (with_bit (bit_number d.image p) 1 (page_at d.image (inventory_of d.image p)))) (needs 2 (inventory_of d.image p) d)
+    put_full (inventory_of d.image p) inventory_kind (drop 16 (with_bit (bit_number d.image p) 1 (page_at d.image (inventory_of d.image p)))) (needs 2 (inventory_of d.image p) d)
     ∙ needs_full 2 (inventory_of d.image p) d
 
 pub given_full : (pages : List ℕ) (d : Draft) → (all_given pages d).full ≡ d.full
@@ -72,6 +74,6 @@ given_full (p ∷ ps) d = given_full ps (give_page p d) ∙ give_full p d
 pub dropped_full : (image : Image) (spot : Spot) → no_room (dropped image spot) ≡ None
 unfolding put_slot
 dropped_full image spot =
-    ap (λ (t : Bool). when t (Full 1048576))
+    ap (λ (t : Bool). when t (Full most_pages))
     (given_full (found_pages (RowsFrom (first_in spot.bytes)) image) (put_slot spot.page spot.slot free_slot (drafted image))
-    ∙ put_full spot.page 5 (drop 16 (with_part (32 + 256 * spot.slot) free_slot (page_at image spot.page))) (drafted image))
+    ∙ put_full spot.page data_kind (drop 16 (with_part (32 + 256 * spot.slot) free_slot (page_at image spot.page))) (drafted image))

@@ -6,6 +6,7 @@ use Rattle.std.proofs.lemmas.Bool.Decides.{eqb_tells}
 use Rattle.nb_fields.specs.Bytes.{with_part}
 use Rattle.nb_fields.specs.Page.{kind_of}
 use Rattle.nb_fields.specs.Places.{is_scn_place}
+use Rattle.nb_fields.specs.Kinds.{header_kind, data_kind, scn_kind}
 use Rattle.nb_host.specs.World.{World}
 use Rattle.nb_host.specs.declared.faults.Fault.{Fault}
 use Rattle.nb_model.specs.Causes.{lowest_broken, not_of_form, not_kind}
@@ -21,7 +22,7 @@ use Rattle.nb_model.proofs.DraftLaws.{IsOf, drafted_is, drafts_are, put_keeps}
 use Rattle.nb_model.proofs.DropTurns.{join_given}
 use Rattle.nb_model.proofs.NeatLaws.{all_go, all_both}
 use Rattle.nb_model.proofs.RoomLaws.{in_chain, chain_owner, pages_found, first_found}
-use Rattle.nb_model.proofs.SoundLaws.{all_at, header_kind, scn_place_of}
+use Rattle.nb_model.proofs.SoundLaws.{all_at, kind_of_header, scn_place_of}
 use Rattle.nb_model.proofs.SpotLaws.{IsSpotOn, spot_within}
 use Rattle.nb_model.proofs.StepLaws.{IsShaped, Puts, put_on, kind_parts, kind_from}
 use Rattle.nb_base.specs.Takes.{after_strokes}
@@ -73,14 +74,14 @@ module _ (x : Image) (h : HasHeader x) (shaped : IsShaped x) (table : List ℕ) 
   -- a page of a chain isn't the header
   chain_some : (c : Chain) (q : ℕ) → is_in_chain c x q ≡ true → 1 ≤ q
   chain_some c q in_it =
-      let kind : kind_of (page_at x q) ≡ 5 = (in_chain c x q in_it).1 in
+      let kind : kind_of (page_at x q) ≡ data_kind = (in_chain c x q in_it).1 in
       elim (eqb_tells q 0) [
-        | inl w ↦ let first : kind_of (page_at x q) ≡ 1 = ap (λ (n : ℕ). kind_of (page_at x n)) w.1 ∙ header_kind _ h.header in absurd (omega (arith, first, kind))
+        | inl w ↦ let first : kind_of (page_at x q) ≡ header_kind = ap (λ (n : ℕ). kind_of (page_at x n)) w.1 ∙ kind_of_header _ h.header in absurd (omega (arith, first, kind))
         | inr w ↦ omega (arith, w.1)
       ]
 
-  chain_kind : (c : Chain) (q : ℕ) → is_in_chain c x q ≡ true → is_kind x 5 q ≡ true
-  chain_kind c q in_it = let parts = in_chain c x q in_it in kind_from x 5 q parts.0 parts.1
+  chain_kind : (c : Chain) (q : ℕ) → is_in_chain c x q ≡ true → is_kind x data_kind q ≡ true
+  chain_kind c q in_it = let parts = in_chain c x q in_it in kind_from x data_kind q parts.0 parts.1
 
   each : AllByRecursion (λ (q : ℕ). is_in_chain chain x q ≡ true) pages
   each = (pages_found chain x has.formed).each
@@ -96,7 +97,7 @@ module _ (x : Image) (h : HasHeader x) (shaped : IsShaped x) (table : List ℕ) 
   pub slot_some : 1 ≤ spot.page
   slot_some = chain_some Catalogue spot.page on.page
 
-  slot_kind : is_kind x 5 spot.page ≡ true
+  slot_kind : is_kind x data_kind spot.page ≡ true
   slot_kind = chain_kind Catalogue spot.page on.page
 
   slot_low : spot.page < length x
@@ -127,12 +128,12 @@ module _ (x : Image) (h : HasHeader x) (shaped : IsShaped x) (table : List ℕ) 
     slot_entry = no_entry_broken x spot.page empty.0
 
     entry_there : HasItsEntry x spot.page
-    entry_there e = none_broken x 10 (scn_page_of x spot.page) (sym (ap (λ (t : Bool). elim t as (λ z. List ℕ) [ true ↦ other_kind x 10 (scn_page_of x spot.page) | false ↦ [] ]) e) ∙ empty.0)
+    entry_there e = none_broken x 10 (scn_page_of x spot.page) (sym (ap (λ (t : Bool). elim t as (λ z. List ℕ) [ true ↦ other_kind x scn_kind (scn_page_of x spot.page) | false ↦ [] ]) e) ∙ empty.0)
 
     abbrev payload : List ℕ
     payload = drop 16 (with_part (32 + 256 * spot.slot) free_slot (page_at x spot.page))
 
-    puts : Puts x spot.page 5 payload (put spot.page 5 payload (drafted x))
+    puts : Puts x spot.page 5 payload (put spot.page data_kind payload (drafted x))
     puts = put_on x spot.page 5 payload shaped entry_there slot_some (let low = slot_low in omega (arith, low)) (slot_room x shaped spot.page spot.slot free_slot slot_some slot_kind inside)
 
     -- each page keeps its kind
@@ -159,8 +160,8 @@ module _ (x : Image) (h : HasHeader x) (shaped : IsShaped x) (table : List ℕ) 
         by true at = other_page q in_it (e ∙ scn_place_of (image_size x) spot.page shaped.size at)
         by false at =
             let some = slot_some in
-            let ten : is_kind x 10 (scn_page_of x spot.page) ≡ true = entry_there (other-with x spot.page (image_size x) refl (λ none_at. absurd (omega (arith, some, none_at))) at) in
-            absurd (omega (arith, sym (in_chain chain x q in_it).1 ∙ ap (λ (n : ℕ). kind_of (page_at x n)) e ∙ (kind_parts x 10 (scn_page_of x spot.page) ten).1))
+            let ten : is_kind x scn_kind (scn_page_of x spot.page) ≡ true = entry_there (other-with x spot.page (image_size x) refl (λ none_at. absurd (omega (arith, some, none_at))) at) in
+            absurd (omega (arith, sym (in_chain chain x q in_it).1 ∙ ap (λ (n : ℕ). kind_of (page_at x n)) e ∙ (kind_parts x scn_kind (scn_page_of x spot.page) ten).1))
 
     one_same : (q : ℕ) → is_in_chain chain x q ≡ true → page_at freed.image q ≡ page_at x q
     unfolding put_slot
@@ -204,8 +205,8 @@ module _ (t : Trail) (h : HasHeader t.base.image) (shaped : IsShaped t.base.imag
   its_chain first e = ap (λ (n : ℕ). pages_of (RowsFrom n) image) e ∙ ok_found (RowsFrom (first_in spot.bytes)) image has.formed
 
   -- the page of the slot is a data page
-  pub its_kind : not_kind image 5 spot.page ≡ None
-  its_kind = let parts = in_chain Catalogue image spot.page (on image h shaped table spot has).page in kind_is image 5 spot.page parts.0 parts.1
+  pub its_kind : not_kind image data_kind spot.page ≡ None
+  its_kind = let parts = in_chain Catalogue image spot.page (on image h shaped table spot has).page in kind_is image data_kind spot.page parts.0 parts.1
 
   image_then : u.base.image ≡ slot.image
   unfolding put_slot

@@ -4,6 +4,7 @@ use Rattle.std.specs.Prelude.{true, None, Ok, Err}
 use Rattle.std.specs.List.{AllByRecursion}
 use Rattle.std.proofs.lemmas.Bool.{true≢false}
 use Rattle.std.proofs.lemmas.List.{append-nil}
+use Rattle.nb_fields.specs.Kinds.{data_kind}
 use Rattle.nb_host.specs.World.{World}
 use Rattle.nb_host.specs.declared.faults.Fault.{Fault}
 use Rattle.nb_page.specs.Quiet.{Quiet}
@@ -125,11 +126,11 @@ module _ (chain : Chain) (pages : List ℕ) (old mid : World) (a b : Held) (t : 
   same = subst (AllByRecursion (λ (q : ℕ). page_at z q ≡ page_at x q)) one.is g.same
 
   below : number < length z
-  below = (kind_parts z 5 number givable.0.kind).0
+  below = (kind_parts z data_kind number givable.0.kind).0
 
   data_here : not_data z (owner_of chain) number ≡ None
   data_here =
-      owner_is z (owner_of chain) number (kind_is z 5 number below (kind_parts z 5 number givable.0.kind).1) (ap owner_in same.0 ∙ chain_owner chain x number one.in_it)
+      owner_is z (owner_of chain) number (kind_is z data_kind number below (kind_parts z data_kind number givable.0.kind).1) (ap owner_in same.0 ∙ chain_owner chain x number one.in_it)
 
   free : mark_cause z number ≡ None
   free = given_cause z g.shaped number givable.0.some below givable.0.given

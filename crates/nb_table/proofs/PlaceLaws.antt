@@ -2,6 +2,7 @@
 use Rattle.std.proofs.Common.{◌≡◌, ℕ, ◌+◌, ◌*◌, List, [], ◌∷◌, ◌++◌, refl, sym, ap, ◌∙◌}
 use Rattle.std.specs.Prelude.{Bool, true, false, Option, Some, None, Result, is_some}
 use Rattle.nb_fields.specs.Bytes.{with_part}
+use Rattle.nb_fields.specs.Kinds.{data_kind}
 use Rattle.nb_host.specs.World.{World}
 use Rattle.nb_host.specs.declared.faults.Fault.{Fault}
 use Rattle.nb_host.specs.declared.refusals.Refusal.TheVariants.{NotDatabase}
@@ -32,7 +33,7 @@ unfolding other_kind
 wants_met image kind p d none = ap (λ (t : Bool). record d { broken = (elim t as (λ z. List ℕ) [ true ↦ [] | false ↦ p ∷ [] ]) ++ d.broken }) (none_of (is_kind image kind p) (NotDatabase p) none)
 
 -- A slot of a data page is written as its page is, with these bytes there.
-pub slot_tries : {T : Type 0} (result : Result T Fault) (old new : World) (a b : Held) (t : Trail) (p slot : ℕ) (bytes : Slot) → not_kind t.base.image 5 p ≡ None
+pub slot_tries : {T : Type 0} (result : Result T Fault) (old new : World) (a b : Held) (t : Trail) (p slot : ℕ) (bytes : Slot) → not_kind t.base.image data_kind p ≡ None
     → Tries result old new a b t (data_cause t.base.image p) (put_data p (with_part (32 + 256 * slot) bytes (page_at t.base.image p)) t.base.image).strokes
     → Tries result old new a b t (entry_cause t.base.image p) (put_slot p slot bytes (drafted t.base.image)).strokes
 unfolding put_slot
@@ -55,7 +56,7 @@ module _ (chain : Chain) (image : Image) (bytes : Slot) where
   placed_is = refl
 
   -- into a free slot, or into the first of a new page
-  pub placed_there : (s : Spot) → free_spot (spots chain image) ≡ Some s → not_kind image 5 s.page ≡ None → placed ≡ put_slot s.page s.slot bytes (drafted image)
+  pub placed_there : (s : Spot) → free_spot (spots chain image) ≡ Some s → not_kind image data_kind s.page ≡ None → placed ≡ put_slot s.page s.slot bytes (drafted image)
   placed_there s found kind = placed_is ∙ ap placed_by found ∙ wants_met image 5 s.page (put_slot s.page s.slot bytes (drafted image)) kind
 
   pub placed_behind : free_spot (spots chain image) ≡ None → placed ≡ (grown chain pages bytes (drafted image)).0
@@ -102,8 +103,8 @@ module _ (z : Image) (chain : Chain) (formed : broken_at (pages_of chain z) ≡ 
     at_place : IsPlaceOf (free_spot (spots chain z)) place
     at_place = place_some (free_spot (spots chain z)) place free
 
-    pub place_kind : not_kind z 5 place.page ≡ None
-    place_kind = ap (λ (n : ℕ). not_kind z 5 n) at_place.page ∙ free_kind chain z formed at_place.spot at_place.is
+    pub place_kind : not_kind z data_kind place.page ≡ None
+    place_kind = ap (λ (n : ℕ). not_kind z data_kind n) at_place.page ∙ free_kind chain z formed at_place.spot at_place.is
 
     there_is : put_slot place.page place.slot bytes (drafted z) ≡ into
     there_is =

@@ -1,6 +1,7 @@
 -- A table that is made.
 use Rattle.std.specs.Prelude.{◌≡◌, ℕ, List, [], ◌∷◌, length, true, is_some, nat_le}
 use Rattle.nb_fields.specs.Payloads.{data_payload}
+use Rattle.nb_fields.specs.Kinds.{data_kind}
 use Rattle.nb_host.specs.declared.refusals.Refusal.TheVariants.{TableExists, TooManyTables}
 use Rattle.nb_model.specs.Causes.{Cause, first_cause, when, broken_at}
 use Rattle.nb_model.specs.Chains.{Catalogue, found_pages, last_of, pages_of, put_slot, grown, spots, table_spot, table_slot}
@@ -31,4 +32,4 @@ created_behind image table = (grown Catalogue (found_pages Catalogue image) (tab
 -- the page is the last of the catalogue, a data page
 pub record IsLastOf (image : Image) (last : ℕ) : Type 0 where
   pub is : last ≡ last_of (found_pages Catalogue image)
-  pub kind : is_kind image 5 last ≡ true
+  pub kind : is_kind image data_kind last ≡ true

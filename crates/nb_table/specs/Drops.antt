@@ -1,5 +1,6 @@
 -- A table that is dropped.
 use Rattle.std.specs.Prelude.{◌≡◌, ℕ, ◌≤◌, List, [], ◌∷◌, ◌++◌, true, Some, None}
+use Rattle.nb_fields.specs.Kinds.{data_kind}
 use Rattle.nb_model.specs.Causes.{broken_at}
 use Rattle.nb_model.specs.Chains.{Catalogue, RowsFrom, Spot, first_in, found_pages, free_slot, pages_of, put_slot, table_spot}
 use Rattle.nb_model.specs.Forms.{Draft, drafted, is_kind}
@@ -25,5 +26,5 @@ drop_broken image (q ∷ qs) noted = drop_broken image qs (give_broken image q +
 -- The page is a data page, and all that giving it back changes is of its kind.
 pub record IsGivable (x : Image) (q : ℕ) : Type 0 where
   pub some : 1 ≤ q
-  pub kind : is_kind x 5 q ≡ true
+  pub kind : is_kind x data_kind q ≡ true
   pub given : give_broken x q ≡ []

@@ -1,5 +1,6 @@
 -- What a walk over a chain comes by.
 use Rattle.std.specs.Prelude.{ℕ, ◌+◌, ◌*◌, ◌<◌, ◌≤◌, List, length, min, Option, Some, None, Bool, ◌&&◌, ◌==◌}
+use Rattle.nb_fields.specs.Places.{most_pages}
 use Rattle.nb_host.specs.Names.{same_name}
 use Rattle.nb_model.specs.Chains.{Chain, Catalogue, RowsFrom, Slot, Spot, is_used, key_of, table_of, first_such, free_spot}
 use Rattle.nb_model.specs.Rows.{used}
@@ -53,5 +54,5 @@ gathered sought ss = record {
 -- The slot is in a page of that size, which isn't page 0.
 pub record IsPlaced (page_size : ℕ) (place : Place) : Type 0 where
   pub low : 0 < place.page
-  pub high : place.page < 1048576
+  pub high : place.page < most_pages
   pub inside : 288 + 256 * place.slot ≤ page_size

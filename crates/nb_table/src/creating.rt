@@ -1,5 +1,7 @@
 // A table is made.
 ghost use Rattle.std.specs.Prelude.{◌≡◌, ◌<◌, ◌≤◌, true, IsTrue, IfOk, IfSome, length};
+ghost use Rattle.nb_fields.specs.Places.{most_pages};
+ghost use Rattle.nb_fields.specs.Kinds.{data_kind};
 ghost use Rattle.nb_host.specs.Causes.{CountsDevice};
 ghost use Rattle.nb_page.specs.Quiet.{Quiet};
 ghost use Rattle.nb_model.specs.Chains.{Catalogue, found_pages, free_spot, last_of, spots};
@@ -42,7 +44,7 @@ fn check_table<H: Host>(
     ensures last { (t : Trail) → IsTrue H.tells → IsOpen (H.world host.old) engine.old t → IfOk result (λ (room, last). last ≡ last_of (found_pages Catalogue t.base.image)) }
     ensures placed { IfOk result (λ (room, last). IfSome room (IsPlaced engine.old.files.page_size)) }
     ensures low { IfOk result (λ (room, last). 0 < last) }
-    ensures high { IfOk result (λ (room, last). last < 1048576) }
+    ensures high { IfOk result (λ (room, last). last < most_pages) }
     ensures open { (t : Trail) → IsTrue H.tells → IsOpen (H.world host.old) engine.old t → IsOpen (H.world host.new) engine.new t }
     ensures same { but_pages engine.new ≡ but_pages engine.old }
     ensures quiet { Quiet (H.world host.old) (H.world host.new) }
@@ -69,7 +71,7 @@ fn create_in<H: Host>(
     place: Place,
 ) -> Result<(), Fault>
     requires placed { IsPlaced engine.old.files.page_size place }
-    ensures tries { (t : Trail) → IsTrue H.tells → IsOpen (H.world host.old) engine.old t → is_kind t.base.image 5 place.page ≡ true
+    ensures tries { (t : Trail) → IsTrue H.tells → IsOpen (H.world host.old) engine.old t → is_kind t.base.image data_kind place.page ≡ true
         → Tries result (H.world host.old) (H.world host.new) engine.old engine.new t (unmade t.base.image (created_in t.base.image table.now place)) (created_in t.base.image table.now place).strokes }
     ensures goes { Goes engine.old engine.new }
     ensures cause { CountsDevice result (H.faults host.old) (H.faults host.new) }
@@ -94,7 +96,7 @@ fn create_behind<H: Host>(
 ) -> Result<(), Fault>
     requires name { length table.now ≤ 240 }
     requires low { 0 < last }
-    requires high { last < 1048576 }
+    requires high { last < most_pages }
     ensures tries { (t : Trail) → IsTrue H.tells → IsOpen (H.world host.old) engine.old t → IsLastOf t.base.image last
         → Tries result (H.world host.old) (H.world host.new) engine.old engine.new t (unmade t.base.image (created_behind t.base.image table.now)) (created_behind t.base.image table.now).strokes }
     ensures goes { Goes engine.old engine.new }

@@ -1,5 +1,7 @@
 // Slots are written: one that is there, or one more of a chain.
 ghost use Rattle.std.specs.Prelude.{◌≡◌, ◌<◌, None, IsTrue, IfSome};
+ghost use Rattle.nb_fields.specs.Places.{most_pages};
+ghost use Rattle.nb_fields.specs.Kinds.{data_kind};
 ghost use Rattle.nb_host.specs.Causes.{CountsDevice};
 ghost use Rattle.nb_model.specs.Causes.{not_kind, broken_at};
 ghost use Rattle.nb_model.specs.Chains.{Chain, owner_of, pages_of, found_pages, spots, free_spot, last_of, put_slot, place_slot};
@@ -25,7 +27,7 @@ pub(crate) fn put_slot<H: Host>(
     bytes: &[u8; SLOT],
 ) -> Result<(), Fault>
     requires placed { IsPlaced engine.old.files.page_size place }
-    ensures tries { (t : Trail) → IsTrue H.tells → IsOpen (H.world host.old) engine.old t → not_kind t.base.image 5 place.page ≡ None
+    ensures tries { (t : Trail) → IsTrue H.tells → IsOpen (H.world host.old) engine.old t → not_kind t.base.image data_kind place.page ≡ None
         → Tries result (H.world host.old) (H.world host.new) engine.old engine.new t (entry_cause t.base.image place.page) (put_slot place.page place.slot bytes.now (drafted t.base.image)).strokes }
     ensures goes { Goes engine.old engine.new }
     ensures cause { CountsDevice result (H.faults host.old) (H.faults host.new) }
@@ -49,7 +51,7 @@ pub(crate) fn add_slot<H: Host>(
 ) -> Result<(), Fault>
     requires placed { IfSome room (IsPlaced engine.old.files.page_size) }
     requires low { 0 < last }
-    requires high { last < 1048576 }
+    requires high { last < most_pages }
     ensures tries { (t : Trail) (chain : Chain) → IsTrue H.tells → IsOpen (H.world host.old) engine.old t → owner ≡ owner_of chain → broken_at (pages_of chain t.base.image) ≡ None
         → room ≡ place_at (free_spot (spots chain t.base.image)) → last ≡ last_of (found_pages chain t.base.image)
         → Tries result (H.world host.old) (H.world host.new) engine.old engine.new t (place_cause chain t.base.image bytes.now)

@@ -1,5 +1,6 @@
 // The rows of a table that is to be changed.
 ghost use Rattle.std.specs.Prelude.{◌≡◌, ◌<◌, ◌≤◌, ℕ, Some, IsTrue, IfOk, IfSome, OnOk, length};
+ghost use Rattle.nb_fields.specs.Places.{most_pages};
 ghost use Rattle.nb_host.specs.Causes.{CountsDevice};
 ghost use Rattle.nb_page.specs.Quiet.{Quiet};
 ghost use Rattle.nb_model.specs.Image.{Image, is_read_only};
@@ -81,7 +82,7 @@ pub(crate) fn find_rows<H: Host>(
     ensures found { IfOk result (λ rows. IfSome rows.walked.found (λ f. IsPlaced engine.old.files.page_size f.place)) }
     ensures room { IfOk result (λ rows. IfSome rows.walked.room (IsPlaced engine.old.files.page_size)) }
     ensures low { IfOk result (λ rows. 0 < rows.last) }
-    ensures high { IfOk result (λ rows. rows.last < 1048576) }
+    ensures high { IfOk result (λ rows. rows.last < most_pages) }
     ensures open { (t : Trail) → IsTrue H.tells → IsOpen (H.world host.old) engine.old t → IsOpen (H.world host.new) engine.new t }
     ensures same { but_pages engine.new ≡ but_pages engine.old }
     ensures quiet { Quiet (H.world host.old) (H.world host.new) }

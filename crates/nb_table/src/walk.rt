@@ -1,7 +1,7 @@
 // A walk over a chain of data pages, page by page along its links. Nothing changes.
 ghost use Rattle.std.specs.Prelude.{◌≡◌, ◌≢◌, ◌+◌, ◌<◌, ◌≤◌, ℕ, List, [], ◌∷◌, ◌++◌, true, min, IsTrue, IfErr, IfOk, IfSome, OnOk, length};
 ghost use Rattle.std.specs.List.{list_all};
-ghost use Rattle.nb_fields.specs.Places.{is_page_size};
+ghost use Rattle.nb_fields.specs.Places.{is_page_size, most_pages};
 ghost use Rattle.nb_host.specs.declared.faults.Fault.TheVariants.{Memory};
 ghost use Rattle.nb_host.specs.Causes.{CountsDevice};
 ghost use Rattle.nb_page.specs.Quiet.{Quiet};
@@ -57,7 +57,7 @@ fn add_slots(walked: &mut Walked, sought: &Sought, page: &[u8], number: u32)
     requires size { IsTrue (is_page_size (length page.now)) }
     requires form { list_all (is_slot (chain_of sought.now)) (slots_in page.now) ≡ true }
     requires low { 0 < number }
-    requires high { number < 1048576 }
+    requires high { number < most_pages }
     ensures walked { (ss : List Spot) → walked.old ≡ gathered sought.now ss → walked.new ≡ gathered sought.now (ss ++ spots_on number 0 (slots_in page.now)) }
     ensures found { IfSome walked.old.found (λ f. IsPlaced (length page.now) f.place) → IfSome walked.new.found (λ f. IsPlaced (length page.now) f.place) }
     ensures filled { IfSome walked.old.found (λ f. IsTrue (is_filled (chain_of sought.now) f.bytes)) → IfSome walked.new.found (λ f. IsTrue (is_filled (chain_of sought.now) f.bytes)) }
@@ -91,7 +91,7 @@ fn take_link<H: Host>(
     ensures filled { IfSome walked.old.found (λ f. IsTrue (is_filled (chain_of sought.now) f.bytes)) → OnOk result (IfSome walked.new.found (λ f. IsTrue (is_filled (chain_of sought.now) f.bytes))) }
     ensures room { IfSome walked.old.room (IsPlaced engine.old.files.page_size) → OnOk result (IfSome walked.new.room (IsPlaced engine.old.files.page_size)) }
     ensures low { OnOk result (0 < number) }
-    ensures high { OnOk result (number < 1048576) }
+    ensures high { OnOk result (number < most_pages) }
     ensures sized { length page.new ≡ length page.old }
     ensures open { (t : Trail) → IsTrue H.tells → IsOpen (H.world host.old) engine.old t → IsOpen (H.world host.new) engine.new t }
     ensures same { but_pages engine.new ≡ but_pages engine.old }
@@ -124,7 +124,7 @@ pub(crate) fn walk<H: Host>(
     ensures filled { IfOk result (λ (walked, last). IfSome walked.found (λ f. IsTrue (is_filled (chain_of sought.now) f.bytes))) }
     ensures room { IfOk result (λ (walked, last). IfSome walked.room (IsPlaced engine.old.files.page_size)) }
     ensures low { IfOk result (λ (walked, last). 0 < last) }
-    ensures high { IfOk result (λ (walked, last). last < 1048576) }
+    ensures high { IfOk result (λ (walked, last). last < most_pages) }
     ensures sized { length page.new ≡ length page.old }
     ensures open { (t : Trail) → IsTrue H.tells → IsOpen (H.world host.old) engine.old t → IsOpen (H.world host.new) engine.new t }
     ensures same { but_pages engine.new ≡ but_pages engine.old }

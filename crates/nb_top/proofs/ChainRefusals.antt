@@ -3,6 +3,7 @@ use Rattle.std.proofs.Common.{◌≡◌, ◌≢◌, ℕ, ◌+◌, List, [], ◌�
 use Rattle.std.specs.Prelude.{Bool, ◌==◌, not, Option, None, Some, Result, Ok, Err}
 use Rattle.nb_fields.specs.Bytes.{number_in}
 use Rattle.nb_fields.specs.Header.{is_header, signature, state_of}
+use Rattle.nb_fields.specs.States.{stalled_state}
 use Rattle.nb_host.specs.Files.{File, Files}
 use Rattle.nb_host.specs.Names.{same_name}
 use Rattle.nb_host.specs.declared.refusals.Refusal.{Refusal}
@@ -58,11 +59,11 @@ whole_other name bytes = by (is_header bytes)
   where
     by : (t : Bool) → IsOther (elim t as (λ z. Cause) [
       | false ↦ Some (BadLevel name 0)
-      | true ↦ first_cause (when (not (state_of bytes == 1)) (BadLevel name 22) ∷ when (is_bad_length bytes) (BadLevel name (length bytes)) ∷ [])
+      | true ↦ first_cause (when (not (state_of bytes == stalled_state)) (BadLevel name 22) ∷ when (is_bad_length bytes) (BadLevel name (length bytes)) ∷ [])
     ])
     by false = some_other (BadLevel name 0) (bad_level name 0)
-    by true = other_first (when (not (state_of bytes == 1)) (BadLevel name 22) ∷ when (is_bad_length bytes) (BadLevel name (length bytes)) ∷ []) (
-      other_when (not (state_of bytes == 1)) (BadLevel name 22) (bad_level name 22),
+    by true = other_first (when (not (state_of bytes == stalled_state)) (BadLevel name 22) ∷ when (is_bad_length bytes) (BadLevel name (length bytes)) ∷ []) (
+      other_when (not (state_of bytes == stalled_state)) (BadLevel name 22) (bad_level name 22),
       (other_when (is_bad_length bytes) (BadLevel name (length bytes)) (bad_level name (length bytes)), tt),
     )
 

@@ -2,6 +2,7 @@
 use Rattle.std.proofs.Common.{◌≡◌, ◌≢◌, ℕ, zero, suc, List, refl, sym, ap, subst, ◌∙◌, true, false, arith}
 use Rattle.std.specs.Prelude.{Bool, ◌==◌, Some, None, Result, Ok, Err}
 use Rattle.nb_fields.specs.Header.{state_of}
+use Rattle.nb_fields.specs.States.{normal_state, stalled_state}
 use Rattle.nb_host.specs.Files.{File, Files}
 use Rattle.nb_host.specs.Names.{is_delta}
 use Rattle.nb_host.specs.World.{World}
@@ -23,14 +24,14 @@ use Rattle.nb_top.proofs.WorldLaws.{stands_from, none_beside, not_beside}
 -- A database that has no difference file is that of its main file, in the normal state.
 record IsAlone (bytes : List ℕ) (b : Base) : Type 0 where
   formed : not_database bytes ≡ None
-  normal : state_of bytes ≡ 0
+  normal : state_of bytes ≡ normal_state
   is : b ≡ base_of (image_in bytes)
 
 with_none : (name bytes : List ℕ) (b : Base) → owner_with name bytes None ≢ Ok b
 unfolding owner_with
 with_none name bytes b h = cc
 
-in_state : (state : ℕ) (name bytes : List ℕ) (b : Base) → owner_in state name bytes None ≡ Ok b → (state ≡ 0) × (b ≡ base_of (image_in bytes))
+in_state : (state : ℕ) (name bytes : List ℕ) (b : Base) → owner_in state name bytes None ≡ Ok b → (state ≡ normal_state) × (b ≡ base_of (image_in bytes))
 unfolding owner_in
 in_state zero name bytes b e = (refl, same (base_of (image_in bytes)) e)
   where
@@ -60,7 +61,7 @@ module _ (files copies : Files) (account : Account) (stands : Stands files accou
   record HasBase (b : Base) : Type 0 where
     name : List ℕ
     entry : account.entry name ≡ IsBase b
-    normal : image_state b.image ≡ 0
+    normal : image_state b.image ≡ normal_state
 
   has_base : (bytes : List ℕ) (b : Base) → (name : List ℕ) → is_delta name ≡ false → files name ≡ Some bytes → IsAlone bytes b → HasBase b
   has_base bytes b name plain there alone =
@@ -81,7 +82,7 @@ module _ (files copies : Files) (account : Account) (stands : Stands files accou
           let copy = (copied name bytes there).1 in
           has_base bytes b copy.from copy.plain copy.there (opens_alone name bytes b (subst (λ (d : File). owner name (Some bytes) d ≡ Ok b) (no_delta name) opens))
 
-  not_stalled : (name : List ℕ) (b : Base) → entry_in copies name ≡ IsBase b → image_state b.image ≡ 1 → ⊥
+  not_stalled : (name : List ℕ) (b : Base) → entry_in copies name ≡ IsBase b → image_state b.image ≡ stalled_state → ⊥
   not_stalled name b is stalled = let found = base_there name b is in let normal = found.normal in omega arith
 
   belonged : (x : Image) → Belongs (account_of copies account.kept) x → Belongs account x

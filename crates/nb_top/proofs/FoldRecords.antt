@@ -5,6 +5,7 @@ use Rattle.std.specs.List.{AllByRecursion}
 use Rattle.std.proofs.lemmas.Bool.{and_from, and_parts, leb-true, le-leb}
 use Rattle.std.proofs.lemmas.Bool.Decides.{eqb_tells, leb_tells}
 use Rattle.nb_fields.specs.Page.{stamp_of}
+use Rattle.nb_fields.specs.Places.{most_pages}
 use Rattle.nb_host.specs.Files.{Files}
 use Rattle.nb_host.specs.Names.{is_delta}
 use Rattle.nb_model.specs.Account.{Ask, Kept, Account}
@@ -249,7 +250,7 @@ module _ (files : Files) (account : Account) (stands : Stands files account) whe
 
     pages_same : folded_pages (pages_of_each cs) ≡ changed line.from.scn line.last.image
     pages_same =
-        rising_same 0 (folded_pages (pages_of_each cs)) (taken line.from.scn line.last.image) (folded_rises 1048576 0 (pages_of_each cs) (omega arith)) (taken_rise 0 line.from.scn line.last.image (omega (arith, sound.most)))
+        rising_same 0 (folded_pages (pages_of_each cs)) (taken line.from.scn line.last.image) (folded_rises most_pages 0 (pages_of_each cs) (omega arith)) (taken_rise 0 line.from.scn line.last.image (omega (arith, sound.most)))
         (λ p. folded_page p (pages_of_each cs) (files_rise files None names cs accepted) ∙ line.pages p)
         ∙ sym (sound_changed line.from.scn line.last.image sound)
 

@@ -3,6 +3,7 @@ use Rattle.std.proofs.Common.{◌≡◌, ℕ, suc, List, [], ◌∷◌, true, fa
 use Rattle.std.specs.Prelude.{◌==◌, Some, None, Result, Ok, Err, Contains}
 use Rattle.std.proofs.lemmas.Bool.{true≢false, and_parts}
 use Rattle.nb_fields.specs.Header.{is_header, state_of}
+use Rattle.nb_fields.specs.States.{applying_state}
 use Rattle.nb_host.specs.Files.{File, Files}
 use Rattle.nb_host.specs.Names.{is_delta}
 use Rattle.nb_host.specs.declared.refusals.Refusal.{Refusal}
@@ -28,7 +29,7 @@ pub none_whole : (kept : List Kept) (bytes : List ℕ) → IsNoBackup bytes → 
 none_whole kept bytes none = record {
   holds = record { level = λ c r reads named. absurd (none.no_level c reads); copy = λ r header stalled whole named. absurd (plain header) };
   closed = λ name b opens. plain (opened_header name bytes b opens);
-  rests = λ applying. plain (and_parts (is_header bytes) (state_of bytes == 3) applying).0;
+  rests = λ applying. plain (and_parts (is_header bytes) (state_of bytes == applying_state) applying).0;
 }
   where
     plain : is_header bytes ≡ true → ⊥

@@ -3,6 +3,7 @@ use Rattle.std.proofs.Common.{◌≡◌, ◌≢◌, ℕ, List, [], ◌∷◌, le
 use Rattle.std.specs.Prelude.{Bool, ◌==◌, nat_lt, None, Some, Result, Ok, Err}
 use Rattle.nb_fields.specs.Header.{state_of}
 use Rattle.nb_fields.specs.Page.{stamp_of}
+use Rattle.nb_fields.specs.States.{applying_state}
 use Rattle.nb_host.specs.Files.{File, Files}
 use Rattle.nb_host.specs.declared.refusals.Refusal.{Refusal}
 use Rattle.nb_host.specs.declared.refusals.Refusal.TheVariants.{Usage, NoFile, BadLevel, ChainScn}
@@ -73,7 +74,7 @@ finishing_other name bytes c = other_first _ (other_when _ _ (λ e. cc), (other_
 
 mergeable_other : (bytes name : List ℕ) (c : Contents) → IsOther (not_mergeable bytes name c)
 unfolding not_mergeable
-mergeable_other bytes name c = by (state_of bytes == 3)
+mergeable_other bytes name c = by (state_of bytes == applying_state)
   where
     by : (t : Bool) → IsOther (elim t as (λ z. Cause) [ true ↦ not_finishing name bytes c | false ↦ not_next name bytes c ])
     by true = finishing_other name bytes c

@@ -1,6 +1,7 @@
 -- What is told of a run: the same events, a quiet one with no reply of the first but a refusal, and with the number of pages where a begin tells it.
 use Rattle.std.proofs.Common.{◌≡◌, ℕ, List, [], ◌∷◌, ◌++◌, false, refl, sym, ap, ◌∙◌}
 use Rattle.std.specs.Prelude.{Bool, Option, Some, None, if◌then◌else◌}
+use Rattle.nb_fields.specs.States.{normal_state}
 use Rattle.nb_host.specs.declared.refusals.Refusal.{Refusal}
 use Rattle.nb_model.specs.declared.reply.Reply.{Reply}
 use Rattle.nb_model.specs.declared.reply.Reply.TheVariants.{PagesShown, Refused}
@@ -145,7 +146,7 @@ performed_refused telling plan account given session refusal last left ran =
     record { whole = refused_at session refusal; run = ran; said = told_refusal telling (pages_first account plan.first) session refusal }
 
 -- no reply of a database that is open is a refusal
-pub opened_fine : (first : Statement) (pages state : ℕ) → status_after (opened_reply first pages state) ≡ 0
+pub opened_fine : (first : Statement) (pages state : ℕ) → status_after (opened_reply first pages state) ≡ normal_state
 opened_fine (OpenDb name cache) pages state = refl
 opened_fine other pages state = refl
 

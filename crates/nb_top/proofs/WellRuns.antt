@@ -4,6 +4,7 @@ use Rattle.std.specs.Prelude.{Option, Some, Contains, true}
 use Rattle.std.proofs.Math.Seq.{take-append-add}
 use Rattle.std.proofs.lemmas.List.Elements.{Contains-append_left}
 use Rattle.nb_fields.specs.Header.{is_header}
+use Rattle.nb_fields.specs.States.{stalled_state}
 use Rattle.nb_model.specs.Account.{Kept, Base, IsBase, Account}
 use Rattle.nb_model.specs.Causes.{is_free_entry}
 use Rattle.nb_model.specs.Going.{IsGoing, IsMaking}
@@ -112,7 +113,7 @@ module _ (account : Account) (plan : Plan) (askable : IsAskable plan) (o : Openi
 
   -- in the stalled state the control block is that of the frozen image, so the turns go on
   frozen_now : image_state (base_now now).image ≡ 1 → (is_header (first_page (base_now now).frozen) ≡ true) × (image_state (base_now now).frozen ≡ 1)
-  frozen_now = subst (λ (x : Base). image_state x.image ≡ 1 → (is_header (first_page x.frozen) ≡ true) × (image_state x.frozen ≡ 1)) (sym base)
+  frozen_now = subst (λ (x : Base). image_state x.image ≡ stalled_state → (is_header (first_page x.frozen) ≡ true) × (image_state x.frozen ≡ stalled_state)) (sym base)
       (λ stalled.
       let front = (well.over stalled).front in (
         sym (same-header (first_page b.image) (first_page b.frozen) front) ∙ well.base.well.header,

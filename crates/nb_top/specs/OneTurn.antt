@@ -6,6 +6,7 @@ use Rattle.std.specs.Prelude.{◌≡◌, ◌≢◌, ◌⊎◌, ℕ, ◌≤◌, L
 use Rattle.std.specs.List.{AllByRecursion, list_all}
 use Rattle.nb_fields.specs.Free.{is_free_file}
 use Rattle.nb_fields.specs.Header.{guid_of, state_of}
+use Rattle.nb_fields.specs.States.{normal_state}
 use Rattle.nb_host.specs.Files.{File, Files}
 use Rattle.nb_host.specs.World.{World}
 use Rattle.nb_host.specs.Crash.{Leaves, LeavesAll}
@@ -80,7 +81,7 @@ pub record ShowsKept (kept : List Kept) (guid : List ℕ) (done : Image → Imag
 pub record TakesKept (kept : List Kept) (bytes : List ℕ) (c : Contents) : Type 0 where
   pub backup : Kept
   pub kept_as : IsKeptAs kept c.head.guid backup
-  pub restored : state_of bytes ≡ 0 → guid_of bytes ≢ nil
+  pub restored : state_of bytes ≡ normal_state → guid_of bytes ≢ nil
 
 -- A chain is restored: half way the name of the target is free, and then it is the database that the chain gives. A chain of kept backups
 -- gives the image that the begin of its last one kept, in the normal state.

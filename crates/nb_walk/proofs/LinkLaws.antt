@@ -3,6 +3,7 @@ use Rattle.std.proofs.Common.{◌≡◌, ℕ, length, refl, ap, ◌∙◌}
 use Rattle.std.specs.Prelude.{Bool, true, false, not, ◌&&◌, ◌==◌, nat_lt, Some, None}
 use Rattle.std.specs.List.{list_all}
 use Rattle.nb_fields.specs.Page.{kind_of}
+use Rattle.nb_fields.specs.Kinds.{data_kind}
 use Rattle.nb_host.specs.declared.refusals.Refusal.{Refusal}
 use Rattle.nb_host.specs.declared.refusals.Refusal.TheVariants.{NotDatabase}
 use Rattle.nb_model.specs.Image.{Page, Image, page_at}
@@ -36,7 +37,7 @@ module _ (chain : Chain) (image : Image) (p : ℕ) where
 
   by_tests : not_linked chain image p ≡ when (not (is_its && all)) (NotDatabase p)
   unfolding is_in_chain is_kind
-  by_tests = ap (λ (t : Bool). when (not t) (NotDatabase p)) (and_groups (nat_lt p (length image)) (kind_of page == 5) (owner_in page == owner_of chain) all)
+  by_tests = ap (λ (t : Bool). when (not t) (NotDatabase p)) (and_groups (nat_lt p (length image)) (kind_of page == data_kind) (owner_in page == owner_of chain) all)
 
   -- it is no data page of that owner
   pub data_not : (r : Refusal) → not_data image (owner_of chain) p ≡ Some r → not_linked chain image p ≡ Some r

@@ -1,6 +1,7 @@
 -- The pages of a chain that is of the form are data pages: those of its slots, and the last.
 use Rattle.std.proofs.Common.{◌≡◌, ℕ, List}
 use Rattle.std.specs.Prelude.{true, Bool, Some, None}
+use Rattle.nb_fields.specs.Kinds.{data_kind}
 use Rattle.nb_model.specs.Image.{Image}
 use Rattle.nb_model.specs.Causes.{not_kind, broken_at}
 use Rattle.nb_model.specs.Chains.{Chain, Spot, is_in_chain, pages_of, found_pages, spots, spots_of, first_such, free_spot, row_spot, last_of}
@@ -16,15 +17,15 @@ module _ (chain : Chain) (image : Image) (formed : broken_at (pages_of chain ima
       let ps : List ℕ = found_pages chain image in
       first_passes test (IsSpotOn (λ q. is_in_chain chain image q ≡ true) image) (spots_of image ps) s found (all_on (λ q. is_in_chain chain image q ≡ true) image ps (pages_found chain image formed).each)
 
-  pub spot_kind : (test : Spot → Bool) (s : Spot) → first_such test (spots chain image) ≡ Some s → not_kind image 5 s.page ≡ None
-  spot_kind test s found = let parts = in_chain chain image s.page (spot_on test s found).page in kind_is image 5 s.page parts.0 parts.1
+  pub spot_kind : (test : Spot → Bool) (s : Spot) → first_such test (spots chain image) ≡ Some s → not_kind image data_kind s.page ≡ None
+  spot_kind test s found = let parts = in_chain chain image s.page (spot_on test s found).page in kind_is image data_kind s.page parts.0 parts.1
 
   -- a row's, and a free one
-  pub row_kind : (key : ℕ) (s : Spot) → row_spot key (spots chain image) ≡ Some s → not_kind image 5 s.page ≡ None
+  pub row_kind : (key : ℕ) (s : Spot) → row_spot key (spots chain image) ≡ Some s → not_kind image data_kind s.page ≡ None
   unfolding row_spot
   row_kind key s found = spot_kind _ s found
 
-  pub free_kind : (s : Spot) → free_spot (spots chain image) ≡ Some s → not_kind image 5 s.page ≡ None
+  pub free_kind : (s : Spot) → free_spot (spots chain image) ≡ Some s → not_kind image data_kind s.page ≡ None
   unfolding free_spot
   free_kind s found = spot_kind _ s found
 
@@ -32,5 +33,5 @@ module _ (chain : Chain) (image : Image) (formed : broken_at (pages_of chain ima
   pub last_in : is_in_chain chain image (last_of (found_pages chain image)) ≡ true
   last_in = let are = pages_found chain image formed in last_of_all (λ q. is_in_chain chain image q ≡ true) (found_pages chain image) are.some are.each
 
-  pub last_kind : not_kind image 5 (last_of (found_pages chain image)) ≡ None
-  last_kind = let parts = in_chain chain image (last_of (found_pages chain image)) last_in in kind_is image 5 (last_of (found_pages chain image)) parts.0 parts.1
+  pub last_kind : not_kind image data_kind (last_of (found_pages chain image)) ≡ None
+  last_kind = let parts = in_chain chain image (last_of (found_pages chain image)) last_in in kind_is image data_kind (last_of (found_pages chain image)) parts.0 parts.1

@@ -1,7 +1,7 @@
 // A page of a chain is taken: it is read and tested. Nothing changes.
 ghost use Rattle.std.specs.Prelude.{◌≡◌, ◌≢◌, ◌+◌, ◌<◌, ◌≤◌, true, IsTrue, IfErr, IfOk, OnOk, length};
 ghost use Rattle.std.specs.List.{list_all};
-ghost use Rattle.nb_fields.specs.Places.{is_page_size};
+ghost use Rattle.nb_fields.specs.Places.{is_page_size, most_pages};
 ghost use Rattle.nb_host.specs.declared.faults.Fault.TheVariants.{Memory};
 ghost use Rattle.nb_host.specs.Causes.{CountsDevice};
 ghost use Rattle.nb_page.specs.Quiet.{Quiet};
@@ -65,7 +65,7 @@ pub fn take_page<H: Host>(
     ensures next { IfOk result (λ next. next ≡ next_in page.new) }
     ensures form { OnOk result (list_all (is_slot (chain_by chain)) (slots_in page.new) ≡ true) }
     ensures low { OnOk result (0 < number) }
-    ensures high { OnOk result (number < 1048576) }
+    ensures high { OnOk result (number < most_pages) }
     ensures below { OnOk result (number < store.old.files.count) }
     ensures sized { length page.new ≡ length page.old }
     ensures open { (t : Trail) → IsTrue H.tells → IsOpen (H.world host.old) store.old t → IsOpen (H.world host.new) store.new t }

@@ -1,6 +1,7 @@
 use Rattle.std.proofs.Common.{◌≡◌, ◌≢◌, ℕ, ◌/◌, [], ◌∷◌, sym, ap, subst, ◌∙◌, arith}
 use Rattle.std.specs.Prelude.{Bool, true, false, IsTrue}
 use Rattle.nb_fields.specs.Places.{is_page_size, entries_in}
+use Rattle.nb_fields.specs.Kinds.{scn_kind}
 use Rattle.nb_model.specs.Image.{image_size}
 use Rattle.nb_model.specs.Forms.{is_kind, system_kind, scn_page_of}
 use Rattle.nb_model.proofs.SoundLaws.{scn_page_there}
@@ -26,7 +27,7 @@ returns-then-there-clause-value g c t tells is =
     let page : IsTrue (is_page_size (image_size image)) = subst (λ (s : ℕ). IsTrue (is_page_size s)) size c.page_size-page_size.ensures.one_of in
     let kind : system_kind image (scn_page_of image number) ≡ 10 =
     kind_entries image (scn_page_of image number) page (no_map image (scn_page_of image number) page (scn_page_there (image_size image) (number / entries_in (image_size image)) page)) in
-    let found : (u : Bool) → c.in_ok-there.there ≡ u → is_kind image 10 (scn_page_of image number) ≡ u =
+    let found : (u : Bool) → c.in_ok-there.there ≡ u → is_kind image scn_kind (scn_page_of image number) ≡ u =
     λ u e. ap (λ (n : ℕ). is_kind image n (scn_page_of image number)) (sym kind) ∙ ap (λ (q : ℕ). is_kind image (system_kind image q) q) (sym at) ∙ sym (c.in_ok-there.ensures.value t tells is) ∙ e in
     sym (entry_there image number (found true c.if-there.true))
 
@@ -39,7 +40,7 @@ returns-clause-value g c t tells is =
     let page : IsTrue (is_page_size (image_size image)) = subst (λ (s : ℕ). IsTrue (is_page_size s)) size c.page_size-page_size.ensures.one_of in
     let kind : system_kind image (scn_page_of image number) ≡ 10 =
     kind_entries image (scn_page_of image number) page (no_map image (scn_page_of image number) page (scn_page_there (image_size image) (number / entries_in (image_size image)) page)) in
-    let found : (u : Bool) → c.in_ok-there.there ≡ u → is_kind image 10 (scn_page_of image number) ≡ u =
+    let found : (u : Bool) → c.in_ok-there.there ≡ u → is_kind image scn_kind (scn_page_of image number) ≡ u =
     λ u e. ap (λ (n : ℕ). is_kind image n (scn_page_of image number)) (sym kind) ∙ ap (λ (q : ℕ). is_kind image (system_kind image q) q) (sym at) ∙ sym (c.in_ok-there.ensures.value t tells is) ∙ e in
     let some : number ≢ 0 = λ e. absurd (omega (arith, e, c.requires.low)) in
     let has = other-with image number _ size some (sym c.is_place.ensures.value ∙ c.if-is_place.false) in

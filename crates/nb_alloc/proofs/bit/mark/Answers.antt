@@ -1,5 +1,6 @@
 use Rattle.std.proofs.Common.{◌/◌, ◌<◌, ℕ, sym, ap, subst, ◌∙◌, arith}
 use Rattle.nb_fields.specs.Places.{bits_in, inventory_place}
+use Rattle.nb_fields.specs.Kinds.{inventory_kind}
 use Rattle.nb_model.specs.Image.{page_at}
 use Rattle.nb_model.specs.Causes.{not_kind}
 use Rattle.nb_alloc.proofs.TestLaws.{inventory_place_is}
@@ -15,7 +16,7 @@ returns-in_err-read-clause-tries g c t tells is =
     let image = t.base.image in
     let read = c.in_err-read.ensures in
     let at = inventory_place_is image _ c.args.number _ _ c.place_of.ensures c.covers-k.ensures.number (c.page_size-page_size.ensures.value ∙ is.files.agrees.page_size) in
-    tries_early (Unit {0}) (Unit {0}) _ _ _ _ _ _ t (not_kind image 2 c.place_of.result) _ _ c.from_residual.ensures (λ r e. mark_other t.base c.args.number r (ap (λ (q : ℕ). not_kind image 2 q) (sym at) ∙ e))
+    tries_early (Unit {0}) (Unit {0}) _ _ _ _ _ _ t (not_kind image inventory_kind c.place_of.result) _ _ c.from_residual.ensures (λ r e. mark_other t.base c.args.number r (ap (λ (q : ℕ). not_kind image inventory_kind q) (sym at) ∙ e))
     (read.reads t tells is).test read.same read.quiet is (read.open t tells is)
 
 pub returns-clause-tries : goal.returns-clause-tries
@@ -25,7 +26,7 @@ returns-clause-tries g c t tells is =
     let found = read.reads t tells is in
     let at = inventory_place_is image _ c.args.number _ _ c.place_of.ensures c.covers-k.ensures.number (c.page_size-page_size.ensures.value ∙ is.files.agrees.page_size) in
     tries_after c.put_map.result _ _ _ _ _ _ t _ _ read.same read.quiet is
-    (c.put_map.ensures.tries t tells (read.open t tells is) (ap (λ (q : ℕ). not_kind image 2 q) (sym at) ∙ found.test) (found.page ∙ ap (λ (q : ℕ). page_at image q) at))
+    (c.put_map.ensures.tries t tells (read.open t tells is) (ap (λ (q : ℕ). not_kind image inventory_kind q) (sym at) ∙ found.test) (found.page ∙ ap (λ (q : ℕ). page_at image q) at))
 
 pub returns-in_err-read-clause-once : goal.returns-in_err-read-clause-once
 returns-in_err-read-clause-once g c tells =

@@ -2,6 +2,7 @@ use Rattle.std.proofs.Common.{◌≡◌, ◌<◌, ◌+◌, ◌*◌, ◌/◌, ◌
 use Rattle.std.specs.Prelude.{Option}
 use Rattle.nb_fields.specs.Places.{bits_in}
 use Rattle.nb_fields.proofs.PlaceLemmas.{bits-least}
+use Rattle.nb_fields.specs.Kinds.{inventory_kind}
 use Rattle.nb_model.specs.Image.{page_at}
 use Rattle.nb_model.specs.Causes.{not_kind}
 use Rattle.nb_alloc.proofs.DoesLaws.{tested_on, on_err}
@@ -14,7 +15,7 @@ returns-in_err-read-clause-reads g c t tells is =
     let image = t.base.image in
     let there = inventory_place_is image _ c.args.from _ _ c.place_of.ensures c.covers-k.ensures.number (c.page_size-page_size.ensures.value ∙ is.files.agrees.page_size) in
     record {
-      test = tested_on (Unit {0}) (Option ℕ) _ _ _ _ c.from_residual.ensures (λ r e. ap (λ (q : ℕ). not_kind image 2 q) (sym there) ∙ e) (c.in_err-read.ensures.reads t tells is).test;
+      test = tested_on (Unit {0}) (Option ℕ) _ _ _ _ c.from_residual.ensures (λ r e. ap (λ (q : ℕ). not_kind image inventory_kind q) (sym there) ∙ e) (c.in_err-read.ensures.reads t tells is).test;
       page = on_err _ _ _ c.from_residual.ensures;
     }
 
@@ -23,14 +24,14 @@ returns-in-Some-clause-reads g c t tells is =
     let image = t.base.image in
     let there = inventory_place_is image _ c.args.from _ _ c.place_of.ensures c.covers-k.ensures.number (c.page_size-page_size.ensures.value ∙ is.files.agrees.page_size) in
     let read = c.in_ok-read.ensures.reads t tells is in
-    record { test = ap (λ (q : ℕ). not_kind image 2 q) (sym there) ∙ read.test; page = read.page ∙ ap (page_at image) there }
+    record { test = ap (λ (q : ℕ). not_kind image inventory_kind q) (sym there) ∙ read.test; page = read.page ∙ ap (page_at image) there }
 
 pub returns-in-None-clause-reads : goal.returns-in-None-clause-reads
 returns-in-None-clause-reads g c t tells is =
     let image = t.base.image in
     let there = inventory_place_is image _ c.args.from _ _ c.place_of.ensures c.covers-k.ensures.number (c.page_size-page_size.ensures.value ∙ is.files.agrees.page_size) in
     let read = c.in_ok-read.ensures.reads t tells is in
-    record { test = ap (λ (q : ℕ). not_kind image 2 q) (sym there) ∙ read.test; page = read.page ∙ ap (page_at image) there }
+    record { test = ap (λ (q : ℕ). not_kind image inventory_kind q) (sym there) ∙ read.test; page = read.page ∙ ap (page_at image) there }
 
 pub returns-in-Some-clause-found : goal.returns-in-Some-clause-found
 returns-in-Some-clause-found g c t tells is =

@@ -1,4 +1,5 @@
 use Rattle.std.proofs.Common.{ap, sym, ◌∙◌}
+use Rattle.nb_fields.specs.Kinds.{inventory_kind}
 use Rattle.nb_model.specs.Causes.{not_kind}
 use Rattle.nb_alloc.proofs.DoesLaws.{tested_by_name}
 use Rattle.nb_alloc.proofs.TestLaws.{inventory_place_is}
@@ -15,4 +16,4 @@ returns-then-was_read-clause-map g c t tells is ends =
 pub returns-clause-test : goal.returns-clause-test
 returns-clause-test g c t tells is ends =
     let there = inventory_place_is t.base.image _ c.args.number _ _ c.place_of.ensures c.covers-k.ensures.number (c.page_size-page_size.ensures.value ∙ is.files.agrees.page_size) in
-    tested_by_name c.read.result _ _ (ap (not_kind t.base.image 2) (sym there)) (c.read.ensures.reads t tells is).test
+    tested_by_name c.read.result _ _ (ap (not_kind t.base.image inventory_kind) (sym there)) (c.read.ensures.reads t tells is).test

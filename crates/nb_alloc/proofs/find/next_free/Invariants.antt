@@ -6,7 +6,8 @@ use Rattle.nb_model.specs.Image.{image_size}
 use Rattle.nb_model.specs.Forms.{is_kind}
 use Rattle.nb_state.specs.Open.{IsOpen, but_pages}
 use Rattle.nb_alloc.specs.Find.{AreTaken, IsMap}
-use Rattle.nb_fields.specs.Places.{bits_in, inventory_place}
+use Rattle.nb_fields.specs.Places.{bits_in, inventory_place, most_pages}
+use Rattle.nb_fields.specs.Kinds.{inventory_kind}
 use Rattle.nb_alloc.proofs.FindLaws.{maps_before}
 use Rattle.nb_alloc.proofs.find.next_free.Given as goal
 
@@ -15,7 +16,7 @@ invariant-loop-page g l = record {
   behind : l.fn.from ≤ l.page;
   taken : (t : Trail) → IsTrue g.H.Host.tells → IsOpen (g.H.Host.world l.fn.host) l.fn.store t → AreTaken t.base.image l.fn.from l.page;
   looked : (t : Trail) → IsTrue g.H.Host.tells → IsOpen (g.H.Host.world l.fn.host) l.fn.store t → l.fn.from < l.page → IsMap t.base.image (min l.page (length t.base.image) - 1) l.map;
-  maps : (t : Trail) → IsTrue g.H.Host.tells → IsOpen (g.H.Host.world l.fn.host) l.fn.store t → (k : ℕ) → l.fn.from / bits_in (image_size t.base.image) ≤ k → k < l.page / bits_in (image_size t.base.image) → is_kind t.base.image 2 (inventory_place (image_size t.base.image) k) ≡ true;
+  maps : (t : Trail) → IsTrue g.H.Host.tells → IsOpen (g.H.Host.world l.fn.host) l.fn.store t → (k : ℕ) → l.fn.from / bits_in (image_size t.base.image) ≤ k → k < l.page / bits_in (image_size t.base.image) → is_kind t.base.image inventory_kind (inventory_place (image_size t.base.image) k) ≡ true;
   whole : l.fn.from < l.page → l.page / bits_in l.fn.store.files.page_size * bits_in l.fn.store.files.page_size ≡ l.page;
   room : length l.map ≡ length l.fn.map;
   opened : (t : Trail) → IsTrue g.H.Host.tells → IsOpen (g.H.Host.world l.fn.host) l.fn.store t → IsOpen (g.H.Host.world l.host) l.store t;
@@ -26,4 +27,4 @@ invariant-loop-page g l = record {
 }
 
 abbrev pub decreases-loop-page : goal.decreases-loop-page
-decreases-loop-page g l = 1048576 - l.page
+decreases-loop-page g l = most_pages - l.page

@@ -1,5 +1,6 @@
 use Rattle.std.proofs.Common.{◌≡◌, ◌<◌, ◌≤◌, ◌+◌, ◌-◌, ◌*◌, length, IsTrue, None}
 use Rattle.nb_fields.specs.Kinds.{code_of}
+use Rattle.nb_fields.specs.Places.{most_pages}
 use Rattle.nb_model.specs.Trail.{Trail}
 use Rattle.nb_model.specs.Forms.{lowest_free}
 use Rattle.nb_model.proofs.SearchLaws.{draft_cause}
@@ -19,7 +20,7 @@ invariant-loop-store g l = record {
   goes : Goes l.fn.store l.store;
   low : 5 ≤ l.place;
   behind : l.fn.first ≤ l.place;
-  most : l.place < 1048576;
+  most : l.place < most_pages;
   within : l.place ≤ l.store.files.count;
   map_room : length l.map ≡ length l.fn.map;
   scn_room : length l.scn_page ≡ length l.fn.scn_page;
@@ -28,4 +29,4 @@ invariant-loop-store g l = record {
 }
 
 abbrev pub decreases-loop-store : goal.decreases-loop-store
-decreases-loop-store g l = 1048576 - l.place
+decreases-loop-store g l = most_pages - l.place

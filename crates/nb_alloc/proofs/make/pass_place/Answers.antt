@@ -1,6 +1,7 @@
 use Rattle.std.proofs.Common.{◌≡◌, ◌+◌, ◌-◌, ℕ, List, length, refl, sym, ap, subst, ◌∙◌, arith}
 use Rattle.std.specs.Prelude.{IsTrue, None, Ok, Err}
-use Rattle.nb_fields.specs.Places.{is_page_size, bits_in}
+use Rattle.nb_fields.specs.Places.{is_page_size, bits_in, most_pages}
+use Rattle.nb_fields.specs.Kinds.{inventory_kind}
 use Rattle.nb_host.specs.declared.faults.Fault.TheVariants.{Refused}
 use Rattle.nb_host.specs.declared.refusals.Refusal.TheVariants.{Full}
 use Rattle.nb_page.proofs.QuietLemmas.{quiet_joined}
@@ -54,7 +55,7 @@ returns-then-next-ge-MOST_PAGES-clause-makes g c t tells is supplied goes system
     let next : c.in_ok-next.next ≡ behind image p =
     c.in_ok-next.ensures.value (after_strokes t xs) tells opened ∙ ap (λ (y : Image). free_from (length y - (p + 1)) (p + 1) y) (image_is t p (round image p) (round_is t.base p) xs refl) in
     let below = goes.below in
-    tries_before {S = Unit {0}} {T = ℕ} tt (Err (Refused (Full 1048576))) _ _ _ _ _ _ t xs first c.in_ok-next.ensures.same c.in_ok-next.ensures.quiet (λ v. c.in_ok-next.ensures.open v tells)
+    tries_before {S = Unit {0}} {T = ℕ} tt (Err (Refused (Full most_pages))) _ _ _ _ _ _ t xs first c.in_ok-next.ensures.same c.in_ok-next.ensures.quiet (λ v. c.in_ok-next.ensures.open v tells)
     (absurd {A = ⊥} (omega (arith, next, below, c.if-next-ge-MOST_PAGES.true)))
 
 pub returns-in_err-hold_map-clause-makes : goal.returns-in_err-hold_map-clause-makes
@@ -73,8 +74,8 @@ returns-in_err-hold_map-clause-makes g c t tells is supplied goes system =
     (λ r. Tries r (g.H.Host.world c.args.host.now) (g.H.Host.world c.hold_map.new.host) c.args.store.now c.hold_map.new.store t None xs) c.from_residual-in_err-hold_map.ensures
     (tries_before {S = Unit {0}} {T = ℕ} tt (Err fault) _ _ _ _ _ _ t xs first
     (c.in_err-hold_map.ensures.same ∙ search.same) (quiet_joined _ _ _ search.quiet c.in_err-hold_map.ensures.quiet) (λ v open_. c.in_err-hold_map.ensures.open v tells (search.open v tells open_))
-    (sure_of {T = Unit {0}} (Err fault) (not_kind u.base.image 2 (inventory_of u.base.image c.in_ok-next.next))
-    (subst (λ (y : Image). not_kind y 2 (inventory_of y c.in_ok-next.next) ≡ None) (sym seen) (ap (λ (n : ℕ). not_kind (round image p).image 2 (inventory_of (round image p).image n)) next ∙ next_map image p goes))
+    (sure_of {T = Unit {0}} (Err fault) (not_kind u.base.image inventory_kind (inventory_of u.base.image c.in_ok-next.next))
+    (subst (λ (y : Image). not_kind y inventory_kind (inventory_of y c.in_ok-next.next) ≡ None) (sym seen) (ap (λ (n : ℕ). not_kind (round image p).image 2 (inventory_of (round image p).image n)) next ∙ next_map image p goes))
     (c.in_err-hold_map.ensures.test u tells (search.open u tells opened) (search.map u tells opened))))
 
 pub returns-clause-makes : goal.returns-clause-makes

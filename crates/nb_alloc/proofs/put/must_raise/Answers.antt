@@ -1,6 +1,7 @@
 use Rattle.std.proofs.Common.{◌≡◌, ◌/◌, ℕ, length, sym, ap, ◌∙◌, arith}
 use Rattle.std.specs.Prelude.{Bool, false, nat_lt}
 use Rattle.nb_fields.specs.Places.{entries_in, scn_place}
+use Rattle.nb_fields.specs.Kinds.{scn_kind}
 use Rattle.nb_model.specs.Image.{page_at}
 use Rattle.nb_model.specs.Forms.{scn_entry, has_entry}
 use Rattle.nb_model.specs.Causes.{not_kind}
@@ -31,7 +32,7 @@ returns-in_err-read-clause-tells g c t tells is =
     let size = c.page_size-page_size.ensures.value ∙ is.files.agrees.page_size in
     let has = other-with image p _ size c.if-number-eq0.false (sym c.is_place.ensures.value ∙ c.if-is_place.false) in
     let there = scn_page-is image _ c.covers-k.result.0 p c.place_of.result size c.covers-k.ensures.number c.place_of.ensures in
-    let same : not_kind image 10 c.place_of.result ≡ entry_cause image p = ap (λ (q : ℕ). not_kind image 10 q) there ∙ sym (entry_cause-is image p has) in
+    let same : not_kind image scn_kind c.place_of.result ≡ entry_cause image p = ap (λ (q : ℕ). not_kind image scn_kind q) there ∙ sym (entry_cause-is image p has) in
     record {
       test = tested_on (Unit {0}) Bool _ _ _ _ c.from_residual.ensures (λ r e. sym same ∙ e) (c.in_err-read.ensures.reads t tells is).test;
       value = if_err _ _ _ c.from_residual.ensures;
@@ -45,7 +46,7 @@ returns-clause-tells g c t tells is =
     let size = c.page_size-page_size.ensures.value ∙ is.files.agrees.page_size in
     let has = other-with image p _ size c.if-number-eq0.false (sym c.is_place.ensures.value ∙ c.if-is_place.false) in
     let there = scn_page-is image _ c.covers-k.result.0 p c.place_of.result size c.covers-k.ensures.number c.place_of.ensures in
-    let same : not_kind image 10 c.place_of.result ≡ entry_cause image p = ap (λ (q : ℕ). not_kind image 10 q) there ∙ sym (entry_cause-is image p has) in
+    let same : not_kind image scn_kind c.place_of.result ≡ entry_cause image p = ap (λ (q : ℕ). not_kind image scn_kind q) there ∙ sym (entry_cause-is image p has) in
     let reads = c.in_ok-read.ensures.reads t tells is in
     let long : c.page_size-page_size.result ≡ length c.read.new.self = omega (arith, c.in_ok-read.ensures.room, c.requires.room, c.page_size-page_size.ensures.value) in
     let read = reads.page ∙ ap (λ (q : ℕ). page_at image q) there in

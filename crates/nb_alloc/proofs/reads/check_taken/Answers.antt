@@ -1,4 +1,5 @@
 use Rattle.std.proofs.Common.{◌≡◌, ℕ, length, sym, ap, ◌∙◌, refl, arith}
+use Rattle.nb_fields.specs.Kinds.{inventory_kind}
 use Rattle.nb_model.specs.Forms.{inventory_of}
 use Rattle.nb_model.specs.Causes.{not_kind}
 use Rattle.nb_alloc.proofs.DoesLaws.{tested_on}
@@ -9,7 +10,7 @@ pub returns-in_err-read-clause-test : goal.returns-in_err-read-clause-test
 returns-in_err-read-clause-test g c t tells is =
     let image = t.base.image in
     let at : c.place_of.result ≡ inventory_of image c.args.number = inventory_place_is image _ c.args.number _ _ c.place_of.ensures c.covers-k.ensures.number (c.page_size-page_size.ensures.value ∙ is.files.agrees.page_size) in
-    tested_on (Unit {0}) (Unit {0}) _ _ _ _ c.from_residual.ensures (λ r e. taken_other image c.args.number r (ap (λ (q : ℕ). not_kind image 2 q) (sym at) ∙ e)) (c.in_err-read.ensures.reads t tells is).test
+    tested_on (Unit {0}) (Unit {0}) _ _ _ _ c.from_residual.ensures (λ r e. taken_other image c.args.number r (ap (λ (q : ℕ). not_kind image inventory_kind q) (sym at) ∙ e)) (c.in_err-read.ensures.reads t tells is).test
 
 pub returns-then-not-is_used-clause-test : goal.returns-then-not-is_used-clause-test
 returns-then-not-is_used-clause-test g c t tells is =

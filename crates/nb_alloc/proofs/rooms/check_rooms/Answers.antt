@@ -1,5 +1,6 @@
 use Rattle.std.proofs.Common.{◌≡◌, ◌<◌, ◌≤◌, ℕ, subst, ◌∙◌, arith, ap}
 use Rattle.std.specs.Prelude.{true, false, None, OnOk, IfOk}
+use Rattle.nb_fields.specs.Places.{most_pages}
 use Rattle.nb_model.specs.Forms.{Draft, is_kind, lowest_free}
 use Rattle.nb_state.specs.Does.{Tested}
 use Rattle.nb_alloc.specs.declared.behind.Behind.{Behind}
@@ -60,7 +61,7 @@ pub returns-clause-least : goal.returns-clause-least
 returns-clause-least g c = value_found c.find_rooms-found.result c.judge.result (λ page. 5 ≤ page) c.judge.ensures.value c.find_rooms-found.ensures.least
 
 pub returns-clause-below : goal.returns-clause-below
-returns-clause-below g c = value_found c.find_rooms-found.result c.judge.result (λ page. page < 1048576) c.judge.ensures.value c.find_rooms-found.ensures.below
+returns-clause-below g c = value_found c.find_rooms-found.result c.judge.result (λ page. page < most_pages) c.judge.ensures.value c.find_rooms-found.ensures.below
 
 pub returns-clause-open : goal.returns-clause-open
 returns-clause-open g c t tells is = c.find_rooms-found.ensures.open t tells (c.in_ok-behind.ensures.open t tells is)

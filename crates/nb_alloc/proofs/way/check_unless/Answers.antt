@@ -1,4 +1,5 @@
 use Rattle.std.proofs.Common.{◌≢◌, sym, ap, subst, ◌∙◌, arith}
+use Rattle.nb_fields.specs.Kinds.{scn_kind}
 use Rattle.nb_model.specs.Causes.{Cause, not_kind}
 use Rattle.nb_state.specs.Does.{Tested}
 use Rattle.nb_alloc.proofs.PutLaws.{scn_page-without, other-with}
@@ -25,4 +26,4 @@ returns-clause-test g c t tells is =
     let there = scn_page-is t.base.image _ c.covers-k.result.0 c.args.number c.place_of-place.result size c.covers-k.ensures.number c.place_of-place.ensures in
     let some : c.args.number ≢ 0 = λ e. absurd (omega (arith, e, c.requires.low)) in
     let has = other-with t.base.image c.args.number _ size some (sym c.is_place.ensures.value ∙ c.if-is_place.false) in
-    subst (λ (cause : Cause). Tested c.read.result cause) (ap (not_kind t.base.image 10) there ∙ sym (entry_tested t.base.image c.args.made c.args.number (λ e. c.if-place-made.false (there ∙ e)) has)) (c.read.ensures.reads t tells is).test
+    subst (λ (cause : Cause). Tested c.read.result cause) (ap (not_kind t.base.image scn_kind) there ∙ sym (entry_tested t.base.image c.args.made c.args.number (λ e. c.if-place-made.false (there ∙ e)) has)) (c.read.ensures.reads t tells is).test

@@ -1,6 +1,6 @@
 use Rattle.std.proofs.Common.{◌≡◌, ◌≢◌, ℕ, refl, sym, ap, subst, ◌∙◌, arith}
 use Rattle.std.specs.Prelude.{IsTrue}
-use Rattle.nb_fields.specs.Places.{is_page_size}
+use Rattle.nb_fields.specs.Places.{is_page_size, most_pages}
 use Rattle.nb_model.specs.Image.{image_size}
 use Rattle.nb_model.specs.Forms.{inventory_of}
 use Rattle.nb_model.specs.Way.{next_place}
@@ -43,7 +43,7 @@ returns-then-place-ge-MOST_PAGES-clause-test g c t tells is =
     let size : IsTrue (is_page_size (image_size t.base.image)) = subst (λ (s : ℕ). IsTrue (is_page_size s)) (c.page_size-page_size.ensures.value ∙ is.files.agrees.page_size) c.page_size-page_size.ensures.one_of in
     let other : inventory_of image c.args.way.now.from ≢ c.args.way.now.fresh = λ e. c.if-own-fresh.false (there ∙ e) in
     let at = c.in_ok-place.ensures.value t tells is in
-    let end : c.in_ok-place.place ≡ 1048576 = omega (arith, c.in_ok-place.ensures.most, c.if-place-ge-MOST_PAGES.true) in
+    let end : c.in_ok-place.place ≡ most_pages = omega (arith, c.in_ok-place.ensures.most, c.if-place-ge-MOST_PAGES.true) in
     maps_cause image c.args.way.now.from c.args.way.now.fresh c.in_ok-place.place other at
     ∙ ap need_cause (ends_last image c.args.way.now.from c.in_ok-place.place size at (c.in_ok-place.ensures.maps t tells is) end c.requires.from)
 

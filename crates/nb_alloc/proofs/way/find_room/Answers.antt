@@ -1,6 +1,6 @@
 use Rattle.std.proofs.Common.{◌≡◌, ℕ, ◌+◌, ◌-◌, ◌*◌, ◌/◌, ◌≤◌, length, refl, ap, ◌∙◌, arith}
 use Rattle.std.specs.Prelude.{Bool, true, false}
-use Rattle.nb_fields.specs.Places.{bits_in, is_system_place}
+use Rattle.nb_fields.specs.Places.{bits_in, is_system_place, most_pages}
 use Rattle.nb_state.specs.Open.{Held}
 use Rattle.nb_host.specs.declared.refusals.Refusal.TheVariants.{Full}
 use Rattle.nb_alloc.specs.declared.behind.Behind.{Behind}
@@ -14,9 +14,9 @@ returns-then-from-ge-MOST_PAGES-clause-ends g c t start tells is way =
     let made : ℕ = c.args.way.now.made in
     let fresh : ℕ = c.args.way.now.fresh in
     let b : Behind = c.args.behind.now in
-    let most : length image ≤ 1048576 = omega (arith, is.files.agrees.count, c.count-count.ensures.value, c.count-count.ensures.most) in
-    let end : from ≡ 1048576 = omega (arith, c.requires.most, c.if-from-ge-MOST_PAGES.true) in
-    goes_refused image start from from made fresh b b (goes_begin image start from made fresh b way) most (Full 1048576)
+    let most : length image ≤ most_pages = omega (arith, is.files.agrees.count, c.count-count.ensures.value, c.count-count.ensures.most) in
+    let end : from ≡ most_pages = omega (arith, c.requires.most, c.if-from-ge-MOST_PAGES.true) in
+    goes_refused image start from from made fresh b b (goes_begin image start from made fresh b way) most (Full most_pages)
     (end_cause image start start from from made fresh (length start + 4) (search_begins image start from made fresh way) most end)
 
 pub returns-in_err-first-clause-ends : goal.returns-in_err-first-clause-ends
@@ -26,7 +26,7 @@ returns-in_err-first-clause-ends g c t start tells is way =
     let made : ℕ = c.args.way.now.made in
     let fresh : ℕ = c.args.way.now.fresh in
     let b : Behind = c.args.behind.now in
-    let most : length image ≤ 1048576 = omega (arith, is.files.agrees.count, c.count-count.ensures.value, c.count-count.ensures.most) in
+    let most : length image ≤ most_pages = omega (arith, is.files.agrees.count, c.count-count.ensures.value, c.count-count.ensures.most) in
     goes_failed ℕ ℕ _ _ image start from from made fresh _ _ _ b b c.from_residual.ensures (goes_begin image start from made fresh b way) most (c.in_err-first.ensures.test t tells is)
 
 pub returns-in_err-go_on-clause-ends : goal.returns-in_err-go_on-clause-ends
@@ -36,7 +36,7 @@ returns-in_err-go_on-clause-ends g c t start tells is way =
     let made : ℕ = c.args.way.now.made in
     let fresh : ℕ = c.args.way.now.fresh in
     let b : Behind = c.args.behind.now in
-    let most : length image ≤ 1048576 = omega (arith, is.files.agrees.count, c.count-count.ensures.value, c.count-count.ensures.most) in
+    let most : length image ≤ most_pages = omega (arith, is.files.agrees.count, c.count-count.ensures.value, c.count-count.ensures.most) in
     let next = c.in_ok-first.ensures in
     let known = goes_at image start from from made fresh b b (goes_begin image start from made fresh b way) most c.in_ok-first.first c.visit.new.way.made c.visit.new.way.fresh (next.value t tells is) (next.test t tells is) (next.made t tells is) (next.fresh t tells is) in
     ends_passed (Unit {0}) ℕ _ _ image start _ _ _ b _ c.from_residual-in_err-go_on.ensures (c.in_err-go_on.ensures.ends t start from b tells (next.open t tells is) known)
@@ -48,7 +48,7 @@ returns-clause-ends g c t start tells is way =
     let made : ℕ = c.args.way.now.made in
     let fresh : ℕ = c.args.way.now.fresh in
     let b : Behind = c.args.behind.now in
-    let most : length image ≤ 1048576 = omega (arith, is.files.agrees.count, c.count-count.ensures.value, c.count-count.ensures.most) in
+    let most : length image ≤ most_pages = omega (arith, is.files.agrees.count, c.count-count.ensures.value, c.count-count.ensures.most) in
     let next = c.in_ok-first.ensures in
     let known = goes_at image start from from made fresh b b (goes_begin image start from made fresh b way) most c.in_ok-first.first c.visit.new.way.made c.visit.new.way.fresh (next.value t tells is) (next.test t tells is) (next.made t tells is) (next.fresh t tells is) in
     c.in_ok-go_on.ensures.ends t start from b tells (next.open t tells is) known

@@ -2,7 +2,7 @@ use Rattle.std.proofs.Common.{◌≡◌, ◌≢◌, inl, inr, ℕ, ◌+◌, ◌�
 use Rattle.std.specs.Prelude.{true, false, None, Err}
 use Rattle.std.proofs.lemmas.Bool.{true≢false}
 use Rattle.std.proofs.lemmas.Bool.Decides.{eqb_tells}
-use Rattle.nb_fields.specs.Places.{bits_in, is_system_place}
+use Rattle.nb_fields.specs.Places.{bits_in, is_system_place, most_pages}
 use Rattle.nb_host.specs.declared.refusals.Refusal.TheVariants.{Full}
 use Rattle.nb_page.proofs.QuietLemmas.{quiet_begun, quiet_joined}
 use Rattle.nb_model.specs.Image.{image_size}
@@ -46,13 +46,13 @@ returns-then-next-ge-MOST_PAGES-clause-ends g c t start begun before tells is be
     let place : ℕ = c.loop-behind.place in
     let made : ℕ = c.loop-behind.way.made in
     let fresh : ℕ = c.loop-behind.way.fresh in
-    let most : length image ≤ 1048576 = omega (arith, is.files.agrees.count, c.count-count.ensures.value, c.count-count.ensures.most) in
+    let most : length image ≤ most_pages = omega (arith, is.files.agrees.count, c.count-count.ensures.value, c.count-count.ensures.most) in
     let known = c.loop-behind.invariant.at t start begun before tells is begins in
     let system : is_system_place (image_size image) place ≡ true = ap (λ (s : ℕ). is_system_place s place) (sym (c.page_size-page_size.ensures.value ∙ is.files.agrees.page_size)) ∙ sym c.is_system_place.ensures ∙ c.loop-behind-test.true in
     let to = goes_on image start begun place made fresh before c.loop-behind.behind known most system in
-    let end : place + 1 ≡ 1048576 = omega (arith, c.loop-behind.invariant.below, c.if-next-ge-MOST_PAGES.true) in
-    subst (λ (b : Behind). Refuses image start before b (Full 1048576)) (sym {b = gone place made fresh c.loop-behind.behind} c.pass.ensures)
-    (goes_refused image start begun (place + 1) made fresh before (gone place made fresh c.loop-behind.behind) to most (Full 1048576) (end_cause image start to.now begun (place + 1) made fresh to.tries to.search most end))
+    let end : place + 1 ≡ most_pages = omega (arith, c.loop-behind.invariant.below, c.if-next-ge-MOST_PAGES.true) in
+    subst (λ (b : Behind). Refuses image start before b (Full most_pages)) (sym {b = gone place made fresh c.loop-behind.behind} c.pass.ensures)
+    (goes_refused image start begun (place + 1) made fresh before (gone place made fresh c.loop-behind.behind) to most (Full most_pages) (end_cause image start to.now begun (place + 1) made fresh to.tries to.search most end))
 
 pub returns-in_err-place-clause-ends : goal.returns-in_err-place-clause-ends
 returns-in_err-place-clause-ends g c t start begun before tells is begins =
@@ -60,7 +60,7 @@ returns-in_err-place-clause-ends g c t start begun before tells is begins =
     let place : ℕ = c.loop-behind.place in
     let made : ℕ = c.loop-behind.way.made in
     let fresh : ℕ = c.loop-behind.way.fresh in
-    let most : length image ≤ 1048576 = omega (arith, is.files.agrees.count, c.count-count.ensures.value, c.count-count.ensures.most) in
+    let most : length image ≤ most_pages = omega (arith, is.files.agrees.count, c.count-count.ensures.value, c.count-count.ensures.most) in
     let known = c.loop-behind.invariant.at t start begun before tells is begins in
     let system : is_system_place (image_size image) place ≡ true = ap (λ (s : ℕ). is_system_place s place) (sym (c.page_size-page_size.ensures.value ∙ is.files.agrees.page_size)) ∙ sym c.is_system_place.ensures ∙ c.loop-behind-test.true in
     let to = goes_on image start begun place made fresh before c.loop-behind.behind known most system in
@@ -79,7 +79,7 @@ loop-behind-preserved g c =
           let place : ℕ = c.loop-behind.place in
           let made : ℕ = c.loop-behind.way.made in
           let fresh : ℕ = c.loop-behind.way.fresh in
-          let most : length image ≤ 1048576 = omega (arith, is.files.agrees.count, c.count-count.ensures.value, c.count-count.ensures.most) in
+          let most : length image ≤ most_pages = omega (arith, is.files.agrees.count, c.count-count.ensures.value, c.count-count.ensures.most) in
           let known = c.loop-behind.invariant.at t start begun before tells is begins in
           let system : is_system_place (image_size image) place ≡ true = ap (λ (s : ℕ). is_system_place s place) (sym (c.page_size-page_size.ensures.value ∙ is.files.agrees.page_size)) ∙ sym c.is_system_place.ensures ∙ c.loop-behind-test.true in
           let to = goes_on image start begun place made fresh before c.loop-behind.behind known most system in
@@ -126,7 +126,7 @@ returns-clause-ends g c t start begun before tells is begins =
     let place : ℕ = c.loop-behind.place in
     let made : ℕ = c.loop-behind.way.made in
     let fresh : ℕ = c.loop-behind.way.fresh in
-    let most : length image ≤ 1048576 = omega (arith, is.files.agrees.count, c.count-count.ensures.value, c.count-count.ensures.most) in
+    let most : length image ≤ most_pages = omega (arith, is.files.agrees.count, c.count-count.ensures.value, c.count-count.ensures.most) in
     let known = c.loop-behind.invariant.at t start begun before tells is begins in
     let plain : is_system_place (image_size image) place ≡ false = ap (λ (s : ℕ). is_system_place s place) (sym (c.page_size-page_size.ensures.value ∙ is.files.agrees.page_size)) ∙ sym c.is_system_place.ensures ∙ c.loop-behind-test.false in
     subst (λ (n : ℕ). Finds image start n made fresh before c.loop-behind.behind) (sym c.loop-behind.invariant.from) (goes_found image start begun place made fresh before c.loop-behind.behind known most plain)

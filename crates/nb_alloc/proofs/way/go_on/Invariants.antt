@@ -1,6 +1,6 @@
 use Rattle.std.proofs.Common.{◌≡◌, ◌≢◌, ◌+◌, ◌-◌, ◌*◌, ◌<◌, ◌≤◌, ℕ, length, IsTrue}
 use Rattle.std.specs.Prelude.{true, false}
-use Rattle.nb_fields.specs.Places.{is_system_place}
+use Rattle.nb_fields.specs.Places.{is_system_place, most_pages}
 use Rattle.nb_page.specs.Quiet.{Quiet}
 use Rattle.nb_model.specs.Image.{Image}
 use Rattle.nb_model.specs.Trail.{Trail}
@@ -18,7 +18,7 @@ invariant-loop-behind g l = record {
   passed : l.fn.first ≢ l.place → is_system_place l.fn.store.files.page_size l.fn.first ≡ true;
   from : l.way.from ≡ l.place + 1;
   least : 5 ≤ l.place;
-  below : l.place < 1048576;
+  below : l.place < most_pages;
   page : l.behind.page ≡ l.fn.behind.page;
   lost : l.fn.behind.lost ≡ true → l.behind.lost ≡ true;
   map_room : length l.map ≡ length l.fn.map;
@@ -34,4 +34,4 @@ invariant-loop-behind g l = record {
 }
 
 abbrev pub decreases-loop-behind : goal.decreases-loop-behind
-decreases-loop-behind g l = 1048576 - l.place
+decreases-loop-behind g l = most_pages - l.place

@@ -1,7 +1,7 @@
 use Rattle.std.proofs.Common.{◌≡◌, ◌≢◌, ℕ, refl, sym, ap, ◌∙◌, arith}
 use Rattle.std.specs.Prelude.{Bool, true, false, IsTrue}
 use Rattle.std.proofs.lemmas.Bool.{true≢false}
-use Rattle.nb_fields.specs.Places.{is_system_place}
+use Rattle.nb_fields.specs.Places.{is_system_place, most_pages}
 use Rattle.nb_model.specs.Image.{image_size}
 use Rattle.nb_model.specs.Forms.{first_not}
 use Rattle.nb_model.specs.Trail.{Trail}
@@ -34,14 +34,14 @@ returns-in_err-place-clause-test g c t tells is =
 
 pub returns-then-place-ge-MOST_PAGES-clause-test : goal.returns-then-place-ge-MOST_PAGES-clause-test
 returns-then-place-ge-MOST_PAGES-clause-test g c t tells is =
-    let end : c.in_ok-place.place ≡ 1048576 = omega (arith, c.in_ok-place.ensures.most, c.if-place-ge-MOST_PAGES.true) in
+    let end : c.in_ok-place.place ≡ most_pages = omega (arith, c.in_ok-place.ensures.most, c.if-place-ge-MOST_PAGES.true) in
     way_full t.base.image c.args.way.now.from c.args.way.now.made c.args.way.now.fresh _ refl (c.in_ok-place.ensures.test t tells is) (sym (c.in_ok-place.ensures.value t tells is) ∙ end)
 
 pub returns-in_err-check_map_entry-clause-test : goal.returns-in_err-check_map_entry-clause-test
 returns-in_err-check_map_entry-clause-test g c t tells is =
     let at = c.in_ok-place.ensures.value t tells is in
     let maps = ap (λ (n : ℕ). need_cause (first_not t.base.image (maps_on t.base.image c.args.way.now.from c.args.way.now.fresh n))) at ∙ c.in_ok-place.ensures.test t tells is in
-    let other : c.in_ok-place.place ≢ 1048576 = λ e. absurd (omega (arith, e, c.if-place-ge-MOST_PAGES.false)) in
+    let other : c.in_ok-place.place ≢ most_pages = λ e. absurd (omega (arith, e, c.if-place-ge-MOST_PAGES.false)) in
     tested_on (Unit {0}) ℕ _ _ _ _ c.from_residual-in_err-check_map_entry.ensures (λ r e. way_map_entry _ _ _ _ _ at maps other r e) (c.in_err-check_map_entry.ensures.test t tells (c.in_ok-place.ensures.open t tells is))
 
 pub returns-in_err-pass-clause-test : goal.returns-in_err-pass-clause-test

@@ -1,5 +1,6 @@
 use Rattle.std.proofs.Common.{◌≡◌, ◌-◌}
 use Rattle.std.specs.Prelude.{IsTrue}
+use Rattle.nb_fields.specs.Places.{most_pages}
 use Rattle.nb_page.specs.Quiet.{Quiet}
 use Rattle.nb_chain.proofs.PageLemmas.{SoFar}
 use Rattle.nb_chain.proofs.level_file.read_pages.Given as goal
@@ -15,4 +16,4 @@ invariant-loop-number g l = record {
 
 -- numbers rise up to the most that a page may have
 abbrev pub decreases-loop-number : goal.decreases-loop-number
-decreases-loop-number g l = 1048576 - l.reader.place.least
+decreases-loop-number g l = most_pages - l.reader.place.least

@@ -1,5 +1,6 @@
 use Rattle.std.proofs.Common.{◌≡◌, ◌+◌, ◌-◌, ◌≤◌, List, length}
 use Rattle.std.specs.Prelude.{IsTrue}
+use Rattle.nb_fields.specs.Places.{most_pages}
 use Rattle.nb_host.specs.Files.{bytes_of}
 use Rattle.nb_model.specs.Image.{Numbered}
 use Rattle.nb_model.specs.Levels.{behind}
@@ -20,4 +21,4 @@ invariant-loop g l = record {
 
 -- numbers rise up to the most that a page may have
 abbrev pub decreases-loop : goal.decreases-loop
-decreases-loop g l = 1048576 - l.reader.place.least
+decreases-loop g l = most_pages - l.reader.place.least

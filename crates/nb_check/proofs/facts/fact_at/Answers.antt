@@ -3,6 +3,7 @@ use Rattle.std.specs.Prelude.{Bool, true, false, ◌&&◌, ◌||◌, ◌==◌, n
 use Rattle.nb_fields.specs.Bytes.{is_zeros}
 use Rattle.nb_fields.specs.Page.{kind_of, stamp_of}
 use Rattle.nb_fields.specs.Places.{is_inventory_place, is_scn_place}
+use Rattle.nb_fields.specs.Kinds.{inventory_kind, scn_kind}
 use Rattle.nb_page.specs.Head.{head_in}
 use Rattle.nb_page.specs.declared.page.PageHead.{PageHead}
 use Rattle.nb_model.specs.Image.{Page, Image, page_at, image_size, image_scn}
@@ -23,7 +24,7 @@ stamp_is image n page head at is = ap (λ (h : PageHead). h.scn) is ∙ stamp_in
 
 place_is : (image : Image) (n size : ℕ) (page : Page) (head : PageHead) (t : Bool) → size ≡ image_size image → page ≡ page_at image n → head ≡ head_in page
     → t ≡ ((is_inventory_place size n && not (head.kind == 2)) || (is_scn_place size n && not (head.kind == 10)))
-    → ((is_inventory_place (image_size image) n && not (kind_of (page_at image n) == 2)) || (is_scn_place (image_size image) n && not (kind_of (page_at image n) == 10))) ≡ t
+    → ((is_inventory_place (image_size image) n && not (kind_of (page_at image n) == inventory_kind)) || (is_scn_place (image_size image) n && not (kind_of (page_at image n) == scn_kind))) ≡ t
 place_is image n size page head t same at is e =
     let kind : head.kind ≡ kind_of (page_at image n) = ap (λ (h : PageHead). h.kind) is ∙ kind_in page ∙ ap kind_of at in
     sym (e ∙ ap (λ (s : ℕ). (is_inventory_place s n && not (head.kind == 2)) || (is_scn_place s n && not (head.kind == 10))) same

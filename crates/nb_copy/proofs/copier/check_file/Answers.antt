@@ -1,5 +1,6 @@
 use Rattle.std.proofs.Common.{◌≡◌, ℕ, List, sym, ap, subst, ◌∙◌, rules}
 use Rattle.std.specs.Prelude.{true, false, Some}
+use Rattle.nb_fields.specs.States.{normal_state}
 use denote.Enum.Bare.{same_true, same_false}
 use Rattle.nb_host.specs.declared.refusals.Refusal.TheVariants.{WrongState, FileExists}
 use Rattle.nb_model.specs.Account.{Base}
@@ -22,7 +23,7 @@ pub returns-then-eq-clause-test : goal.returns-then-eq-clause-test
 returns-then-eq-clause-test g c s t tells same is free =
     let read_only : is_read_only t.base.image ≡ false = sym is.agrees.read_only ∙ sym (ap (λ (h : Held). h.read_only) c.store-store.ensures) ∙ sym c.is_read_only.ensures ∙ c.if-is_read_only.false in
     let state = c.state-state.ensures.value ∙ ap (λ (h : Held). h.files.state) c.store-store.ensures ∙ is.files.agrees.state ∙ ap (λ (b : Base). image_state b.image) same in
-    let says : OnOpen (not_state 0) c.state-state.result case.WrongState = subst (OnOpen (not_state 0) c.state-state.result) (same_true the_type (search rules) c.case_of.result case.WrongState (sym c.eq.ensures ∙ c.if-eq.true)) c.case_of.ensures in
+    let says : OnOpen (not_state normal_state) c.state-state.result case.WrongState = subst (OnOpen (not_state normal_state) c.state-state.result) (same_true the_type (search rules) c.case_of.result case.WrongState (sym c.eq.ensures ∙ c.if-eq.true)) c.case_of.ensures in
     busy s c.args.name.now (sym (ap (λ (b : Base). is_read_only b.image) same) ∙ read_only) _ (says s.base.image (sym state)) ∙ ap (λ (n : ℕ). Some (WrongState n)) (sym c.from.ensures)
 
 pub returns-then-not-branch-clause-test : goal.returns-then-not-branch-clause-test
@@ -30,7 +31,7 @@ returns-then-not-branch-clause-test g c s t tells same is free =
     let read_only : is_read_only t.base.image ≡ false = sym is.agrees.read_only ∙ sym (ap (λ (h : Held). h.read_only) c.store-store.ensures) ∙ sym c.is_read_only.ensures ∙ c.if-is_read_only.false in
     let state = c.state-state.ensures.value ∙ ap (λ (h : Held). h.files.state) c.store-store.ensures ∙ is.files.agrees.state ∙ ap (λ (b : Base). image_state b.image) same in
     let other = same_false the_type c.case_of.result case.WrongState (sym c.eq.ensures ∙ c.if-eq.false) in
-    let free_to = goes (not_state 0) c.state-state.result c.state-state.ensures.most c.case_of.result c.case_of.ensures other s.base.image (sym state) in
+    let free_to = goes (not_state normal_state) c.state-state.result c.state-state.ensures.most c.case_of.result c.case_of.ensures other s.base.image (sym state) in
     let normal = only_normal c.state-state.result c.state-state.ensures.most c.case_of.result other c.case_of.ensures in
     there s c.args.name.now (sym (ap (λ (b : Base). is_read_only b.image) same) ∙ read_only) free_to (sym (free (sym state ∙ normal)) ∙ sym (c.in_ok-is_free.ensures.answer tells) ∙ c.if-not-branch.true)
     ∙ ap (λ (n : List ℕ). Some (FileExists n)) (sym c.copied.ensures)
@@ -40,7 +41,7 @@ returns-clause-test g c s t tells same is free =
     let read_only : is_read_only t.base.image ≡ false = sym is.agrees.read_only ∙ sym (ap (λ (h : Held). h.read_only) c.store-store.ensures) ∙ sym c.is_read_only.ensures ∙ c.if-is_read_only.false in
     let state = c.state-state.ensures.value ∙ ap (λ (h : Held). h.files.state) c.store-store.ensures ∙ is.files.agrees.state ∙ ap (λ (b : Base). image_state b.image) same in
     let other = same_false the_type c.case_of.result case.WrongState (sym c.eq.ensures ∙ c.if-eq.false) in
-    let free_to = goes (not_state 0) c.state-state.result c.state-state.ensures.most c.case_of.result c.case_of.ensures other s.base.image (sym state) in
+    let free_to = goes (not_state normal_state) c.state-state.result c.state-state.ensures.most c.case_of.result c.case_of.ensures other s.base.image (sym state) in
     let normal = only_normal c.state-state.result c.state-state.ensures.most c.case_of.result other c.case_of.ensures in
     allowed s c.args.name.now (sym (ap (λ (b : Base). is_read_only b.image) same) ∙ read_only) free_to (sym (free (sym state ∙ normal)) ∙ sym (c.in_ok-is_free.ensures.answer tells) ∙ c.if-not-branch.false)
 

@@ -2,6 +2,7 @@ use Rattle.std.proofs.Common.{ℕ, Bool, List, ap, ◌∙◌, sym}
 use Rattle.std.specs.Prelude.{◌||◌, nat_eq, is_some, Option}
 use Rattle.std.specs.List.{list_any}
 use Rattle.std.proofs.lemmas.Bool.{lt-leb}
+use Rattle.nb_fields.specs.Places.{most_pages}
 use Rattle.nb_delta.proofs.EntryLemmas.{is_named}
 use Rattle.nb_delta.proofs.reading.is_unfit.Goals as goal
 
@@ -9,4 +10,4 @@ pub returns-else-number-ge-MOST_PAGES : goal.returns-else-number-ge-MOST_PAGES
 returns-else-number-ge-MOST_PAGES c =
     let entries : List ℕ = c.args.entries.now in
     c.is_some.ensures ∙ ap (λ (o : Option ℕ). is_some o) c.place_of.ensures.value ∙ is_named c.args.number entries
-    ∙ sym (ap (λ (b : Bool). b || list_any (nat_eq c.args.number) entries) (lt-leb 1048576 c.args.number c.if-number-ge-MOST_PAGES.false))
+    ∙ sym (ap (λ (b : Bool). b || list_any (nat_eq c.args.number) entries) (lt-leb most_pages c.args.number c.if-number-ge-MOST_PAGES.false))

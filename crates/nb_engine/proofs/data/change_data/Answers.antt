@@ -3,6 +3,7 @@ use Rattle.std.specs.Prelude.{IsTrue}
 use Rattle.nb_fields.specs.Bytes.{with_part}
 use Rattle.nb_fields.specs.Page.{with_payload}
 use Rattle.nb_fields.specs.Places.{is_page_size}
+use Rattle.nb_fields.specs.Kinds.{data_kind}
 use Rattle.nb_model.specs.Image.{Page, page_at}
 use Rattle.nb_model.specs.Forms.{old_page}
 use Rattle.nb_model.specs.Causes.{not_kind}
@@ -22,7 +23,7 @@ returns-in_err-take_system-clause-tries g c t tells is =
     let image = t.base.image in
     let p : ℕ = c.args.number in
     let page = c.in_err-take_system.ensures in
-    tries_early (Unit {0}) (Unit {0}) _ _ _ _ _ _ t (not_kind image 5 p) (data_cause image p) _ c.from_residual.ensures (none_there image p) (page.reads t tells is).test page.same page.quiet is (page.open t tells is)
+    tries_early (Unit {0}) (Unit {0}) _ _ _ _ _ _ t (not_kind image data_kind p) (data_cause image p) _ c.from_residual.ensures (none_there image p) (page.reads t tells is).test page.same page.quiet is (page.open t tells is)
 
 pub returns-in_err-take_system-clause-once : goal.returns-in_err-take_system-clause-once
 returns-in_err-take_system-clause-once g c tells = omega (arith, c.in_err-take_system.ensures.once tells c.requires.low)

@@ -1,6 +1,7 @@
 use Rattle.std.proofs.Common.{ℕ, [], ◌∷◌, sym, subst, ◌∙◌}
 use Rattle.std.specs.Prelude.{Bool, IsTrue}
 use Rattle.nb_fields.specs.Places.{is_page_size}
+use Rattle.nb_fields.specs.Kinds.{inventory_kind, scn_kind}
 use Rattle.nb_model.specs.Image.{image_size}
 use Rattle.nb_model.specs.Forms.{inventory_of, scn_page_of}
 use Rattle.nb_model.specs.Causes.{first_cause, not_kind, not_of_form, no_scn}
@@ -14,7 +15,7 @@ returns-in_err-free-clause-test g c t tells is kind =
     let image = t.base.image in
     let p : ℕ = c.args.number in
     let size : IsTrue (is_page_size (image_size image)) = subst (λ (n : ℕ). IsTrue (is_page_size n)) is.files.agrees.page_size c.requires.size in
-    tested_on Bool (Unit {0}) _ _ (not_kind image 2 (inventory_of image p)) (first_cause (not_of_form (taken_draft image p) ∷ no_scn image ∷ [])) c.from_residual.ensures (inventory_refused image p size c.requires.low kind) (c.in_err-free.ensures.test t tells is)
+    tested_on Bool (Unit {0}) _ _ (not_kind image inventory_kind (inventory_of image p)) (first_cause (not_of_form (taken_draft image p) ∷ no_scn image ∷ [])) c.from_residual.ensures (inventory_refused image p size c.requires.low kind) (c.in_err-free.ensures.test t tells is)
 
 pub returns-in_err-check_scn_page-clause-test : goal.returns-in_err-check_scn_page-clause-test
 returns-in_err-check_scn_page-clause-test g c t tells is kind =
@@ -23,7 +24,7 @@ returns-in_err-check_scn_page-clause-test g c t tells is kind =
     let size : IsTrue (is_page_size (image_size image)) = subst (λ (n : ℕ). IsTrue (is_page_size n)) is.files.agrees.page_size c.requires.size in
     let free = c.in_ok-free.ensures in
     let here = free.open t tells is in
-    tested_on (Unit {0}) (Unit {0}) _ _ (not_kind image 10 (scn_page_of image p)) (first_cause (not_of_form (taken_draft image p) ∷ no_scn image ∷ [])) c.from_residual-in_err-check_scn_page.ensures
+    tested_on (Unit {0}) (Unit {0}) _ _ (not_kind image scn_kind (scn_page_of image p)) (first_cause (not_of_form (taken_draft image p) ∷ no_scn image ∷ [])) c.from_residual-in_err-check_scn_page.ensures
     (scn_refused image p size c.requires.low kind (free.test t tells is)) (c.in_err-check_scn_page.ensures.test t tells here)
 
 pub returns-then-free-clause-test : goal.returns-then-free-clause-test

@@ -1,5 +1,6 @@
 use Rattle.std.proofs.Common.{◌≡◌, ℕ, length, refl, sym, ap, ◌∙◌, arith}
 use Rattle.std.specs.Prelude.{Bool}
+use Rattle.nb_fields.specs.Kinds.{inventory_kind}
 use Rattle.nb_model.specs.Forms.{inventory_of}
 use Rattle.nb_model.specs.Causes.{not_kind}
 use Rattle.nb_alloc.proofs.DoesLaws.{tested_on}
@@ -10,19 +11,19 @@ pub returns-in_err-read-clause-test : goal.returns-in_err-read-clause-test
 returns-in_err-read-clause-test g c t tells is =
     let image = t.base.image in
     let at : c.place_of.result ≡ inventory_of image c.args.number = inventory_place_is image _ c.args.number _ _ c.place_of.ensures c.covers-k.ensures.number (c.page_size-page_size.ensures.value ∙ is.files.agrees.page_size) in
-    tested_on (Unit {0}) Bool _ _ _ _ c.from_residual.ensures (λ r e. ap (λ (q : ℕ). not_kind image 2 q) (sym at) ∙ e) (c.in_err-read.ensures.reads t tells is).test
+    tested_on (Unit {0}) Bool _ _ _ _ c.from_residual.ensures (λ r e. ap (λ (q : ℕ). not_kind image inventory_kind q) (sym at) ∙ e) (c.in_err-read.ensures.reads t tells is).test
 
 pub returns-then-is_used-clause-test : goal.returns-then-is_used-clause-test
 returns-then-is_used-clause-test g c t tells is =
     let image = t.base.image in
     let at : c.place_of.result ≡ inventory_of image c.args.number = inventory_place_is image _ c.args.number _ _ c.place_of.ensures c.covers-k.ensures.number (c.page_size-page_size.ensures.value ∙ is.files.agrees.page_size) in
-    ap (λ (q : ℕ). not_kind image 2 q) (sym at) ∙ (c.in_ok-read.ensures.reads t tells is).test
+    ap (λ (q : ℕ). not_kind image inventory_kind q) (sym at) ∙ (c.in_ok-read.ensures.reads t tells is).test
 
 pub returns-clause-test : goal.returns-clause-test
 returns-clause-test g c t tells is =
     let image = t.base.image in
     let at : c.place_of.result ≡ inventory_of image c.args.number = inventory_place_is image _ c.args.number _ _ c.place_of.ensures c.covers-k.ensures.number (c.page_size-page_size.ensures.value ∙ is.files.agrees.page_size) in
-    ap (λ (q : ℕ). not_kind image 2 q) (sym at) ∙ (c.in_ok-read.ensures.reads t tells is).test
+    ap (λ (q : ℕ). not_kind image inventory_kind q) (sym at) ∙ (c.in_ok-read.ensures.reads t tells is).test
 
 pub returns-then-is_used-clause-value : goal.returns-then-is_used-clause-value
 returns-then-is_used-clause-value g c t tells is =

@@ -1,6 +1,7 @@
 use Rattle.std.proofs.Common.{◌≡◌, ℕ, ◌/◌, ◌<◌, sym, ap, ◌∙◌, arith}
 use Rattle.std.specs.Prelude.{Some, min}
 use Rattle.nb_fields.proofs.SizeLemmas.{size_facts}
+use Rattle.nb_fields.specs.Places.{most_pages}
 use Rattle.nb_host.specs.declared.refusals.Refusal.TheVariants.{NotDatabase}
 use Rattle.nb_fixup.proofs.CauseLaws.{parted, too_few, too_many, fits}
 use Rattle.nb_fixup.proofs.copy.broken_page.Goals.{then-len-size-ne0-via-then-len-size-ne0, then-len-size-ne0-via-else-len-size-ne0+then-pages-lt-LEAST_PAGES, then-len-size-ne0-via-else-len-size-ne0+else-pages-lt-LEAST_PAGES+then-pages-most}
@@ -11,7 +12,7 @@ returns-then-len-size-ne0 c bytes header same long =
     let len : ℕ = c.args.len in
     let size : ℕ = c.from-size.result in
     let its = same ∙ sym c.from-size.ensures in
-    let page : min (len / size) 1048576 ≡ c.min.result = omega (arith, c.min.ensures, c.from-most.ensures) in
+    let page : min (len / size) most_pages ≡ c.min.result = omega (arith, c.min.ensures, c.from-most.ensures) in
     elim c.then-len-size-ne0.branch [
       | then-len-size-ne0-via-then-len-size-ne0 w ↦ parted bytes len size header its long w.if-len-size-ne0.true
       | then-len-size-ne0-via-else-len-size-ne0+then-pages-lt-LEAST_PAGES w ↦ too_few bytes len size header its long w.if-pages-lt-LEAST_PAGES.true

@@ -1,5 +1,6 @@
 use Rattle.std.proofs.Common.{◌≡◌, ◌≢◌, ◌-◌, ◌≤◌, List, length}
 use Rattle.std.specs.Prelude.{IsTrue, Ok}
+use Rattle.nb_fields.specs.Places.{most_pages}
 use Rattle.nb_host.specs.Files.{bytes_of}
 use Rattle.nb_change.specs.Changes.{Changes, Only, Moved}
 use Rattle.nb_change.specs.Gave.{GaveNothing}
@@ -19,9 +20,9 @@ invariant-loop-number g l = record {
       → SoFar (length l.fn.page) (bytes_of ((g.H.Host.world l.fn.host).files l.fn.reader.name)) l.reader records ((g.H.Host.world l.fn.host).files l.standby) ((g.H.Host.world l.host).files l.standby) l.fn.first l.first l.fn.pages l.pages;
   gave : GaveNothing (g.H.Host.world l.fn.host) (g.H.Host.world l.host);
   cause : g.H.Host.faults l.host ≡ g.H.Host.faults l.fn.host;
-  most : l.pages ≤ 1048576;
+  most : l.pages ≤ most_pages;
 }
 
 -- numbers rise up to the most that a page may have
 abbrev pub decreases-loop-number : goal.decreases-loop-number
-decreases-loop-number g l = 1048576 - l.reader.place.least
+decreases-loop-number g l = most_pages - l.reader.place.least

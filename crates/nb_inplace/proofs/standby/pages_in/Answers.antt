@@ -1,6 +1,7 @@
 use Rattle.std.proofs.Common.{◌≡◌, ℕ, ◌/◌, ◌<◌, sym, ap, ◌∙◌, arith}
 use Rattle.std.specs.Prelude.{Some, min}
 use Rattle.nb_fields.proofs.SizeLemmas.{size_facts}
+use Rattle.nb_fields.specs.Places.{most_pages}
 use Rattle.nb_host.specs.declared.refusals.Refusal.TheVariants.{NotDatabase}
 use Rattle.nb_fixup.proofs.AnswerLaws.{refused}
 use Rattle.nb_fixup.proofs.CauseLaws.{parted, too_few, too_many, fits}
@@ -12,7 +13,7 @@ returns-then-len-size-ne0-clause-test c bytes header same long =
     let len : ℕ = c.args.len in
     let size : ℕ = c.from-size.result in
     let its = same ∙ sym c.from-size.ensures in
-    let page : min (len / size) 1048576 ≡ c.min.result = omega (arith, c.min.ensures, c.from-most.ensures) in
+    let page : min (len / size) most_pages ≡ c.min.result = omega (arith, c.min.ensures, c.from-most.ensures) in
     refused ℕ _ _ _ c.no_database.ensures (elim c.then-len-size-ne0.branch [
       | then-len-size-ne0-via-then-len-size-ne0 w ↦ parted bytes len size header its long w.if-len-size-ne0.true
       | then-len-size-ne0-via-else-len-size-ne0+then-pages-lt-LEAST_PAGES w ↦ too_few bytes len size header its long w.if-pages-lt-LEAST_PAGES.true

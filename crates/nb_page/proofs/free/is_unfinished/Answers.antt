@@ -4,13 +4,14 @@ use Rattle.std.proofs.lemmas.Bool.{eq-eqb, ne_eqb}
 use Rattle.nb_fields.specs.Bytes.{is_zeros}
 use Rattle.nb_fields.specs.Header.{state_of, pending_of}
 use Rattle.nb_fields.proofs.HeaderLemmas.{is_header-short}
+use Rattle.nb_fields.specs.States.{applying_state}
 use Rattle.nb_page.proofs.HeaderLemmas.{is_unfinished-fields}
 use Rattle.nb_page.proofs.free.is_unfinished.Goals as goal
 
 pub returns-then-first-lt-LENGTH : goal.returns-then-first-lt-LENGTH
 returns-then-first-lt-LENGTH c =
     let first = c.args.first.now in
-    sym (ap (λ b. b && (state_of first == 3) && is_zeros (pending_of first)) (is_header-short first c.if-first-lt-LENGTH.true))
+    sym (ap (λ b. b && (state_of first == applying_state) && is_zeros (pending_of first)) (is_header-short first c.if-first-lt-LENGTH.true))
 
 pub returns-then-header-eq3 : goal.returns-then-header-eq3
 returns-then-header-eq3 c =

@@ -1,5 +1,6 @@
 use Rattle.std.proofs.Common.{◌≡◌, ◌≢◌, ◌-◌, List, length}
 use Rattle.std.specs.Prelude.{IsTrue, Ok}
+use Rattle.nb_fields.specs.Places.{most_pages}
 use Rattle.nb_host.specs.Files.{bytes_of}
 use Rattle.nb_change.specs.Changes.{Changes, Only, Moved}
 use Rattle.nb_change.specs.Gave.{GaveNothing}
@@ -22,4 +23,4 @@ invariant-loop-number g l = record {
 
 -- numbers rise up to the most that a page may have
 abbrev pub decreases-loop-number : goal.decreases-loop-number
-decreases-loop-number g l = 1048576 - l.reader.place.least
+decreases-loop-number g l = most_pages - l.reader.place.least

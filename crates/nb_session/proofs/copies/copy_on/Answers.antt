@@ -1,5 +1,6 @@
 use Rattle.std.proofs.Common.{◌≡◌, ◌-◌, ◌≤◌, ℕ, refl, sym, ap, subst, ◌∙◌, arith}
 use Rattle.std.specs.Prelude.{Ok, Err, None}
+use Rattle.nb_fields.specs.States.{stalled_state}
 use Rattle.nb_host.specs.declared.faults.Fault.TheVariants.{Device}
 use Rattle.nb_model.specs.declared.reply.Reply.TheVariants.{Pages}
 use Rattle.nb_model.specs.Outcomes.{ClosesCopy}
@@ -26,7 +27,7 @@ returns-in_err-turn-clause-turn g c now t more tells ready makes here goes =
     let copy : Copying = c.args.copier.now in
     let later : Copying = c.turn.new.self in
     let left : ℕ = copy.count - copy.next in
-    let stalled : a.files.state ≡ 1 = copying_stalled old a t now c.args.session left copy.name more ready makes.going here in
+    let stalled : a.files.state ≡ stalled_state = copying_stalled old a t now c.args.session left copy.name more ready makes.going here in
     let copies = c.in_err-turn.ensures.turn t tells ready.opened stalled goes.0 (apart_files a copy.name goes.1) in
     let reads = g.met.H.Host.reads_left c.args.host.now tells copy.name in
     turns_failed c.args.told (copy_said 0) (Err Device) left_refused (left_task _) old mid mid a b t now c.args.session (copy_first left (ClosesCopy copy.name)) (copy_rest left (ClosesCopy copy.name)) more _
@@ -44,7 +45,7 @@ returns-in-More-clause-turn g c now t more tells ready makes here goes =
     let copy : Copying = c.args.copier.now in
     let later : Copying = c.turn.new.self in
     let left : ℕ = copy.count - copy.next in
-    let stalled : a.files.state ≡ 1 = copying_stalled old a t now c.args.session left copy.name more ready makes.going here in
+    let stalled : a.files.state ≡ stalled_state = copying_stalled old a t now c.args.session left copy.name more ready makes.going here in
     let copies = subst (λ (p : Progress). CopiesFile (Ok p) old mid a b copy later t) c.in-More.is (c.in_ok-turn.ensures.turn t tells ready.opened stalled goes.0 (apart_files a copy.name goes.1)) in
     let counts = subst (λ (p : Progress). CopyCounts (Ok p) copy later) c.in-More.is c.in_ok-turn.ensures.counts in
     let some : 1 ≤ left = omega (arith, counts.0) in
@@ -69,7 +70,7 @@ returns-in_err-tell-in-Finished-clause-turn g c now t more tells ready makes her
     let later : Copying = c.turn.new.self in
     let left : ℕ = copy.count - copy.next in
     let pages : ℕ = c.written.result in
-    let stalled : a.files.state ≡ 1 = copying_stalled old a t now c.args.session left copy.name more ready makes.going here in
+    let stalled : a.files.state ≡ stalled_state = copying_stalled old a t now c.args.session left copy.name more ready makes.going here in
     let copies = subst (λ (p : Progress). CopiesFile (Ok p) old mid a b copy later t) c.in-Finished.is (c.in_ok-turn.ensures.turn t tells ready.opened stalled goes.0 (apart_files a copy.name goes.1)) in
     let counts = subst (λ (p : Progress). CopyCounts (Ok p) copy later) c.in-Finished.is c.in_ok-turn.ensures.counts in
     let none : left ≡ 0 = omega (arith, counts.0) in
@@ -94,7 +95,7 @@ returns-in_ok-tell-in-Finished-clause-turn g c now t more tells ready makes here
     let later : Copying = c.turn.new.self in
     let left : ℕ = copy.count - copy.next in
     let pages : ℕ = c.written.result in
-    let stalled : a.files.state ≡ 1 = copying_stalled old a t now c.args.session left copy.name more ready makes.going here in
+    let stalled : a.files.state ≡ stalled_state = copying_stalled old a t now c.args.session left copy.name more ready makes.going here in
     let copies = subst (λ (p : Progress). CopiesFile (Ok p) old mid a b copy later t) c.in-Finished.is (c.in_ok-turn.ensures.turn t tells ready.opened stalled goes.0 (apart_files a copy.name goes.1)) in
     let counts = subst (λ (p : Progress). CopyCounts (Ok p) copy later) c.in-Finished.is c.in_ok-turn.ensures.counts in
     let none : left ≡ 0 = omega (arith, counts.0) in

@@ -3,6 +3,7 @@ use Rattle.std.specs.Prelude.{min, Err, None}
 use Rattle.std.proofs.Math.Nat.{le-div_iff_mul-le}
 use Rattle.nb_fields.specs.Places.{bits_in, inventory_place}
 use Rattle.nb_fields.proofs.PlaceLemmas.{bits-least}
+use Rattle.nb_fields.specs.Kinds.{inventory_kind}
 use Rattle.nb_page.proofs.QuietLemmas.{quiet_begun, quiet_joined}
 use Rattle.nb_model.specs.Causes.{not_kind}
 use Rattle.nb_model.proofs.MainLaws.{some_page}
@@ -63,7 +64,7 @@ loop-first-preserved g c =
       needs = λ t tells is.
           let low : k * bits_in size < length t.base.image = omega (arith, here, c.loop-first-test.true, c.count-count.ensures.value, is.files.agrees.count) in
           needs_next t.base.image size c.requires.size (c.requires.room ∙ is.files.agrees.page_size) k low
-          (subst (λ (n : ℕ). not_kind t.base.image 2 (inventory_place n k) ≡ None) its_size (counted.test t tells (loop.opened t tells is))) (loop.needs t tells is);
+          (subst (λ (n : ℕ). not_kind t.base.image inventory_kind (inventory_place n k) ≡ None) its_size (counted.test t tells (loop.opened t tells is))) (loop.needs t tells is);
       sum = counted.sum;
       reads = λ tells. pages_read _ _ _ c.loop-first.first c.in_ok-first.first k (λ some. omega (arith, counted.once tells some, counted.end)) (omega (arith, counted.front tells, counted.end)) loop.few (omega (arith, end, c.loop-first-test.true)) (loop.reads tells);
       cause = counted.cause ∙ loop.cause;

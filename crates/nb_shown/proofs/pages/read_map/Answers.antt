@@ -1,4 +1,5 @@
 use Rattle.std.proofs.Common.{◌<◌, ◌≤◌, length, sym, ◌∙◌, arith}
+use Rattle.nb_fields.specs.Kinds.{inventory_kind}
 use Rattle.nb_alloc.proofs.TestLaws.{kind_read, kind_past, kind_other, kind_is}
 use Rattle.nb_shown.proofs.pages.read_map.Goals as goal
 
@@ -19,4 +20,4 @@ returns-clause-reads g c t tells is =
     let low : c.args.place < length t.base.image = omega (arith, is.files.agrees.count, c.count.ensures.value, c.if-place-count.false) in
     let page = c.in_ok-read.ensures.page t tells is low in
     let kind = kind_read c.read_head.result c.read.new.into t.base.image c.args.place c.read_head.ensures page in
-    record { test = kind_is t.base.image 2 c.args.place low (sym kind ∙ c.if-read_head-code.false ∙ c.code.ensures); page = page }
+    record { test = kind_is t.base.image inventory_kind c.args.place low (sym kind ∙ c.if-read_head-code.false ∙ c.code.ensures); page = page }

@@ -1,5 +1,6 @@
 use Rattle.std.proofs.Common.{◌≡◌, ℕ, List, refl, sym, ap, ◌∙◌, arith}
 use Rattle.std.specs.Prelude.{Option, Ok, Err}
+use Rattle.nb_fields.specs.Kinds.{data_kind}
 use Rattle.nb_page.proofs.QuietLemmas.{quiet_begun}
 use Rattle.nb_model.specs.declared.reply.Reply.TheVariants.{Done}
 use Rattle.nb_model.specs.Causes.{read_only}
@@ -54,7 +55,7 @@ returns-in_err-create_in-in-Some-clause-turn g c s t tells same is =
     let last = g.H.Host.world c.create_in.new.host in
     let at = sym c.in-Some.is ∙ tests.room t tells is in
     let page_is = place_data image (new_formed image table new) place at in
-    let kind = none_of (is_kind image 5 place.page) (NotDatabase place.page) page_is.1 in
+    let kind = none_of (is_kind image data_kind place.page) (NotDatabase place.page) page_is.1 in
     let fault = c.in_err-create_in-in-Some.field-0.0 in
     let made = created_in image table place in
     let now = seeing s t.base in
@@ -78,7 +79,7 @@ returns-in_ok-create_in-in-Some-clause-turn g c s t tells same is =
     let last = g.H.Host.world c.create_in.new.host in
     let at = sym c.in-Some.is ∙ tests.room t tells is in
     let page_is = place_data image (new_formed image table new) place at in
-    let kind = none_of (is_kind image 5 place.page) (NotDatabase place.page) page_is.1 in
+    let kind = none_of (is_kind image data_kind place.page) (NotDatabase place.page) page_is.1 in
     let made = created_in image table place in
     let now = seeing s t.base in
     tries_does {T = Unit {0}} done (Ok tt) w last c.args.engine.now c.create_in.new.engine t s (λ (x : Seen). create_turn x table) (unmade image made) Done refl made.strokes same
@@ -100,7 +101,7 @@ returns-in_err-create_behind-in-None-clause-turn g c s t tells same is =
     let none = sym c.in-None.is ∙ tests.room t tells is in
     let last_is = tests.last t tells is in
     let last_page : ℕ = last_of (found_pages Catalogue image) in
-    let kind = ap (is_kind image 5) last_is ∙ none_of (is_kind image 5 last_page) (NotDatabase last_page) (last_kind Catalogue image (new_formed image table new)) in
+    let kind = ap (is_kind image data_kind) last_is ∙ none_of (is_kind image data_kind last_page) (NotDatabase last_page) (last_kind Catalogue image (new_formed image table new)) in
     let fault = c.in_err-create_behind-in-None.field-0.0 in
     let made = created_behind image table in
     let now = seeing s t.base in
@@ -124,7 +125,7 @@ returns-in_ok-create_behind-in-None-clause-turn g c s t tells same is =
     let none = sym c.in-None.is ∙ tests.room t tells is in
     let last_is = tests.last t tells is in
     let last_page : ℕ = last_of (found_pages Catalogue image) in
-    let kind = ap (is_kind image 5) last_is ∙ none_of (is_kind image 5 last_page) (NotDatabase last_page) (last_kind Catalogue image (new_formed image table new)) in
+    let kind = ap (is_kind image data_kind) last_is ∙ none_of (is_kind image data_kind last_page) (NotDatabase last_page) (last_kind Catalogue image (new_formed image table new)) in
     let made = created_behind image table in
     let now = seeing s t.base in
     tries_does {T = Unit {0}} done (Ok tt) w end c.args.engine.now c.create_behind.new.engine t s (λ (x : Seen). create_turn x table) (unmade image made) Done refl made.strokes same

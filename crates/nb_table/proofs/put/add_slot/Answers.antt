@@ -1,5 +1,6 @@
 use Rattle.std.proofs.Common.{◌≡◌, ℕ, List, sym, ap, ◌∙◌}
 use Rattle.std.specs.Prelude.{true, Ok, Err}
+use Rattle.nb_fields.specs.Kinds.{data_kind}
 use Rattle.nb_host.specs.declared.refusals.Refusal.TheVariants.{NotDatabase}
 use Rattle.nb_model.specs.Forms.{drafted, is_kind}
 use Rattle.nb_model.specs.Chains.{found_pages, last_of, grown, place_slot}
@@ -45,7 +46,7 @@ returns-in_err-data_grow-in-None-clause-tries g c t chain tells is owner formed 
     let after = c.data_grow.new.self in
     let into = place_slot chain pages bytes (drafted image) in
     let grows = (grown chain pages bytes (drafted image)).0 in
-    let is_data : is_kind image 5 c.args.last ≡ true = ap (is_kind image 5) last ∙ none_of (is_kind image 5 (last_of pages)) (NotDatabase (last_of pages)) (last_kind chain image formed) in
+    let is_data : is_kind image data_kind c.args.last ≡ true = ap (is_kind image data_kind) last ∙ none_of (is_kind image data_kind (last_of pages)) (NotDatabase (last_of pages)) (last_kind chain image formed) in
     let fault = c.in_err-data_grow-in-None.field-0.0 in
     tries_passed c.from_residual-in_err-data_grow-in-None.result fault (λ r. Tries r w new c.args.engine.now after t (place_cause chain t.base.image bytes) into.strokes) c.from_residual-in_err-data_grow-in-None.ensures
     (behind_tries image chain formed bytes none {T = Unit {0}} (Err fault) w new c.args.engine.now after t
@@ -61,6 +62,6 @@ returns-in_ok-data_grow-in-None-clause-tries g c t chain tells is owner formed r
     let new = g.H.Host.world c.data_grow.new.host in
     let after = c.data_grow.new.self in
     let grows = (grown chain pages bytes (drafted image)).0 in
-    let is_data : is_kind image 5 c.args.last ≡ true = ap (is_kind image 5) last ∙ none_of (is_kind image 5 (last_of pages)) (NotDatabase (last_of pages)) (last_kind chain image formed) in
+    let is_data : is_kind image data_kind c.args.last ≡ true = ap (is_kind image data_kind) last ∙ none_of (is_kind image data_kind (last_of pages)) (NotDatabase (last_of pages)) (last_kind chain image formed) in
     behind_tries image chain formed bytes none {T = Unit {0}} (Ok tt) w new c.args.engine.now after t
     (tries_valued {S = ℕ} {T = Unit {0}} _ tt w new c.args.engine.now after t (unmade image grows) grows.strokes (c.in_ok-data_grow-in-None.ensures.makes t chain pages tells is owner last is_data))

@@ -1,5 +1,6 @@
 use Rattle.std.proofs.Common.{rules, ◌≡◌, ℕ, List, length, drop, subst, sym}
 use Rattle.std.proofs.lemmas.List.{take_at}
+use Rattle.nb_fields.specs.Kinds.{scn_kind}
 use Rattle.nb_model.specs.Causes.{not_kind}
 use Rattle.nb_alloc.specs.Put.{Reads}
 use Rattle.nb_alloc.proofs.pages.ScnPage.read.Goals as goal
@@ -7,5 +8,5 @@ use Rattle.nb_alloc.proofs.pages.ScnPage.read.Goals as goal
 pub returns-clause-reads : goal.returns-clause-reads
 returns-clause-reads g c t tells is =
     let whole : length c.take_system.new.into ≡ c.self.inside.bytes.len = search rules in
-    subst (λ (bytes : List ℕ). Reads c.take_system.result t.base.image (not_kind t.base.image 10 c.args.place) c.args.place bytes)
+    subst (λ (bytes : List ℕ). Reads c.take_system.result t.base.image (not_kind t.base.image scn_kind c.args.place) c.args.place bytes)
     (sym (take_at c.take_system.new.into (drop (length c.take_system.new.into) c.self.inside.bytes.items) c.self.inside.bytes.len whole)) (c.take_system.ensures.reads t tells is)

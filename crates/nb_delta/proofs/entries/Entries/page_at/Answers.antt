@@ -1,5 +1,6 @@
 use Rattle.std.proofs.Common.{ℕ, List, ◌<◌, length, subst, sym, arith}
 use Rattle.std.proofs.lemmas.List.{get_or_read}
+use Rattle.nb_fields.specs.Places.{most_pages}
 use Rattle.nb_delta.proofs.EntryLemmas.{entry_below}
 use Rattle.nb_delta.proofs.entries.Entries.page_at.Goals as goal
 
@@ -8,4 +9,4 @@ returns-clause-below c =
     let pages : List ℕ = c.self.inside.pages.items in
     let inside : c.args.place < length pages = subst (λ (xs : List ℕ). c.args.place < length xs) (sym c.self.view_is) c.requires in
     let value = get_or_read pages c.args.place c.index.result.now inside c.index.ensures 0 in
-    omega (arith, entry_below pages 1048576 c.self.invariant.0.below c.args.place inside, value)
+    omega (arith, entry_below pages most_pages c.self.invariant.0.below c.args.place inside, value)

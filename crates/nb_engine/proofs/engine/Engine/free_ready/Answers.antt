@@ -2,6 +2,7 @@ use Rattle.std.proofs.Common.{◌≡◌, ℕ, ◌/◌, List, [], ◌∷◌, ◌+
 use Rattle.std.specs.Prelude.{Bool, true, false, IsTrue}
 use Rattle.std.proofs.lemmas.List.{append-nil}
 use Rattle.nb_fields.specs.Places.{is_page_size, bits_in}
+use Rattle.nb_fields.specs.Kinds.{inventory_kind}
 use Rattle.nb_model.specs.Causes.{lowest_broken}
 use Rattle.nb_model.specs.Forms.{is_kind, inventory_of, system_kind}
 use Rattle.nb_model.specs.Image.{image_size}
@@ -29,9 +30,9 @@ returns-then-there-clause-value g c t tells is =
     let lacking = ap (λ (q : ℕ). entry_broken image q) at in
     let found : page_in c.in_ok-lacking.lacking ≡ entry_broken image i = c.in_ok-lacking.ensures.value t tells here ∙ lacking in
     let kind : system_kind image i ≡ 2 = kind_map image i page (inventory_there (image_size image) (c.args.number / bits_in (image_size image)) page) in
-    let map : (u : Bool) → c.in_ok-there.there ≡ u → is_kind image 2 i ≡ u =
+    let map : (u : Bool) → c.in_ok-there.there ≡ u → is_kind image inventory_kind i ≡ u =
     λ u e. ap (λ (n : ℕ). is_kind image n i) (sym kind) ∙ ap (λ (q : ℕ). is_kind image (system_kind image q) q) (sym at) ∙ sym (c.in_ok-there.ensures.value t tells (c.in_ok-lacking.ensures.open t tells here)) ∙ e in
-    lacking_cause c.in_ok-lacking.lacking (give_broken image c.args.number) (found ∙ sym (append-nil (entry_broken image i)) ∙ ap (λ (ps : List ℕ). entry_broken image i ++ ps) (sym (other_none image 2 i (map true c.if-there.true))))
+    lacking_cause c.in_ok-lacking.lacking (give_broken image c.args.number) (found ∙ sym (append-nil (entry_broken image i)) ∙ ap (λ (ps : List ℕ). entry_broken image i ++ ps) (sym (other_none image inventory_kind i (map true c.if-there.true))))
 
 pub returns-clause-value : goal.returns-clause-value
 returns-clause-value g c t tells is =
@@ -44,7 +45,7 @@ returns-clause-value g c t tells is =
     let lacking = ap (λ (q : ℕ). entry_broken image q) at in
     let found : page_in c.in_ok-lacking.lacking ≡ entry_broken image i = c.in_ok-lacking.ensures.value t tells here ∙ lacking in
     let kind : system_kind image i ≡ 2 = kind_map image i page (inventory_there (image_size image) (c.args.number / bits_in (image_size image)) page) in
-    let map : (u : Bool) → c.in_ok-there.there ≡ u → is_kind image 2 i ≡ u =
+    let map : (u : Bool) → c.in_ok-there.there ≡ u → is_kind image inventory_kind i ≡ u =
     λ u e. ap (λ (n : ℕ). is_kind image n i) (sym kind) ∙ ap (λ (q : ℕ). is_kind image (system_kind image q) q) (sym at) ∙ sym (c.in_ok-there.ensures.value t tells (c.in_ok-lacking.ensures.open t tells here)) ∙ e in
     sym c.lower_page.ensures ∙ ap (λ (ps : List ℕ). lowest_broken (ps ++ c.place_of-place.result ∷ [])) found
-    ∙ ap (λ (n : ℕ). lowest_broken (entry_broken image i ++ n ∷ [])) at ∙ ap (λ (ps : List ℕ). lowest_broken (entry_broken image i ++ ps)) (sym (other_page image 2 i true (map false c.if-there.false)))
+    ∙ ap (λ (n : ℕ). lowest_broken (entry_broken image i ++ n ∷ [])) at ∙ ap (λ (ps : List ℕ). lowest_broken (entry_broken image i ++ ps)) (sym (other_page image inventory_kind i true (map false c.if-there.false)))

@@ -1,6 +1,7 @@
 use Rattle.std.proofs.Common.{◌≡◌, ℕ, List, [], ◌∷◌, sym, ap, subst, ◌∙◌}
 use Rattle.std.specs.Prelude.{IsTrue, true, None, Ok, Err}
 use Rattle.nb_fields.specs.Page.{kind_of}
+use Rattle.nb_fields.specs.Kinds.{data_kind}
 use Rattle.nb_page.proofs.QuietLemmas.{quiet_joined}
 use Rattle.nb_model.specs.Image.{page_at}
 use Rattle.nb_model.specs.Strokes.{Stroke}
@@ -40,7 +41,7 @@ module _ (g : _) (c : goal.In-Some g) (t : Trail) (tells : IsTrue g.H.Host.tells
       let here = subst (λ (h : Held). IsOpen (g.H.Host.world c.args.host.now) h t) (sym c.self.view_is) is in
       room_some _ c.in-Some.room (sym (ap (λ (x : Walked). x.room) (c.in_ok-walked.ensures.walked t tells here)) ∙ c.in-Some.is)
 
-  kind : kind_of (page_at t.base.image c.in-Some.room.page) ≡ 5
+  kind : kind_of (page_at t.base.image c.in-Some.room.page) ≡ data_kind
   kind = ap (λ (n : ℕ). kind_of (page_at t.base.image n)) kept.page ∙ (spot_data t.base.image linked_some kept.spot kept.is).kind
 
   cause_is : room_cause t.base.image ≡ first_cause (not_of_form (taken_draft t.base.image c.in-Some.room.page) ∷ no_scn t.base.image ∷ [])
@@ -62,10 +63,10 @@ module _ (g : _) (c : goal.In-None g) (t : Trail) (tells : IsTrue g.H.Host.tells
   last_is : c.in_ok-walked.last ≡ last_of (found_pages History t.base.image)
   last_is = c.in_ok-walked.ensures.last t tells (subst (λ (h : Held). IsOpen (g.H.Host.world c.args.host.now) h t) (sym c.self.view_is) is)
 
-  is_data : is_kind t.base.image 5 c.in_ok-walked.last ≡ true
+  is_data : is_kind t.base.image data_kind c.in_ok-walked.last ≡ true
   is_data =
       let data_page = last_data t.base.image linked_none in
-      ap (is_kind t.base.image 5) last_is ∙ kind_from t.base.image 5 (last_of (found_pages History t.base.image)) data_page.low data_page.kind
+      ap (is_kind t.base.image data_kind) last_is ∙ kind_from t.base.image data_kind (last_of (found_pages History t.base.image)) data_page.low data_page.kind
 
   shaped : IsSearchable t.base.image
   shaped = searchable_of _ _ t (subst (λ (h : Held). IsOpen (g.H.Host.world c.args.host.now) h t) (sym c.self.view_is) is) c.self.invariant.0 (history_least t.base.image linked_none)

@@ -1,5 +1,6 @@
 use Rattle.std.proofs.Common.{◌≡◌, ◌≢◌, ℕ, ◌∙◌, refl, sym, ap, subst, rules, arith}
 use Rattle.std.specs.Prelude.{None, Some, Ok, Err, IfErr}
+use Rattle.nb_fields.specs.States.{normal_state}
 use denote.Enum.Bare.{same_true, same_false}
 use Rattle.nb_host.specs.declared.faults.Fault.TheVariants.{Memory}
 use Rattle.nb_host.specs.declared.refusals.Refusal.TheVariants.{WrongState}
@@ -25,10 +26,10 @@ returns-then-eq-clause-turn g c s t tells same is =
     let first = g.H.Host.world c.args.host.now in
     let here = subst (λ (h : Held). IsOpen first h t) (sym c.self.view_is) is in
     let state = c.state-state.ensures.value ∙ here.files.agrees.state in
-    let says : OnOpen (not_state 0) c.state-state.result case.WrongState = subst (OnOpen (not_state 0) c.state-state.result) (same_true the_type (search rules) c.case_of.result case.WrongState (sym c.eq.ensures ∙ c.if-eq.true)) c.case_of.ensures in
+    let says : OnOpen (not_state normal_state) c.state-state.result case.WrongState = subst (OnOpen (not_state normal_state) c.state-state.result) (same_true the_type (search rules) c.case_of.result case.WrongState (sym c.eq.ensures ∙ c.if-eq.true)) c.case_of.ensures in
     let other = says t.base.image (sym state) ∙ ap (λ (n : ℕ). Some (WrongState n)) (sym c.from.ensures) in
     tries_does done _ first first _ _ t s (λ (x : Seen). access_turn x c.args.closed) _ Done refl _ same (access_is (seeing s t.base) c.args.closed) tt
-    (tries_failed (Unit {0}) _ first first _ _ t (not_state 0 t.base.image) _ other refl (quiet_begun first (g.met.H.Host.timely c.args.host.now)) is is)
+    (tries_failed (Unit {0}) _ first first _ _ t (not_state normal_state t.base.image) _ other refl (quiet_begun first (g.met.H.Host.timely c.args.host.now)) is is)
 
 pub returns-in_err-put_flag-clause-turn : goal.returns-in_err-put_flag-clause-turn
 returns-in_err-put_flag-clause-turn g c s t tells same is =
@@ -37,15 +38,15 @@ returns-in_err-put_flag-clause-turn g c s t tells same is =
     let here = subst (λ (h : Held). IsOpen old h t) (sym c.self.view_is) is in
     let other = same_false the_type c.case_of.result case.WrongState (sym c.eq.ensures ∙ c.if-eq.false) in
     let state = c.state-state.ensures.value ∙ here.files.agrees.state in
-    let free : None ≡ not_state 0 t.base.image = sym (goes (not_state 0) c.state-state.result c.state-state.ensures.most c.case_of.result c.case_of.ensures other t.base.image (sym state)) in
+    let free : None ≡ not_state normal_state t.base.image = sym (goes (not_state normal_state) c.state-state.result c.state-state.ensures.most c.case_of.result c.case_of.ensures other t.base.image (sym state)) in
     let fault = c.in_err-put_flag.field-0.0 in
     let result = c.from_residual.result in
     let xs = byte_strokes 65 (flag c.args.closed) t.base.image in
     let made = subst (λ (n : ℕ). Tries {T = Unit {0}} (Err fault) old new c.self.inside.store c.put_flag.new.store t None (byte_strokes n (flag c.args.closed) t.base.image)) (ap (λ (place : ℕ × ℕ). place.0) c.place-at.ensures) (c.in_err-put_flag.ensures.tries t tells here) in
     let tries = subst (λ (k : Cause). Tries {T = Unit {0}} (Err fault) old new c.self.inside.store c.put_flag.new.store t k xs) free made in
     tries_does done result old new _ _ t s (λ (x : Seen). access_turn x c.args.closed) _ Done refl _ same (access_is (seeing s t.base) c.args.closed) (if_err result fault _ c.from_residual.ensures)
-    (tries_passed result fault (λ r. Tries r old new c.args.self.now c.put_flag.new.store t (not_state 0 t.base.image) xs) c.from_residual.ensures
-    (subst (λ (h : Held). Tries {T = Unit {0}} (Err fault) old new h c.put_flag.new.store t (not_state 0 t.base.image) xs) c.self.view_is tries))
+    (tries_passed result fault (λ r. Tries r old new c.args.self.now c.put_flag.new.store t (not_state normal_state t.base.image) xs) c.from_residual.ensures
+    (subst (λ (h : Held). Tries {T = Unit {0}} (Err fault) old new h c.put_flag.new.store t (not_state normal_state t.base.image) xs) c.self.view_is tries))
 
 pub returns-clause-turn : goal.returns-clause-turn
 returns-clause-turn g c s t tells same is =
@@ -54,12 +55,12 @@ returns-clause-turn g c s t tells same is =
     let here = subst (λ (h : Held). IsOpen old h t) (sym c.self.view_is) is in
     let other = same_false the_type c.case_of.result case.WrongState (sym c.eq.ensures ∙ c.if-eq.false) in
     let state = c.state-state.ensures.value ∙ here.files.agrees.state in
-    let free : None ≡ not_state 0 t.base.image = sym (goes (not_state 0) c.state-state.result c.state-state.ensures.most c.case_of.result c.case_of.ensures other t.base.image (sym state)) in
+    let free : None ≡ not_state normal_state t.base.image = sym (goes (not_state normal_state) c.state-state.result c.state-state.ensures.most c.case_of.result c.case_of.ensures other t.base.image (sym state)) in
     let xs = byte_strokes 65 (flag c.args.closed) t.base.image in
     let made = subst (λ (n : ℕ). Tries {T = Unit {0}} (Ok tt) old new c.self.inside.store c.put_flag.new.store t None (byte_strokes n (flag c.args.closed) t.base.image)) (ap (λ (place : ℕ × ℕ). place.0) c.place-at.ensures) (c.in_ok-put_flag.ensures.tries t tells here) in
     let tries = subst (λ (k : Cause). Tries {T = Unit {0}} (Ok tt) old new c.self.inside.store c.put_flag.new.store t k xs) free made in
     tries_does done (Ok tt) old new _ _ t s (λ (x : Seen). access_turn x c.args.closed) _ Done refl _ same (access_is (seeing s t.base) c.args.closed) refl
-    (subst (λ (h : Held). Tries {T = Unit {0}} (Ok tt) old new h c.put_flag.new.store t (not_state 0 t.base.image) xs) c.self.view_is tries)
+    (subst (λ (h : Held). Tries {T = Unit {0}} (Ok tt) old new h c.put_flag.new.store t (not_state normal_state t.base.image) xs) c.self.view_is tries)
 
 pub returns-in_err-put_flag-clause-takes_none : goal.returns-in_err-put_flag-clause-takes_none
 returns-in_err-put_flag-clause-takes_none g c =

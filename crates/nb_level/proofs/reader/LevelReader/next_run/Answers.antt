@@ -2,6 +2,7 @@ use Rattle.std.proofs.Common.{◌≡◌, ◌+◌, ◌-◌, ◌≤◌, List, ℕ,
 use Rattle.nb_fields.specs.Bytes.{number_in}
 use Rattle.nb_fields.proofs.PartLemmas.{number_in-take}
 use Rattle.nb_fields.proofs.SizeLemmas.{size_facts}
+use Rattle.nb_fields.specs.Places.{most_pages}
 use Rattle.nb_host.specs.Files.{bytes_of}
 use Rattle.nb_level.specs.Reading.{Reading}
 use Rattle.nb_level.proofs.NextLemmas.{filled, to_end, window_is, page_is, run-broken, run-end, run-gives}
@@ -61,7 +62,7 @@ returns-in-Ok-Some-clause-answer g c =
     let seen : c.deref.result.now ≡ c.read_at.new.into = c.deref.ensures.value ∙ filled i.buffer.len c.read_at.new.into i.buffer.items (omega (arith, room)) in
     let rest : List ℕ = drop i.place.at bytes in
     let next : c.in-Ok-Some.field-0 ≡ Some (c.in-Ok-Some.number, c.in-Ok-Some.pages) = c.in-Ok-Some.field-0-is in
-    let sound = subst (λ (o : Option (ℕ × ℕ)). IfSome o (λ p. (length window ≡ 8 + i.head.page_size) × (i.place.least ≤ p.0) × (1 ≤ p.1) × (p.1 ≤ 16) × (p.0 + p.1 ≤ 1048576))) next c.in-Ok-Some.ensures.run in
+    let sound = subst (λ (o : Option (ℕ × ℕ)). IfSome o (λ p. (length window ≡ 8 + i.head.page_size) × (i.place.least ≤ p.0) × (1 ≤ p.1) × (p.1 ≤ 16) × (p.0 + p.1 ≤ most_pages))) next c.in-Ok-Some.ensures.run in
     let step = ap (λ (o : Option (ℕ × ℕ)). Ok o) (sym next) ∙ c.in-Ok-Some.ensures.step in
     rw (← c.self.view_is) (λ told.
     let is = window_is c.in_ok-got.got (8 + i.head.page_size) c.deref.result.now c.read_at.new.into c.deref_mut.result.now rest seen (c.in_ok-got.ensures.answer told).bytes room in
@@ -85,7 +86,7 @@ returns-in-Ok-Some-clause-there g c =
     let rest : List ℕ = drop i.place.at bytes in
     let next : c.in-Ok-Some.field-0 ≡ Some (c.in-Ok-Some.number, c.in-Ok-Some.pages) = c.in-Ok-Some.field-0-is in
     let due = subst (λ (o : Option (ℕ × ℕ)). IfSome o (λ p. p.0 ≡ number_in 0 4 window)) next c.in-Ok-Some.ensures.number in
-    let sound = subst (λ (o : Option (ℕ × ℕ)). IfSome o (λ p. (length window ≡ 8 + i.head.page_size) × (i.place.least ≤ p.0) × (1 ≤ p.1) × (p.1 ≤ 16) × (p.0 + p.1 ≤ 1048576))) next c.in-Ok-Some.ensures.run in
+    let sound = subst (λ (o : Option (ℕ × ℕ)). IfSome o (λ p. (length window ≡ 8 + i.head.page_size) × (i.place.least ≤ p.0) × (1 ≤ p.1) × (p.1 ≤ 16) × (p.0 + p.1 ≤ most_pages))) next c.in-Ok-Some.ensures.run in
     rw (← c.self.view_is) (λ told.
     let is = window_is c.in_ok-got.got (8 + i.head.page_size) c.deref.result.now c.read_at.new.into c.deref_mut.result.now rest seen (c.in_ok-got.ensures.answer told).bytes room in
     let page = page_is 8 i.head.page_size c.in_ok-got.got c.deref.result.now rest (omega (arith, ap length seen, room)) (omega (arith, room, c.in_ok-got.ensures.room)) is sound.0 in

@@ -1,5 +1,6 @@
 use Rattle.std.proofs.Common.{◌≡◌, ℕ, ◌+◌, List, refl, sym, ap, subst, ◌∙◌, arith}
 use Rattle.std.specs.Prelude.{Result}
+use Rattle.nb_fields.specs.States.{stalled_state}
 use Rattle.nb_host.specs.World.{World}
 use Rattle.nb_host.specs.declared.faults.Fault.{Fault}
 use Rattle.nb_host.specs.declared.faults.Fault.TheVariants.{Device}
@@ -56,7 +57,7 @@ returns-clause-ends g c t tells given =
     let held : Held = c.args.self.now in
     let is = subst (λ (h : Held). IsOpen old h t) (sym c.self.view_is) given in
     let quiet = no_call old (g.met.H.Host.timely _) in
-    let other : image_state t.base.image ≡ 1 → ⊥ = λ e. c.if-state-eq1.false (c.state.ensures.value ∙ is.files.agrees.state ∙ e) in
+    let other : image_state t.base.image ≡ stalled_state → ⊥ = λ e. c.if-state-eq1.false (c.state.ensures.value ∙ is.files.agrees.state ∙ e) in
     let allowed = c.in_ok-check_end.ensures.test t.base.image given.files.agrees.state in
     let strokes = end_other t.base.image other in
     end_done old old held _ t c.args.session allowed (none_yet old old held t _ quiet given) (gave_none old old quiet) (ap (λ (h : Held). name_of h) c.self.view_is) _ (is.agrees.scn ∙ sym (scn_other t.base.image other))
