@@ -24,7 +24,7 @@ use std::alloc::Global;
 /// How many pages a database has at least and at most.
 const LEAST_PAGES: u64 = 5;
 
-const MOST_PAGES: u64 = 1_048_576;
+const MOST_PAGES: u64 = nb_fields::MOST_PAGES as u64;
 
 /// What the start of a main file says of a database.
 #[derive(Clone, Copy)]

@@ -19,6 +19,7 @@ use crate::attach::{attach_delta, count_with, find_length, keep_files, read_star
 use crate::reads::read_owned;
 use nb_delta::Delta;
 use nb_fields::layouts::header;
+use nb_fields::states::NORMAL;
 use nb_host::{Fault, Host, HostFault, Name, Refusal};
 use nb_page::{fresh, fresh_count, is_free};
 use std::alloc::Global;
@@ -137,7 +138,7 @@ impl TwoFiles {
         let count = create_file(host, name, &mut page, raw)?;
         Ok(TwoFiles {
             name: name.copied(),
-            state: 0,
+            state: NORMAL,
             forced: true,
             count,
             main_count: count,

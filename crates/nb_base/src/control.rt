@@ -19,14 +19,8 @@ ghost use Rattle.nb_base.specs.Takes.{TakesFirm};
 use crate::TwoFiles;
 use crate::reads::read_owned;
 use nb_fields::layouts::{head, header};
+use nb_fields::states::{MERGE, NORMAL, STALLED};
 use nb_host::{Host, HostFault, Name};
-
-/// The backup states.
-const NORMAL: u16 = 0;
-
-pub(crate) const STALLED: u16 = 1;
-
-pub(crate) const MERGE: u16 = 2;
 
 /// Sets the control block of page 0. Its generation rises by one, and the SCN is its stamp.
 fn set_block(page: &mut [u8], state: u16, scn: u32, guid: &[u8; 16])

@@ -19,10 +19,10 @@ ghost use Rattle.nb_base.specs.Seen.{IsSeen, IsWrite};
 ghost use Rattle.nb_base.specs.Takes.{TakesFirm};
 ghost use Rattle.nb_base.specs.Touches.{Touches, WritesIn};
 
-use crate::control::{MERGE, STALLED};
 use nb_cases::syncs_of;
 use nb_delta::Delta;
 use nb_fields::is_scn_place;
+use nb_fields::states::{MERGE, STALLED};
 use nb_host::{Host, HostFault, Name, RunError};
 
 /// Whether a write of page `number` is kept for good: writes are forced, or it makes the database of `count` pages longer, or it is

@@ -6,9 +6,6 @@ use std::alloc::{AllocError, Global};
 use std::collections::BTreeMap;
 use std::marker::Model;
 
-/// How many pages a database has at most.
-pub const MOST_PAGES: u32 = 1_048_576;
-
 /// The numbers of the pages that a difference file holds, in the order of their slots, with an index.
 #[derive(Drop)]
 pub struct Entries {

@@ -7,9 +7,9 @@ ghost use Rattle.nb_fields.specs.Table.{page_in, alloc_place, entries_from, grou
 ghost use Rattle.nb_page.specs.Quiet.{Quiet};
 ghost use Rattle.nb_delta.specs.Reading.{is_unfit, Counts, Reads, ReadsOn, ReadsGroup};
 
-use crate::entries::{Entries, MOST_PAGES};
+use crate::entries::Entries;
 use crate::places::{alloc_page_of, slots_in};
-use nb_fields::number_at;
+use nb_fields::{MOST_PAGES, number_at};
 use nb_host::{Fault, Host, Name, Refusal};
 
 fn broken(page: u32) -> Fault

@@ -13,6 +13,7 @@ mod field;
 mod kinds;
 pub mod layouts;
 mod places;
+pub mod states;
 
 pub use bytes::{are_zeros, number_at, put_number};
 pub use cases::CaseTable;

@@ -24,10 +24,8 @@ ghost use Rattle.nb_owner.specs.Open.{IsOpen, AreOf, GoesOut, GoesSlot, IsValid,
 
 use crate::Pair;
 use nb_fields::is_scn_place;
+use nb_fields::states::STALLED;
 use nb_host::{Host, HostFault, RunError};
-
-/// The backup state in which pages go into their slots.
-const STALLED: u16 = 1;
 
 /// The rank of a page that goes into its slot.
 const SLOT: u8 = 0;

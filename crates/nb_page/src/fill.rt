@@ -8,6 +8,7 @@ ghost use Rattle.nb_page.specs.Blank.{IsBlank};
 use crate::count::fresh_count;
 use crate::{Header, write_header};
 use nb_fields::layouts::{data, header, inventory, scn_inventory};
+use nb_fields::states::NORMAL;
 use nb_fields::{bits_in, entries_in, put_number};
 
 /// The header of a new database after the head of its page: state 0, SCN 1 and nil GUIDs.
@@ -19,7 +20,7 @@ pub(crate) fn fill_header(page: &mut [u8])
 {
     let fresh = Header {
         page_size: page.len() as u32,
-        state: 0,
+        state: NORMAL,
         scn: 1,
         guid: [0; 16],
         pending: [0; 16],

@@ -7,6 +7,7 @@ ghost use Rattle.nb_page.specs.Quiet.{Quiet};
 use crate::read_header;
 use nb_fields::are_zeros;
 use nb_fields::layouts::header;
+use nb_fields::states::APPLYING;
 use nb_host::{Host, HostFault, MOST_BASE_NAME, Name};
 
 /// Whether a restore was stopped in a file that begins so.
@@ -17,7 +18,7 @@ fn is_unfinished(first: &[u8]) -> bool
         return false;
     }
     match read_header(first) {
-        Some(header) => header.state == 3 && are_zeros(&header.pending),
+        Some(header) => header.state == APPLYING && are_zeros(&header.pending),
         None => false,
     }
 }

@@ -7,6 +7,7 @@ ghost use Rattle.nb_fields.specs.Kinds.{header_kind};
 ghost use Rattle.nb_page.specs.Header.{header_in, block_of, HasForm};
 
 use nb_fields::layouts::{head, header};
+use nb_fields::states::{APPLYING, STALLED};
 use nb_fields::{fields, is_page_size};
 
 /// What the control block of a database holds.
@@ -58,10 +59,10 @@ impl Header {
     fn is_sound(&self) -> bool
         ensures { result ≡ is_sound self.now.state self.now.page_size self.now.scn }
     {
-        self.state <= 3
+        self.state <= APPLYING
             && is_page_size(u64::from(self.page_size))
             && self.scn >= 1
-            && (self.state != 1 || self.scn < u32::MAX)
+            && (self.state != STALLED || self.scn < u32::MAX)
     }
 }
 

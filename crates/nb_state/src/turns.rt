@@ -15,6 +15,7 @@ ghost use Rattle.nb_state.specs.Turns.{Begins, Ends, Merges, GaveAtMost, GoesOn,
 
 use crate::Store;
 use nb_cases::{Case, Event, case_of};
+use nb_fields::states::STALLED;
 use nb_host::{Fault, Host, HostFault, Refusal};
 
 /// A backup and its end need two SCNs more.
@@ -132,7 +133,7 @@ impl Store {
         ensures takes_none { IfErr result (λ fault. fault ≢ Memory) }
     {
         self.check_end(session)?;
-        if self.pair.state() == 1 {
+        if self.pair.state() == STALLED {
             let scn = self.end_stalled(host, session)?;
             return Ok(scn);
         }

@@ -13,13 +13,13 @@ returns-then-first-lt-LENGTH c =
     let first = c.args.first.now in
     sym (ap (λ b. b && (state_of first == applying_state) && is_zeros (pending_of first)) (is_header-short first c.if-first-lt-LENGTH.true))
 
-pub returns-then-header-eq3 : goal.returns-then-header-eq3
-returns-then-header-eq3 c =
+pub returns-then-header-eq-APPLYING : goal.returns-then-header-eq-APPLYING
+returns-then-header-eq-APPLYING c =
     c.are_zeros.ensures ∙ sym (is_unfinished-fields c.args.first.now c.in-Some.header (sym c.in-Some.ensures.exact) c.in-Some.ensures.value
-    ∙ ap (λ b. b && is_zeros c.in-Some.header.pending) (eq-eqb c.in-Some.header.state 3 c.if-header-eq3.true))
+    ∙ ap (λ b. b && is_zeros c.in-Some.header.pending) (eq-eqb c.in-Some.header.state 3 c.if-header-eq-APPLYING.true))
 
-pub returns-else-header-eq3 : goal.returns-else-header-eq3
-returns-else-header-eq3 c =
-    let differs = ne_eqb c.in-Some.header.state 3 c.if-header-eq3.false in
+pub returns-else-header-eq-APPLYING : goal.returns-else-header-eq-APPLYING
+returns-else-header-eq-APPLYING c =
+    let differs = ne_eqb c.in-Some.header.state 3 c.if-header-eq-APPLYING.false in
     differs ∙ sym (is_unfinished-fields c.args.first.now c.in-Some.header (sym c.in-Some.ensures.exact) c.in-Some.ensures.value
     ∙ ap (λ b. b && is_zeros c.in-Some.header.pending) differs)

@@ -28,18 +28,18 @@ returns-in_err-scn-clause-ends g c t tells is =
     let old : World = g.H.Host.world c.args.host.now in
     let new : World = g.H.Host.world c.end_stalled.new.host in
     let held : Held = c.args.self.now in
-    let stalled = sym is.files.agrees.state ∙ sym (ap (λ (h : Held). h.files.state) c.self.view_is) ∙ sym c.state.ensures.value ∙ c.if-state-eq1.true in
+    let stalled = sym is.files.agrees.state ∙ sym (ap (λ (h : Held). h.files.state) c.self.view_is) ∙ sym c.state.ensures.value ∙ c.if-state-eq-STALLED.true in
     let allowed = c.in_ok-check_end.ensures.test t.base.image is.files.agrees.state in
     let struck = subst (λ (ss : List Stroke). Strikes old new (name_of held) t ss) (sym (end_stalled t.base.image stalled)) (c.end_stalled.ensures.takes t tells is).left in
     subst (λ (r : Result ℕ Fault). Ends r old new held c.end_stalled.new.self t c.args.session) (sym (passed_on c.from_residual-in_err-scn.result Device c.from_residual-in_err-scn.ensures))
     (end_failed old new held c.end_stalled.new.self t c.args.session allowed struck c.end_stalled.ensures.gave c.end_stalled.ensures.name)
 
-pub returns-then-state-eq1-clause-ends : goal.returns-then-state-eq1-clause-ends
-returns-then-state-eq1-clause-ends g c t tells is =
+pub returns-then-state-eq-STALLED-clause-ends : goal.returns-then-state-eq-STALLED-clause-ends
+returns-then-state-eq-STALLED-clause-ends g c t tells is =
     let old : World = g.H.Host.world c.args.host.now in
     let new : World = g.H.Host.world c.end_stalled.new.host in
     let held : Held = c.args.self.now in
-    let now = sym (ap (λ (h : Held). h.files.state) c.self.view_is) ∙ sym c.state.ensures.value ∙ c.if-state-eq1.true in
+    let now = sym (ap (λ (h : Held). h.files.state) c.self.view_is) ∙ sym c.state.ensures.value ∙ c.if-state-eq-STALLED.true in
     let stalled = sym is.files.agrees.state ∙ now in
     let allowed = c.in_ok-check_end.ensures.test t.base.image is.files.agrees.state in
     let ended = c.in_ok-scn.ensures in
@@ -57,7 +57,7 @@ returns-clause-ends g c t tells given =
     let held : Held = c.args.self.now in
     let is = subst (λ (h : Held). IsOpen old h t) (sym c.self.view_is) given in
     let quiet = no_call old (g.met.H.Host.timely _) in
-    let other : image_state t.base.image ≡ stalled_state → ⊥ = λ e. c.if-state-eq1.false (c.state.ensures.value ∙ is.files.agrees.state ∙ e) in
+    let other : image_state t.base.image ≡ stalled_state → ⊥ = λ e. c.if-state-eq-STALLED.false (c.state.ensures.value ∙ is.files.agrees.state ∙ e) in
     let allowed = c.in_ok-check_end.ensures.test t.base.image given.files.agrees.state in
     let strokes = end_other t.base.image other in
     end_done old old held _ t c.args.session allowed (none_yet old old held t _ quiet given) (gave_none old old quiet) (ap (λ (h : Held). name_of h) c.self.view_is) _ (is.agrees.scn ∙ sym (scn_other t.base.image other))
