@@ -6,8 +6,8 @@ use Rattle.nb_fields.specs.Bytes.{bytes_of, with_part, padded}
 use Rattle.nb_fields.specs.Page.{with_payload}
 use Rattle.nb_fields.specs.Payloads.{data_payload}
 use Rattle.nb_fields.specs.Places.{is_system_place, most_pages}
-use Rattle.nb_fields.proofs.NumberLemmas.{length-bytes_of}
-use Rattle.nb_fields.proofs.PartLemmas.{length-with_part}
+use Rattle.nb_fields.proofs.NumberLaws.{length-bytes_of}
+use Rattle.nb_fields.proofs.PartLaws.{length-with_part}
 use Rattle.nb_model.specs.Image.{Image, image_size}
 use Rattle.nb_model.specs.Forms.{Draft, drafted, put, take_page, system_page, first_not, needed_at, no_page, lowest_free, new_within}
 use Rattle.nb_alloc.specs.Data.{owner_by, new_data}

@@ -6,7 +6,7 @@ use Rattle.nb_host.specs.declared.faults.Fault.{Fault}
 use Rattle.nb_host.specs.declared.faults.Fault.TheVariants.{Refused as RefusedFault, Device, Memory}
 use Rattle.nb_host.specs.declared.refusals.Refusal.{Refusal}
 use Rattle.nb_page.specs.Quiet.{Quiet}
-use Rattle.nb_page.proofs.QuietLemmas.{quiet_joined}
+use Rattle.nb_page.proofs.QuietLaws.{quiet_joined}
 use Rattle.nb_model.specs.declared.reply.Reply.{Reply}
 use Rattle.nb_model.specs.declared.reply.Reply.TheVariants.{Refused}
 use Rattle.nb_model.specs.Account.{Base}

@@ -9,7 +9,7 @@ use Rattle.nb_fields.specs.Places.{bits_in, inventory_place}
 use Rattle.nb_fields.specs.Payloads.{bit_of}
 use Rattle.nb_fields.specs.Kinds.{inventory_kind}
 use Rattle.nb_pip.specs.Bits.{bits, AreUsed, IsLowestFree}
-use Rattle.nb_pip.proofs.BitLemmas.{get_or-bits}
+use Rattle.nb_pip.proofs.BitLaws.{get_or-bits}
 use Rattle.nb_model.specs.Image.{Page, Image, page_at, image_size}
 use Rattle.nb_model.specs.Forms.{inventory_of, is_free_page, free_from}
 use Rattle.nb_model.specs.Causes.{not_kind}

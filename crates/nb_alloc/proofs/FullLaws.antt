@@ -4,7 +4,7 @@ use Rattle.std.specs.Prelude.{Bool, true, false, ◌==◌, ◌&&◌, ◌||◌, n
 use Rattle.std.proofs.lemmas.Bool.{and_parts, or_cases, eqb-true}
 use Rattle.std.proofs.lemmas.Bool.Decides.{leb_tells}
 use Rattle.nb_fields.specs.Places.{is_page_size, entries_in, bits_in, is_inventory_place, is_scn_place, is_system_place}
-use Rattle.nb_fields.proofs.PlaceLemmas.{entries-least}
+use Rattle.nb_fields.proofs.PlaceLaws.{entries-least}
 use Rattle.nb_model.specs.Image.{image_scn}
 use Rattle.nb_model.specs.Forms.{Draft, wrote, written, needs, is_kind, scn_page_of, scn_entry, has_entry, entry_written, entry_raised, raised, put}
 

@@ -7,15 +7,15 @@ use Rattle.nb_fields.specs.declared.kinds.PageKind.TheVariants.{Header, Inventor
 use Rattle.nb_fields.specs.Header.{size_of}
 use Rattle.nb_fields.specs.Places.{is_page_size, bits_in, entries_in, inventory_place, is_inventory_place, is_scn_place}
 use Rattle.nb_fields.specs.Payloads.{inventory_payload, scn_payload}
-use Rattle.nb_fields.proofs.SizeLemmas.{SizeFacts, size_facts}
-use Rattle.nb_fields.proofs.PageLemmas.{padded_whole}
+use Rattle.nb_fields.proofs.SizeLaws.{SizeFacts, size_facts}
+use Rattle.nb_fields.proofs.PageLaws.{padded_whole}
 use Rattle.nb_fields.specs.Page.{kind_of, stamped, with_payload}
 use Rattle.nb_host.specs.World.{World}
 use Rattle.nb_host.specs.declared.faults.Fault.{Fault}
 use Rattle.nb_host.specs.declared.faults.Fault.TheVariants.{Device}
 use Rattle.nb_host.specs.declared.refusals.Refusal.TheVariants.{NotDatabase}
 use Rattle.nb_page.specs.Quiet.{Quiet}
-use Rattle.nb_page.proofs.StampLemmas.{stamped-with_payload}
+use Rattle.nb_page.proofs.StampLaws.{stamped-with_payload}
 use Rattle.nb_model.specs.Image.{Page, Image, page_at, image_size, image_scn}
 use Rattle.nb_model.specs.Account.{Base}
 use Rattle.nb_model.specs.Strokes.{Stroke, page, on_base, base_after, merged_page}

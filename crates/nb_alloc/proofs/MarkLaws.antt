@@ -5,8 +5,8 @@ use Rattle.std.proofs.lemmas.List.{take-set-le}
 use Rattle.nb_fields.specs.Bytes.{number_in}
 use Rattle.nb_fields.specs.Places.{is_page_size, entries_in}
 use Rattle.nb_fields.specs.Page.{kind_of, stamped, generation_of}
-use Rattle.nb_fields.proofs.PartLemmas.{number_in-take}
-use Rattle.nb_fields.proofs.PlaceLemmas.{entries-least}
+use Rattle.nb_fields.proofs.PartLaws.{number_in-take}
+use Rattle.nb_fields.proofs.PlaceLaws.{entries-least}
 use Rattle.nb_fields.specs.Kinds.{inventory_kind, scn_kind}
 use Rattle.nb_host.specs.declared.refusals.Refusal.{Refusal}
 use Rattle.nb_host.specs.declared.refusals.Refusal.TheVariants.{NotDatabase}

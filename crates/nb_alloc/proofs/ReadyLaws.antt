@@ -5,7 +5,7 @@ use Rattle.std.proofs.lemmas.Bool.{true≢false}
 use Rattle.nb_fields.specs.Places.{is_page_size, bits_in, entries_in, inventory_place, is_scn_place, is_system_place}
 use Rattle.nb_fields.specs.Header.{size_of, scn_of}
 use Rattle.nb_fields.specs.Page.{stamped}
-use Rattle.nb_fields.proofs.SizeLemmas.{SizeFacts, size_facts}
+use Rattle.nb_fields.proofs.SizeLaws.{SizeFacts, size_facts}
 use Rattle.nb_host.specs.declared.faults.Fault.{Fault}
 use Rattle.nb_host.specs.declared.faults.Fault.TheVariants.{Refused, Device, Memory}
 use Rattle.nb_host.specs.declared.refusals.Refusal.TheVariants.{NotDatabase}
@@ -17,7 +17,7 @@ use Rattle.nb_model.specs.Causes.{Cause, when, not_kind}
 use Rattle.nb_model.specs.Way.{maps_up_to}
 use Rattle.nb_model.proofs.FirstFree.{free_from_is}
 use Rattle.nb_model.proofs.PlaceOrder.{div_rises}
-use Rattle.nb_fields.proofs.PlaceLemmas.{bits-least}
+use Rattle.nb_fields.proofs.PlaceLaws.{bits-least}
 use Rattle.nb_fields.specs.Kinds.{inventory_kind}
 use Rattle.nb_base.specs.Takes.{IsNoRefusal}
 use Rattle.nb_model.proofs.NewSound.{inventory_before}

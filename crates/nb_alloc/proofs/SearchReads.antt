@@ -4,7 +4,7 @@ use Rattle.std.specs.Prelude.{IsTrue, Option, Some, IfSome}
 use Rattle.std.proofs.Math.Nat.{div-zero, div-mul-le_self, lt-div-mul-add}
 use Rattle.std.proofs.lemmas.Bool.Decides.{leb_tells}
 use Rattle.nb_fields.specs.Places.{is_page_size, inventory_place, scn_place, entries_in, bits_in}
-use Rattle.nb_fields.proofs.PlaceLemmas.{entries-least, bits-least}
+use Rattle.nb_fields.proofs.PlaceLaws.{entries-least, bits-least}
 
 -- no inventory page stands at page 0
 pub inventory_place_some : (size k : ℕ) → IsTrue (is_page_size size) → 0 < inventory_place size k

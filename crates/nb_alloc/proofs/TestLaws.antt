@@ -13,7 +13,7 @@ use Rattle.nb_host.specs.declared.refusals.Refusal.TheVariants.{NotDatabase, Pag
 use Rattle.nb_page.specs.declared.page.PageHead.{PageHead}
 use Rattle.nb_page.specs.Head.{head_in}
 use Rattle.nb_pip.specs.Bits.{bits}
-use Rattle.nb_pip.proofs.BitLemmas.{get_or-bits}
+use Rattle.nb_pip.proofs.BitLaws.{get_or-bits}
 use Rattle.nb_model.specs.Image.{Page, Image, page_at, image_size, is_read_only}
 use Rattle.nb_model.specs.Forms.{is_kind, is_free_page, inventory_of, bit_number}
 use Rattle.nb_model.specs.Causes.{Cause, first_cause, when, read_only, too_long, past_end, not_kind, not_raw, no_text}

@@ -13,7 +13,7 @@ use Rattle.nb_host.specs.declared.refusals.Refusal.TheVariants.{NotDatabase, Ful
 use Rattle.nb_model.specs.Image.{Image, image_size}
 use Rattle.nb_model.specs.Forms.{Draft, drafted, no_page, is_kind, is_free_page, inventory_of, put, take_page, lowest_free, free_from, system_kind, first_not, maps_from, needed_at, new_within, new_page}
 use Rattle.nb_model.specs.Causes.{when, first_cause, lowest_broken}
-use Rattle.nb_fields.proofs.PlaceLemmas.{bits-least}
+use Rattle.nb_fields.proofs.PlaceLaws.{bits-least}
 use Rattle.nb_fields.specs.Kinds.{inventory_kind, scn_kind}
 use Rattle.nb_model.proofs.DraftJoin.{joined_new}
 use Rattle.nb_model.proofs.NewSound.{plain_place, places_apart}

@@ -16,7 +16,7 @@ ghost use Rattle.nb_state.specs.Open.{IsOpen, but_pages};
 ghost use Rattle.nb_alloc.specs.Put.{Reads};
 ghost use Rattle.nb_alloc.specs.Mark.{bit_for};
 
-use crate::reads::take_system;
+use crate::reads::read_system;
 use nb_fields::PageKind;
 use nb_host::{Fault, Host};
 use nb_page::stamp;
@@ -76,7 +76,7 @@ impl ScnPage {
         ensures cause { CountsDevice result (H.faults host.old) (H.faults host.new) }
         ensures takes_none { IfErr result (λ fault. fault ≢ Memory) }
     {
-        take_system(
+        read_system(
             store,
             host,
             place,
@@ -156,7 +156,7 @@ impl InventoryPage {
         ensures cause { CountsDevice result (H.faults host.old) (H.faults host.new) }
         ensures takes_none { IfErr result (λ fault. fault ≢ Memory) }
     {
-        take_system(
+        read_system(
             store,
             host,
             place,

@@ -24,7 +24,7 @@ use nb_state::Store;
 /// changes nothing but which pages are in memory, and wants no memory.
 ///
 /// The refusal is `NotDatabase` of the page, where it is past the end or of another kind. What `into` holds after an error isn't said.
-pub fn take_system<H: Host>(
+pub fn read_system<H: Host>(
     store: &mut Store,
     host: &mut H,
     place: u32,
@@ -57,7 +57,7 @@ pub fn take_system<H: Host>(
 ///
 /// The refusal is `NotDatabase` of the page, where it is past the end, of another kind, or of another owner. What `into` holds after an error
 /// isn't said.
-pub fn take_data<H: Host>(
+pub fn read_data<H: Host>(
     store: &mut Store,
     host: &mut H,
     number: u32,
@@ -83,7 +83,7 @@ pub fn take_data<H: Host>(
     if number == 0 {
         return Err(Fault::Refused(Refusal::NotDatabase { page: number }));
     }
-    take_system(store, host, number, PageKind::Data, into)?;
+    read_system(store, host, number, PageKind::Data, into)?;
     if data::Owner::get(into) != u64::from(owner) {
         return Err(Fault::Refused(Refusal::NotDatabase { page: number }));
     }
@@ -122,7 +122,7 @@ fn check_taken<H: Host>(
 ///
 /// The refusals are `PageRange`, `NotDatabase` of its inventory page, `NotAllocated` and `SystemPage`, in this order. What `page` holds after
 /// an error isn't said.
-pub fn take_raw<H: Host>(
+pub fn read_raw<H: Host>(
     store: &mut Store,
     host: &mut H,
     number: u32,

@@ -8,9 +8,9 @@ use Rattle.std.proofs.lemmas.List.{get_or-append_right, get_or_append_left, take
 use Rattle.nb_fields.specs.Bytes.{is_zeros, number_in}
 use Rattle.nb_fields.specs.Header.{is_header, state_of, size_of}
 use Rattle.nb_fields.specs.Places.{is_page_size, most_pages}
-use Rattle.nb_fields.proofs.HeaderLemmas.{is_header-take}
-use Rattle.nb_fields.proofs.PartLemmas.{number_in-take}
-use Rattle.nb_fields.proofs.SizeLemmas.{size_facts}
+use Rattle.nb_fields.proofs.HeaderLaws.{is_header-take}
+use Rattle.nb_fields.proofs.PartLaws.{number_in-take}
+use Rattle.nb_fields.proofs.SizeLaws.{size_facts}
 use Rattle.nb_fields.specs.States.{applying_state}
 use Rattle.nb_host.specs.Files.{File}
 use Rattle.nb_host.specs.declared.faults.Fault.{Fault}

@@ -8,9 +8,9 @@ use Rattle.nb_fields.specs.Bytes.{bytes_of, number_in, with_part, AreApart}
 use Rattle.nb_fields.specs.Header.{is_header, is_marked, is_sound, state_of, size_of, scn_of}
 use Rattle.nb_fields.specs.Places.{is_page_size}
 use Rattle.nb_fields.specs.Table.{page_in, slot_place}
-use Rattle.nb_fields.proofs.HeaderLemmas.{is_header-long}
-use Rattle.nb_fields.proofs.NumberLemmas.{length-bytes_of}
-use Rattle.nb_fields.proofs.PartLemmas.{length-with_part, number_in-with_part, number_in-with_part_other, number_in-take}
+use Rattle.nb_fields.proofs.HeaderLaws.{is_header-long}
+use Rattle.nb_fields.proofs.NumberLaws.{length-bytes_of}
+use Rattle.nb_fields.proofs.PartLaws.{length-with_part, number_in-with_part, number_in-with_part_other, number_in-take}
 use Rattle.nb_fields.specs.States.{normal_state, stalled_state}
 use Rattle.nb_model.specs.Image.{Page, Image, page_at, first_page}
 use Rattle.nb_model.specs.Strokes.{controlled, with_control}

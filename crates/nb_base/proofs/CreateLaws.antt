@@ -6,7 +6,7 @@ use Rattle.std.proofs.lemmas.List.{length-replicate, take_all, drop_all}
 use Rattle.std.proofs.lemmas.List.FromFn.{length-map-range_with_len, map-range_with_len_more}
 use Rattle.nb_fields.specs.Places.{is_page_size}
 use Rattle.nb_fields.specs.Fresh.{fresh, fresh_count, fresh_page}
-use Rattle.nb_fields.proofs.SizeLemmas.{size_facts}
+use Rattle.nb_fields.proofs.SizeLaws.{size_facts}
 use Rattle.nb_host.specs.Files.{File, Files, padded, put_at, with_file, with_page}
 use Rattle.nb_change.proofs.NameLaws.{with_file-same}
 use Rattle.nb_model.specs.Image.{Page}

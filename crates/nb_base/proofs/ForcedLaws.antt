@@ -3,7 +3,7 @@ use Rattle.std.proofs.Common.{◌≡◌, inl, ℕ, ◌+◌, List, length, ap, �
 use Rattle.std.specs.Prelude.{Option, true, not, ◌==◌}
 use Rattle.nb_fields.specs.Bytes.{number_in}
 use Rattle.nb_fields.specs.Header.{is_header}
-use Rattle.nb_fields.proofs.PartLemmas.{length-part}
+use Rattle.nb_fields.proofs.PartLaws.{length-part}
 use Rattle.nb_model.specs.Image.{Page, Image, first_page, image_scn, image_guid, is_forced, trimmed}
 use Rattle.nb_model.specs.Account.{Ask, Base}
 use Rattle.nb_model.specs.Strokes.{with_control, begin, ends, finish, on_base}

@@ -6,7 +6,7 @@ use Rattle.std.proofs.lemmas.List.{take-append-le, take-append-drop, length-drop
 use Rattle.nb_fields.specs.Bytes.{is_zeros}
 use Rattle.nb_fields.specs.Table.{page_in, slot_place}
 use Rattle.nb_host.specs.Files.{Files, bytes_of}
-use Rattle.nb_delta.proofs.GroupLemmas.{page_past}
+use Rattle.nb_delta.proofs.GroupLaws.{page_past}
 use Rattle.nb_model.specs.Image.{Page, Image, page_at, image_size, image_in, trimmed}
 use Rattle.nb_model.specs.Account.{Base}
 use Rattle.nb_model.specs.Owner.{delta_name, entry_for, slot_page, main_page, owned_page}

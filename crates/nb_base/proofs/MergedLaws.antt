@@ -6,13 +6,13 @@ use Rattle.std.proofs.lemmas.Bool.{true≢false}
 use Rattle.std.proofs.lemmas.Bool.Decides.{eqb_tells}
 use Rattle.nb_fields.specs.Places.{is_page_size}
 use Rattle.nb_fields.specs.Table.{page_in}
-use Rattle.nb_fields.proofs.SizeLemmas.{size_facts}
+use Rattle.nb_fields.proofs.SizeLaws.{size_facts}
 use Rattle.nb_fields.specs.States.{merge_state}
 use Rattle.nb_host.specs.Files.{File, Files, bytes_of, with_file, with_page as with_page_at}
 use Rattle.nb_host.specs.World.{World}
 use Rattle.nb_delta.specs.Slots.{HasTable, SlotPut, slot_page}
-use Rattle.nb_delta.proofs.PageLemmas.{put_here, put_other}
-use Rattle.nb_delta.proofs.TellLemmas.{table_read}
+use Rattle.nb_delta.proofs.PageLaws.{put_here, put_other}
+use Rattle.nb_delta.proofs.TellLaws.{table_read}
 use Rattle.nb_model.specs.Image.{Page, Image, page_at, image_size, image_state, image_in, written_at}
 use Rattle.nb_model.specs.Owner.{delta_name, entry_for}
 use Rattle.nb_model.specs.Trail.{Trail}

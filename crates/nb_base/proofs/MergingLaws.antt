@@ -15,7 +15,7 @@ use Rattle.nb_host.specs.Calls.{IsStill}
 use Rattle.nb_change.proofs.NameLaws.{with_file-same, with_file-other}
 use Rattle.nb_change.proofs.ChangesLaws.{rested, composed, all_before}
 use Rattle.nb_delta.specs.Entries.{AreEntries}
-use Rattle.nb_delta.proofs.TellLemmas.{apart_at}
+use Rattle.nb_delta.proofs.TellLaws.{apart_at}
 use Rattle.nb_page.specs.Quiet.{Quiet}
 use Rattle.nb_model.specs.Image.{Page, Image, page_at, image_size, image_state, image_in, trimmed, written_at}
 use Rattle.nb_model.specs.Causes.{not_database}

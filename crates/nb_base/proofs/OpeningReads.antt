@@ -4,7 +4,7 @@ use Rattle.std.specs.Prelude.{Some, Result, Ok, Err, IfOk, IsTrue}
 use Rattle.std.proofs.Math.Nat.{mul-div_cancel}
 use Rattle.nb_fields.specs.Header.{size_of}
 use Rattle.nb_fields.specs.Places.{is_page_size, slots_in}
-use Rattle.nb_fields.proofs.SizeLemmas.{size_facts}
+use Rattle.nb_fields.proofs.SizeLaws.{size_facts}
 use Rattle.nb_fields.specs.States.{normal_state}
 use Rattle.nb_host.specs.Files.{File}
 use Rattle.nb_host.specs.declared.faults.Fault.{Fault}

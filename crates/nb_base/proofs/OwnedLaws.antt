@@ -10,7 +10,7 @@ use Rattle.nb_host.specs.Files.{File, bytes_of}
 use Rattle.nb_host.specs.declared.refusals.Refusal.{Refusal}
 use Rattle.nb_host.specs.declared.refusals.Refusal.TheVariants.{BadDelta, Unfinished}
 use Rattle.nb_delta.specs.Slots.{HasTable}
-use Rattle.nb_delta.proofs.PageLemmas.{length-page_in}
+use Rattle.nb_delta.proofs.PageLaws.{length-page_in}
 use Rattle.nb_model.specs.Image.{Page, Image, page_at, first_page, image_size, image_state, image_in, trimmed, with_page, written_at}
 use Rattle.nb_model.specs.Sound.{IsOfSize}
 use Rattle.nb_model.specs.Causes.{Cause, not_database}

@@ -3,7 +3,7 @@ use Rattle.std.proofs.Common.{◌≡◌, ℕ, ◌+◌, ◌≤◌, List, [], leng
 use Rattle.std.specs.Prelude.{Option, Some, None}
 use Rattle.nb_fields.specs.Bytes.{part}
 use Rattle.nb_fields.specs.Header.{size_of, state_of}
-use Rattle.nb_fields.proofs.PartLemmas.{length-part, part-take}
+use Rattle.nb_fields.proofs.PartLaws.{length-part, part-take}
 use Rattle.nb_fields.specs.States.{normal_state, stalled_state, merge_state}
 use Rattle.nb_host.specs.Files.{File, bytes_of}
 use Rattle.nb_delta.specs.Slots.{HasTable}

@@ -1,5 +1,5 @@
-pub mod IndexLemmas
-pub mod IndexedLemmas
-pub mod KeyedLemmas
-pub mod NextLemmas
-pub mod ShownLemmas
+pub mod IndexLaws
+pub mod IndexedLaws
+pub mod KeyedLaws
+pub mod NextLaws
+pub mod ShownLaws

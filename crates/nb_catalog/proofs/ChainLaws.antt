@@ -7,15 +7,15 @@ use Rattle.std.proofs.lemmas.List.Quantifiers.{position-Some}
 use Rattle.nb_host.specs.Files.{Files}
 use Rattle.nb_model.specs.Restoring.{Link, first_link, next_link, next_links, linked, verdict}
 use Rattle.nb_level.specs.declared.head.LevelHead.{LevelHead}
-use Rattle.nb_chain.proofs.LinkLemmas.{first_there}
+use Rattle.nb_chain.proofs.LinkLaws.{first_there}
 use Rattle.nb_catalog.specs.declared.entry.Entry.{Entry}
 use Rattle.nb_catalog.specs.Heads.{whole_head, read_files}
 use Rattle.nb_catalog.specs.Lines.{is_parent, parent, parents_of, line_at}
 use Rattle.nb_catalog.specs.Plans.{entries_of, line, is_point, points}
 use Rattle.nb_catalog.specs.Chained.{names_at, IsChained}
-use Rattle.nb_catalog.proofs.InLemmas.{in_from, in_filter}
-use Rattle.nb_catalog.proofs.EntryLemmas.{entry_at, in_entries}
-use Rattle.nb_catalog.proofs.LineLemmas.{line_split, length-line}
+use Rattle.nb_catalog.proofs.InLaws.{in_from, in_filter}
+use Rattle.nb_catalog.proofs.EntryLaws.{entry_at, in_entries}
+use Rattle.nb_catalog.proofs.LineLaws.{line_split, length-line}
 use Rattle.nb_catalog.proofs.ReadLaws.{IsRead, is_read, each_read, parent_level}
 
 -- a file after another in a chain

@@ -16,8 +16,8 @@ use Rattle.nb_script.specs.Scripts.{Numbered}
 use Rattle.nb_catalog.specs.Answers.{with_first}
 use Rattle.nb_catalog.specs.NameLists.{AreDistinct, is_listed, is_next, list_of, names_on, some_names_on}
 use Rattle.nb_catalog.specs.Turns.{names_in}
-use Rattle.nb_catalog.proofs.InLemmas.{In, any_of}
-use Rattle.nb_catalog.proofs.ListLemmas.{no_name, one_name}
+use Rattle.nb_catalog.proofs.InLaws.{In, any_of}
+use Rattle.nb_catalog.proofs.ListLaws.{no_name, one_name}
 
 pub none_twice : AreDistinct []
 none_twice i j low high same = absurd (omega (arith, low))

@@ -14,11 +14,11 @@ use Rattle.nb_catalog.specs.Heads.{read_file, read_files, whole_head}
 use Rattle.nb_catalog.specs.Lines.{is_parent, parent, parents_of, line_at}
 use Rattle.nb_catalog.specs.NameLists.{AreDistinct}
 use Rattle.nb_catalog.specs.Plans.{ArePlaces, Retention, entries_of, is_point, plan_of, points}
-use Rattle.nb_catalog.proofs.EntryLemmas.{in_entries}
-use Rattle.nb_catalog.proofs.FileLemmas.{by_first, none_left}
-use Rattle.nb_catalog.proofs.InLemmas.{In, in_from, in_to, in_filter, in_map}
+use Rattle.nb_catalog.proofs.EntryLaws.{in_entries}
+use Rattle.nb_catalog.proofs.FileLaws.{by_first, none_left}
+use Rattle.nb_catalog.proofs.InLaws.{In, in_from, in_to, in_filter, in_map}
 use Rattle.nb_catalog.proofs.KeptLaws.{is_safe}
-use Rattle.nb_catalog.proofs.LineLemmas.{line_split}
+use Rattle.nb_catalog.proofs.LineLaws.{line_split}
 use Rattle.nb_catalog.proofs.PlaceLaws.{plan_within}
 use Rattle.nb_catalog.proofs.WholeLaws.{in_last}
 

@@ -6,7 +6,7 @@ use Rattle.nb_catalog.specs.declared.entry.Entry.{Entry}
 use Rattle.nb_catalog.specs.Lines.{parents_of, is_among}
 use Rattle.nb_catalog.specs.Plans.{line, points, kept, dropped, is_newer, is_in_line, is_needed, plan_of, Retention}
 use Rattle.nb_catalog.specs.Chained.{IsSafe}
-use Rattle.nb_catalog.proofs.InLemmas.{in_from, in_to, in_filter, in_map, any_of}
+use Rattle.nb_catalog.proofs.InLaws.{in_from, in_to, in_filter, in_map, any_of}
 
 module _ (heads : List LevelHead) (keep : ℕ) where
   kept_point : (e : Entry) → Contains (kept heads keep) e → Contains (points heads) e

@@ -11,12 +11,12 @@ use Rattle.nb_model.specs.Levels.{Contents, begins_level, read_level}
 use Rattle.nb_model.specs.Restoring.{Link, level_link, whole_link, first_link, next_link, not_behind, not_whole}
 use Rattle.nb_level.specs.declared.head.LevelHead.{LevelHead}
 use Rattle.nb_level.proofs.ToldLaws.{level_told}
-use Rattle.nb_chain.proofs.StartLemmas.{first_whole, next_accepted}
+use Rattle.nb_chain.proofs.StartLaws.{first_whole, next_accepted}
 use Rattle.nb_catalog.specs.Answers.{with_first}
 use Rattle.nb_catalog.specs.Heads.{level_head, whole_head, read_file, read_files}
 use Rattle.nb_catalog.specs.Lines.{is_parent}
-use Rattle.nb_catalog.proofs.HeadLemmas.{read_none, read_level_ok, read_level_err, by_cause}
-use Rattle.nb_catalog.proofs.FileLemmas.{none_left, by_first}
+use Rattle.nb_catalog.proofs.HeadLaws.{read_none, read_level_ok, read_level_err, by_cause}
+use Rattle.nb_catalog.proofs.FileLaws.{none_left, by_first}
 
 -- the level of a level file is 1 to 9
 level_low : (bytes : List ℕ) (c : Contents) → read_level bytes ≡ Ok c → (1 ≤ c.head.level) × (c.head.level ≤ 9)

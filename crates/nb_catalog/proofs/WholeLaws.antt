@@ -10,9 +10,9 @@ use Rattle.nb_catalog.specs.declared.entry.Entry.{Entry}
 use Rattle.nb_catalog.specs.Heads.{whole_head}
 use Rattle.nb_catalog.specs.Lines.{is_parent, parent, parents_of, line_at, is_among}
 use Rattle.nb_catalog.specs.Plans.{entries_of, line, is_point, points, kept, is_newer, is_in_line, is_needed, plan_of, Retention}
-use Rattle.nb_catalog.proofs.InLemmas.{In, in_filter}
-use Rattle.nb_catalog.proofs.EntryLemmas.{entry_at, in_entries, length-entries}
-use Rattle.nb_catalog.proofs.LineLemmas.{line_split}
+use Rattle.nb_catalog.proofs.InLaws.{In, in_filter}
+use Rattle.nb_catalog.proofs.EntryLaws.{entry_at, in_entries, length-entries}
+use Rattle.nb_catalog.proofs.LineLaws.{line_split}
 use Rattle.nb_catalog.proofs.ReadLaws.{parent_level}
 
 pub in_last : {X : Type 0} (xs : List X) (y x : X) → In (xs ++ y ∷ []) x → In xs x ⊎ (y ≡ x)

@@ -1,7 +1,7 @@
 pub mod ImageLaws
 pub mod CountLaws
-pub mod PageLemmas
-pub mod LinkLemmas
-pub mod StartLemmas
-pub mod AnswerLemmas
-pub mod CheckLemmas
+pub mod PageLaws
+pub mod LinkLaws
+pub mod StartLaws
+pub mod AnswerLaws
+pub mod CheckLaws

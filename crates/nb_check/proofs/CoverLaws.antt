@@ -5,7 +5,7 @@ use Rattle.std.proofs.Math.Nat.{mod-lt, mul_assoc}
 use Rattle.std.proofs.lemmas.Nat.{div-add-mod', div-mul-add}
 use Rattle.std.proofs.lemmas.Bool.{and_left, cases_lt}
 use Rattle.nb_fields.specs.Places.{is_page_size, bits_in, entries_in, inventory_place, scn_place}
-use Rattle.nb_fields.proofs.PlaceLemmas.{entries-least, bits-least}
+use Rattle.nb_fields.proofs.PlaceLaws.{entries-least, bits-least}
 use Rattle.nb_model.specs.Image.{Page, Image, page_at, image_size}
 use Rattle.nb_model.specs.Forms.{inventory_of, scn_page_of}
 use Rattle.nb_model.proofs.ReadLaws.{lt_no}

@@ -7,9 +7,9 @@ use Rattle.std.proofs.lemmas.Bool.{and_left, and_parts, or_cases, cases_Bool, ca
 use Rattle.nb_fields.specs.Page.{stamp_of}
 use Rattle.nb_fields.specs.Payloads.{entry_of}
 use Rattle.nb_fields.specs.Places.{is_page_size, entries_in, scn_place, is_scn_place}
-use Rattle.nb_fields.proofs.PlaceLemmas.{entries-least}
+use Rattle.nb_fields.proofs.PlaceLaws.{entries-least}
 use Rattle.nb_scn.specs.Entries.{entries}
-use Rattle.nb_scn.proofs.EntryLemmas.{get_or-entries}
+use Rattle.nb_scn.proofs.EntryLaws.{get_or-entries}
 use Rattle.nb_model.specs.Image.{Page, Image, page_at, image_size, image_scn}
 use Rattle.nb_model.specs.Forms.{scn_page_of, entry_number, scn_entry, has_entry}
 use Rattle.nb_model.proofs.ReadLaws.{eq_no, eq_yes, lt_yes, lt_no, le_no}

@@ -9,7 +9,7 @@ use Rattle.nb_fields.specs.Places.{bits_in, is_inventory_place, is_scn_place}
 use Rattle.nb_fields.specs.Payloads.{bit_of}
 use Rattle.nb_fields.specs.Kinds.{inventory_kind, scn_kind}
 use Rattle.nb_pip.specs.Bits.{bits}
-use Rattle.nb_pip.proofs.BitLemmas.{get_or-bits}
+use Rattle.nb_pip.proofs.BitLaws.{get_or-bits}
 use Rattle.nb_model.specs.Image.{Page, Image, page_at, first_page, image_size, image_scn}
 use Rattle.nb_model.specs.Forms.{inventory_of, bit_number, is_free_page}
 use Rattle.nb_page.specs.Head.{head_in}

@@ -4,8 +4,8 @@ use Rattle.std.specs.Prelude.{true, false, ◌==◌}
 use Rattle.std.proofs.lemmas.Bool.Decides.{eqb_tells}
 use Rattle.nb_fields.specs.Payloads.{bit_of}
 use Rattle.nb_fields.specs.Places.{bits_in, entries_in, inventory_place, is_scn_place, is_system_place}
-use Rattle.nb_fields.proofs.PlaceLemmas.{bits-least}
-use Rattle.nb_fields.proofs.SizeLemmas.{SizeFacts, size_facts}
+use Rattle.nb_fields.proofs.PlaceLaws.{bits-least}
+use Rattle.nb_fields.proofs.SizeLaws.{SizeFacts, size_facts}
 use Rattle.nb_fields.specs.Kinds.{inventory_kind}
 use Rattle.nb_model.specs.Account.{Base, base_of}
 use Rattle.nb_model.specs.Forms.{Draft, drafted, old_page, put, raised, give_page, is_free_page, inventory_of, bit_number, with_bit}

@@ -5,7 +5,7 @@ use Rattle.std.proofs.Math.Nat.{mod-lt}
 use Rattle.std.proofs.lemmas.Nat.{div-mul-add, mod-mul-add, div-add-mod'}
 use Rattle.std.proofs.lemmas.Bool.{and_parts, or_cases, or_parts, or_right, and_from, true≢false, cases_lt, ltb-true, eqb-true}
 use Rattle.nb_fields.specs.Places.{is_page_size, bits_in, entries_in, inventory_place, scn_place, is_inventory_place, is_scn_place}
-use Rattle.nb_fields.proofs.PlaceLemmas.{entries-least, bits-least}
+use Rattle.nb_fields.proofs.PlaceLaws.{entries-least, bits-least}
 use Rattle.nb_fields.specs.Header.{is_header}
 use Rattle.nb_model.specs.Image.{Page, Image, page_at, first_page, image_size}
 use Rattle.nb_model.proofs.ReadLaws.{eq_yes, lt_yes}

@@ -29,7 +29,7 @@ use std::alloc::Global;
 
 /// Tests the inventories against the pages, and answers the data pages that are taken. The refusal is `Unsound` of the first fact that is
 /// broken, and of the lowest page that breaks it.
-#[tactic(auto, using(nb_fields::proofs::SizeLemmas::size_facts))]
+#[tactic(auto, using(nb_fields::proofs::SizeLaws::size_facts))]
 fn taken_data<H: Host>(
     alloc: Global,
     host: &mut H,
@@ -75,7 +75,7 @@ fn taken_data<H: Host>(
 ///
 /// The refusals are `Unsound` of the lowest fact that fails and of the lowest page at which it does, and `NotDatabase` of the first page that
 /// breaks the form of a chain: of the catalogue, the history, and then of the tables in the catalogue's order.
-#[tactic(auto, using(nb_fields::proofs::SizeLemmas::size_facts))]
+#[tactic(auto, using(nb_fields::proofs::SizeLaws::size_facts))]
 pub fn check<H: Host>(alloc: Global, host: &mut H, engine: &mut Engine) -> Result<Report, Fault>
     ensures turn { (s : Seen) (t : Trail) → IsTrue H.tells → t.base ≡ s.base → IsOpen (H.world host.old) engine.old t
         → Does Leaked result (H.world host.old) (H.world host.new) engine.old engine.new t (check_turn s) }

@@ -45,7 +45,7 @@ fn leave_out<H: Host>(
     let mut number = chain.first();
     let mut left = engine.count();
     while left > 0 {
-        let next = engine.take_page(host, chain, number, page)?;
+        let next = engine.chain_read(host, chain, number, page)?;
         rest.remove(number);
         if next == 0 {
             return Ok(());
@@ -120,7 +120,7 @@ fn leave_out_tables<H: Host>(
     let mut number = header::CATALOGUE_PAGE;
     let mut left = engine.count();
     while left > 0 {
-        let next = engine.take_page(host, Chain::Tables, number, listed)?;
+        let next = engine.chain_read(host, Chain::Tables, number, listed)?;
         leave_out_listed(host, engine, listed, page, rest)?;
         if next == 0 {
             return Ok(());

@@ -6,7 +6,7 @@ use Rattle.nb_fields.specs.Free.{is_free_file}
 use Rattle.nb_host.specs.Files.{File, Files}
 use Rattle.nb_host.specs.World.{World}
 use Rattle.nb_page.specs.Free.{is_free_name}
-use Rattle.nb_page.proofs.FreeLemmas.{is_free_name-false}
+use Rattle.nb_page.proofs.FreeLaws.{is_free_name-false}
 use Rattle.nb_model.specs.Account.{Base}
 use Rattle.nb_model.specs.Owner.{delta_name, owner}
 use Rattle.nb_model.specs.Trail.{Trail, ShowsIn}

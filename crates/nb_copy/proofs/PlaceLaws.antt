@@ -4,7 +4,7 @@ use Rattle.std.specs.Prelude.{Bool, true, false, slice_index, IsTrue, ◌==◌, 
 use Rattle.std.proofs.Math.Nat.{div-eq_of_lt, mod-eq-sub-div-mul, div-mul-le_self}
 use Rattle.std.proofs.lemmas.Bool.{and_parts, or_cases, or_right, eqb-true}
 use Rattle.nb_fields.specs.Places.{is_page_size, entries_in, scn_place, is_scn_place}
-use Rattle.nb_fields.proofs.SizeLemmas.{size_facts}
+use Rattle.nb_fields.proofs.SizeLaws.{size_facts}
 use Rattle.nb_model.specs.Image.{Page, Image, image_size, page_at}
 use Rattle.nb_model.specs.Levels.{may_have_changed}
 use Rattle.nb_model.proofs.ReadLaws.{lt_no}

@@ -4,7 +4,7 @@ use Rattle.std.specs.Prelude.{Bool, true, false, IsTrue, ◌==◌, ◌||◌, not
 use Rattle.std.proofs.lemmas.Bool.{and_from, and_left, and_parts, or_left, or_right, ne_eqb, eq-eqb, lt-ltb}
 use Rattle.std.proofs.Math.Nat.{mod-eq_of_lt}
 use Rattle.nb_fields.specs.Places.{is_page_size, entries_in, is_scn_place}
-use Rattle.nb_fields.proofs.SizeLemmas.{size_facts}
+use Rattle.nb_fields.proofs.SizeLaws.{size_facts}
 use Rattle.nb_model.specs.Image.{Page, Image, image_size, page_at}
 use Rattle.nb_model.specs.Forms.{has_entry, scn_entry, scn_page_of}
 use Rattle.nb_model.specs.Levels.{may_have_changed}

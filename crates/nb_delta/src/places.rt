@@ -3,7 +3,7 @@ ghost use Rattle.nb_fields.specs.Places.{is_page_size, slots_in, most_pages};
 ghost use Rattle.nb_fields.specs.Table.{slot_place, alloc_place};
 
 /// How many entries an allocation page has room for.
-#[tactic(auto, using(nb_fields::proofs::SizeLemmas::size_facts))]
+#[tactic(auto, using(nb_fields::proofs::SizeLaws::size_facts))]
 pub fn slots_in(size: u32) -> u32
     requires { IsTrue (is_page_size size) }
     ensures value { result ≡ slots_in size }

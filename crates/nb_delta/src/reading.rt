@@ -73,7 +73,7 @@ fn read_entries(
 }
 
 /// Reads the group whose allocation page, at `at`, is `page`, and answers whether it is full.
-#[tactic(auto, using(nb_fields::proofs::SizeLemmas::size_facts))]
+#[tactic(auto, using(nb_fields::proofs::SizeLaws::size_facts))]
 fn take_group(page: &[u8], at: u32, len: u64, entries: &mut Entries) -> Result<bool, Fault>
     requires size { IsTrue (is_page_size (length page.now)) }
     requires at { at ≤ 33693696 }

@@ -2,7 +2,7 @@
 use Rattle.std.proofs.Common.{◌≡◌, ℕ, ◌-◌, ◌<◌, List, [], ◌∷◌, ◌++◌, length, take, drop, refl, sym, ap, subst, ◌∙◌, arith, length-drop}
 use Rattle.std.specs.Prelude.{Some, None, Result, IfErr, IsTrue}
 use Rattle.std.proofs.lemmas.List.{append-nil, drop_all}
-use Rattle.nb_fields.proofs.PageLemmas.{padded_whole}
+use Rattle.nb_fields.proofs.PageLaws.{padded_whole}
 use Rattle.nb_fields.specs.Page.{with_payload}
 use Rattle.nb_fields.specs.Places.{is_page_size}
 use Rattle.nb_fields.specs.Kinds.{data_kind}

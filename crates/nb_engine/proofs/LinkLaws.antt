@@ -7,8 +7,8 @@ use Rattle.std.proofs.lemmas.List.{take-append-drop}
 use Rattle.nb_fields.specs.Bytes.{with_part}
 use Rattle.nb_fields.specs.Page.{stamped, with_payload}
 use Rattle.nb_fields.specs.Places.{is_page_size, entries_in}
-use Rattle.nb_fields.proofs.PartLemmas.{part-with_part_before}
-use Rattle.nb_fields.proofs.PageLemmas.{padded_whole}
+use Rattle.nb_fields.proofs.PartLaws.{part-with_part_before}
+use Rattle.nb_fields.proofs.PageLaws.{padded_whole}
 use Rattle.nb_model.specs.Image.{Page, Image, page_at, image_size, image_scn}
 use Rattle.nb_model.specs.Account.{Base}
 use Rattle.nb_model.specs.Strokes.{Stroke, page, base_after}

@@ -6,10 +6,10 @@ use Rattle.std.proofs.lemmas.Bool.Decides.{eqb_tells, leb_tells}
 use Rattle.nb_fields.specs.Bytes.{bytes_of, with_part}
 use Rattle.nb_fields.specs.Places.{entries_in, bits_in, inventory_place, scn_place, is_scn_place}
 use Rattle.nb_fields.specs.Page.{kind_of}
-use Rattle.nb_fields.proofs.NumberLemmas.{length-bytes_of}
-use Rattle.nb_fields.proofs.PartLemmas.{length-with_part}
-use Rattle.nb_fields.proofs.PlaceLemmas.{entries-least}
-use Rattle.nb_fields.proofs.SizeLemmas.{SizeFacts, size_facts}
+use Rattle.nb_fields.proofs.NumberLaws.{length-bytes_of}
+use Rattle.nb_fields.proofs.PartLaws.{length-with_part}
+use Rattle.nb_fields.proofs.PlaceLaws.{entries-least}
+use Rattle.nb_fields.proofs.SizeLaws.{SizeFacts, size_facts}
 use Rattle.nb_fields.specs.Kinds.{inventory_kind, data_kind, scn_kind}
 use Rattle.nb_host.specs.declared.refusals.Refusal.TheVariants.{NotDatabase}
 use Rattle.nb_model.specs.Causes.{not_kind, when, lowest_of, lowest_broken}

@@ -4,7 +4,7 @@ use Rattle.std.specs.Prelude.{Bool, true, false, not, Some, None, min, IsTrue}
 use Rattle.std.proofs.Math.Nat.{div-mul-le_self, le-div_iff_mul-le}
 use Rattle.nb_fields.specs.Page.{kind_of}
 use Rattle.nb_fields.specs.Places.{is_page_size, entries_in, bits_in, inventory_place, scn_place}
-use Rattle.nb_fields.proofs.PlaceLemmas.{entries-least}
+use Rattle.nb_fields.proofs.PlaceLaws.{entries-least}
 use Rattle.nb_fields.specs.Kinds.{inventory_kind, data_kind, scn_kind}
 use Rattle.nb_host.specs.declared.refusals.Refusal.{Refusal}
 use Rattle.nb_host.specs.declared.refusals.Refusal.TheVariants.{NotDatabase}

@@ -27,14 +27,14 @@ ghost use Rattle.nb_walk.specs.Walks.{chain_by, not_linked};
 
 use crate::Engine;
 use nb_alloc::{
-    ScnPage, find_lacking, is_there, lower_page, mark, put_page, take_data, take_system,
+    ScnPage, find_lacking, is_there, lower_page, mark, put_page, read_data, read_system,
 };
 use nb_fields::PageKind;
 use nb_fields::layouts::{data, head};
 use nb_host::{Fault, Host, HostFault, Refusal};
 use nb_pip::{covers, place_of};
 use nb_state::Store;
-use nb_walk::{Chain, take_page};
+use nb_walk::{Chain, read_page};
 
 /// Takes over what these bytes have after the head of a page.
 fn put_behind(page: &mut [u8], bytes: &[u8])
@@ -69,7 +69,7 @@ fn write_data<H: Host>(
 {
     // A page that is read is below the length, and so below the most pages that there may be.
     let _count = store.count();
-    take_system(store, host, number, PageKind::Data, page)?;
+    read_system(store, host, number, PageKind::Data, page)?;
     put_behind(page, bytes);
     put_page(store, host, number, PageKind::Data, page, scn_page)
 }
@@ -109,7 +109,7 @@ fn change_data<H: Host>(
 {
     // A page that is read is below the length, and so below the most pages that there may be.
     let _count = store.count();
-    take_system(store, host, number, PageKind::Data, page)?;
+    read_system(store, host, number, PageKind::Data, page)?;
     put_bytes(page, at, bytes);
     put_page(store, host, number, PageKind::Data, page, scn_page)
 }
@@ -136,14 +136,14 @@ impl Engine {
         ensures cause { CountsDevice result (H.faults host.old) (H.faults host.new) }
         ensures takes_none { IfErr result (λ fault. fault ≢ Memory) }
     {
-        take_data(&mut self.store, host, number, owner, into)
+        read_data(&mut self.store, host, number, owner, into)
     }
 
     /// Reads page `number` of the chain into `page`, and answers the page that it is linked to, or 0. It takes one read at most, and no memory.
     ///
     /// The refusal is `NotDatabase` of the page, where it isn't one of the chain: it is past the end, or no data page, or of another owner, or one
     /// of its slots isn't of the form.
-    pub fn take_page<H: Host>(
+    pub fn chain_read<H: Host>(
         &mut self,
         host: &mut H,
         chain: Chain,
@@ -165,7 +165,7 @@ impl Engine {
         ensures cause { CountsDevice result (H.faults host.old) (H.faults host.new) }
         ensures takes_none { IfErr result (λ fault. fault ≢ Memory) }
     {
-        take_page(&mut self.store, host, chain, number, page)
+        read_page(&mut self.store, host, chain, number, page)
     }
 
     /// Writes page `number`, a data page. Of the bytes that are given those after the head count: the next page, the owner and the slots.

@@ -14,7 +14,7 @@ ghost use Rattle.nb_alloc.specs.Put.{raise_strokes};
 ghost use Rattle.nb_engine.specs.Replies.{done};
 
 use crate::Engine;
-use nb_alloc::{mark, take_raw};
+use nb_alloc::{mark, read_raw};
 use nb_host::{Fault, Host, Refusal};
 
 impl Engine {
@@ -34,7 +34,7 @@ impl Engine {
         ensures on_memory { (t : Trail) → IsTrue H.tells → IsOpen (H.world host.old) self.old t → result ≡ Err Memory
             → StopsBehind (H.world host.old) (H.world host.new) self.old self.new t (raise_strokes t.base.image (inventory_of t.base.image number)) }
     {
-        take_raw(&mut self.store, host, number, &mut self.page, &mut self.map)?;
+        read_raw(&mut self.store, host, number, &mut self.page, &mut self.map)?;
         // Page 0 is the header, whatever the host gave for it.
         if number == 0 {
             return Err(Fault::Refused(Refusal::SystemPage { page: number }));

@@ -18,7 +18,7 @@ use crate::rows::{HistoryRow, Wanted, read_row};
 use nb_fields::layouts::header;
 use nb_host::{Fault, Host, Refusal};
 use nb_state::Store;
-use nb_walk::{Chain, slot_at, slot_count, take_page, use_of};
+use nb_walk::{Chain, read_page, slot_at, slot_count, use_of};
 
 /// A slot of the history that is kept for a row.
 #[derive(Clone, Copy, Debug, PartialEq, Eq)]
@@ -81,7 +81,7 @@ fn add_slots(walked: &mut Walked, wanted: &Wanted, page: &[u8], number: u32)
 
 /// Comes by page `number`, and answers the page that it is linked to, or 0. The refusal is `NotDatabase` of the page, where it isn't one of
 /// the history.
-fn take_link<H: Host>(
+fn read_link<H: Host>(
     store: &mut Store,
     host: &mut H,
     number: u32,
@@ -106,7 +106,7 @@ fn take_link<H: Host>(
     ensures cause { CountsDevice result (H.faults host.old) (H.faults host.new) }
     ensures takes_none { IfErr result (λ fault. fault ≢ Memory) }
 {
-    let next = take_page(store, host, Chain::Backups, number, page)?;
+    let next = read_page(store, host, Chain::Backups, number, page)?;
     add_slots(walked, wanted, page, number);
     Ok(next)
 }
@@ -143,7 +143,7 @@ pub(crate) fn walk<H: Host>(
     let mut number = header::HISTORY_PAGE;
     let mut left = store.count();
     while left > 0 {
-        let next = take_link(store, host, number, page, wanted, &mut walked)?;
+        let next = read_link(store, host, number, page, wanted, &mut walked)?;
         if next == 0 {
             return Ok((walked, number));
         }

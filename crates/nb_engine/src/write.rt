@@ -17,7 +17,7 @@ ghost use Rattle.nb_engine.specs.Replies.{done, valued};
 
 use crate::Engine;
 use arrayvec::ArrayVec;
-use nb_alloc::{raise_entry, take_raw, write_raw};
+use nb_alloc::{raise_entry, read_raw, write_raw};
 use nb_fields::layouts::raw::MOST_TEXT;
 use nb_host::{Fault, Host, Refusal};
 use nb_page::raw_text;
@@ -62,7 +62,7 @@ impl Engine {
         ensures on_memory { (t : Trail) → IsTrue H.tells → IsOpen (H.world host.old) self.old t → result ≡ Err Memory
             → StopsBehind (H.world host.old) (H.world host.new) self.old self.new t (raise_strokes t.base.image number) }
     {
-        take_raw(&mut self.store, host, number, &mut self.page, &mut self.map)?;
+        read_raw(&mut self.store, host, number, &mut self.page, &mut self.map)?;
         // Page 0 is the header, whatever the host gave for it.
         if number == 0 {
             return Err(Fault::Refused(Refusal::SystemPage { page: number }));
@@ -92,7 +92,7 @@ impl Engine {
         ensures cause { CountsDevice result (H.faults host.old) (H.faults host.new) }
         ensures takes_none { IfErr result (λ fault. fault ≢ Memory) }
     {
-        take_raw(&mut self.store, host, number, &mut self.page, &mut self.map)?;
+        read_raw(&mut self.store, host, number, &mut self.page, &mut self.map)?;
         let Some(text) = raw_text(&self.page) else {
             return Err(Fault::Refused(Refusal::NotDatabase { page: number }));
         };

@@ -11,11 +11,11 @@ use Rattle.nb_fields.specs.Places.{is_page_size, entries_in, bits_in}
 use Rattle.nb_fields.specs.Page.{head_of, page_of}
 use Rattle.nb_fields.specs.Payloads.{taken_bits, inventory_payload, same_entries, scn_payload, bit_of, entry_of}
 use Rattle.nb_fields.specs.Fresh.{fresh_count, fresh_kind, fresh_payload, fresh_page, ShowsFresh}
-use Rattle.nb_fields.proofs.NumberLemmas.{number_of-bytes_of}
-use Rattle.nb_fields.proofs.PageLemmas.{kind_of-page_of, generation_of-page_of, stamp_of-page_of, number_of_page-page_of}
-use Rattle.nb_fields.proofs.SizeLemmas.{size_facts}
-use Rattle.nb_fields.proofs.FreshLemmas.{fresh_count-most}
-use Rattle.nb_fields.proofs.PlaceLemmas.{entries-least, bits-least, inventory_index, fresh_kind-inventory, fresh_kind-scn}
+use Rattle.nb_fields.proofs.NumberLaws.{number_of-bytes_of}
+use Rattle.nb_fields.proofs.PageLaws.{kind_of-page_of, generation_of-page_of, stamp_of-page_of, number_of_page-page_of}
+use Rattle.nb_fields.proofs.SizeLaws.{size_facts}
+use Rattle.nb_fields.proofs.LengthLaws.{fresh_count-most}
+use Rattle.nb_fields.proofs.PlaceLaws.{entries-least, bits-least, inventory_index, fresh_kind-inventory, fresh_kind-scn}
 
 -- bits of which so many are taken
 module _ (bytes taken : ℕ) where

@@ -1,10 +1,10 @@
-pub mod NumberLemmas
-pub mod PartLemmas
-pub mod PageLemmas
-pub mod SizeLemmas
-pub mod HeaderLemmas
-pub mod FreshLemmas
-pub mod PlaceLemmas
+pub mod NumberLaws
+pub mod PartLaws
+pub mod PageLaws
+pub mod SizeLaws
+pub mod HeaderLaws
+pub mod LengthLaws
+pub mod PlaceLaws
 pub mod FreshLaws
-pub mod PlainLemmas
+pub mod PlainLaws
 mod Rows

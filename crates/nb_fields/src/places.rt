@@ -19,7 +19,7 @@ pub fn is_page_size(size: u64) -> bool
 }
 
 /// How many entries an SCN inventory page has.
-#[tactic(auto, using(crate::proofs::SizeLemmas::size_facts))]
+#[tactic(auto, using(crate::proofs::SizeLaws::size_facts))]
 pub fn entries_in(size: u32) -> u32
     requires { IsTrue (is_page_size size) }
     ensures value { result ≡ entries_in size }
@@ -30,7 +30,7 @@ pub fn entries_in(size: u32) -> u32
 }
 
 /// How many bits a page inventory page has.
-#[tactic(auto, using(crate::proofs::SizeLemmas::size_facts))]
+#[tactic(auto, using(crate::proofs::SizeLaws::size_facts))]
 pub fn bits_in(size: u32) -> u32
     requires { IsTrue (is_page_size size) }
     ensures value { result ≡ bits_in size }

@@ -1,6 +1,6 @@
-mod GatheredLemmas
-mod GrowthLemmas
-mod HeldLemmas
-mod PutLemmas
-mod PartLemmas
-mod TableLemmas
+mod GatheredLaws
+mod GrowthLaws
+mod HeldLaws
+mod PutLaws
+mod PartLaws
+mod TableLaws

@@ -4,8 +4,8 @@ use Rattle.std.specs.Prelude.{Some, None}
 use Rattle.std.proofs.lemmas.List.{take-take, drop-take, drop-drop, take-append-drop, take_at, length-take-le}
 use Rattle.nb_fields.specs.Bytes.{bytes_of, with_part}
 use Rattle.nb_fields.specs.Header.{size_of}
-use Rattle.nb_fields.proofs.PartLemmas.{length-with_part}
-use Rattle.nb_fields.proofs.SizeLemmas.{size_facts}
+use Rattle.nb_fields.proofs.PartLaws.{length-with_part}
+use Rattle.nb_fields.proofs.SizeLaws.{size_facts}
 use Rattle.nb_host.specs.Files.{File, put_at, padded, with_page}
 use Rattle.nb_host.specs.Crash.{PageLeft}
 use Rattle.nb_model.specs.Causes.{not_database}

@@ -4,7 +4,7 @@ use Rattle.std.specs.Prelude.{true, ◌==◌, Option, Ok}
 use Rattle.std.proofs.lemmas.Bool.{and_parts, eqb-true, true≢false}
 use Rattle.nb_fields.specs.Bytes.{is_zeros}
 use Rattle.nb_fields.specs.Header.{is_header, state_of, size_of}
-use Rattle.nb_fields.proofs.SizeLemmas.{size_facts}
+use Rattle.nb_fields.proofs.SizeLaws.{size_facts}
 use Rattle.nb_fields.specs.States.{stalled_state}
 use Rattle.nb_host.specs.Files.{Files}
 use Rattle.nb_model.specs.Image.{Page, Image, Numbered, image_size, overwritten, trimmed}

@@ -6,7 +6,7 @@ use Rattle.std.proofs.lemmas.List.{drop_at, drop_all, drop-drop}
 use Rattle.nb_fields.specs.Bytes.{number_of, bytes_of, number_in}
 use Rattle.nb_fields.specs.Header.{is_header, is_marked}
 use Rattle.nb_fields.specs.Places.{is_page_size}
-use Rattle.nb_fields.proofs.SizeLemmas.{size_facts}
+use Rattle.nb_fields.proofs.SizeLaws.{size_facts}
 use Rattle.nb_change.proofs.NameLaws.{decide}
 use Rattle.nb_model.specs.Levels.{Head, Stretch, Contents, head_then, head_in, run_bytes, end_bytes, end_mark, read_level, read_pages, read_runs}
 use Rattle.nb_model.proofs.ReadLaws.{and_no_right}

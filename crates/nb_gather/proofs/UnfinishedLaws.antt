@@ -4,7 +4,7 @@ use Rattle.std.specs.Prelude.{Ok}
 use Rattle.std.proofs.lemmas.List.{append-nil, drop_at, take_all, drop-drop, length-take-le, length-drop, take-append-drop}
 use Rattle.std.proofs.Math.Nat.{suc-mul}
 use Rattle.nb_fields.specs.Bytes.{number_of, bytes_of, number_in}
-use Rattle.nb_fields.proofs.NumberLemmas.{number_of-bytes_of, length-bytes_of}
+use Rattle.nb_fields.proofs.NumberLaws.{number_of-bytes_of, length-bytes_of}
 use Rattle.nb_fields.specs.Places.{most_pages}
 use Rattle.nb_model.specs.Image.{Numbered}
 use Rattle.nb_model.specs.Levels.{Head, Stretch, run_bytes, end_bytes, end_mark, joined, read_runs, barred_after}

@@ -5,11 +5,11 @@ use Rattle.std.proofs.lemmas.Bool.{and_parts, and_from}
 use Rattle.std.proofs.lemmas.List.{take-append-drop, drop-drop}
 use Rattle.nb_fields.specs.Bytes.{number_of, bytes_of, with_part, part, number_in, AreApart}
 use Rattle.nb_fields.specs.Header.{is_header, is_marked, is_sound, state_of, size_of, scn_of, guid_of, pending_of}
-use Rattle.nb_fields.proofs.HeaderLemmas.{is_header-long}
-use Rattle.nb_fields.proofs.PartLemmas.{length-part, length-with_part, part-with_part, part-with_part_other, number_in-with_part, number_in-with_part_other}
+use Rattle.nb_fields.proofs.HeaderLaws.{is_header-long}
+use Rattle.nb_fields.proofs.PartLaws.{length-part, length-with_part, part-with_part, part-with_part_other, number_in-with_part, number_in-with_part_other}
 use Rattle.nb_fields.specs.States.{normal_state, stalled_state, merge_state, applying_state}
 use Rattle.nb_page.specs.declared.header.Header.{Header}
-use Rattle.nb_page.proofs.HeaderLemmas.{is_sound-form}
+use Rattle.nb_page.proofs.HeaderLaws.{is_sound-form}
 use Rattle.nb_model.specs.Image.{Page}
 use Rattle.nb_model.specs.Strokes.{standby_page}
 use Rattle.nb_model.proofs.HeaderLaws.{header-long, form, header-size, header-scn}

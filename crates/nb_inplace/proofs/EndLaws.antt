@@ -3,7 +3,7 @@ use Rattle.std.proofs.Common.{◌≡◌, ℕ, ◌*◌, ◌≤◌, [], ◌∷◌,
 use Rattle.std.specs.Prelude.{true, IsTrue, Some}
 use Rattle.nb_fields.specs.Header.{is_header, size_of}
 use Rattle.nb_fields.specs.Places.{is_page_size, most_pages}
-use Rattle.nb_fields.proofs.SizeLemmas.{size_facts}
+use Rattle.nb_fields.proofs.SizeLaws.{size_facts}
 use Rattle.nb_host.specs.Files.{File, put_at, with_page}
 use Rattle.nb_model.specs.Image.{Page, Image, trimmed}
 use Rattle.nb_model.specs.Levels.{joined}

@@ -3,7 +3,7 @@ use Rattle.std.proofs.Common.{◌≡◌, ◌⊎◌, inl, inr, ℕ, zero, suc, �
 use Rattle.std.specs.Prelude.{None, Contains}
 use Rattle.nb_fields.specs.Bytes.{part}
 use Rattle.nb_fields.specs.Header.{state_of, size_of, guid_of, pending_of}
-use Rattle.nb_fields.proofs.PartLemmas.{part-take}
+use Rattle.nb_fields.proofs.PartLaws.{part-take}
 use Rattle.nb_fields.specs.States.{applying_state}
 use Rattle.nb_host.specs.Files.{Files}
 use Rattle.nb_model.specs.Causes.{not_database}

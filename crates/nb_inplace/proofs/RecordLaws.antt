@@ -19,7 +19,7 @@ use Rattle.nb_level.specs.Answers.{NextSays, Rises}
 use Rattle.nb_level.specs.Reading.{Reading, still_to_come}
 use Rattle.nb_level.specs.declared.item.Item.{Item}
 use Rattle.nb_level.specs.declared.item.Item.TheVariants.{PageAt, End}
-use Rattle.nb_chain.proofs.PageLemmas.{gives_there}
+use Rattle.nb_chain.proofs.PageLaws.{gives_there}
 use Rattle.nb_restore.specs.Copied.{Overwrites}
 use Rattle.nb_restore.proofs.AnswerLaws.{ok_same, err_ok}
 use Rattle.nb_restore.proofs.CopiedLaws.{overwrites_none, overwrites_joined}

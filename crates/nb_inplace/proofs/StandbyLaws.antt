@@ -5,8 +5,8 @@ use Rattle.std.proofs.lemmas.Bool.{true≢false}
 use Rattle.std.proofs.lemmas.List.{take-take, take_at, length-take}
 use Rattle.nb_fields.specs.Bytes.{number_in}
 use Rattle.nb_fields.specs.Header.{is_header, state_of, size_of, guid_of}
-use Rattle.nb_fields.proofs.PartLemmas.{number_in-take}
-use Rattle.nb_fields.proofs.SizeLemmas.{size_facts}
+use Rattle.nb_fields.proofs.PartLaws.{number_in-take}
+use Rattle.nb_fields.proofs.SizeLaws.{size_facts}
 use Rattle.nb_fields.specs.States.{normal_state, applying_state}
 use Rattle.nb_host.specs.Files.{File}
 use Rattle.nb_host.specs.Names.{same_name}
@@ -22,7 +22,7 @@ use Rattle.nb_model.proofs.MainLaws.{IsLaid, laid, laid-wide, some_page}
 use Rattle.nb_cases.specs.Events.{IsFileIn, OnApply}
 use Rattle.nb_cases.specs.declared.events.Case.{Case}
 use Rattle.nb_cases.specs.declared.events.Case.TheVariants.{NoCall, Go, WrongState as refused, Unfinished as unfinished, Main, Delta, BothOrMain, GoWithDelta, GoWithoutDelta, GoOrUnfinished}
-use Rattle.nb_chain.proofs.StartLemmas.{header_same}
+use Rattle.nb_chain.proofs.StartLaws.{header_same}
 use Rattle.nb_fixup.proofs.CauseLaws.{unheaded, no_page}
 use Rattle.nb_inplace.proofs.VerdictLaws.{by_state, mergeable_by, standby_state}
 use Rattle.nb_inplace.proofs.AgainLaws.{other_texts}

@@ -1,7 +1,7 @@
 -- The image of a kept backup, read-only and in the normal state, is well.
 use Rattle.std.proofs.Common.{◌≡◌, inr, ◌≤◌, List, [], ◌∷◌, length, refl, subst, arith}
 use Rattle.std.specs.Prelude.{Contains}
-use Rattle.nb_fields.proofs.SizeLemmas.{size_facts}
+use Rattle.nb_fields.proofs.SizeLaws.{size_facts}
 use Rattle.nb_host.specs.Files.{Files}
 use Rattle.nb_model.specs.Account.{Kept, Base, base_of, Account}
 use Rattle.nb_model.specs.Image.{Page, Image, first_page, image_size}

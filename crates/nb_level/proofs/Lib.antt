@@ -1,7 +1,7 @@
-pub mod AddingLemmas
-pub mod HeadLemmas
-pub mod NextLemmas
+pub mod AddingLaws
+pub mod HeadLaws
+pub mod NextLaws
 pub mod PagesLaws
-pub mod ReadingLemmas
-pub mod StartLemmas
+pub mod ReadingLaws
+pub mod StartLaws
 pub mod ToldLaws

@@ -50,7 +50,7 @@ fn name_of(refusal: &Refusal) -> (u64, &'static str)
 }
 
 /// The values of a refusal's fields.
-#[tactic(auto, using(crate::proofs::WordLemmas::no_words))]
+#[tactic(auto, using(crate::proofs::WordLaws::no_words))]
 fn push_fields(line: &mut Vec<u8>, refusal: &Refusal) -> Result<(), AllocError>
     ensures { OnOk result (line.new.items ≡ line.old.items ++ spaced (drop 2 (refusal_words refusal.now))) }
 {

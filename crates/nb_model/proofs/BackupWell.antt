@@ -7,7 +7,7 @@ use Rattle.std.proofs.lemmas.List.{take_at}
 use Rattle.std.proofs.lemmas.List.Elements.{Contains-append_right}
 use Rattle.nb_fields.specs.Bytes.{bytes_of, number_in, padded, with_part}
 use Rattle.nb_fields.specs.Page.{stamped}
-use Rattle.nb_fields.proofs.NumberLemmas.{number_of-bytes_of}
+use Rattle.nb_fields.proofs.NumberLaws.{number_of-bytes_of}
 use Rattle.nb_fields.specs.States.{normal_state, stalled_state}
 use Rattle.nb_fields.specs.Kinds.{data_kind}
 use Rattle.nb_model.specs.Account.{Ask, Kept, Base, Entry}

@@ -10,8 +10,8 @@ use Rattle.nb_fields.specs.Bytes.{padded}
 use Rattle.nb_fields.specs.Places.{is_page_size, bits_in, inventory_place}
 use Rattle.nb_fields.specs.Page.{head_of, page_of, generation_of, stamped}
 use Rattle.nb_fields.specs.Payloads.{bit_of}
-use Rattle.nb_fields.proofs.PageLemmas.{length-head_of, padded_whole}
-use Rattle.nb_fields.proofs.PlaceLemmas.{bits-least, inventory_index}
+use Rattle.nb_fields.proofs.PageLaws.{length-head_of, padded_whole}
+use Rattle.nb_fields.proofs.PlaceLaws.{bits-least, inventory_index}
 use Rattle.nb_model.specs.Image.{Page}
 use Rattle.nb_model.specs.Forms.{with_bit}
 

@@ -6,8 +6,8 @@ use Rattle.std.proofs.lemmas.Bool.Decides.{eqb_tells}
 use Rattle.nb_fields.specs.Places.{entries_in, bits_in, inventory_place, is_scn_place}
 use Rattle.nb_fields.specs.Page.{kind_of, stamped}
 use Rattle.nb_fields.specs.Payloads.{bit_of}
-use Rattle.nb_fields.proofs.SizeLemmas.{SizeFacts, size_facts}
-use Rattle.nb_fields.proofs.PlaceLemmas.{bits-least}
+use Rattle.nb_fields.proofs.SizeLaws.{SizeFacts, size_facts}
+use Rattle.nb_fields.proofs.PlaceLaws.{bits-least}
 use Rattle.nb_fields.specs.Kinds.{inventory_kind, scn_kind}
 use Rattle.nb_model.specs.Image.{Page, Image, page_at, image_size, image_scn}
 use Rattle.nb_model.specs.Account.{Base}

@@ -5,9 +5,9 @@ use Rattle.std.proofs.lemmas.Bool.{and_parts}
 use Rattle.nb_fields.specs.Bytes.{bytes_of, with_part, part, number_in, AreApart}
 use Rattle.nb_fields.specs.Header.{signature, version, is_marked, is_sound, is_header, state_of, size_of, scn_of, guid_of}
 use Rattle.nb_fields.specs.Page.{stamp_of}
-use Rattle.nb_fields.proofs.HeaderLemmas.{is_header-long}
-use Rattle.nb_fields.proofs.NumberLemmas.{length-bytes_of}
-use Rattle.nb_fields.proofs.PartLemmas.{length-with_part, part-with_part, part-with_part_other, number_in-with_part, number_in-with_part_other}
+use Rattle.nb_fields.proofs.HeaderLaws.{is_header-long}
+use Rattle.nb_fields.proofs.NumberLaws.{length-bytes_of}
+use Rattle.nb_fields.proofs.PartLaws.{length-with_part, part-with_part, part-with_part_other, number_in-with_part, number_in-with_part_other}
 use Rattle.nb_fields.specs.States.{normal_state}
 use Rattle.nb_model.specs.Image.{Page}
 use Rattle.nb_model.specs.Strokes.{controlled}

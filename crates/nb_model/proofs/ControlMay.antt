@@ -4,7 +4,7 @@ use Rattle.std.specs.Prelude.{true, ◌==◌, ◌||◌, ◌&&◌, not, nat_le, n
 use Rattle.std.proofs.lemmas.Bool.{and_from, le-leb, lt-ltb}
 use Rattle.nb_fields.specs.Header.{is_sound}
 use Rattle.nb_fields.specs.Places.{is_page_size}
-use Rattle.nb_fields.proofs.PartLemmas.{length-part}
+use Rattle.nb_fields.proofs.PartLaws.{length-part}
 use Rattle.nb_fields.specs.States.{stalled_state}
 use Rattle.nb_model.specs.Image.{Image, first_page, image_size, image_state, image_scn, image_guid}
 use Rattle.nb_model.specs.Sound.{HasHeader}

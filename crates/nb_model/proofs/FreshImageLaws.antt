@@ -13,11 +13,11 @@ use Rattle.nb_fields.specs.Page.{head_of, page_of}
 use Rattle.nb_fields.specs.Payloads.{control_block, header_payload, inventory_payload, same_entries, scn_payload, data_payload, text_payload}
 use Rattle.nb_fields.specs.Header.{is_header, is_marked, is_sound, state_of, size_of, scn_of}
 use Rattle.nb_fields.specs.Fresh.{next_plain, length_after, fresh_count, fresh_kind, fresh_payload, fresh_page, fresh}
-use Rattle.nb_fields.proofs.NumberLemmas.{number_of-bytes_of}
-use Rattle.nb_fields.proofs.SizeLemmas.{SizeFacts, size_facts}
-use Rattle.nb_fields.proofs.HeaderLemmas.{is_header-long}
-use Rattle.nb_fields.proofs.PageLemmas.{length-page_of}
-use Rattle.nb_fields.proofs.FreshLemmas.{fresh_count-most}
+use Rattle.nb_fields.proofs.NumberLaws.{number_of-bytes_of}
+use Rattle.nb_fields.proofs.SizeLaws.{SizeFacts, size_facts}
+use Rattle.nb_fields.proofs.HeaderLaws.{is_header-long}
+use Rattle.nb_fields.proofs.PageLaws.{length-page_of}
+use Rattle.nb_fields.proofs.LengthLaws.{fresh_count-most}
 use Rattle.nb_fields.proofs.FreshLaws.{length-taken_bits}
 use Rattle.nb_fields.specs.States.{normal_state}
 use Rattle.nb_host.specs.Files.{put_at}

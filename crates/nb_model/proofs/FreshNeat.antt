@@ -13,7 +13,7 @@ use Rattle.nb_fields.specs.Kinds.{code_of, data_kind}
 use Rattle.nb_fields.specs.Page.{head_of, page_of, kind_of}
 use Rattle.nb_fields.specs.Payloads.{data_payload, bit_of}
 use Rattle.nb_fields.specs.Places.{is_page_size, entries_in, bits_in, inventory_place, is_inventory_place, is_scn_place}
-use Rattle.nb_fields.proofs.PlaceLemmas.{entries-least, bits-least}
+use Rattle.nb_fields.proofs.PlaceLaws.{entries-least, bits-least}
 use Rattle.nb_model.specs.Chains.{Chain, Catalogue, History, Spot, first_of, owner_of, owner_in, next_in, is_slot, slots_in, walk, pages_of, found_pages, spots_on, spots_of, spots}
 use Rattle.nb_model.specs.Forms.{is_free_page}
 use Rattle.nb_model.specs.Image.{Page, Image, page_at}

@@ -13,9 +13,9 @@ use Rattle.nb_fields.specs.Places.{is_page_size, entries_in, bits_in, inventory_
 use Rattle.nb_fields.specs.Page.{head_of, page_of, kind_of}
 use Rattle.nb_fields.specs.Payloads.{control_block, header_payload, inventory_payload, scn_payload, data_payload, bit_of, entry_of}
 use Rattle.nb_fields.specs.Fresh.{fresh_count, fresh_kind, fresh_payload, fresh_page, fresh, ShowsFresh}
-use Rattle.nb_fields.proofs.FreshLemmas.{fresh_count-most}
+use Rattle.nb_fields.proofs.LengthLaws.{fresh_count-most}
 use Rattle.nb_fields.proofs.FreshLaws.{fresh_shows, length-taken_bits}
-use Rattle.nb_fields.proofs.PlaceLemmas.{fresh_kind-scn}
+use Rattle.nb_fields.proofs.PlaceLaws.{fresh_kind-scn}
 use Rattle.nb_model.specs.Image.{Page, page_at, image_size, image_guid}
 use Rattle.nb_model.specs.Account.{Kept}
 use Rattle.nb_model.specs.Chains.{Slot, is_used, slots_from, slots_in}

@@ -7,8 +7,8 @@ use Rattle.nb_fields.specs.Bytes.{number_of, number_in, with_part, is_zeros}
 use Rattle.nb_fields.specs.Header.{is_header}
 use Rattle.nb_fields.specs.Places.{entries_in, bits_in}
 use Rattle.nb_fields.specs.Page.{kind_of}
-use Rattle.nb_fields.proofs.PartLemmas.{number_in-take, length-with_part}
-use Rattle.nb_fields.proofs.SizeLemmas.{SizeFacts, size_facts}
+use Rattle.nb_fields.proofs.PartLaws.{number_in-take, length-with_part}
+use Rattle.nb_fields.proofs.SizeLaws.{SizeFacts, size_facts}
 use Rattle.nb_fields.specs.Kinds.{header_kind}
 use Rattle.nb_model.specs.Image.{Page, Image, first_page, image_size}
 use Rattle.nb_model.specs.Account.{Base}

@@ -6,8 +6,8 @@ use Rattle.std.proofs.lemmas.Bool.Decides.{leb_tells, eqb_tells}
 use Rattle.nb_fields.specs.Bytes.{number_of, number_in, is_zeros}
 use Rattle.nb_fields.specs.Header.{is_header, is_marked, is_sound, state_of, size_of, scn_of}
 use Rattle.nb_fields.specs.Places.{is_page_size}
-use Rattle.nb_fields.proofs.HeaderLemmas.{is_header-short, is_header-long, is_header-take}
-use Rattle.nb_fields.proofs.PartLemmas.{number_in-take}
+use Rattle.nb_fields.proofs.HeaderLaws.{is_header-short, is_header-long, is_header-take}
+use Rattle.nb_fields.proofs.PartLaws.{number_in-take}
 use Rattle.nb_fields.specs.States.{stalled_state}
 use Rattle.nb_model.specs.Image.{Page}
 

@@ -6,8 +6,8 @@ use Rattle.std.proofs.lemmas.Bool.Decides.{eqb_tells}
 use Rattle.nb_fields.specs.Page.{kind_of}
 use Rattle.nb_fields.specs.Payloads.{bit_of}
 use Rattle.nb_fields.specs.Places.{bits_in, entries_in, inventory_place, is_inventory_place, is_system_place}
-use Rattle.nb_fields.proofs.PlaceLemmas.{bits-least}
-use Rattle.nb_fields.proofs.SizeLemmas.{SizeFacts, size_facts}
+use Rattle.nb_fields.proofs.PlaceLaws.{bits-least}
+use Rattle.nb_fields.proofs.SizeLaws.{SizeFacts, size_facts}
 use Rattle.nb_fields.specs.Kinds.{inventory_kind, data_kind}
 use Rattle.nb_model.specs.Chains.{owner_in}
 use Rattle.nb_model.specs.Forms.{Draft, drafted, old_page, is_kind, put, set_bit, with_bit, take_page, is_free_page, inventory_of, bit_number, free_from, lowest_free, system_page, system_kind, system_payload, new_within}

@@ -6,8 +6,8 @@ use Rattle.std.proofs.lemmas.Bool.Decides.{leb_tells}
 use Rattle.std.proofs.lemmas.List.{take_at, drop_at, drop-drop}
 use Rattle.nb_fields.specs.Bytes.{number_of, bytes_of, number_in, part}
 use Rattle.nb_fields.specs.Places.{is_page_size, most_pages}
-use Rattle.nb_fields.proofs.NumberLemmas.{number_of-bytes_of}
-use Rattle.nb_fields.proofs.SizeLemmas.{size_facts}
+use Rattle.nb_fields.proofs.NumberLaws.{number_of-bytes_of}
+use Rattle.nb_fields.proofs.SizeLaws.{size_facts}
 use Rattle.nb_model.specs.Image.{Numbered}
 use Rattle.nb_model.specs.Levels.{Head, IsHead, IsLevel, Contents, Test, Stretch, AreRising, AreOfSize, first_fault, ends_before, head_then, head_in, begins_level, body_bytes, single_bytes, run_bytes, runs_of, runs_behind, joined, end_bytes, end_mark, level_bytes, read_level, read_pages, read_singles, read_runs, with_head, is_first_page}
 use Rattle.nb_model.proofs.ReadLaws.{AreClear, clear_none, lt_no, lt_yes, IsRun, single_read, singles_end}

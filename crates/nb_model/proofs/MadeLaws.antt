@@ -8,8 +8,8 @@ use Rattle.std.proofs.lemmas.List.{append-nil, take_at}
 use Rattle.nb_fields.specs.Bytes.{bytes_of, number_in, part}
 use Rattle.nb_fields.specs.Free.{is_free_file}
 use Rattle.nb_fields.specs.Header.{is_header, state_of, guid_of}
-use Rattle.nb_fields.proofs.NumberLemmas.{number_of-bytes_of}
-use Rattle.nb_fields.proofs.PartLemmas.{part-take, length-part}
+use Rattle.nb_fields.proofs.NumberLaws.{number_of-bytes_of}
+use Rattle.nb_fields.proofs.PartLaws.{part-take, length-part}
 use Rattle.nb_fields.specs.States.{stalled_state, applying_state}
 use Rattle.nb_host.specs.Files.{File, Files, with_file}
 use Rattle.nb_host.specs.Names.{same_name, is_delta}

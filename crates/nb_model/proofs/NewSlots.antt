@@ -7,8 +7,8 @@ use Rattle.std.proofs.lemmas.List.{take_at, drop_at, drop-drop}
 use Rattle.nb_fields.specs.Bytes.{bytes_of, number_of, number_in, part, padded, is_zeros}
 use Rattle.nb_fields.specs.Page.{stamped}
 use Rattle.nb_fields.specs.Payloads.{data_payload}
-use Rattle.nb_fields.proofs.NumberLemmas.{number_of-bytes_of}
-use Rattle.nb_fields.proofs.PageLemmas.{drop-page_of}
+use Rattle.nb_fields.proofs.NumberLaws.{number_of-bytes_of}
+use Rattle.nb_fields.proofs.PageLaws.{drop-page_of}
 use Rattle.nb_fields.specs.Kinds.{data_kind}
 use Rattle.nb_model.specs.Chains.{Chain, Slot, is_used, is_filled, is_slot, next_in, slots_from, slots_in}
 use Rattle.nb_model.specs.Image.{Page}

@@ -10,9 +10,9 @@ use Rattle.nb_fields.specs.Places.{is_page_size, entries_in, bits_in, inventory_
 use Rattle.nb_fields.specs.Page.{page_of, kind_of, generation_of, stamped}
 use Rattle.nb_fields.specs.Payloads.{inventory_payload, scn_payload, text_payload, bit_of, entry_of}
 use Rattle.nb_fields.proofs.FreshLaws.{taken_bits-free, bit_of-inventory, entry_of-scn}
-use Rattle.nb_fields.proofs.PageLemmas.{kind_of-page_of}
-use Rattle.nb_fields.proofs.SizeLemmas.{SizeFacts, size_facts}
-use Rattle.nb_fields.proofs.PlaceLemmas.{bits-least, entries-least}
+use Rattle.nb_fields.proofs.PageLaws.{kind_of-page_of}
+use Rattle.nb_fields.proofs.SizeLaws.{SizeFacts, size_facts}
+use Rattle.nb_fields.proofs.PlaceLaws.{bits-least, entries-least}
 use Rattle.nb_model.specs.Image.{Page, Image, page_at, image_size, image_scn}
 use Rattle.nb_model.specs.Account.{Base}
 use Rattle.nb_model.specs.Forms.{Draft, drafted, old_page, is_kind, put, scn_page_of, bit_number, entry_number, scn_entry, has_entry, is_free_page, take_page, free_from, lowest_free, first_not, needed_at, system_kind, system_payload, system_page, no_page, new_within, new_page}

@@ -5,7 +5,7 @@ use Rattle.std.proofs.Math.Nat.{div-eq_of_lt, div-mul-le_self}
 use Rattle.std.proofs.lemmas.Bool.Decides.{eqb_tells, leb_tells}
 use Rattle.nb_fields.specs.Places.{is_page_size, bits_in, inventory_place, is_inventory_place, is_scn_place}
 use Rattle.nb_fields.specs.Page.{kind_of}
-use Rattle.nb_fields.proofs.PlaceLemmas.{bits-least}
+use Rattle.nb_fields.proofs.PlaceLaws.{bits-least}
 use Rattle.nb_fields.specs.Kinds.{inventory_kind, scn_kind}
 use Rattle.nb_model.specs.Image.{Image, page_at, image_size}
 use Rattle.nb_model.specs.Forms.{HasItsEntry, is_kind, inventory_of, scn_page_of, is_free_page}

@@ -4,7 +4,7 @@ use Rattle.std.specs.Prelude.{Bool, true, false, ◌==◌, ◌||◌, ◌&&◌, n
 use Rattle.std.proofs.lemmas.Bool.{eqb-true, eqb-false, ltb-true, ltb-false}
 use Rattle.std.proofs.lemmas.Bool.Decides.{eqb_tells, leb_tells}
 use Rattle.nb_fields.specs.Places.{is_page_size, entries_in, bits_in, inventory_place, is_inventory_place, is_scn_place, is_system_place, most_pages}
-use Rattle.nb_fields.proofs.PlaceLemmas.{bits-least}
+use Rattle.nb_fields.proofs.PlaceLaws.{bits-least}
 use Rattle.nb_fields.specs.Kinds.{inventory_kind, scn_kind}
 use Rattle.nb_model.specs.Image.{Image, image_size}
 use Rattle.nb_model.specs.Forms.{HasItsEntry, is_kind, inventory_of, scn_page_of, lowest_free, free_from, Need, first_not, maps_from, entry_page, is_kept, needed_at}

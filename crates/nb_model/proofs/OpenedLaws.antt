@@ -6,8 +6,8 @@ use Rattle.std.proofs.lemmas.List.{take-append-le, length-replicate}
 use Rattle.std.proofs.Math.Nat.{mul-mod_left}
 use Rattle.nb_fields.specs.Bytes.{part, is_zeros}
 use Rattle.nb_fields.specs.Header.{is_header, state_of, size_of, guid_of}
-use Rattle.nb_fields.proofs.PartLemmas.{part-take}
-use Rattle.nb_fields.proofs.SizeLemmas.{size_facts}
+use Rattle.nb_fields.proofs.PartLaws.{part-take}
+use Rattle.nb_fields.proofs.SizeLaws.{size_facts}
 use Rattle.nb_fields.specs.States.{stalled_state, merge_state, applying_state}
 use Rattle.nb_host.specs.Files.{File, Files}
 use Rattle.nb_host.specs.Names.{is_delta}

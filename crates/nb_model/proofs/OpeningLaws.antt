@@ -7,7 +7,7 @@ use Rattle.nb_fields.specs.Bytes.{is_zeros}
 use Rattle.nb_fields.specs.Fresh.{fresh, fresh_count}
 use Rattle.nb_fields.specs.Free.{is_free_file}
 use Rattle.nb_fields.specs.Header.{is_header, state_of, pending_of}
-use Rattle.nb_fields.proofs.HeaderLemmas.{is_header-take}
+use Rattle.nb_fields.proofs.HeaderLaws.{is_header-take}
 use Rattle.nb_fields.specs.States.{applying_state}
 use Rattle.nb_host.specs.Files.{File, Files}
 use Rattle.nb_host.specs.Names.{is_delta}

@@ -7,8 +7,8 @@ use Rattle.std.proofs.lemmas.Bool.Decides.{leb_tells}
 use Rattle.std.proofs.lemmas.List.{get_or_append_left, take_at, length-take-le}
 use Rattle.nb_fields.specs.Bytes.{number_in}
 use Rattle.nb_fields.specs.Header.{is_header}
-use Rattle.nb_fields.proofs.HeaderLemmas.{is_header-take}
-use Rattle.nb_fields.proofs.PartLemmas.{number_in-take}
+use Rattle.nb_fields.proofs.HeaderLaws.{is_header-take}
+use Rattle.nb_fields.proofs.PartLaws.{number_in-take}
 use Rattle.nb_host.specs.declared.refusals.Refusal.{Refusal}
 use Rattle.nb_model.specs.declared.reply.Reply.{Reply}
 use Rattle.nb_model.specs.declared.statement.Statement.{Statement}

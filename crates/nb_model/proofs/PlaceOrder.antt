@@ -6,7 +6,7 @@ use Rattle.std.proofs.lemmas.Nat.{le-div}
 use Rattle.std.proofs.lemmas.Bool.{eqb-true, or_cases}
 use Rattle.std.proofs.lemmas.Bool.Decides.{eqb_tells}
 use Rattle.nb_fields.specs.Places.{is_page_size, entries_in, bits_in, inventory_place, scn_place, is_inventory_place, is_scn_place}
-use Rattle.nb_fields.proofs.PlaceLemmas.{bits-least, entries-least}
+use Rattle.nb_fields.proofs.PlaceLaws.{bits-least, entries-least}
 use Rattle.nb_model.proofs.SoundLaws.{scn_place_some, scn_place_of}
 
 pub div_rises : (a b n : ℕ) → 0 < n → a ≤ b → a / n ≤ b / n

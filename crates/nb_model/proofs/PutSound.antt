@@ -8,11 +8,11 @@ use Rattle.nb_fields.specs.Bytes.{number_of, bytes_of, number_in, part, with_par
 use Rattle.nb_fields.specs.Places.{entries_in, bits_in, is_inventory_place, is_scn_place, most_pages}
 use Rattle.nb_fields.specs.Page.{head_of, page_of, kind_of, stamp_of, generation_of, stamped}
 use Rattle.nb_fields.specs.Payloads.{entry_of, text_payload}
-use Rattle.nb_fields.proofs.NumberLemmas.{length-bytes_of}
-use Rattle.nb_fields.proofs.PartLemmas.{length-with_part, number_in-with_part, number_in-with_part_other}
-use Rattle.nb_fields.proofs.PageLemmas.{length-head_of, length-page_of, kind_of-page_of, stamp_of-page_of, padded_whole, part-append}
-use Rattle.nb_fields.proofs.SizeLemmas.{SizeFacts, size_facts}
-use Rattle.nb_fields.proofs.PlaceLemmas.{entries-least}
+use Rattle.nb_fields.proofs.NumberLaws.{length-bytes_of}
+use Rattle.nb_fields.proofs.PartLaws.{length-with_part, number_in-with_part, number_in-with_part_other}
+use Rattle.nb_fields.proofs.PageLaws.{length-head_of, length-page_of, kind_of-page_of, stamp_of-page_of, padded_whole, part-append}
+use Rattle.nb_fields.proofs.SizeLaws.{SizeFacts, size_facts}
+use Rattle.nb_fields.proofs.PlaceLaws.{entries-least}
 use Rattle.nb_fields.specs.Kinds.{header_kind, raw_kind, scn_kind}
 use Rattle.nb_host.specs.declared.refusals.Refusal.{Refusal}
 use Rattle.nb_model.specs.Image.{Page, Image, page_at, first_page, image_size, image_scn, with_page}

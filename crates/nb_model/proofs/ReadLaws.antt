@@ -6,7 +6,7 @@ use Rattle.std.proofs.lemmas.Bool.Decides.{eqb_tells, leb_tells}
 use Rattle.std.proofs.lemmas.List.{drop_at, take_at, drop-drop}
 use Rattle.std.proofs.Math.Nat.{suc-mul}
 use Rattle.nb_fields.specs.Bytes.{number_of, bytes_of, part, number_in}
-use Rattle.nb_fields.proofs.NumberLemmas.{number_of-bytes_of}
+use Rattle.nb_fields.proofs.NumberLaws.{number_of-bytes_of}
 use Rattle.nb_fields.specs.Places.{most_pages}
 use Rattle.nb_model.specs.Image.{Page, Numbered}
 use Rattle.nb_model.specs.Levels.{Head, Test, first_fault, ends_before, behind, read_end, read_singles, read_runs, pages_in, barred_after, is_bad_number, is_first_page, end_mark, end_bytes, joined, numbered_from}

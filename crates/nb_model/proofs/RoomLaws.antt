@@ -9,10 +9,10 @@ use Rattle.nb_fields.specs.Bytes.{bytes_of, with_part}
 use Rattle.nb_fields.specs.Page.{kind_of, stamped}
 use Rattle.nb_fields.specs.Payloads.{data_payload}
 use Rattle.nb_fields.specs.Places.{is_inventory_place, is_scn_place, is_system_place, most_pages}
-use Rattle.nb_fields.proofs.NumberLemmas.{length-bytes_of}
-use Rattle.nb_fields.proofs.PageLemmas.{length-padded}
-use Rattle.nb_fields.proofs.PartLemmas.{length-with_part}
-use Rattle.nb_fields.proofs.SizeLemmas.{SizeFacts, size_facts}
+use Rattle.nb_fields.proofs.NumberLaws.{length-bytes_of}
+use Rattle.nb_fields.proofs.PageLaws.{length-padded}
+use Rattle.nb_fields.proofs.PartLaws.{length-with_part}
+use Rattle.nb_fields.proofs.SizeLaws.{SizeFacts, size_facts}
 use Rattle.nb_fields.specs.States.{stalled_state}
 use Rattle.nb_fields.specs.Kinds.{header_kind, data_kind, scn_kind}
 use Rattle.nb_model.specs.Account.{Ask, Base}

@@ -4,7 +4,7 @@ use Rattle.std.specs.Prelude.{Bool, true, false, ◌&&◌, ◌||◌, ◌==◌, n
 use Rattle.std.proofs.lemmas.Bool.{and_from, le-leb, eq-eqb}
 use Rattle.std.proofs.lemmas.List.{take_at}
 use Rattle.nb_fields.specs.Bytes.{bytes_of, number_in, padded}
-use Rattle.nb_fields.proofs.NumberLemmas.{number_of-bytes_of}
+use Rattle.nb_fields.proofs.NumberLaws.{number_of-bytes_of}
 use Rattle.nb_model.specs.Chains.{Chain, RowsFrom, is_used, is_slot, length_in, key_of, text_in, row_slot, free_slot}
 use Rattle.nb_model.proofs.SpotMaps.{has_key}
 

@@ -8,9 +8,9 @@ use Rattle.std.proofs.lemmas.List.{take_at, drop_at, drop-drop}
 use Rattle.nb_fields.specs.Bytes.{bytes_of, number_of, number_in, part, with_part, padded, is_zeros}
 use Rattle.nb_fields.specs.Page.{stamped, kind_of}
 use Rattle.nb_fields.specs.Payloads.{data_payload}
-use Rattle.nb_fields.proofs.NumberLemmas.{length-bytes_of, number_of-bytes_of}
-use Rattle.nb_fields.proofs.PageLemmas.{padded_whole, drop-page_of, length-page_of}
-use Rattle.nb_fields.proofs.PartLemmas.{drop-with_part, part-with_part, part-with_part_other, number_in-with_part, number_in-with_part_other, length-with_part}
+use Rattle.nb_fields.proofs.NumberLaws.{length-bytes_of, number_of-bytes_of}
+use Rattle.nb_fields.proofs.PageLaws.{padded_whole, drop-page_of, length-page_of}
+use Rattle.nb_fields.proofs.PartLaws.{drop-with_part, part-with_part, part-with_part_other, number_in-with_part, number_in-with_part_other, length-with_part}
 use Rattle.nb_fields.specs.Kinds.{data_kind}
 use Rattle.nb_model.specs.Image.{Page}
 use Rattle.nb_model.specs.Chains.{History, Slot, is_used, is_slot, next_in, owner_in, slots_from, slots_in}

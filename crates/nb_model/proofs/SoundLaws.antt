@@ -10,9 +10,9 @@ use Rattle.nb_fields.specs.Header.{is_marked, is_header}
 use Rattle.nb_fields.specs.Places.{is_page_size, entries_in, bits_in, inventory_place, scn_place, is_inventory_place, is_scn_place, most_pages}
 use Rattle.nb_fields.specs.Page.{head_of, page_of, kind_of, stamp_of}
 use Rattle.nb_fields.specs.Payloads.{bit_of, entry_of}
-use Rattle.nb_fields.proofs.HeaderLemmas.{is_header-take}
-use Rattle.nb_fields.proofs.PartLemmas.{number_in-take, part-take}
-use Rattle.nb_fields.proofs.PlaceLemmas.{entries-least, bits-least}
+use Rattle.nb_fields.proofs.HeaderLaws.{is_header-take}
+use Rattle.nb_fields.proofs.PartLaws.{number_in-take, part-take}
+use Rattle.nb_fields.proofs.PlaceLaws.{entries-least, bits-least}
 use Rattle.nb_fields.specs.Kinds.{header_kind, inventory_kind, scn_kind}
 use Rattle.nb_model.specs.Image.{Page, Image, page_at, first_page, image_size, image_state, image_scn, image_guid, with_page}
 use Rattle.nb_model.specs.Forms.{inventory_of, scn_page_of, bit_number, entry_number, scn_entry, is_free_page, has_entry}

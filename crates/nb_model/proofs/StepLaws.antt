@@ -8,12 +8,12 @@ use Rattle.nb_fields.specs.Places.{is_page_size, entries_in, bits_in, inventory_
 use Rattle.nb_fields.specs.Header.{size_of}
 use Rattle.nb_fields.specs.Page.{kind_of, page_of, generation_of, stamped}
 use Rattle.nb_fields.specs.Payloads.{bit_of, inventory_payload, scn_payload}
-use Rattle.nb_fields.proofs.SizeLemmas.{SizeFacts, size_facts}
-use Rattle.nb_fields.proofs.PlaceLemmas.{bits-least, entries-least}
+use Rattle.nb_fields.proofs.SizeLaws.{SizeFacts, size_facts}
+use Rattle.nb_fields.proofs.PlaceLaws.{bits-least, entries-least}
 use Rattle.nb_fields.specs.Bytes.{bytes_of, with_part}
-use Rattle.nb_fields.proofs.NumberLemmas.{length-bytes_of}
-use Rattle.nb_fields.proofs.PartLemmas.{length-with_part}
-use Rattle.nb_fields.proofs.PageLemmas.{length-page_of}
+use Rattle.nb_fields.proofs.NumberLaws.{length-bytes_of}
+use Rattle.nb_fields.proofs.PartLaws.{length-with_part}
+use Rattle.nb_fields.proofs.PageLaws.{length-page_of}
 use Rattle.nb_fields.proofs.FreshLaws.{taken_bits-free, bit_of-inventory}
 use Rattle.nb_fields.specs.Kinds.{inventory_kind, scn_kind}
 use Rattle.nb_model.specs.Image.{Page, Image, page_at, image_size, image_scn}

@@ -4,7 +4,7 @@ use Rattle.std.specs.Prelude.{Bool, true, false, ◌&&◌, ◌||◌, ◌==◌, n
 use Rattle.std.proofs.lemmas.Bool.{and_from, le-leb}
 use Rattle.std.proofs.lemmas.List.{take_at}
 use Rattle.nb_fields.specs.Bytes.{bytes_of, number_in, padded}
-use Rattle.nb_fields.proofs.NumberLemmas.{number_of-bytes_of}
+use Rattle.nb_fields.proofs.NumberLaws.{number_of-bytes_of}
 use Rattle.nb_model.specs.Chains.{Catalogue, is_used, is_slot, length_in, table_of, first_in, table_slot}
 use Rattle.nb_model.specs.TableNames.{is_table_name}
 

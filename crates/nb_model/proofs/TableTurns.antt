@@ -8,7 +8,7 @@ use Rattle.nb_fields.specs.Bytes.{bytes_of}
 use Rattle.nb_fields.specs.Places.{is_inventory_place, most_pages}
 use Rattle.nb_fields.specs.Page.{stamped}
 use Rattle.nb_fields.specs.Payloads.{data_payload}
-use Rattle.nb_fields.proofs.PageLemmas.{length-padded}
+use Rattle.nb_fields.proofs.PageLaws.{length-padded}
 use Rattle.nb_fields.specs.Kinds.{data_kind}
 use Rattle.nb_host.specs.declared.refusals.Refusal.{Refusal}
 use Rattle.nb_model.specs.declared.reply.Reply.{Reply}

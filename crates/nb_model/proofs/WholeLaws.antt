@@ -5,8 +5,8 @@ use Rattle.std.proofs.lemmas.List.{take-append-le}
 use Rattle.std.proofs.Math.Nat.{mul-mod_left, mul-div_cancel}
 use Rattle.nb_fields.specs.Bytes.{number_of, number_in, part}
 use Rattle.nb_fields.specs.Header.{is_header, state_of, size_of, scn_of, guid_of}
-use Rattle.nb_fields.proofs.HeaderLemmas.{is_header-take}
-use Rattle.nb_fields.proofs.PartLemmas.{part-take}
+use Rattle.nb_fields.proofs.HeaderLaws.{is_header-take}
+use Rattle.nb_fields.proofs.PartLaws.{part-take}
 use Rattle.nb_fields.specs.Places.{most_pages}
 use Rattle.nb_fields.specs.States.{stalled_state}
 use Rattle.nb_host.specs.Files.{Files}

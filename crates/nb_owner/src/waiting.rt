@@ -127,7 +127,7 @@ impl Pair {
     }
 
     /// Writes a page that waits into the file that owns it. It waits no longer then.
-    fn put_next<H: Host>(&mut self, host: &mut H, number: u32) -> Result<(), HostFault>
+    fn flush_next<H: Host>(&mut self, host: &mut H, number: u32) -> Result<(), HostFault>
         requires waits { (rank : ℕ) × (rank_of self.old.pages number ≡ Some rank) }
         ensures left { (t : Trail) → IsTrue H.tells → AreOf t.base.image self.old.pages
             → Changes (H.world host.old) (H.world host.new) (Only self.old.files.name) (PutLeft (H.world host.old) self.old.files.name number (page_at t.base.image number)) }
@@ -147,7 +147,7 @@ impl Pair {
     }
 
     /// Writes each SCN page that waits.
-    fn put_scn_pages<H: Host>(&mut self, host: &mut H) -> Result<(), HostFault>
+    fn flush_scn_pages<H: Host>(&mut self, host: &mut H) -> Result<(), HostFault>
         ensures left { (f t : Trail) → IsTrue H.tells → GoesOut (H.world host.old) self.old f t (IsOnTheWay f t) → t.earlier ≢ []
             → Changes (H.world host.old) (H.world host.new) (Only self.old.files.name) (StandsIn self.old.files.name t) }
         ensures out { (f t : Trail) → IsTrue H.tells → GoesOut (H.world host.old) self.old f t (IsOnTheWay f t) → t.earlier ≢ []
@@ -160,13 +160,13 @@ impl Pair {
         ensures cause { CountsFault result (H.faults host.old) (H.faults host.new) }
     {
         while let Some(number) = self.next_scn_page() {
-            self.put_next(host, number)?;
+            self.flush_next(host, number)?;
         }
         Ok(())
     }
 
     /// Writes each page that waits.
-    fn put_pages<H: Host>(&mut self, host: &mut H) -> Result<(), HostFault>
+    fn flush_pages<H: Host>(&mut self, host: &mut H) -> Result<(), HostFault>
         ensures left { (f t : Trail) → IsTrue H.tells → GoesOut (H.world host.old) self.old f t (IsFirm t) → NoScnWaits t self.old.pages
             → Changes (H.world host.old) (H.world host.new) (Only self.old.files.name) (StandsIn self.old.files.name t) }
         ensures out { (f t : Trail) → IsTrue H.tells → GoesOut (H.world host.old) self.old f t (IsFirm t) → NoScnWaits t self.old.pages
@@ -180,13 +180,13 @@ impl Pair {
         ensures cause { CountsFault result (H.faults host.old) (H.faults host.new) }
     {
         while let Some(number) = self.next_page() {
-            self.put_next(host, number)?;
+            self.flush_next(host, number)?;
         }
         Ok(())
     }
 
     /// Writes the SCN pages that wait, and keeps them for good.
-    fn put_first<H: Host>(&mut self, host: &mut H) -> Result<(), HostFault>
+    fn flush_first<H: Host>(&mut self, host: &mut H) -> Result<(), HostFault>
         ensures left { (t : Trail) → IsTrue H.tells → IsOpen (H.world host.old) self.old t → t.earlier ≢ [] → image_state t.base.image ≡ normal_state
             → Changes (H.world host.old) (H.world host.new) (Only self.old.files.name) (StandsIn self.old.files.name t) }
         ensures out { (t : Trail) (is : IsOpen (H.world host.old) self.old t) → IsTrue H.tells → t.earlier ≢ [] → image_state t.base.image ≡ normal_state
@@ -200,7 +200,7 @@ impl Pair {
     {
         match self.next_scn_page() {
             Some(_) => {
-                self.put_scn_pages(host)?;
+                self.flush_scn_pages(host)?;
                 self.files.sync(host)?;
                 Ok(())
             }
@@ -209,7 +209,7 @@ impl Pair {
     }
 
     /// Writes all that waits in the normal state, where something does.
-    fn put_main<H: Host>(&mut self, host: &mut H) -> Result<(), HostFault>
+    fn flush_main<H: Host>(&mut self, host: &mut H) -> Result<(), HostFault>
         requires some { (p rank : ℕ) × (rank_of self.old.pages p ≡ Some rank) }
         ensures left { (t : Trail) → IsTrue H.tells → IsOpen (H.world host.old) self.old t → image_state t.base.image ≡ normal_state
             → Changes (H.world host.old) (H.world host.new) (Only self.old.files.name) (StandsIn self.old.files.name t) }
@@ -222,13 +222,13 @@ impl Pair {
         ensures reads { (H.world host.new).reads ≡ (H.world host.old).reads }
         ensures cause { CountsFault result (H.faults host.old) (H.faults host.new) }
     {
-        self.put_first(host)?;
-        self.put_pages(host)?;
+        self.flush_first(host)?;
+        self.flush_pages(host)?;
         Ok(())
     }
 
     /// Writes a page that waits into its slot, in the stalled state. It waits no longer then.
-    fn put_slot<H: Host>(&mut self, host: &mut H, number: u32) -> Result<(), HostFault>
+    fn flush_slot<H: Host>(&mut self, host: &mut H, number: u32) -> Result<(), HostFault>
         requires waits { (rank : ℕ) × (rank_of self.old.pages number ≡ Some rank) }
         ensures left { (f t : Trail) → IsTrue H.tells → GoesSlot (H.world host.old) self.old f t
             → Changes (H.world host.old) (H.world host.new) (Only (delta_name self.old.files.name)) (StandsIn self.old.files.name t) }
@@ -246,7 +246,7 @@ impl Pair {
     }
 
     /// Writes each page that waits into its slot, in the stalled state.
-    fn put_slots<H: Host>(&mut self, host: &mut H) -> Result<(), HostFault>
+    fn flush_slots<H: Host>(&mut self, host: &mut H) -> Result<(), HostFault>
         ensures left { (f t : Trail) → IsTrue H.tells → GoesSlot (H.world host.old) self.old f t
             → Changes (H.world host.old) (H.world host.new) (Only (delta_name self.old.files.name)) (StandsIn self.old.files.name t) }
         ensures out { (f t : Trail) → IsTrue H.tells → GoesSlot (H.world host.old) self.old f t → OnOk result (GoesSlot (H.world host.new) self.new f t) }
@@ -259,7 +259,7 @@ impl Pair {
         ensures cause { CountsFault result (H.faults host.old) (H.faults host.new) }
     {
         while let Some(number) = self.next_page() {
-            self.put_slot(host, number)?;
+            self.flush_slot(host, number)?;
         }
         Ok(())
     }
@@ -284,7 +284,7 @@ impl Pair {
     }
 
     /// Writes all that waits in the stalled state: pages into their slots, and then their entries.
-    fn put_delta<H: Host>(&mut self, host: &mut H) -> Result<(), HostFault>
+    fn flush_delta<H: Host>(&mut self, host: &mut H) -> Result<(), HostFault>
         requires stalled { self.old.files.state ≡ stalled_state }
         requires some { (p rank : ℕ) × (rank_of self.old.pages p ≡ Some rank) }
         ensures left { (t : Trail) → IsTrue H.tells → IsOpen (H.world host.old) self.old t
@@ -299,13 +299,13 @@ impl Pair {
         ensures reads { (H.world host.new).reads ≡ (H.world host.old).reads }
         ensures cause { CountsFault result (H.faults host.old) (H.faults host.new) }
     {
-        self.put_slots(host)?;
+        self.flush_slots(host)?;
         self.enter(host)?;
         Ok(())
     }
 
     /// Writes all that waits, where something does.
-    fn put_all<H: Host>(&mut self, host: &mut H) -> Result<(), HostFault>
+    fn flush_all<H: Host>(&mut self, host: &mut H) -> Result<(), HostFault>
         requires some { (p rank : ℕ) × (rank_of self.old.pages p ≡ Some rank) }
         ensures takes { (t : Trail) → IsTrue H.tells → IsOpen (H.world host.old) self.old t
             → Takes result (H.world host.old) (H.world host.new) self.old.files.name (IsOpen (H.world host.new) self.new) t [] }
@@ -320,10 +320,10 @@ impl Pair {
         ensures cause { CountsFault result (H.faults host.old) (H.faults host.new) }
     {
         if self.files.state() == STALLED {
-            self.put_delta(host)?;
+            self.flush_delta(host)?;
             Ok(())
         } else {
-            self.put_main(host)?;
+            self.flush_main(host)?;
             Ok(())
         }
     }
@@ -374,7 +374,7 @@ impl Pair {
     {
         match self.next_page() {
             Some(_) => {
-                self.put_all(host)?;
+                self.flush_all(host)?;
                 Ok(())
             }
             None => {

@@ -1,5 +1,5 @@
-pub mod QuietLemmas
-pub mod HeaderLemmas
-pub mod FreeLemmas
-pub mod FillLemmas
-pub mod StampLemmas
+pub mod QuietLaws
+pub mod HeaderLaws
+pub mod FreeLaws
+pub mod FillLaws
+pub mod StampLaws

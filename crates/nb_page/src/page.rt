@@ -19,7 +19,7 @@ pub struct PageHead {
 }
 
 /// The head of a page.
-#[tactic(auto, using(nb_fields::proofs::SizeLemmas::size_facts), unfolding(crate::specs::Head::head_in))]
+#[tactic(auto, using(nb_fields::proofs::SizeLaws::size_facts), unfolding(crate::specs::Head::head_in))]
 pub fn read_head(page: &[u8]) -> PageHead
     requires { IsTrue (is_page_size (length page.now)) }
     ensures { result ≡ head_in page.now }

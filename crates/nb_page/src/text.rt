@@ -6,7 +6,7 @@ ghost use Rattle.nb_fields.specs.Payloads.{text_payload, text_length, text_of};
 use nb_fields::layouts::raw;
 
 /// The text of a raw page, and none exactly where its length is greater than a text's may be.
-#[tactic(auto, using(nb_fields::proofs::SizeLemmas::size_facts))]
+#[tactic(auto, using(nb_fields::proofs::SizeLaws::size_facts))]
 pub fn raw_text(page: &[u8]) -> Option<&[u8]>
     requires { IsTrue (is_page_size (length page.now)) }
     ensures exact { is_some result ≡ nat_le (text_length page.now) 200 }

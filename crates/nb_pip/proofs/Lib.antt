@@ -1,4 +1,4 @@
-pub mod BitLemmas
-pub mod FillLemmas
-pub mod LowestLemmas
-pub mod PlaceLemmas
+pub mod BitLaws
+pub mod FillLaws
+pub mod LowestLaws
+pub mod PlaceLaws

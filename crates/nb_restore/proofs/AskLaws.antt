@@ -1,7 +1,7 @@
 -- The record of a backup with another ask: what it holds besides is the same.
 use Rattle.std.proofs.Common.{◌≡◌, length, sym, ap, ◌∙◌, arith}
 use Rattle.std.specs.Prelude.{Option}
-use Rattle.nb_fields.proofs.PartLemmas.{length-part}
+use Rattle.nb_fields.proofs.PartLaws.{length-part}
 use Rattle.nb_model.specs.Image.{first_page}
 use Rattle.nb_model.specs.Account.{Ask, Kept}
 use Rattle.nb_model.specs.Stands.{IsBegun}

@@ -7,8 +7,8 @@ use Rattle.std.proofs.lemmas.List.{take-take}
 use Rattle.nb_fields.specs.Bytes.{number_in}
 use Rattle.nb_fields.specs.Free.{is_free_file}
 use Rattle.nb_fields.specs.Header.{is_header, signature, state_of, size_of}
-use Rattle.nb_fields.proofs.HeaderLemmas.{is_header-take}
-use Rattle.nb_fields.proofs.PartLemmas.{number_in-take}
+use Rattle.nb_fields.proofs.HeaderLaws.{is_header-take}
+use Rattle.nb_fields.proofs.PartLaws.{number_in-take}
 use Rattle.nb_fields.specs.States.{stalled_state}
 use Rattle.nb_host.specs.Files.{File, Files}
 use Rattle.nb_host.specs.Names.{same_name}

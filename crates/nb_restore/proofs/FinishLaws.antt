@@ -6,14 +6,14 @@ use Rattle.std.proofs.lemmas.List.{take-append-le}
 use Rattle.nb_fields.specs.Bytes.{bytes_of, with_part, number_in, is_zeros}
 use Rattle.nb_fields.specs.Header.{is_header, is_marked, is_sound, state_of, size_of, scn_of, guid_of, pending_of}
 use Rattle.nb_fields.specs.Places.{is_page_size, most_pages}
-use Rattle.nb_fields.proofs.HeaderLemmas.{is_header-long}
-use Rattle.nb_fields.proofs.PartLemmas.{length-with_part, number_in-with_part, number_in-with_part_other}
-use Rattle.nb_fields.proofs.SizeLemmas.{size_facts}
+use Rattle.nb_fields.proofs.HeaderLaws.{is_header-long}
+use Rattle.nb_fields.proofs.PartLaws.{length-with_part, number_in-with_part, number_in-with_part_other}
+use Rattle.nb_fields.proofs.SizeLaws.{size_facts}
 use Rattle.nb_fields.specs.States.{normal_state}
 use Rattle.nb_host.specs.Files.{File, bytes_of as file_bytes, put_at, with_page}
 use Rattle.nb_host.specs.Crash.{PageLeft}
 use Rattle.nb_page.specs.declared.header.Header.{Header}
-use Rattle.nb_page.proofs.HeaderLemmas.{is_sound-form}
+use Rattle.nb_page.proofs.HeaderLaws.{is_sound-form}
 use Rattle.nb_model.specs.Image.{Page, Image, trimmed}
 use Rattle.nb_model.specs.Levels.{joined}
 use Rattle.nb_model.specs.Main.{HoldsMain}

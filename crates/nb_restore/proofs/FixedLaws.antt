@@ -1,7 +1,7 @@
 -- An image in the normal state, with nothing else changed, stays sound and goes on from what it went on from.
 use Rattle.std.proofs.Common.{◌≡◌, inl, List, [], ◌∷◌, refl, subst, arith}
 use Rattle.nb_fields.specs.Bytes.{bytes_of}
-use Rattle.nb_fields.proofs.PartLemmas.{part-with_part_other}
+use Rattle.nb_fields.proofs.PartLaws.{part-with_part_other}
 use Rattle.nb_model.specs.Image.{Page, Image, first_page}
 use Rattle.nb_model.specs.Account.{Kept}
 use Rattle.nb_model.specs.Strokes.{fixed}

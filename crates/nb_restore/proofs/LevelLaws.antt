@@ -16,7 +16,7 @@ use Rattle.nb_level.specs.Answers.{NextSays}
 use Rattle.nb_level.specs.Reading.{Reading, still_to_come}
 use Rattle.nb_level.specs.declared.item.Item.{Item}
 use Rattle.nb_level.specs.declared.item.Item.TheVariants.{PageAt, End}
-use Rattle.nb_chain.proofs.PageLemmas.{gives_there}
+use Rattle.nb_chain.proofs.PageLaws.{gives_there}
 use Rattle.nb_restore.specs.Copied.{IsDone, Overwrites, OverwritesAll}
 use Rattle.nb_restore.specs.Sources.{IsReady, AreReady, AreOfPages}
 use Rattle.nb_restore.proofs.AnswerLaws.{ok_same, err_ok}

@@ -5,7 +5,7 @@ use Rattle.std.specs.Global.{Vec}
 use Rattle.std.proofs.lemmas.Bool.{and_parts}
 use Rattle.nb_fields.specs.Free.{is_free_file}
 use Rattle.nb_fields.specs.Header.{is_header, size_of}
-use Rattle.nb_fields.proofs.SizeLemmas.{size_facts}
+use Rattle.nb_fields.proofs.SizeLaws.{size_facts}
 use Rattle.nb_fields.specs.Places.{most_pages}
 use Rattle.nb_host.specs.Files.{Files}
 use Rattle.nb_host.specs.declared.faults.Fault.{Fault}
@@ -22,7 +22,7 @@ use Rattle.nb_chain.specs.declared.first_file.First.{First}
 use Rattle.nb_chain.specs.Chain.{IsFirstOf}
 use Rattle.nb_chain.specs.First.{FirstSays}
 use Rattle.nb_chain.proofs.ImageLaws.{over}
-use Rattle.nb_chain.proofs.StartLemmas.{size_is}
+use Rattle.nb_chain.proofs.StartLaws.{size_is}
 use Rattle.nb_restore.specs.Copied.{IsDone}
 use Rattle.nb_restore.specs.Plan.{IsAccepted, IsPrepared, PlanSays}
 use Rattle.nb_restore.specs.Sources.{IsLevel0, AreSources, AreReady, IsTaken}

@@ -6,7 +6,7 @@ use Rattle.std.proofs.lemmas.List.{append-nil, drop_all}
 use Rattle.nb_fields.specs.Bytes.{is_zeros}
 use Rattle.nb_fields.specs.Free.{is_free_file, is_unfinished}
 use Rattle.nb_fields.specs.Header.{is_header, state_of, pending_of}
-use Rattle.nb_fields.proofs.HeaderLemmas.{is_free_file-take}
+use Rattle.nb_fields.proofs.HeaderLaws.{is_free_file-take}
 use Rattle.nb_fields.specs.States.{applying_state}
 use Rattle.nb_host.specs.Files.{File, Files, bytes_of, padded, put_at, with_page}
 use Rattle.nb_host.specs.World.{World}

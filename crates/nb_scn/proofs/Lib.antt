@@ -1,3 +1,3 @@
-pub mod EntryLemmas
-pub mod FillLemmas
-pub mod PlaceLemmas
+pub mod EntryLaws
+pub mod FillLaws
+pub mod PlaceLaws

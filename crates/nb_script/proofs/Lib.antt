@@ -1,5 +1,5 @@
 pub mod Numbers
-pub mod LineLemmas
+pub mod LineLaws
 pub mod Orders
 pub mod Sessions
 pub mod Scripts
@@ -8,6 +8,6 @@ pub mod WordLaws
 pub mod StatementLaws
 pub mod FirstLaws
 pub mod FitLaws
-pub mod AskedLemmas
+pub mod AskedLaws
 pub mod Unbroken
 pub mod RoundTrip

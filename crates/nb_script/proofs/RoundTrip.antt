@@ -20,9 +20,9 @@ use Rattle.nb_script.specs.Asked.{IsFirst, IsFurtherLine, IsSpelled, statement_c
 use Rattle.nb_script.proofs.WordLaws.{digits_of, some_digit, within_again}
 use Rattle.nb_script.proofs.StatementLaws.{statement_again}
 use Rattle.nb_script.proofs.FirstLaws.{first_again}
-use Rattle.nb_script.proofs.LineLemmas.{kept}
+use Rattle.nb_script.proofs.LineLaws.{kept}
 use Rattle.nb_script.proofs.Scripts.{one_line, script_meant}
-use Rattle.nb_script.proofs.AskedLemmas.{AllFurther}
+use Rattle.nb_script.proofs.AskedLaws.{AllFurther}
 use Rattle.nb_script.proofs.Unbroken.{Unbroken, unlike, line_unbroken, first_line_unbroken, order_unbroken}
 
 -- a line that is ended by a line feed is the first one

@@ -9,7 +9,7 @@ use Rattle.nb_host.specs.Files.{File, Files}
 use Rattle.nb_host.specs.Names.{is_delta}
 use Rattle.nb_host.specs.World.{World}
 use Rattle.nb_page.specs.Free.{is_free_name, has_delta}
-use Rattle.nb_page.proofs.FreeLemmas.{is_free_name-false}
+use Rattle.nb_page.proofs.FreeLaws.{is_free_name-false}
 use Rattle.nb_change.specs.Changes.{Other}
 use Rattle.nb_change.proofs.NameLaws.{decide}
 use Rattle.nb_model.specs.Account.{Base, Plain, IsBase}

@@ -6,7 +6,7 @@ use Rattle.std.proofs.lemmas.Nat.Bits.{bit_at-lt}
 use Rattle.nb_fields.specs.Places.{bits_in, inventory_place}
 use Rattle.nb_fields.specs.Payloads.{bit_of}
 use Rattle.nb_pip.specs.Bits.{bits}
-use Rattle.nb_pip.proofs.BitLemmas.{get_or-bits}
+use Rattle.nb_pip.proofs.BitLaws.{get_or-bits}
 use Rattle.nb_model.specs.Image.{Page, Image, page_at, image_size}
 use Rattle.nb_model.specs.Forms.{is_free_page}
 use Rattle.nb_model.proofs.ReadLaws.{eq_no, eq_yes}

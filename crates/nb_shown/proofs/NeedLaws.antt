@@ -4,7 +4,7 @@ use Rattle.std.specs.Prelude.{Bool, true, false, not, IsTrue, Some, None, min}
 use Rattle.std.proofs.Math.Nat.{le-div_iff_mul-le}
 use Rattle.std.proofs.lemmas.Bool.Decides.{leb_tells}
 use Rattle.nb_fields.specs.Places.{is_page_size, bits_in, inventory_place}
-use Rattle.nb_fields.proofs.PlaceLemmas.{bits-least}
+use Rattle.nb_fields.proofs.PlaceLaws.{bits-least}
 use Rattle.nb_fields.specs.Kinds.{inventory_kind}
 use Rattle.nb_host.specs.declared.refusals.Refusal.{Refusal}
 use Rattle.nb_host.specs.declared.refusals.Refusal.TheVariants.{NotDatabase}

@@ -4,7 +4,7 @@ use Rattle.std.specs.Prelude.{true, not, ◌==◌}
 use Rattle.std.proofs.lemmas.Bool.Decides.{eqb_tells}
 use Rattle.nb_fields.specs.Bytes.{number_in, part}
 use Rattle.nb_fields.specs.Header.{is_header, scn_of, guid_of}
-use Rattle.nb_fields.proofs.PartLemmas.{part-take}
+use Rattle.nb_fields.proofs.PartLaws.{part-take}
 use Rattle.nb_fields.specs.States.{merge_state}
 use Rattle.nb_host.specs.World.{World}
 use Rattle.nb_model.specs.Image.{Page, Image, first_page, image_scn, image_guid}

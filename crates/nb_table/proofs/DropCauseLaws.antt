@@ -4,8 +4,8 @@ use Rattle.std.specs.Prelude.{Bool, true, None}
 use Rattle.std.specs.List.{AllByRecursion}
 use Rattle.std.proofs.lemmas.List.{append-nil}
 use Rattle.nb_fields.specs.Bytes.{with_part}
-use Rattle.nb_fields.proofs.PartLemmas.{length-with_part}
-use Rattle.nb_fields.proofs.SizeLemmas.{SizeFacts, size_facts}
+use Rattle.nb_fields.proofs.PartLaws.{length-with_part}
+use Rattle.nb_fields.proofs.SizeLaws.{SizeFacts, size_facts}
 use Rattle.nb_fields.specs.Places.{most_pages}
 use Rattle.nb_fields.specs.Kinds.{inventory_kind, data_kind}
 use Rattle.nb_host.specs.declared.refusals.Refusal.TheVariants.{Full}

@@ -4,8 +4,8 @@ use Rattle.std.specs.Prelude.{IsTrue, nat_lt, nat_le, slice_index}
 use Rattle.std.specs.List.{list_all}
 use Rattle.std.proofs.lemmas.Bool.{and_parts, leb-true}
 use Rattle.nb_fields.specs.Bytes.{bytes_of, with_part, padded}
-use Rattle.nb_fields.proofs.NumberLemmas.{length-bytes_of}
-use Rattle.nb_fields.proofs.PageLemmas.{with_part-padded, with_part-padded_next}
+use Rattle.nb_fields.proofs.NumberLaws.{length-bytes_of}
+use Rattle.nb_fields.proofs.PageLaws.{with_part-padded, with_part-padded_next}
 use Rattle.nb_model.specs.TableNames.{is_table_name, is_table_byte, is_letter}
 use Rattle.nb_model.specs.Chains.{row_slot, table_slot}
 

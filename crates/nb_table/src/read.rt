@@ -140,7 +140,7 @@ fn take_rows<H: Host>(
     let mut number = first;
     let mut left = engine.count();
     while left > 0 {
-        let next = engine.take_page(host, chain, number, page)?;
+        let next = engine.chain_read(host, chain, number, page)?;
         add_rows(alloc, &mut rows, page)?;
         if next == 0 {
             return Ok(rows);

@@ -74,7 +74,7 @@ fn add_slots(walked: &mut Walked, sought: &Sought, page: &[u8], number: u32)
 
 /// Comes by page `number`, and answers the page that it is linked to, or 0. The refusal is `NotDatabase` of the page, where it isn't one of
 /// the chain.
-fn take_link<H: Host>(
+fn read_link<H: Host>(
     host: &mut H,
     engine: &mut Engine,
     sought: &Sought,
@@ -102,7 +102,7 @@ fn take_link<H: Host>(
 {
     // Slots are counted by the size of a page, which is one of six.
     let _size = engine.page_size();
-    let next = engine.take_page(host, sought.chain(), number, page)?;
+    let next = engine.chain_read(host, sought.chain(), number, page)?;
     add_slots(walked, sought, page, number);
     Ok(next)
 }
@@ -141,7 +141,7 @@ pub(crate) fn walk<H: Host>(
     let mut number = sought.chain().first();
     let mut left = engine.count();
     while left > 0 {
-        let next = take_link(host, engine, sought, number, page, &mut walked)?;
+        let next = read_link(host, engine, sought, number, page, &mut walked)?;
         if next == 0 {
             return Ok((walked, number));
         }

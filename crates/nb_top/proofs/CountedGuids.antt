@@ -4,7 +4,7 @@ use Rattle.std.specs.Prelude.{Some, Contains}
 use Rattle.nb_host.specs.Files.{Files}
 use Rattle.nb_host.specs.World.{World}
 use Rattle.nb_mem.specs.Histories.{guid_of, guids_behind}
-use Rattle.nb_mem.proofs.GuidLemmas.{behind_apart, guid_not_nil, guids_apart}
+use Rattle.nb_mem.proofs.GuidLaws.{behind_apart, guid_not_nil, guids_apart}
 use Rattle.nb_model.specs.Account.{Kept}
 use Rattle.nb_model.specs.NewGuids.{AreNew, ComeOnce}
 use Rattle.nb_top.specs.Worlds.{NameNone, StartsFrom}

@@ -18,7 +18,7 @@ use Rattle.nb_model.proofs.OpeningLaws.{not_created, run_ends}
 use Rattle.nb_model.proofs.RunLaws.{entry_same}
 use Rattle.nb_script.specs.Asked.{IsAskable}
 use Rattle.nb_script.specs.Scripts.{Plan, script_of}
-use Rattle.nb_script.proofs.AskedLemmas.{answer_is_askable}
+use Rattle.nb_script.proofs.AskedLaws.{answer_is_askable}
 use Rattle.nb_gen.specs.Texts.{generated_first}
 use Rattle.nb_gen.proofs.GeneratedScript.{creates_its_own, generated_text}
 use Rattle.nb_gen.proofs.WrittenLaws.{text_in_use}

@@ -18,7 +18,7 @@ use Rattle.nb_change.proofs.MomentLaws.{joined, left_before, weaker}
 use Rattle.nb_change.proofs.NameLaws.{decide, with_file-same}
 use Rattle.nb_change.proofs.SettledLaws.{durable_is}
 use Rattle.nb_page.specs.Free.{is_free_name}
-use Rattle.nb_page.proofs.FreeLemmas.{is_free_name-false}
+use Rattle.nb_page.proofs.FreeLaws.{is_free_name-false}
 use Rattle.nb_page.specs.Quiet.{Quiet}
 use Rattle.nb_model.specs.declared.reply.Reply.TheVariants.{Refused}
 use Rattle.nb_model.specs.Account.{Plain, Entry, Account}

@@ -25,7 +25,7 @@ use Rattle.nb_gen.specs.Texts.{generated_first}
 use Rattle.nb_script.specs.Asked.{IsAskable, IsFurther}
 use Rattle.nb_script.specs.Fits.{FitsFirst}
 use Rattle.nb_script.specs.Scripts.{Plan, script_of}
-use Rattle.nb_script.proofs.AskedLemmas.{answer_is_askable}
+use Rattle.nb_script.proofs.AskedLaws.{answer_is_askable}
 use Rattle.nb_session.specs.MadeNames.{AnyAsks, AnySessionAsks, Asks, ScriptMakes}
 use Rattle.nb_top.specs.declared.status.Status.{Status}
 use Rattle.nb_top.specs.Performed.{target_named}

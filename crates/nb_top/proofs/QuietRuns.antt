@@ -9,7 +9,7 @@ use Rattle.nb_host.specs.declared.faults.RunError.{RunError}
 use Rattle.nb_change.specs.Gave.{GaveNothing}
 use Rattle.nb_change.proofs.MomentLaws.{joined, weaker}
 use Rattle.nb_page.specs.Quiet.{Quiet}
-use Rattle.nb_page.proofs.QuietLemmas.{quiet_joined}
+use Rattle.nb_page.proofs.QuietLaws.{quiet_joined}
 use Rattle.nb_model.specs.Account.{Account}
 use Rattle.nb_model.specs.Gifts.{Foretells, WasGiven}
 use Rattle.nb_model.specs.NewGuids.{guids_in}

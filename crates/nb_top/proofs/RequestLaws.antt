@@ -24,7 +24,7 @@ use Rattle.nb_script.specs.Asked.{IsFurther, IsAskable}
 use Rattle.nb_script.specs.Fits.{IsBase, IsFile}
 use Rattle.nb_script.specs.Lines.{left, lines_of}
 use Rattle.nb_script.specs.Scripts.{Plan, Numbered, script_of}
-use Rattle.nb_script.proofs.AskedLemmas.{answer_is_askable}
+use Rattle.nb_script.proofs.AskedLaws.{answer_is_askable}
 use Rattle.nb_top.specs.OneTurn.{FitsDeed}
 use Rattle.nb_top.specs.Requests.{IsAskedBy, IsReadJob, Request, ToRun, ToGenerate, Asked, Runs, Does, FitsAsk, FitsJob, script_in, to_plan, to_run, plan_of, request_of, request_asked}
 use Rattle.nb_top.proofs.WordNames.{plain_file}

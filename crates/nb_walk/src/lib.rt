@@ -13,5 +13,5 @@ mod page;
 mod slots;
 
 pub use chain::Chain;
-pub use page::take_page;
+pub use page::read_page;
 pub use slots::{backup_file, first_page, slot_at, slot_count, table_name, use_of};

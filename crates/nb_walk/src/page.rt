@@ -14,7 +14,7 @@ ghost use Rattle.nb_walk.specs.Walks.{chain_by, not_linked};
 
 use crate::chain::Chain;
 use crate::slots::{slot_at, slot_count, use_of};
-use nb_alloc::take_data;
+use nb_alloc::read_data;
 use nb_fields::layouts::data;
 use nb_host::{Fault, Host, Refusal};
 use nb_state::Store;
@@ -51,7 +51,7 @@ fn are_slots(chain: Chain, page: &[u8]) -> bool
 ///
 /// The refusal is `NotDatabase` of the page, where it isn't one of the chain: it is past the end, or no data page, or of another owner, or one of
 /// its slots isn't of the form. It takes one read at most, and no memory.
-pub fn take_page<H: Host>(
+pub fn read_page<H: Host>(
     store: &mut Store,
     host: &mut H,
     chain: Chain,
@@ -75,7 +75,7 @@ pub fn take_page<H: Host>(
     ensures cause { CountsDevice result (H.faults host.old) (H.faults host.new) }
     ensures takes_none { IfErr result (λ fault. fault ≢ Memory) }
 {
-    take_data(store, host, number, chain.owner(), page)?;
+    read_data(store, host, number, chain.owner(), page)?;
     if !are_slots(chain, page) {
         return Err(Fault::Refused(Refusal::NotDatabase { page: number }));
     }

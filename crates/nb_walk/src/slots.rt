@@ -11,7 +11,7 @@ use nb_host::Name;
 use nb_model::TableName;
 
 /// How many slots a page has: as many as there is room for after its first 32 bytes.
-#[tactic(auto, using(nb_fields::proofs::SizeLemmas::size_facts))]
+#[tactic(auto, using(nb_fields::proofs::SizeLaws::size_facts))]
 pub fn slot_count(page: &[u8]) -> u32
     requires { IsTrue (is_page_size (length page.now)) }
     ensures { result ≡ (length page.now - 32) / 256 }

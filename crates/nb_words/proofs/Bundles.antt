@@ -11,7 +11,7 @@ use Rattle.clap.specs.Walk.{bundle_met, bundle_step, short_met, Held, Outcome, d
 use Rattle.clap.specs.Faults.{flags_fault, bundle_step_fault, short_fault}
 use Rattle.clap.specs.declared.error.kind.ErrorKind.TheVariants as kind
 use Rattle.nb_words.proofs.Rules.{rules_for, is_in, short_found, short_missing}
-use Rattle.nb_words.proofs.UseLemmas.{held, after_waiting, after_bundle, reacted_is, react_passes}
+use Rattle.nb_words.proofs.UseLaws.{held, after_waiting, after_bundle, reacted_is, react_passes}
 
 -- ---- the first character
 

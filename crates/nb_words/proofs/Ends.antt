@@ -13,8 +13,8 @@ use Rattle.clap.specs.Faults.{default_fault, given_default_fault, defaults_fault
 use Rattle.clap.specs.declared.parser.matches.ValueSource.TheVariants.{DefaultValue}
 use Rattle.nb_words.specs.Line.{words_id, words_in}
 use Rattle.nb_words.proofs.Rules.{rules_for, letter_rule, plain_rule, letter_is_not_words}
-use Rattle.nb_words.proofs.RowLemmas.{first_row, count_at, first_later, other_values, values_alone}
-use Rattle.nb_words.proofs.UseLemmas.{no_else}
+use Rattle.nb_words.proofs.RowLaws.{first_row, count_at, first_later, other_values, values_alone}
+use Rattle.nb_words.proofs.UseLaws.{no_else}
 use Rattle.nb_words.proofs.Steps.{shape}
 
 no_row : (id : Text) (rows : List Row) → has_row id rows ≡ false → first_row id rows ≡ None

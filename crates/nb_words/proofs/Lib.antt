@@ -1,7 +1,7 @@
-pub mod LineLemmas
+pub mod LineLaws
 pub mod Rules
-pub mod RowLemmas
-pub mod UseLemmas
+pub mod RowLaws
+pub mod UseLaws
 pub mod Bundles
 pub mod Steps
 pub mod Looks
@@ -11,6 +11,6 @@ pub mod Ends
 pub mod Whole
 pub mod Parts
 pub mod Table
-pub mod JobLemmas
+pub mod JobLaws
 pub mod Sets
 pub mod Found

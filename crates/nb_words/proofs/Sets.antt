@@ -7,7 +7,7 @@ use Rattle.std.proofs.lemmas.Bool.{cases_Bool, and_parts, and_from, or_cases, eq
 use Rattle.nb_model.specs.Words.{are_flags, is_flag}
 use Rattle.nb_words.specs.Choice.{row_at, row_of}
 use Rattle.nb_words.specs.Read.{times, counts_of}
-use Rattle.nb_words.proofs.UseLemmas.{times_hit, times_miss}
+use Rattle.nb_words.proofs.UseLaws.{times_hit, times_miss}
 use Rattle.nb_words.proofs.Looks.{turned}
 
 -- a letter stands in a list where it stands there once or more

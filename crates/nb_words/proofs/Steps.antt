@@ -12,7 +12,7 @@ use Rattle.clap.specs.Walk.{Held, Outcome, Step, Waiting, Walk, plain_word, walk
 use Rattle.clap.specs.Faults.{turn_fault, word_fault, step_fault, positional_fault, stray_fault, flag_word_fault, bundle_fault, long_fault}
 use Rattle.clap.specs.declared.error.kind.ErrorKind.TheVariants as kind
 use Rattle.nb_words.proofs.Rules.{rules_for, plain_rule, is_in, plain_by_index, long_missing}
-use Rattle.nb_words.proofs.UseLemmas.{held, after_waiting, after_bundle}
+use Rattle.nb_words.proofs.UseLaws.{held, after_waiting, after_bundle}
 use Rattle.nb_words.proofs.Bundles.{bundle_read, bundle_passes, bundle_refused}
 
 -- a plain word was the last, or a flag

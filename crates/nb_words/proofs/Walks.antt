@@ -14,7 +14,7 @@ use Rattle.nb_host.specs.Names.{same_name}
 use Rattle.nb_model.specs.Words.{Read, read_words, with_word, with_flags, is_flags, is_flag}
 use Rattle.nb_words.specs.Line.{words_in}
 use Rattle.nb_words.proofs.Rules.{rules_for, is_in}
-use Rattle.nb_words.proofs.UseLemmas.{Seen, seen_settled, seen_word, seen_bundle, after_bundle, after_waiting}
+use Rattle.nb_words.proofs.UseLaws.{Seen, seen_settled, seen_word, seen_bundle, after_bundle, after_waiting}
 use Rattle.nb_words.proofs.Steps.{stand, shape, trailing_step, trailing_passes, plain_step, plain_passes, dashes_step, dashes_pass, bundle_step, bundle_turn, bundle_refuses, long_refuses}
 use Rattle.nb_words.proofs.Looks.{looks_plain, looks_flags}
 use Rattle.nb_words.proofs.Defined.{read_dashes, read_plain, read_flags, read_other}

@@ -20,7 +20,7 @@ use Rattle.nb_model.specs.Words.{Read, read_words}
 use Rattle.nb_words.specs.Line.{line, words_in}
 use Rattle.nb_words.specs.Read.{Shows, Holds}
 use Rattle.nb_words.proofs.Rules.{rules_for, is_in}
-use Rattle.nb_words.proofs.UseLemmas.{Seen, held, after_waiting, settled_is, seen_settled, waiting_pass, no_else}
+use Rattle.nb_words.proofs.UseLaws.{Seen, held, after_waiting, settled_is, seen_settled, waiting_pass, no_else}
 use Rattle.nb_words.proofs.Steps.{stand, shape}
 use Rattle.nb_words.proofs.Looks.{all_in}
 use Rattle.nb_words.proofs.Walks.{Walked, Refuses, Comes, walk_comes, waiting_fits}

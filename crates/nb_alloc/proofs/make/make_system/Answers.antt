@@ -3,7 +3,7 @@ use Rattle.std.specs.Prelude.{true, false, IsTrue, Ok}
 use Rattle.nb_fields.specs.Kinds.{code_of}
 use Rattle.nb_fields.specs.Page.{with_payload}
 use Rattle.nb_fields.specs.Places.{is_page_size}
-use Rattle.nb_fields.proofs.SizeLemmas.{size_facts}
+use Rattle.nb_fields.proofs.SizeLaws.{size_facts}
 use Rattle.nb_model.specs.Image.{Page, image_size}
 use Rattle.nb_model.specs.Forms.{old_page, is_kind, system_kind, system_payload}
 use Rattle.nb_state.specs.Open.{Held}

@@ -13,7 +13,7 @@ use Rattle.nb_alloc.specs.Make.{page_strokes, content}
 use Rattle.nb_alloc.proofs.PageLaws.{seen_after}
 use Rattle.nb_alloc.proofs.PassLaws.{kept_plain}
 use Rattle.nb_alloc.proofs.ReadyLaws.{entry_ready, mark_put, page_strokes_are}
-use Rattle.nb_fields.proofs.SizeLemmas.{SizeFacts, size_facts}
+use Rattle.nb_fields.proofs.SizeLaws.{SizeFacts, size_facts}
 use Rattle.nb_alloc.proofs.ContentLaws.{content_short}
 use Rattle.nb_alloc.proofs.DoesLaws.{tries_opened}
 use Rattle.nb_alloc.proofs.MakeLaws.{tries_named, map_kept}

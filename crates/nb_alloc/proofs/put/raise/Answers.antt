@@ -1,7 +1,7 @@
 use Rattle.std.proofs.Common.{◌≡◌, ◌/◌, ℕ, length, ap, ◌∙◌, arith}
 use Rattle.nb_host.specs.Faults.{as_answer}
 use Rattle.nb_fields.specs.Places.{entries_in, scn_place}
-use Rattle.nb_fields.proofs.PlaceLemmas.{entries-least}
+use Rattle.nb_fields.proofs.PlaceLaws.{entries-least}
 use Rattle.nb_model.specs.Image.{Page}
 use Rattle.nb_model.specs.Strokes.{page}
 use Rattle.nb_alloc.proofs.PutLaws.{may_raise, scn_place-some}

@@ -4,7 +4,7 @@ use Rattle.std.proofs.lemmas.Bool.{true≢false}
 use Rattle.std.proofs.lemmas.Bool.Decides.{eqb_tells}
 use Rattle.nb_fields.specs.Places.{bits_in, is_system_place, most_pages}
 use Rattle.nb_host.specs.declared.refusals.Refusal.TheVariants.{Full}
-use Rattle.nb_page.proofs.QuietLemmas.{quiet_begun, quiet_joined}
+use Rattle.nb_page.proofs.QuietLaws.{quiet_begun, quiet_joined}
 use Rattle.nb_model.specs.Image.{image_size}
 use Rattle.nb_model.specs.Way.{next_place}
 use Rattle.nb_state.specs.Open.{Held}

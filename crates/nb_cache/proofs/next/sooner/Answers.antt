@@ -1,5 +1,5 @@
 use Rattle.std.proofs.Common.{inl, inr, arith}
-use Rattle.nb_cache.proofs.NextLemmas.{next-first, next-sooner}
+use Rattle.nb_cache.proofs.NextLaws.{next-first, next-sooner}
 use Rattle.nb_cache.proofs.next.sooner.Goals as goal
 
 pub returns-in_default-next : goal.returns-in_default-next

@@ -1,4 +1,4 @@
-use Rattle.nb_cache.proofs.IndexLemmas.{found}
+use Rattle.nb_cache.proofs.IndexLaws.{found}
 use Rattle.nb_cache.proofs.places.frame_of.Goals as goal
 
 pub returns : goal.returns

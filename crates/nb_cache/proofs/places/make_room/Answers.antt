@@ -1,6 +1,6 @@
 use Rattle.std.proofs.Common.{take}
 use Rattle.nb_cache.specs.Index.{places}
-use Rattle.nb_cache.proofs.IndexLemmas.{once}
+use Rattle.nb_cache.proofs.IndexLaws.{once}
 use Rattle.nb_cache.proofs.places.make_room.Goals as goal
 
 pub refill-requires-clause-once : goal.refill-requires-clause-once

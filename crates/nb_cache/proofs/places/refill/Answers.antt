@@ -2,7 +2,7 @@ use Rattle.std.proofs.Common.{◌≡◌, ◌<◌, ℕ, [], ◌∷◌, ◌++◌, 
 use Rattle.std.proofs.lemmas.List.{map-append}
 use Rattle.nb_cache.specs.declared.frames.Frame.{Frame}
 use Rattle.nb_cache.specs.Index.{places}
-use Rattle.nb_cache.proofs.IndexLemmas.{Finds-pushed, seen-once}
+use Rattle.nb_cache.proofs.IndexLaws.{Finds-pushed, seen-once}
 use Rattle.nb_cache.proofs.places.refill.Goals as goal
 
 pub loop-key-preserved : goal.loop-key-preserved

@@ -1,4 +1,4 @@
-use Rattle.nb_catalog.proofs.TurnLemmas.{keeps_chains}
+use Rattle.nb_catalog.proofs.TurnLaws.{keeps_chains}
 use Rattle.nb_catalog.proofs.laws.a_plan_keeps_its_chains.Goals as goal
 
 pub returns : goal.returns

@@ -1,5 +1,5 @@
 use Rattle.nb_catalog.proofs.DistinctLaws.{listed_distinct}
-use Rattle.nb_catalog.proofs.TurnLemmas.{keeps_listed}
+use Rattle.nb_catalog.proofs.TurnLaws.{keeps_listed}
 use Rattle.nb_catalog.proofs.laws.a_plan_of_a_list_keeps_its_files.Goals as goal
 
 pub returns : goal.returns

@@ -5,8 +5,8 @@ use Rattle.nb_script.specs.Words.{Bytes}
 use Rattle.nb_script.specs.Lines.{left}
 use Rattle.nb_script.specs.Scripts.{Numbered}
 use Rattle.nb_catalog.specs.NameLists.{is_next, names_on}
-use Rattle.nb_catalog.proofs.FileLemmas.{refused}
-use Rattle.nb_catalog.proofs.ListLemmas.{names_all, names_full, names_bad, names_more, names_few}
+use Rattle.nb_catalog.proofs.FileLaws.{refused}
+use Rattle.nb_catalog.proofs.ListLaws.{names_all, names_full, names_bad, names_more, names_few}
 use Rattle.nb_catalog.proofs.name_list.names_on.Goals as goal
 
 pub returns-then-len-eq-MOST_NAMES-clause-exact : goal.returns-then-len-eq-MOST_NAMES-clause-exact

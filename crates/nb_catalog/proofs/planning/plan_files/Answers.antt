@@ -1,10 +1,10 @@
 use Rattle.std.proofs.Common.{ℕ, List}
 use Rattle.nb_host.specs.Files.{Files}
-use Rattle.nb_chain.proofs.AnswerLemmas.{passed}
+use Rattle.nb_chain.proofs.AnswerLaws.{passed}
 use Rattle.nb_catalog.specs.Answers.{Says}
 use Rattle.nb_catalog.specs.Turns.{planned}
 use Rattle.nb_catalog.proofs.KeptFiles.{keeps_files}
-use Rattle.nb_catalog.proofs.TurnLemmas.{planned_is, planned_fault}
+use Rattle.nb_catalog.proofs.TurnLaws.{planned_is, planned_fault}
 use Rattle.nb_catalog.proofs.planning.plan_files.Goals as goal
 
 pub returns-in_err-catalogue-clause-answer : goal.returns-in_err-catalogue-clause-answer

@@ -1,4 +1,4 @@
-use Rattle.nb_catalog.proofs.EntryLemmas.{entries_more, entries_all}
+use Rattle.nb_catalog.proofs.EntryLaws.{entries_more, entries_all}
 use Rattle.nb_catalog.proofs.points.entries.Goals as goal
 
 pub loop-place-preserved : goal.loop-place-preserved

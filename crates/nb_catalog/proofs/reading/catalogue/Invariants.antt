@@ -3,7 +3,7 @@ use Rattle.std.specs.Prelude.{IsTrue}
 use Rattle.nb_page.specs.Quiet.{Quiet}
 use Rattle.nb_catalog.specs.Heads.{read_files}
 use Rattle.nb_catalog.specs.Reads.{all_reads}
-use Rattle.nb_catalog.proofs.FileLemmas.{with_all}
+use Rattle.nb_catalog.proofs.FileLaws.{with_all}
 use Rattle.nb_catalog.proofs.reading.catalogue.Given as goal
 
 -- the files so far were read

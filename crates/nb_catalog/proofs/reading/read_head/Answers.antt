@@ -4,7 +4,7 @@ use Rattle.nb_model.specs.Levels.{begins_level}
 use Rattle.nb_catalog.specs.Answers.{Says}
 use Rattle.nb_catalog.specs.Heads.{read_file}
 use Rattle.nb_chain.specs.Level.{WholeSays}
-use Rattle.nb_catalog.proofs.HeadLemmas.{level_says, level_counted, whole_counted}
+use Rattle.nb_catalog.proofs.HeadLaws.{level_says, level_counted, whole_counted}
 use Rattle.nb_catalog.proofs.reading.read_head.Goals as goal
 
 pub returns-then-branch-clause-answer : goal.returns-then-branch-clause-answer

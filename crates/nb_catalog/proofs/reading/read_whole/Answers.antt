@@ -1,10 +1,10 @@
 use Rattle.std.proofs.Common.{ℕ, List}
 use Rattle.nb_host.specs.Files.{File}
 use Rattle.nb_level.specs.declared.head.LevelHead.{LevelHead}
-use Rattle.nb_chain.proofs.AnswerLemmas.{passed}
+use Rattle.nb_chain.proofs.AnswerLaws.{passed}
 use Rattle.nb_catalog.specs.Answers.{Says}
 use Rattle.nb_catalog.specs.Heads.{read_file}
-use Rattle.nb_catalog.proofs.HeadLemmas.{whole_fault, whole_read}
+use Rattle.nb_catalog.proofs.HeadLaws.{whole_fault, whole_read}
 use Rattle.nb_catalog.proofs.reading.read_whole.Goals as goal
 
 pub returns-in_err-page_size-clause-answer : goal.returns-in_err-page_size-clause-answer

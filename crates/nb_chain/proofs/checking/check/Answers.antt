@@ -6,9 +6,9 @@ use Rattle.nb_chain.specs.declared.checking.Chain.{Chain}
 use Rattle.nb_chain.specs.Overlay.{is_blank, without_blank}
 use Rattle.nb_chain.specs.Chain.{CheckSays, IsChain, IsFirstOf}
 use Rattle.nb_chain.specs.Next.{LevelsSay, AreNext}
-use Rattle.nb_chain.proofs.AnswerLemmas.{passed}
-use Rattle.nb_chain.proofs.LinkLemmas.{split}
-use Rattle.nb_chain.proofs.CheckLemmas.{check_first, check_others, check_all}
+use Rattle.nb_chain.proofs.AnswerLaws.{passed}
+use Rattle.nb_chain.proofs.LinkLaws.{split}
+use Rattle.nb_chain.proofs.CheckLaws.{check_first, check_others, check_all}
 use Rattle.nb_chain.proofs.checking.check.Goals as goal
 
 pub returns-in_err-first-clause-answer : goal.returns-in_err-first-clause-answer

@@ -1,8 +1,8 @@
 use Rattle.std.proofs.Common.{take, ap, ◌∙◌, sym}
 use Rattle.nb_host.specs.Files.{Files}
 use Rattle.nb_chain.specs.declared.first_file.First.{First}
-use Rattle.nb_chain.proofs.StartLemmas.{first_begins}
-use Rattle.nb_chain.proofs.AnswerLemmas.{whatever, refused_first, whole_first}
+use Rattle.nb_chain.proofs.StartLaws.{first_begins}
+use Rattle.nb_chain.proofs.AnswerLaws.{whatever, refused_first, whole_first}
 use Rattle.nb_chain.proofs.first_file.read_first.Goals as goal
 
 pub returns-then-begins_level-clause-answer : goal.returns-then-begins_level-clause-answer

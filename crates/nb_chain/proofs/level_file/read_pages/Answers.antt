@@ -1,8 +1,8 @@
 use Rattle.std.proofs.Common.{◌≡◌, refl, ap, ◌∙◌}
 use Rattle.nb_host.specs.Files.{Files}
 use Rattle.nb_level.specs.Reading.{Reading}
-use Rattle.nb_page.proofs.QuietLemmas.{quiet_begun, quiet_call, quiet_joined}
-use Rattle.nb_chain.proofs.PageLemmas.{so_far_none, so_far_more, gives_there}
+use Rattle.nb_page.proofs.QuietLaws.{quiet_begun, quiet_call, quiet_joined}
+use Rattle.nb_chain.proofs.PageLaws.{so_far_none, so_far_more, gives_there}
 use Rattle.nb_chain.proofs.level_file.read_pages.Goals as goal
 
 pub loop-number-init : goal.loop-number-init

@@ -2,8 +2,8 @@ use Rattle.std.proofs.Common.{◌≡◌, [], ◌∷◌, ◌++◌, ap, ◌∙◌,
 use Rattle.nb_host.specs.Files.{Files}
 use Rattle.nb_model.specs.Image.{Numbered}
 use Rattle.nb_level.specs.Reading.{Reading}
-use Rattle.nb_page.proofs.QuietLemmas.{quiet_call, quiet_joined}
-use Rattle.nb_chain.proofs.PageLemmas.{pages_more, gives_there}
+use Rattle.nb_page.proofs.QuietLaws.{quiet_call, quiet_joined}
+use Rattle.nb_chain.proofs.PageLaws.{pages_more, gives_there}
 use Rattle.nb_chain.proofs.level_file.read_to_end.Goals as goal
 
 pub loop-preserved : goal.loop-preserved

@@ -1,6 +1,6 @@
 use Rattle.std.proofs.Common.{sym, length, ◌∙◌}
 use Rattle.nb_model.proofs.ReadLaws.{le_no}
-use Rattle.nb_chain.proofs.StartLemmas.{unsigned}
+use Rattle.nb_chain.proofs.StartLaws.{unsigned}
 use Rattle.nb_chain.proofs.next_file.is_signed.Goals as goal
 
 pub returns-else-first-ge20 : goal.returns-else-first-ge20

@@ -5,8 +5,8 @@ use Rattle.nb_host.specs.Files.{File, Files}
 use Rattle.nb_chain.specs.declared.tip.Tip.{Tip}
 use Rattle.nb_chain.specs.Level.{LevelSays, IsRead}
 use Rattle.nb_chain.specs.Next.{NextSays}
-use Rattle.nb_chain.proofs.StartLemmas.{first_begins, first_number}
-use Rattle.nb_chain.proofs.AnswerLemmas.{passed, next_unmarked, next_unread_there, next_apart, next_is}
+use Rattle.nb_chain.proofs.StartLaws.{first_begins, first_number}
+use Rattle.nb_chain.proofs.AnswerLaws.{passed, next_unmarked, next_unread_there, next_apart, next_is}
 use Rattle.nb_chain.proofs.next_file.read_next.Goals as goal
 
 pub returns-then-not-begins_level-clause-answer : goal.returns-then-not-begins_level-clause-answer

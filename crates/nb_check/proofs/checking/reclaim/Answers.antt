@@ -3,7 +3,7 @@ use Rattle.std.specs.Prelude.{Bool, Result, Ok, Err, IsErr, IsErrAnd, None}
 use Rattle.nb_host.specs.declared.faults.Fault.{Fault}
 use Rattle.nb_host.specs.declared.faults.Fault.TheVariants.{Memory}
 use Rattle.nb_host.specs.declared.refusals.Refusal.TheVariants.{Access}
-use Rattle.nb_page.proofs.QuietLemmas.{quiet_begun}
+use Rattle.nb_page.proofs.QuietLaws.{quiet_begun}
 use Rattle.nb_change.proofs.ResultLaws.{passed_on}
 use Rattle.nb_model.specs.declared.reply.Reply.TheVariants.{Freed}
 use Rattle.nb_model.specs.Causes.{when}

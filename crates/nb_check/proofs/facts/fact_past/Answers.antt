@@ -2,7 +2,7 @@ use Rattle.std.proofs.Common.{◌≡◌, ℕ, ◌%◌, ◌<◌, length, refl, sy
 use Rattle.std.specs.Prelude.{IsTrue, true, false, not}
 use Rattle.std.proofs.Math.Nat.{mod-lt}
 use Rattle.nb_fields.specs.Places.{is_page_size, bits_in}
-use Rattle.nb_fields.proofs.PlaceLemmas.{bits-least}
+use Rattle.nb_fields.proofs.PlaceLaws.{bits-least}
 use Rattle.nb_model.specs.Image.{Image}
 use Rattle.nb_model.specs.Facts.{breaks}
 use Rattle.nb_model.specs.Forms.{is_free_page}

@@ -3,7 +3,7 @@ use Rattle.std.specs.Prelude.{IsTrue, not}
 use Rattle.std.proofs.Math.Nat.{mod-lt}
 use Rattle.nb_fields.specs.Page.{kind_of}
 use Rattle.nb_fields.specs.Places.{is_page_size, bits_in}
-use Rattle.nb_fields.proofs.PlaceLemmas.{bits-least}
+use Rattle.nb_fields.proofs.PlaceLaws.{bits-least}
 use Rattle.nb_page.specs.Head.{head_in}
 use Rattle.nb_page.specs.declared.page.PageHead.{PageHead}
 use Rattle.nb_model.specs.Image.{Page, Image, page_at}

@@ -1,7 +1,7 @@
 use Rattle.std.proofs.Common.{◌≡◌, inl, inr, ℕ, ◌+◌, ◌-◌, length, refl, sym, ap, subst, ◌∙◌, arith}
 use Rattle.std.specs.Prelude.{IsTrue}
 use Rattle.nb_fields.specs.Places.{is_page_size}
-use Rattle.nb_page.proofs.QuietLemmas.{quiet_begun, quiet_joined}
+use Rattle.nb_page.proofs.QuietLaws.{quiet_begun, quiet_joined}
 use Rattle.nb_model.specs.Image.{page_at}
 use Rattle.nb_state.specs.Open.{Held}
 use Rattle.nb_check.specs.Passes.{IsFirstBelow, HoldsTaken, AreSized, IsMapOf, HasEntryOf}

@@ -1,5 +1,5 @@
 use Rattle.std.proofs.Common.{ℕ, [], ◌∷◌, refl, ap, ◌∙◌, arith}
-use Rattle.nb_page.proofs.QuietLemmas.{quiet_begun, quiet_joined}
+use Rattle.nb_page.proofs.QuietLaws.{quiet_begun, quiet_joined}
 use Rattle.nb_model.specs.Causes.{broken_at}
 use Rattle.nb_model.specs.Chains.{next_in, pages_of}
 use Rattle.nb_state.specs.Open.{Held}
@@ -24,8 +24,8 @@ loop-left-init g c = record {
   cause = refl;
 }
 
-pub take_page-requires : goal.take_page-requires
-take_page-requires g c = omega (arith, c.loop-left.invariant.sized, c.requires.size, ap (λ (h : Held). h.files.page_size) c.loop-left.invariant.same)
+pub chain_read-requires : goal.chain_read-requires
+chain_read-requires g c = omega (arith, c.loop-left.invariant.sized, c.requires.size, ap (λ (h : Held). h.files.page_size) c.loop-left.invariant.same)
 
 pub returns-in_err-next-clause-test : goal.returns-in_err-next-clause-test
 returns-in_err-next-clause-test g c t tells is =

@@ -1,7 +1,7 @@
 use Rattle.std.proofs.Common.{◌≡◌, ℕ, List, ◌+◌, length, refl, sym, ap, subst, ◌∙◌, arith}
 use Rattle.std.specs.Prelude.{None, Some}
 use Rattle.nb_host.specs.declared.refusals.Refusal.{Refusal}
-use Rattle.nb_page.proofs.QuietLemmas.{quiet_begun, quiet_joined}
+use Rattle.nb_page.proofs.QuietLaws.{quiet_begun, quiet_joined}
 use Rattle.nb_model.specs.Image.{Image}
 use Rattle.nb_model.specs.Chains.{Catalogue, Chain, next_in, found_pages}
 use Rattle.nb_model.specs.Checks.{chains_cause}
@@ -34,8 +34,8 @@ loop-left-init g c = record {
   cause = refl;
 }
 
-pub take_page-requires : goal.take_page-requires
-take_page-requires g c = omega (arith, c.loop-left.invariant.listed_sized, c.requires.size, c.requires.listed, ap (λ (h : Held). h.files.page_size) c.loop-left.invariant.same)
+pub chain_read-requires : goal.chain_read-requires
+chain_read-requires g c = omega (arith, c.loop-left.invariant.listed_sized, c.requires.size, c.requires.listed, ap (λ (h : Held). h.files.page_size) c.loop-left.invariant.same)
 
 pub returns-in_err-next-clause-test : goal.returns-in_err-next-clause-test
 returns-in_err-next-clause-test g c t tells is formed =
@@ -63,8 +63,8 @@ returns-in_err-leave_out_listed-clause-test g c t tells is formed =
     let walks = so Catalogue image (Out image c.args.rest.now l.rest reads (g.H.Host.world l.host).reads) l.left l.number c.loop-left-test.true was in
     let split =
     walks_split Catalogue image (Out image c.args.rest.now l.rest reads (g.H.Host.world l.host).reads) l.left l.number c.loop-left-test.true was (c.in_ok-next.ensures.test t tells still) formed in
-    tested_on (Unit {0}) (Unit {0}) _ _ (chains_cause image (chains_on c.take_page.new.page)) (chains_cause image (tables image)) c.from_residual-in_err-leave_out_listed.ensures
-    (λ r e. tables_broken image walks.seen l.number split.0 c.take_page.new.page r split.1 (c.in_ok-next.ensures.page t tells still) walks.is.formed e)
+    tested_on (Unit {0}) (Unit {0}) _ _ (chains_cause image (chains_on c.chain_read.new.page)) (chains_cause image (tables image)) c.from_residual-in_err-leave_out_listed.ensures
+    (λ r e. tables_broken image walks.seen l.number split.0 c.chain_read.new.page r split.1 (c.in_ok-next.ensures.page t tells still) walks.is.formed e)
     (c.in_err-leave_out_listed.ensures.test t tells (c.in_ok-next.ensures.open t tells still))
 
 pub loop-left-preserved : goal.loop-left-preserved
@@ -82,7 +82,7 @@ loop-left-preserved g c =
           walks_next Catalogue image (Out image c.args.rest.now l.rest reads (g.H.Host.world l.host).reads) l.left l.number c.loop-left-test.true (l.invariant.walks t tells is formed) (next.test t tells still)
           (Out image c.args.rest.now c.leave_out_listed.new.rest reads (g.H.Host.world c.leave_out_listed.new.host).reads)
           (λ ps was.
-          tables_more image ps l.number c.take_page.new.page c.args.rest.now l.rest c.leave_out_listed.new.rest reads (g.H.Host.world l.host).reads (g.H.Host.world c.take_page.new.host).reads (g.H.Host.world c.leave_out_listed.new.host).reads at was (next.once tells)
+          tables_more image ps l.number c.chain_read.new.page c.args.rest.now l.rest c.leave_out_listed.new.rest reads (g.H.Host.world l.host).reads (g.H.Host.world c.chain_read.new.host).reads (g.H.Host.world c.leave_out_listed.new.host).reads at was (next.once tells)
           (listed.test t tells on) (listed.rest t tells on) (listed.once t tells on))
           c.in_ok-next.next (next.next ∙ ap next_in at) c.if-next-eq0.false;
       kept = listed.room ∙ l.invariant.kept;
@@ -108,7 +108,7 @@ returns-then-next-eq0-clause-test g c t tells is formed =
     walks_all Catalogue image (Out image c.args.rest.now l.rest reads (g.H.Host.world l.host).reads) l.left l.number c.loop-left-test.true (l.invariant.walks t tells is formed) (next.test t tells still)
     (Out image c.args.rest.now c.leave_out_listed.new.rest reads (g.H.Host.world c.leave_out_listed.new.host).reads)
     (λ ps was.
-    tables_more image ps l.number c.take_page.new.page c.args.rest.now l.rest c.leave_out_listed.new.rest reads (g.H.Host.world l.host).reads (g.H.Host.world c.take_page.new.host).reads (g.H.Host.world c.leave_out_listed.new.host).reads at was (next.once tells)
+    tables_more image ps l.number c.chain_read.new.page c.args.rest.now l.rest c.leave_out_listed.new.rest reads (g.H.Host.world l.host).reads (g.H.Host.world c.chain_read.new.host).reads (g.H.Host.world c.leave_out_listed.new.host).reads at was (next.once tells)
     (listed.test t tells on) (listed.rest t tells on) (listed.once t tells on))
     c.in_ok-next.next (next.next ∙ ap next_in at) c.if-next-eq0.true in
     ap (chains_cause image) (sym (tables_are image)) ∙ all.formed
@@ -127,7 +127,7 @@ returns-then-next-eq0-clause-rest g c t tells is formed =
     walks_all Catalogue image (Out image c.args.rest.now l.rest reads (g.H.Host.world l.host).reads) l.left l.number c.loop-left-test.true (l.invariant.walks t tells is formed) (next.test t tells still)
     (Out image c.args.rest.now c.leave_out_listed.new.rest reads (g.H.Host.world c.leave_out_listed.new.host).reads)
     (λ ps was.
-    tables_more image ps l.number c.take_page.new.page c.args.rest.now l.rest c.leave_out_listed.new.rest reads (g.H.Host.world l.host).reads (g.H.Host.world c.take_page.new.host).reads (g.H.Host.world c.leave_out_listed.new.host).reads at was (next.once tells)
+    tables_more image ps l.number c.chain_read.new.page c.args.rest.now l.rest c.leave_out_listed.new.rest reads (g.H.Host.world l.host).reads (g.H.Host.world c.chain_read.new.host).reads (g.H.Host.world c.leave_out_listed.new.host).reads at was (next.once tells)
     (listed.test t tells on) (listed.rest t tells on) (listed.once t tells on))
     c.in_ok-next.next (next.next ∙ ap next_in at) c.if-next-eq0.true in
     (subst (λ (cs : List Chain). AreOut image cs c.args.rest.now c.leave_out_listed.new.rest (reads + length (found_pages Catalogue image)) (g.H.Host.world c.leave_out_listed.new.host).reads) (tables_are image) all).out
@@ -146,7 +146,7 @@ returns-then-next-eq0-clause-once g c t tells is formed =
     walks_all Catalogue image (Out image c.args.rest.now l.rest reads (g.H.Host.world l.host).reads) l.left l.number c.loop-left-test.true (l.invariant.walks t tells is formed) (next.test t tells still)
     (Out image c.args.rest.now c.leave_out_listed.new.rest reads (g.H.Host.world c.leave_out_listed.new.host).reads)
     (λ ps was.
-    tables_more image ps l.number c.take_page.new.page c.args.rest.now l.rest c.leave_out_listed.new.rest reads (g.H.Host.world l.host).reads (g.H.Host.world c.take_page.new.host).reads (g.H.Host.world c.leave_out_listed.new.host).reads at was (next.once tells)
+    tables_more image ps l.number c.chain_read.new.page c.args.rest.now l.rest c.leave_out_listed.new.rest reads (g.H.Host.world l.host).reads (g.H.Host.world c.chain_read.new.host).reads (g.H.Host.world c.leave_out_listed.new.host).reads at was (next.once tells)
     (listed.test t tells on) (listed.rest t tells on) (listed.once t tells on))
     c.in_ok-next.next (next.next ∙ ap next_in at) c.if-next-eq0.true in
     (subst (λ (cs : List Chain). AreOut image cs c.args.rest.now c.leave_out_listed.new.rest (reads + length (found_pages Catalogue image)) (g.H.Host.world c.leave_out_listed.new.host).reads) (tables_are image) all).few

@@ -3,7 +3,7 @@ use Rattle.std.specs.Prelude.{◌||◌, nat_eq, is_some, Option}
 use Rattle.std.specs.List.{list_any}
 use Rattle.std.proofs.lemmas.Bool.{lt-leb}
 use Rattle.nb_fields.specs.Places.{most_pages}
-use Rattle.nb_delta.proofs.EntryLemmas.{is_named}
+use Rattle.nb_delta.proofs.EntryLaws.{is_named}
 use Rattle.nb_delta.proofs.reading.is_unfit.Goals as goal
 
 pub returns-else-number-ge-MOST_PAGES : goal.returns-else-number-ge-MOST_PAGES

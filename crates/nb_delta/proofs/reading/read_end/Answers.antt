@@ -1,6 +1,6 @@
 use Rattle.std.proofs.Common.{arith}
-use Rattle.nb_fields.proofs.SizeLemmas.{size_facts}
-use Rattle.nb_delta.proofs.GroupLemmas.{group_misshapen, group_names, part_misshapen, end_told}
+use Rattle.nb_fields.proofs.SizeLaws.{size_facts}
+use Rattle.nb_delta.proofs.GroupLaws.{group_misshapen, group_names, part_misshapen, end_told}
 use Rattle.nb_delta.proofs.reading.read_end.Goals as goal
 
 pub returns-then-len-at-clause-answer : goal.returns-then-len-at-clause-answer

@@ -3,7 +3,7 @@ use Rattle.nb_host.specs.Calls.{ReadsPage}
 use Rattle.nb_fields.specs.Places.{slots_in}
 use Rattle.nb_fields.specs.Table.{page_in, groups_from}
 use Rattle.nb_delta.specs.Reading.{ReadsGroup}
-use Rattle.nb_delta.proofs.GroupLemmas.{IsPage, page_read}
+use Rattle.nb_delta.proofs.GroupLaws.{IsPage, page_read}
 use Rattle.nb_delta.proofs.reading.read_group.Goals as goal
 
 pub returns-then-is_whole-clause-answer : goal.returns-then-is_whole-clause-answer

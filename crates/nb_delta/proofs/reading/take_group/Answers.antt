@@ -4,7 +4,7 @@ use Rattle.nb_fields.specs.Bytes.{number_in}
 use Rattle.nb_fields.specs.Places.{slots_in}
 use Rattle.nb_fields.specs.Table.{page_in, entries_from}
 use Rattle.nb_delta.specs.Reading.{Reads}
-use Rattle.nb_delta.proofs.GroupLemmas.{group_misshapen, group_names, group_fault, group_told, whole_fit, count_misshapen}
+use Rattle.nb_delta.proofs.GroupLaws.{group_misshapen, group_names, group_fault, group_told, whole_fit, count_misshapen}
 use Rattle.nb_delta.proofs.reading.take_group.Goals as goal
 
 pub returns-then-count-room-clause-answer : goal.returns-then-count-room-clause-answer

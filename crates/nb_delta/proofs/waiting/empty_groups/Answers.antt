@@ -3,8 +3,8 @@ use Rattle.nb_delta.specs.Waiting.{Stays}
 use Rattle.nb_delta.specs.Groups.{GroupStep, Empties}
 use Rattle.nb_change.specs.Changes.{Only}
 use Rattle.nb_change.proofs.MovedLaws.{moved_begun, moved_joined}
-use Rattle.nb_delta.proofs.MoveLemmas.{silence_none, silence_joined}
-use Rattle.nb_delta.proofs.EmptyLemmas.{stays_none, stays_more, empties_none, empties_more}
+use Rattle.nb_delta.proofs.MoveLaws.{silence_none, silence_joined}
+use Rattle.nb_delta.proofs.EmptyLaws.{stays_none, stays_more, empties_none, empties_more}
 use Rattle.nb_delta.proofs.waiting.empty_groups.Goals as goal
 
 pub loop-group-init : goal.loop-group-init

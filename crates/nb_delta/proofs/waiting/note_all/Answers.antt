@@ -3,7 +3,7 @@ use Rattle.nb_host.specs.Files.{Files}
 use Rattle.nb_change.specs.Changes.{Only, Moved}
 use Rattle.nb_change.proofs.ChangesLaws.{kept_on}
 use Rattle.nb_delta.specs.Groups.{NotesSome, NotesAll}
-use Rattle.nb_delta.proofs.MoveLemmas.{on_any}
+use Rattle.nb_delta.proofs.MoveLaws.{on_any}
 use Rattle.nb_delta.proofs.waiting.note_all.Goals as goal
 
 pub returns-clause-changes : goal.returns-clause-changes

@@ -3,7 +3,7 @@ use Rattle.nb_host.specs.Files.{File}
 use Rattle.nb_delta.specs.Groups.{GroupStep, GroupPut, NotesSome}
 use Rattle.nb_change.specs.Changes.{Only}
 use Rattle.nb_change.proofs.MovedLaws.{moved_weaker}
-use Rattle.nb_delta.proofs.NotingLemmas.{group_some, group_all}
+use Rattle.nb_delta.proofs.NotingLaws.{group_some, group_all}
 use Rattle.nb_delta.proofs.waiting.note_group.Goals as goal
 
 pub returns-in_err-write_group-clause-changes : goal.returns-in_err-write_group-clause-changes

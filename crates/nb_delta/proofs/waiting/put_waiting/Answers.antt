@@ -1,9 +1,9 @@
 use Rattle.std.proofs.Common.{◌≡◌, ℕ, ◌*◌, ◌<◌, length, sym, subst, arith}
 use Rattle.std.proofs.lemmas.Result.{on_ok_weaker}
 use Rattle.nb_fields.specs.Places.{slots_in}
-use Rattle.nb_delta.proofs.StepLemmas.{some_slots}
-use Rattle.nb_delta.proofs.FrontLemmas.{groups_inside}
-use Rattle.nb_delta.proofs.DraftedLemmas.{ready, noted, has_all, zeros}
+use Rattle.nb_delta.proofs.StepLaws.{some_slots}
+use Rattle.nb_delta.proofs.FrontLaws.{groups_inside}
+use Rattle.nb_delta.proofs.DraftedLaws.{ready, noted, has_all, zeros}
 use Rattle.nb_delta.proofs.waiting.put_waiting.Goals as goal
 
 pub note_all-requires-clause-inside : goal.note_all-requires-clause-inside

@@ -3,7 +3,7 @@ use Rattle.std.specs.Prelude.{slice_index}
 use Rattle.std.proofs.lemmas.Bool.{cases_lt}
 use Rattle.nb_fields.specs.Bytes.{number_in}
 use Rattle.nb_fields.specs.Places.{slots_in}
-use Rattle.nb_delta.proofs.ZeroLemmas.{zeros_all, zeros_kept, zeros_more}
+use Rattle.nb_delta.proofs.ZeroLaws.{zeros_all, zeros_kept, zeros_more}
 use Rattle.nb_delta.proofs.writing.fill_group.Goals as goal
 
 pub loop-i-init : goal.loop-i-init

@@ -6,8 +6,8 @@ use Rattle.nb_change.proofs.NameLaws.{with_file-same}
 use Rattle.nb_change.proofs.ChangesLaws.{still_more}
 use Rattle.nb_change.proofs.CallLaws.{remade_alone}
 use Rattle.nb_delta.specs.Slots.{IsBlank}
-use Rattle.nb_delta.proofs.MoveLemmas.{written, durable_now}
-use Rattle.nb_delta.proofs.BlankLemmas.{blank_put, blank_table, blank_made}
+use Rattle.nb_delta.proofs.MoveLaws.{written, durable_now}
+use Rattle.nb_delta.proofs.BlankLaws.{blank_put, blank_table, blank_made}
 use Rattle.nb_delta.proofs.writing.make_file.Goals as goal
 
 pub returns-in_err-make-clause-changes : goal.returns-in_err-make-clause-changes

@@ -10,8 +10,8 @@ use Rattle.nb_change.specs.Changes.{Only}
 use Rattle.nb_change.proofs.CallLaws.{page_alone}
 use Rattle.nb_change.proofs.MovedLaws.{moved_begun}
 use Rattle.nb_change.proofs.ResultLaws.{whole_on_ok}
-use Rattle.nb_delta.proofs.MoveLemmas.{written}
-use Rattle.nb_delta.proofs.StepLemmas.{next_left, keeps_none, room_inner, room_last}
+use Rattle.nb_delta.proofs.MoveLaws.{written}
+use Rattle.nb_delta.proofs.StepLaws.{next_left, keeps_none, room_inner, room_last}
 use Rattle.nb_delta.proofs.writing.make_room.Goals as goal
 
 pub returns-clause-changes : goal.returns-clause-changes

@@ -3,10 +3,10 @@ use Rattle.nb_host.specs.Files.{Files, with_page}
 use Rattle.nb_change.specs.Changes.{Only, Moved}
 use Rattle.nb_change.proofs.ChangesLaws.{kept_on}
 use Rattle.nb_delta.specs.Noting.{Notes, NoteStep}
-use Rattle.nb_delta.proofs.EntryLemmas.{named_none}
-use Rattle.nb_delta.proofs.MoveLemmas.{written}
-use Rattle.nb_delta.proofs.StepLemmas.{note_put}
-use Rattle.nb_delta.proofs.NoteLemmas.{note_written}
+use Rattle.nb_delta.proofs.EntryLaws.{named_none}
+use Rattle.nb_delta.proofs.MoveLaws.{written}
+use Rattle.nb_delta.proofs.StepLaws.{note_put}
+use Rattle.nb_delta.proofs.NoteLaws.{note_written}
 use Rattle.nb_delta.proofs.writing.note.Goals as goal
 
 pub returns-in_err-write_page-clause-changes : goal.returns-in_err-write_page-clause-changes

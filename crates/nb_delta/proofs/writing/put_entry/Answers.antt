@@ -4,8 +4,8 @@ use Rattle.nb_host.specs.Files.{File}
 use Rattle.nb_change.specs.Changes.{Only}
 use Rattle.nb_change.proofs.MovedLaws.{moved_weaker}
 use Rattle.nb_delta.specs.Slots.{Keeps, AddStep}
-use Rattle.nb_delta.proofs.StepLemmas.{ready_again, added_again, newest_keeps}
-use Rattle.nb_delta.proofs.NoteLemmas.{entry_changes}
+use Rattle.nb_delta.proofs.StepLaws.{ready_again, added_again, newest_keeps}
+use Rattle.nb_delta.proofs.NoteLaws.{entry_changes}
 use Rattle.nb_delta.proofs.writing.put_entry.Goals as goal
 
 pub returns-in_err-put_slot-clause-changes : goal.returns-in_err-put_slot-clause-changes

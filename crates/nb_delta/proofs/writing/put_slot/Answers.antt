@@ -5,8 +5,8 @@ use Rattle.nb_change.proofs.ChangesLaws.{kept_on}
 use Rattle.nb_change.proofs.MovedLaws.{moved_weaker}
 use Rattle.nb_delta.specs.Slots.{Keeps, SlotStep}
 use Rattle.nb_delta.specs.Noting.{MakesRoom, Prepared}
-use Rattle.nb_delta.proofs.StepLemmas.{keeps_slot, prepared}
-use Rattle.nb_delta.proofs.NoteLemmas.{slot_then_room}
+use Rattle.nb_delta.proofs.StepLaws.{keeps_slot, prepared}
+use Rattle.nb_delta.proofs.NoteLaws.{slot_then_room}
 use Rattle.nb_delta.proofs.writing.put_slot.Goals as goal
 
 pub returns-in_err-write_slot-clause-changes : goal.returns-in_err-write_slot-clause-changes

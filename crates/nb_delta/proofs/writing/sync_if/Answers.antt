@@ -2,7 +2,7 @@ use Rattle.nb_host.specs.Crash.{LeavesAll}
 use Rattle.nb_change.specs.Changes.{NoNames}
 use Rattle.nb_change.proofs.ChangesLaws.{begun}
 use Rattle.nb_change.proofs.CallLaws.{still_alone}
-use Rattle.nb_delta.proofs.MoveLemmas.{durable_now}
+use Rattle.nb_delta.proofs.MoveLaws.{durable_now}
 use Rattle.nb_delta.proofs.writing.sync_if.Goals as goal
 
 pub returns-in_err-sync-clause-changes : goal.returns-in_err-sync-clause-changes

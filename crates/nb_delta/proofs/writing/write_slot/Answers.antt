@@ -3,8 +3,8 @@ use Rattle.nb_host.specs.Files.{Files, with_page}
 use Rattle.nb_host.specs.Crash.{PageLeft}
 use Rattle.nb_delta.specs.Slots.{SlotStep}
 use Rattle.nb_change.proofs.CallLaws.{page_alone}
-use Rattle.nb_delta.proofs.MoveLemmas.{written}
-use Rattle.nb_delta.proofs.StepLemmas.{slot_left, slot_put}
+use Rattle.nb_delta.proofs.MoveLaws.{written}
+use Rattle.nb_delta.proofs.StepLaws.{slot_left, slot_put}
 use Rattle.nb_delta.proofs.writing.write_slot.Goals as goal
 
 pub returns-in_err-write_page-clause-changes : goal.returns-in_err-write_page-clause-changes

@@ -2,7 +2,7 @@ use Rattle.std.proofs.Common.{◌≡◌, ◌+◌, ◌≤◌, ◌++◌, ℕ, List
 use Rattle.std.specs.Prelude.{IsTrue}
 use Rattle.nb_fields.specs.Page.{with_payload}
 use Rattle.nb_fields.specs.Places.{is_page_size}
-use Rattle.nb_fields.proofs.SizeLemmas.{size_facts}
+use Rattle.nb_fields.proofs.SizeLaws.{size_facts}
 use Rattle.nb_fields.specs.Kinds.{data_kind}
 use Rattle.nb_model.specs.Image.{Page, page_at}
 use Rattle.nb_model.specs.Forms.{old_page}
@@ -17,13 +17,13 @@ use Rattle.nb_engine.proofs.data.write_data.Goals as goal
 pub put_behind-requires-clause-head : goal.put_behind-requires-clause-head
 put_behind-requires-clause-head g c =
     let facts = size_facts (length c.args.page.now) c.requires.size in
-    omega (arith, facts.at_least, c.take_system.auto.into)
+    omega (arith, facts.at_least, c.read_system.auto.into)
 
-pub returns-in_err-take_system-clause-tries : goal.returns-in_err-take_system-clause-tries
-returns-in_err-take_system-clause-tries g c t tells is =
+pub returns-in_err-read_system-clause-tries : goal.returns-in_err-read_system-clause-tries
+returns-in_err-read_system-clause-tries g c t tells is =
     let image = t.base.image in
     let p : ℕ = c.args.number in
-    let page = c.in_err-take_system.ensures in
+    let page = c.in_err-read_system.ensures in
     tries_early (Unit {0}) (Unit {0}) _ _ _ _ _ _ t (not_kind image data_kind p) (data_cause image p) _ c.from_residual.ensures (none_there image p) (page.reads t tells is).test page.same page.quiet is (page.open t tells is)
 
 pub returns-clause-tries : goal.returns-clause-tries
@@ -32,14 +32,14 @@ returns-clause-tries g c t tells is =
     let p : ℕ = c.args.number in
     let bytes : List ℕ = c.args.bytes.now in
     let payload : List ℕ = drop 16 bytes in
-    let page = c.in_ok-take_system.ensures in
+    let page = c.in_ok-read_system.ensures in
     let reads = page.reads t tells is in
     let here = old_below p image (data_there image p reads.test) in
     let facts = size_facts (length c.args.page.now) c.requires.size in
-    let long : length bytes ≡ length (page_at image p) = omega (arith, c.requires.same, c.requires.room, c.take_system.auto.into, ap length reads.page) in
+    let long : length bytes ≡ length (page_at image p) = omega (arith, c.requires.same, c.requires.room, c.read_system.auto.into, ap length reads.page) in
     let filled : c.put_behind.new.page ≡ with_payload (old_page p image) payload = c.put_behind.ensures ∙ ap (λ (x : Page). take 16 x ++ payload) reads.page ∙ behind_payload (page_at image p) bytes long ∙ ap (λ (x : Page). with_payload x payload) (sym here) in
     let room : 16 + length payload ≤ length (old_page p image) = omega (arith, length-drop 16 bytes, c.requires.same, c.requires.room, facts.at_least, long, ap length here) in
     put_tries c.put_page.result _ _ _ _ _ _ t p bytes is (subst (λ (n : ℕ). IsTrue (is_page_size n)) c.requires.room c.requires.size) reads.test page.same page.quiet (c.put_page.ensures.tries t payload tells (page.open t tells is) room filled)
 
 pub put_page-requires-clause-inside : goal.put_page-requires-clause-inside
-put_page-requires-clause-inside g c = omega (arith, c.in_ok-take_system.ensures.below, ap (λ (h : Held). h.files.count) c.in_ok-take_system.ensures.same)
+put_page-requires-clause-inside g c = omega (arith, c.in_ok-read_system.ensures.below, ap (λ (h : Held). h.files.count) c.in_ok-read_system.ensures.same)

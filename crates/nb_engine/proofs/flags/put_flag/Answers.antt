@@ -1,7 +1,7 @@
 use Rattle.std.proofs.Common.{◌≤◌, List, [], length, take, refl, sym, ap, subst, ◌∙◌, arith}
 use Rattle.std.specs.Prelude.{Ok, Err, None}
 use Rattle.nb_host.specs.Faults.{as_fault}
-use Rattle.nb_fields.proofs.SizeLemmas.{size_facts}
+use Rattle.nb_fields.proofs.SizeLaws.{size_facts}
 use Rattle.nb_model.specs.Lines.{flag}
 use Rattle.nb_model.specs.Strokes.{Stroke}
 use Rattle.nb_model.specs.Pages.{byte_strokes}

@@ -1,8 +1,8 @@
 use Rattle.std.proofs.Common.{◌≡◌, ◌+◌, ◌≤◌, ◌<◌, ℕ, List, length, refl, sym, ap, ◌∙◌, arith}
 use Rattle.nb_fields.specs.Bytes.{bytes_of, with_part}
 use Rattle.nb_fields.specs.Page.{with_payload}
-use Rattle.nb_fields.proofs.SizeLemmas.{size_facts}
-use Rattle.nb_page.proofs.QuietLemmas.{quiet_begun}
+use Rattle.nb_fields.proofs.SizeLaws.{size_facts}
+use Rattle.nb_page.proofs.QuietLaws.{quiet_begun}
 use Rattle.nb_model.specs.Image.{Page, page_at}
 use Rattle.nb_model.specs.Forms.{old_page}
 use Rattle.nb_engine.specs.Room.{linked_payload, write_cause}

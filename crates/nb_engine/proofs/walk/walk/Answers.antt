@@ -1,6 +1,6 @@
 use Rattle.std.proofs.Common.{rules, ◌≡◌, ◌⊎◌, ◌<◌, inl, inr, ℕ, refl, ap, ◌∙◌, arith}
 use Rattle.std.specs.Prelude.{None}
-use Rattle.nb_page.proofs.QuietLemmas.{quiet_begun, quiet_joined}
+use Rattle.nb_page.proofs.QuietLaws.{quiet_begun, quiet_joined}
 use Rattle.nb_model.specs.Causes.{broken_at}
 use Rattle.nb_model.specs.Chains.{History, pages_of}
 use Rattle.nb_state.specs.Open.{Held}
@@ -45,7 +45,7 @@ returns-then-next-eq0-clause-test g c t tells is =
     let l = c.loop-left in
     let wanted = c.args.wanted.now in
     let still = l.invariant.opened t tells is in
-    walks_none History t.base.image (Gathers wanted t.base.image l.walked) l.left l.number c.loop-left-test.true (l.invariant.walks t tells is) (c.in_ok-next.ensures.test t tells still) (Gathers wanted t.base.image c.take_link.new.walked)
+    walks_none History t.base.image (Gathers wanted t.base.image l.walked) l.left l.number c.loop-left-test.true (l.invariant.walks t tells is) (c.in_ok-next.ensures.test t tells still) (Gathers wanted t.base.image c.read_link.new.walked)
     (λ ps was. c.in_ok-next.ensures.walked t ps tells still was) c.in_ok-next.next (c.in_ok-next.ensures.next t tells still) c.if-next-eq0.true
 
 pub returns-then-next-eq0-clause-walked : goal.returns-then-next-eq0-clause-walked
@@ -53,7 +53,7 @@ returns-then-next-eq0-clause-walked g c t tells is =
     let l = c.loop-left in
     let wanted = c.args.wanted.now in
     let still = l.invariant.opened t tells is in
-    walks_all History t.base.image (Gathers wanted t.base.image l.walked) l.left l.number c.loop-left-test.true (l.invariant.walks t tells is) (c.in_ok-next.ensures.test t tells still) (Gathers wanted t.base.image c.take_link.new.walked)
+    walks_all History t.base.image (Gathers wanted t.base.image l.walked) l.left l.number c.loop-left-test.true (l.invariant.walks t tells is) (c.in_ok-next.ensures.test t tells still) (Gathers wanted t.base.image c.read_link.new.walked)
     (λ ps was. c.in_ok-next.ensures.walked t ps tells still was) c.in_ok-next.next (c.in_ok-next.ensures.next t tells still) c.if-next-eq0.true
     ∙ ap (gathered wanted) (spots_found History t.base.image)
 
@@ -62,7 +62,7 @@ returns-then-next-eq0-clause-last g c t tells is =
     let l = c.loop-left in
     let wanted = c.args.wanted.now in
     let still = l.invariant.opened t tells is in
-    walks_last History t.base.image (Gathers wanted t.base.image l.walked) l.left l.number c.loop-left-test.true (l.invariant.walks t tells is) (c.in_ok-next.ensures.test t tells still) (Gathers wanted t.base.image c.take_link.new.walked)
+    walks_last History t.base.image (Gathers wanted t.base.image l.walked) l.left l.number c.loop-left-test.true (l.invariant.walks t tells is) (c.in_ok-next.ensures.test t tells still) (Gathers wanted t.base.image c.read_link.new.walked)
     (λ ps was. c.in_ok-next.ensures.walked t ps tells still was) c.in_ok-next.next (c.in_ok-next.ensures.next t tells still) c.if-next-eq0.true
 
 pub returns-then-next-eq0-clause-once : goal.returns-then-next-eq0-clause-once
@@ -71,7 +71,7 @@ returns-then-next-eq0-clause-once g c t tells is =
     let wanted = c.args.wanted.now in
     let still = l.invariant.opened t tells is in
     let long =
-    walks_length History t.base.image (Gathers wanted t.base.image l.walked) l.left l.number c.loop-left-test.true (l.invariant.walks t tells is) (c.in_ok-next.ensures.test t tells still) (Gathers wanted t.base.image c.take_link.new.walked)
+    walks_length History t.base.image (Gathers wanted t.base.image l.walked) l.left l.number c.loop-left-test.true (l.invariant.walks t tells is) (c.in_ok-next.ensures.test t tells still) (Gathers wanted t.base.image c.read_link.new.walked)
     (λ ps was. c.in_ok-next.ensures.walked t ps tells still was) c.in_ok-next.next (c.in_ok-next.ensures.next t tells still) c.if-next-eq0.true in
     omega (arith, long, is.files.agrees.count, l.invariant.once tells, c.in_ok-next.ensures.once tells, c.loop-left-test.true, l.invariant.few)
 
@@ -88,7 +88,7 @@ loop-left-preserved g c =
     record {
       walks = λ t tells is.
           let still = l.invariant.opened t tells is in
-          walks_next History t.base.image (Gathers wanted t.base.image l.walked) l.left l.number c.loop-left-test.true (l.invariant.walks t tells is) (c.in_ok-next.ensures.test t tells still) (Gathers wanted t.base.image c.take_link.new.walked)
+          walks_next History t.base.image (Gathers wanted t.base.image l.walked) l.left l.number c.loop-left-test.true (l.invariant.walks t tells is) (c.in_ok-next.ensures.test t tells still) (Gathers wanted t.base.image c.read_link.new.walked)
           (λ ps was. c.in_ok-next.ensures.walked t ps tells still was) c.in_ok-next.next (c.in_ok-next.ensures.next t tells still) c.if-next-eq0.false;
       placed = search rules;
       seen = inr (seen_on l.number c.args.store.now.files.count l.invariant.seen (omega (arith, c.in_ok-next.ensures.below, ap (λ (h : Held). h.files.count) l.invariant.same)));

@@ -2,8 +2,8 @@ use Rattle.std.proofs.Common.{◌≡◌, ℕ, ◌+◌, ◌-◌, List, length, ta
 use Rattle.std.proofs.lemmas.Slice.{put_mid-paste}
 use Rattle.std.proofs.lemmas.List.Edits.{paste_all}
 use Rattle.nb_fields.specs.Bytes.{bytes_of, number_in, part}
-use Rattle.nb_fields.proofs.NumberLemmas.{to_eight_bytes, take-bytes_of, length-bytes_of}
-use Rattle.nb_fields.proofs.PartLemmas.{number_in-with_part, number_in-with_part_other, part-with_part_other}
+use Rattle.nb_fields.proofs.NumberLaws.{to_eight_bytes, take-bytes_of, length-bytes_of}
+use Rattle.nb_fields.proofs.PartLaws.{number_in-with_part, number_in-with_part_other, part-with_part_other}
 use Rattle.nb_fields.proofs.bytes.put_number.Goals as goal
 
 pub returns-clause-written : goal.returns-clause-written

@@ -2,8 +2,8 @@ use Rattle.std.proofs.Common.{◌≡◌, ◌∙◌, ◌+◌, ◌<◌, ◌≤◌,
 use Rattle.nb_host.specs.Files.{put_at}
 use Rattle.nb_file.specs.Resized.{resized, IsBegun}
 use Rattle.nb_file.specs.Whole.{IsWhole}
-use Rattle.nb_file.proofs.GrowthLemmas.{put_at-resized, whole-within, same-within, whole-set_back, undone-set_back}
-use Rattle.nb_file.proofs.PutLemmas.{length-put_at}
+use Rattle.nb_file.proofs.GrowthLaws.{put_at-resized, whole-within, same-within, whole-set_back, undone-set_back}
+use Rattle.nb_file.proofs.PutLaws.{length-put_at}
 use Rattle.nb_file.proofs.growth.put_whole.Goals as goal
 
 -- single bytes, or within the file as it is

@@ -6,7 +6,7 @@ use Rattle.nb_fold.specs.Folding.{folded}
 use Rattle.nb_fold.specs.Merging.{IsReady}
 use Rattle.nb_fold.specs.Sources.{Held}
 use Rattle.nb_fold.proofs.FoldLaws.{fold_done, fold_fails, not_prepared}
-use Rattle.nb_chain.proofs.AnswerLemmas.{passed}
+use Rattle.nb_chain.proofs.AnswerLaws.{passed}
 use Rattle.nb_fold.proofs.folding.fold.Goals as goal
 
 pub returns-in_err-sources-clause-folds : goal.returns-in_err-sources-clause-folds

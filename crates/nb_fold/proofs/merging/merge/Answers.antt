@@ -6,7 +6,7 @@ use Rattle.nb_gather.specs.Making.{IsUnfinished}
 use Rattle.nb_fold.specs.Merging.{FallsOn, FoldsOn, Makes}
 use Rattle.nb_fold.specs.Sources.{AreOfPages, IsTaken}
 use Rattle.nb_fold.proofs.MergeLaws.{makes_none, makes_then}
-use Rattle.nb_chain.proofs.AnswerLemmas.{passed}
+use Rattle.nb_chain.proofs.AnswerLaws.{passed}
 use Rattle.nb_fold.proofs.PassLaws.{fails_alike}
 use Rattle.nb_fold.proofs.merging.merge.Goals as goal
 

@@ -2,7 +2,7 @@ use Rattle.std.proofs.Common.{ℕ, ◌+◌, List, refl, sym, ap, subst, ◌∙�
 use Rattle.std.specs.Prelude.{Err}
 use Rattle.nb_host.specs.Files.{Files}
 use Rattle.nb_host.specs.declared.faults.Fault.{Fault}
-use Rattle.nb_page.proofs.QuietLemmas.{quiet_begun, quiet_joined}
+use Rattle.nb_page.proofs.QuietLaws.{quiet_begun, quiet_joined}
 use Rattle.nb_fold.specs.Checking.{AddSays, AreAlike, IsAdded}
 use Rattle.nb_fold.specs.Sources.{Held}
 use Rattle.nb_fold.proofs.AddLaws.{SoFarOpened, opened_none, opened_refused, opened_one, opened_all, left_there}

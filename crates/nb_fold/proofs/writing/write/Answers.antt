@@ -5,7 +5,7 @@ use Rattle.nb_gather.specs.Gathering.{LevelWriting}
 use Rattle.nb_gather.specs.Making.{IsKept, IsUnfinished}
 use Rattle.nb_fold.specs.Sources.{IsTaken}
 use Rattle.nb_fold.proofs.MergeLaws.{folding_made, folded_or, closed_or, makes_weaker}
-use Rattle.nb_chain.proofs.AnswerLemmas.{passed}
+use Rattle.nb_chain.proofs.AnswerLaws.{passed}
 use Rattle.nb_fold.proofs.writing.write.Goals as goal
 
 pub returns-in_err-begin-clause-makes : goal.returns-in_err-begin-clause-makes

@@ -4,13 +4,13 @@ use Rattle.std.specs.Global.{Vec}
 use Rattle.std.specs.Vec.{with_items}
 use Rattle.std.proofs.lemmas.List.{with_items_is}
 use Rattle.nb_fields.specs.Places.{is_page_size}
-use Rattle.nb_fields.proofs.SizeLemmas.{size_facts}
+use Rattle.nb_fields.proofs.SizeLaws.{size_facts}
 use Rattle.nb_host.specs.Crash.{Leaves, IsDurable}
 use Rattle.nb_host.specs.Files.{Files}
 use Rattle.nb_host.specs.declared.faults.Fault.TheVariants.{Memory}
 use Rattle.nb_level.specs.declared.head.LevelHead.{LevelHead}
 use Rattle.nb_model.specs.Image.{first_page}
-use Rattle.nb_page.proofs.QuietLemmas.{quiet_begun, quiet_joined}
+use Rattle.nb_page.proofs.QuietLaws.{quiet_begun, quiet_joined}
 use Rattle.nb_fixup.proofs.AnswerLaws.{passed}
 use Rattle.nb_inplace.specs.Apply.{Applies}
 use Rattle.nb_inplace.specs.Half.{applying_page}

@@ -4,7 +4,7 @@ use Rattle.std.proofs.lemmas.List.{length-take-le}
 use Rattle.nb_host.specs.Files.{Files}
 use Rattle.nb_host.specs.declared.refusals.Refusal.{Refusal}
 use Rattle.nb_host.specs.declared.refusals.Refusal.TheVariants.{ChainScn}
-use Rattle.nb_page.proofs.QuietLemmas.{quiet_joined}
+use Rattle.nb_page.proofs.QuietLaws.{quiet_joined}
 use Rattle.nb_model.specs.Image.{Page}
 use Rattle.nb_model.specs.InPlace.{written_since}
 use Rattle.nb_model.specs.Sound.{IsOfSize}

@@ -8,7 +8,7 @@ use Rattle.nb_model.specs.InPlace.{not_standby}
 use Rattle.nb_cases.specs.Events.{OnApply}
 use Rattle.nb_cases.specs.contracts.events.Case.{the_type}
 use Rattle.nb_cases.specs.declared.events.Case.TheVariants as case
-use Rattle.nb_chain.proofs.StartLemmas.{size_is, state_is}
+use Rattle.nb_chain.proofs.StartLaws.{size_is, state_is}
 use Rattle.nb_fixup.proofs.AnswerLaws.{passed, refused, tested_by}
 use Rattle.nb_fixup.proofs.CauseLaws.{unheaded}
 use Rattle.nb_fixup.specs.Tests.{Tested}

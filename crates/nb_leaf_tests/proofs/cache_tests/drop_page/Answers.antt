@@ -1,6 +1,6 @@
 use Rattle.std.proofs.Common.{ap, ◌∙◌}
 use Rattle.nb_cache.specs.Held.{Held, rank_of}
-use Rattle.nb_cache.proofs.ShownLemmas.{rank_of-cleaned}
+use Rattle.nb_cache.proofs.ShownLaws.{rank_of-cleaned}
 use Rattle.nb_leaf_tests.proofs.cache_tests.drop_page.Goals as goal
 
 pub drop_page-requires : goal.drop_page-requires

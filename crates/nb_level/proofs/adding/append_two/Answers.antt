@@ -1,4 +1,4 @@
-use Rattle.nb_level.proofs.AddingLemmas.{adds-none, adds-second}
+use Rattle.nb_level.proofs.AddingLaws.{adds-none, adds-second}
 use Rattle.nb_level.proofs.adding.append_two.Goals as goal
 
 pub returns-in-Err-clause-adds : goal.returns-in-Err-clause-adds

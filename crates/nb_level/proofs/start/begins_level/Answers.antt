@@ -1,7 +1,7 @@
 use Rattle.std.proofs.Common.{ap, sym, ◌∙◌, take, nat_eq}
 use Rattle.std.specs.Cmp.Lexicographic.{pointwise}
 use Rattle.nb_model.specs.Levels.{begins_level}
-use Rattle.nb_level.proofs.StartLemmas.{begins-short}
+use Rattle.nb_level.proofs.StartLaws.{begins-short}
 use Rattle.nb_level.proofs.start.begins_level.Goals as goal
 
 pub returns-then-bytes-lt4 : goal.returns-then-bytes-lt4

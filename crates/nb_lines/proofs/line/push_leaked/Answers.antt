@@ -1,4 +1,4 @@
-use Rattle.nb_lines.proofs.WordLemmas.{words_then}
+use Rattle.nb_lines.proofs.WordLaws.{words_then}
 use Rattle.nb_lines.proofs.line.push_leaked.Goals as goal
 
 pub returns : goal.returns

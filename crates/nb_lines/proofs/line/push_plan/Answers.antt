@@ -1,4 +1,4 @@
-use Rattle.nb_lines.proofs.WordLemmas.{plan_said}
+use Rattle.nb_lines.proofs.WordLaws.{plan_said}
 use Rattle.nb_lines.proofs.line.push_plan.Goals as goal
 
 pub returns : goal.returns

@@ -1,5 +1,5 @@
 use Rattle.nb_model.specs.Lines.{refusal_words}
-use Rattle.nb_lines.proofs.WordLemmas.{all_then}
+use Rattle.nb_lines.proofs.WordLaws.{all_then}
 use Rattle.nb_lines.proofs.line.push_refusal.Goals as goal
 
 pub returns : goal.returns

@@ -1,7 +1,7 @@
 use Rattle.std.proofs.Common.{sym, arith}
 use Rattle.std.proofs.lemmas.List.{append-nil}
 use Rattle.nb_model.specs.Lines.{spaced}
-use Rattle.nb_lines.proofs.WordLemmas.{one_row_more}
+use Rattle.nb_lines.proofs.WordLaws.{one_row_more}
 use Rattle.nb_lines.proofs.line.push_rows.Goals as goal
 
 pub loop-i-init : goal.loop-i-init

@@ -1,7 +1,7 @@
 use Rattle.std.proofs.Common.{sym}
 use Rattle.std.proofs.lemmas.List.{append-nil}
 use Rattle.nb_model.specs.Lines.{spaced}
-use Rattle.nb_lines.proofs.WordLemmas.{one_word_more}
+use Rattle.nb_lines.proofs.WordLaws.{one_word_more}
 use Rattle.nb_lines.proofs.word.push_words.Goals as goal
 
 pub loop-word-init : goal.loop-word-init

@@ -1,5 +1,5 @@
 use Rattle.std.proofs.Common.{◌∙◌, ◌+◌, arith}
-use Rattle.nb_mem.proofs.PutLemmas.{padded-more}
+use Rattle.nb_mem.proofs.PutLaws.{padded-more}
 use Rattle.nb_mem.proofs.bytes.append_zeros.Goals as goal
 
 pub returns-clause-ok : goal.returns-clause-ok

@@ -1,4 +1,4 @@
-use Rattle.nb_mem.proofs.GuidLemmas.{guids_apart, guid_not_nil, behind_apart}
+use Rattle.nb_mem.proofs.GuidLaws.{guids_apart, guid_not_nil, behind_apart}
 use Rattle.nb_mem.proofs.laws.guids_are_apart.Goals as goal
 
 pub returns : goal.returns

@@ -1,5 +1,5 @@
 use Rattle.std.proofs.Common.{◌∙◌, sym}
-use Rattle.nb_mem.proofs.OutcomeLemmas.{changed_file, changed_outcome, other_file, other_outcome}
+use Rattle.nb_mem.proofs.OutcomeLaws.{changed_file, changed_outcome, other_file, other_outcome}
 use Rattle.nb_mem.proofs.left.follow_call.Goals as goal
 
 pub returns-in-None-clause-file : goal.returns-in-None-clause-file

@@ -6,7 +6,7 @@ use Rattle.std.proofs.Common.{◌≡◌, ◌∙◌, sym, ap, List, ℕ, ◌∷�
 use Rattle.nb_host.specs.Files.{File, with_file}
 use Rattle.nb_mem.specs.Changes.{file_after}
 use Rattle.nb_mem.specs.Slots.{files_in, names_in}
-use Rattle.nb_mem.proofs.SlotLemmas.{found, changed, not_found, added}
+use Rattle.nb_mem.proofs.SlotLaws.{found, changed, not_found, added}
 use Rattle.nb_mem.proofs.SlotNames.{names-changed, names-added}
 use Rattle.nb_mem.proofs.slots.change_slot.Goals as goal
 

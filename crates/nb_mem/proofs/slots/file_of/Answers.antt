@@ -1,6 +1,6 @@
 use Rattle.std.proofs.Common.{◌∙◌, sym, ap}
 use Rattle.nb_mem.specs.declared.slots.Slot.{Slot}
-use Rattle.nb_mem.proofs.SlotLemmas.{found, not_found}
+use Rattle.nb_mem.proofs.SlotLaws.{found, not_found}
 use Rattle.nb_mem.proofs.slots.file_of.Goals as goal
 
 pub returns-in-Some : goal.returns-in-Some

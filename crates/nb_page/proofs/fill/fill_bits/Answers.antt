@@ -3,8 +3,8 @@ use Rattle.std.specs.Prelude.{slice_set}
 use Rattle.std.proofs.lemmas.List.{length-replicate, length-set}
 use Rattle.std.proofs.lemmas.Nat.{pow_below}
 use borrow.Rule.Slice.PartMut.{put_mid}
-use Rattle.nb_fields.proofs.PartLemmas.{length-part}
-use Rattle.nb_page.proofs.FillLemmas.{bits_filled, bits_all}
+use Rattle.nb_fields.proofs.PartLaws.{length-part}
+use Rattle.nb_page.proofs.FillLaws.{bits_filled, bits_all}
 use Rattle.nb_page.proofs.fill.fill_bits.Goals as goal
 
 pub returns-then-whole-bits : goal.returns-then-whole-bits

@@ -4,10 +4,10 @@ use Rattle.nb_fields.specs.Bytes.{bytes_of, with_part}
 use Rattle.nb_fields.specs.Places.{bits_in}
 use Rattle.nb_fields.specs.Payloads.{taken_bits, inventory_payload}
 use Rattle.nb_fields.specs.Fresh.{fresh_count}
-use Rattle.nb_fields.proofs.NumberLemmas.{length-bytes_of}
-use Rattle.nb_fields.proofs.PartLemmas.{length-part}
-use Rattle.nb_fields.proofs.SizeLemmas.{size_facts}
-use Rattle.nb_page.proofs.FillLemmas.{numbered_filled}
+use Rattle.nb_fields.proofs.NumberLaws.{length-bytes_of}
+use Rattle.nb_fields.proofs.PartLaws.{length-part}
+use Rattle.nb_fields.proofs.SizeLaws.{size_facts}
+use Rattle.nb_page.proofs.FillLaws.{numbered_filled}
 use Rattle.nb_page.proofs.fill.fill_inventory.Goals as goal
 
 pub returns : goal.returns

@@ -3,7 +3,7 @@ use Rattle.std.specs.Prelude.{slice_index}
 use Rattle.std.proofs.Math.ListN.{set}
 use Rattle.std.proofs.lemmas.Nat.{or_lt}
 use Rattle.nb_pip.specs.Bits.{byte_of}
-use Rattle.nb_pip.proofs.BitLemmas.{SetsBit-or, bits-set, set_byte}
+use Rattle.nb_pip.proofs.BitLaws.{SetsBit-or, bits-set, set_byte}
 use Rattle.nb_pip.proofs.bits.give.Goals as goal
 
 pub returns-clause-bits : goal.returns-clause-bits

@@ -1,5 +1,5 @@
 use Rattle.std.proofs.lemmas.Bool.{eqb-true, eq-eqb}
-use Rattle.nb_pip.proofs.BitLemmas.{shr_and_one-bits}
+use Rattle.nb_pip.proofs.BitLaws.{shr_and_one-bits}
 use Rattle.nb_pip.proofs.bits.is_used.Goals as goal
 
 pub returns : goal.returns

@@ -1,5 +1,5 @@
 use Rattle.std.proofs.Common.{arith}
-use Rattle.nb_pip.proofs.LowestLemmas.{IsLowestFree-in_byte, AreUsed-in_byte, AreUsed-none}
+use Rattle.nb_pip.proofs.LowestLaws.{IsLowestFree-in_byte, AreUsed-in_byte, AreUsed-none}
 use Rattle.nb_pip.proofs.bits.lowest_free.Goals as goal
 
 pub returns-then-free-below : goal.returns-then-free-below

@@ -1,5 +1,5 @@
 use Rattle.std.proofs.Common.{◌-◌, ◌≤◌}
-use Rattle.nb_pip.proofs.LowestLemmas.{HasNone}
+use Rattle.nb_pip.proofs.LowestLaws.{HasNone}
 use Rattle.nb_pip.proofs.bits.lowest_free.Given as goal
 
 abbrev pub invariant-loop-bit : goal.invariant-loop-bit

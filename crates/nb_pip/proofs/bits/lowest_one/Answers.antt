@@ -1,4 +1,4 @@
-use Rattle.nb_pip.proofs.LowestLemmas.{AreZeros-rest, IsLowestOne-rest}
+use Rattle.nb_pip.proofs.LowestLaws.{AreZeros-rest, IsLowestOne-rest}
 use Rattle.nb_pip.proofs.bits.lowest_one.Goals as goal
 
 pub returns-then-rest-eq0 : goal.returns-then-rest-eq0

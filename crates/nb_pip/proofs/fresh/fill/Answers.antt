@@ -2,9 +2,9 @@ use Rattle.std.proofs.Common.{◌≡◌, ◌-◌, ◌∙◌, List, ℕ, length, 
 use Rattle.std.proofs.lemmas.List.{length-replicate}
 use borrow.Rule.Slice.PartMut.{put_mid}
 use Rattle.nb_fields.specs.Bytes.{bytes_of, with_part}
-use Rattle.nb_fields.proofs.PartLemmas.{length-part, length-with_part, put_mid-with_part}
-use Rattle.nb_fields.proofs.SizeLemmas.{size_facts}
-use Rattle.nb_pip.proofs.FillLemmas.{filled}
+use Rattle.nb_fields.proofs.PartLaws.{length-part, length-with_part, put_mid-with_part}
+use Rattle.nb_fields.proofs.SizeLaws.{size_facts}
+use Rattle.nb_pip.proofs.FillLaws.{filled}
 use Rattle.nb_pip.proofs.fresh.fill.Goals as goal
 
 pub returns : goal.returns

@@ -1,7 +1,7 @@
 use Rattle.std.proofs.Common.{◌<◌, arith}
 use Rattle.nb_fields.specs.Places.{bits_in}
-use Rattle.nb_fields.proofs.SizeLemmas.{size_facts}
-use Rattle.nb_pip.proofs.PlaceLemmas.{place_found, found_place}
+use Rattle.nb_fields.proofs.SizeLaws.{size_facts}
+use Rattle.nb_pip.proofs.PlaceLaws.{place_found, found_place}
 use Rattle.nb_pip.proofs.places.is_place.Goals as goal
 
 pub returns-clause-place : goal.returns-clause-place

@@ -2,8 +2,8 @@ use Rattle.std.proofs.Common.{◌≡◌, length, refl, sym, ap, subst, ◌∙◌
 use Rattle.std.specs.Prelude.{Err}
 use Rattle.std.specs.Vec.{with_items}
 use Rattle.std.proofs.lemmas.List.{with_items_is}
-use Rattle.nb_chain.proofs.AnswerLemmas.{passed}
-use Rattle.nb_chain.proofs.LinkLemmas.{split}
+use Rattle.nb_chain.proofs.AnswerLaws.{passed}
+use Rattle.nb_chain.proofs.LinkLaws.{split}
 use Rattle.nb_model.specs.Image.{first_page}
 use Rattle.nb_restore.specs.Copied.{IsDone}
 use Rattle.nb_restore.specs.Plan.{PlanSays}

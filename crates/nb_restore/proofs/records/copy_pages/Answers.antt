@@ -5,7 +5,7 @@ use Rattle.nb_host.specs.Files.{with_bytes}
 use Rattle.nb_change.proofs.GaveLaws.{gave_begun, nothing_joined}
 use Rattle.nb_model.specs.Levels.{joined}
 use Rattle.nb_model.proofs.ImageLaws.{length-joined}
-use Rattle.nb_chain.proofs.AnswerLemmas.{passed}
+use Rattle.nb_chain.proofs.AnswerLaws.{passed}
 use Rattle.nb_restore.specs.Copied.{IsDone}
 use Rattle.nb_restore.proofs.FrontLaws.{front_begun, front_joined}
 use Rattle.nb_restore.proofs.LevelLaws.{fails_alike}

@@ -1,6 +1,6 @@
 use Rattle.std.proofs.Common.{inl, inr, ⊎_elim, length, refl}
 use Rattle.nb_change.proofs.SettledLaws.{reads_has}
-use Rattle.nb_chain.proofs.AnswerLemmas.{passed}
+use Rattle.nb_chain.proofs.AnswerLaws.{passed}
 use Rattle.nb_restore.specs.Copied.{IsDone, OverwritesAll}
 use Rattle.nb_restore.specs.Target.{KeepsImage, restored}
 use Rattle.nb_restore.proofs.FrontLaws.{front_joined}

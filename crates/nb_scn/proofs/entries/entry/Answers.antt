@@ -1,5 +1,5 @@
 use Rattle.std.proofs.Common.{sym, ◌∙◌}
-use Rattle.nb_scn.proofs.EntryLemmas.{get_or-entries}
+use Rattle.nb_scn.proofs.EntryLaws.{get_or-entries}
 use Rattle.nb_scn.proofs.entries.entry.Goals as goal
 
 pub returns : goal.returns

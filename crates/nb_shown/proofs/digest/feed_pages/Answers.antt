@@ -1,6 +1,6 @@
 use Rattle.std.proofs.Common.{◌≡◌, ℕ, ◌+◌, ◌<◌, ◌++◌, suc, length, take, ap, subst, ◌∙◌, arith}
 use Rattle.sha2.specs.Hashers.{Holds256}
-use Rattle.nb_page.proofs.QuietLemmas.{quiet_joined}
+use Rattle.nb_page.proofs.QuietLaws.{quiet_joined}
 use Rattle.nb_model.specs.Image.{Page, page_at}
 use Rattle.nb_shown.specs.Replies.{bytes_of_image}
 use Rattle.nb_shown.proofs.DigestLaws.{bytes_more}

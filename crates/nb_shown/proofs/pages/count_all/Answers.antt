@@ -2,9 +2,9 @@ use Rattle.std.proofs.Common.{◌≡◌, ℕ, ◌+◌, ◌-◌, ◌*◌, ◌/◌
 use Rattle.std.specs.Prelude.{min, Err, None}
 use Rattle.std.proofs.Math.Nat.{le-div_iff_mul-le}
 use Rattle.nb_fields.specs.Places.{bits_in, inventory_place}
-use Rattle.nb_fields.proofs.PlaceLemmas.{bits-least}
+use Rattle.nb_fields.proofs.PlaceLaws.{bits-least}
 use Rattle.nb_fields.specs.Kinds.{inventory_kind}
-use Rattle.nb_page.proofs.QuietLemmas.{quiet_begun, quiet_joined}
+use Rattle.nb_page.proofs.QuietLaws.{quiet_begun, quiet_joined}
 use Rattle.nb_model.specs.Causes.{not_kind}
 use Rattle.nb_model.proofs.MainLaws.{some_page}
 use Rattle.nb_state.specs.Open.{Held}

@@ -1,7 +1,7 @@
 use Rattle.std.proofs.Common.{◌≡◌, ℕ, ◌+◌, ◌*◌, ◌<◌, length, sym, ap, ◌∙◌, arith}
 use Rattle.std.specs.Prelude.{not}
 use Rattle.nb_fields.specs.Places.{bits_in}
-use Rattle.nb_page.proofs.QuietLemmas.{quiet_joined}
+use Rattle.nb_page.proofs.QuietLaws.{quiet_joined}
 use Rattle.nb_model.specs.Forms.{is_free_page}
 use Rattle.nb_shown.specs.Counts.{counts_below}
 use Rattle.nb_shown.proofs.BitLaws.{used_is}

@@ -1,7 +1,7 @@
 use Rattle.std.proofs.Common.{◌≡◌, ℕ, List, refl, sym, ap, ◌∙◌, arith}
 use Rattle.std.specs.Prelude.{Option, Ok, Err}
 use Rattle.nb_fields.specs.Kinds.{data_kind}
-use Rattle.nb_page.proofs.QuietLemmas.{quiet_begun}
+use Rattle.nb_page.proofs.QuietLaws.{quiet_begun}
 use Rattle.nb_model.specs.declared.reply.Reply.TheVariants.{Done}
 use Rattle.nb_model.specs.Causes.{read_only}
 use Rattle.nb_model.specs.Forms.{is_kind}

@@ -1,6 +1,6 @@
 use Rattle.std.proofs.Common.{rules, ◌<◌, refl, ◌∙◌, arith, ℕ}
 use Rattle.std.specs.Prelude.{Option}
-use Rattle.nb_page.proofs.QuietLemmas.{quiet_begun, quiet_joined}
+use Rattle.nb_page.proofs.QuietLaws.{quiet_begun, quiet_joined}
 use Rattle.nb_model.specs.Causes.{lowest_broken}
 use Rattle.nb_model.specs.Chains.{RowsFrom}
 use Rattle.nb_engine.specs.Data.{not_data}

@@ -1,6 +1,6 @@
 use Rattle.std.proofs.Common.{rules, ◌<◌, refl, ◌∙◌, arith}
 use Rattle.std.specs.Prelude.{None}
-use Rattle.nb_page.proofs.QuietLemmas.{quiet_begun}
+use Rattle.nb_page.proofs.QuietLaws.{quiet_begun}
 use Rattle.nb_model.specs.Chains.{RowsFrom}
 use Rattle.nb_model.specs.Forms.{drafted}
 use Rattle.nb_model.specs.Tables.{all_given}

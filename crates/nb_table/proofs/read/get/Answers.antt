@@ -1,5 +1,5 @@
 use Rattle.std.proofs.Common.{◌≡◌, ℕ, List, [], ap, sym, ◌∙◌}
-use Rattle.nb_page.proofs.QuietLemmas.{quiet_joined}
+use Rattle.nb_page.proofs.QuietLaws.{quiet_joined}
 use Rattle.nb_model.specs.declared.reply.Reply.TheVariants.{Value}
 use Rattle.nb_model.specs.Chains.{Spot, text_in}
 use Rattle.nb_model.specs.Outcomes.{Seen, says}

@@ -3,7 +3,7 @@ use Rattle.std.specs.Prelude.{Some, None, Err}
 use Rattle.std.specs.BTreeMap.{BTreeMap}
 use Rattle.nb_host.specs.declared.faults.Fault.{Fault}
 use Rattle.nb_host.specs.declared.refusals.Refusal.{Refusal}
-use Rattle.nb_page.proofs.QuietLemmas.{quiet_joined}
+use Rattle.nb_page.proofs.QuietLaws.{quiet_joined}
 use Rattle.nb_model.specs.declared.reply.Reply.TheVariants.{Rows}
 use Rattle.nb_model.specs.Causes.{broken_at}
 use Rattle.nb_model.specs.Chains.{RowsFrom, Spot, pages_of, spots}

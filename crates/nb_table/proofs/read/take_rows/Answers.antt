@@ -2,7 +2,7 @@ use Rattle.std.proofs.Common.{ℕ, List, refl, sym, ap, subst, ◌∙◌, arith}
 use Rattle.std.specs.Prelude.{IsTrue}
 use Rattle.std.specs.BTreeMap.{BTreeMap}
 use Rattle.nb_fields.specs.Places.{is_page_size}
-use Rattle.nb_page.proofs.QuietLemmas.{quiet_begun, quiet_joined}
+use Rattle.nb_page.proofs.QuietLaws.{quiet_begun, quiet_joined}
 use Rattle.nb_model.specs.Causes.{broken_at}
 use Rattle.nb_model.specs.Chains.{RowsFrom, pages_of, slots_in, spots_of, next_in}
 use Rattle.nb_model.specs.Rows.{rows_in}
@@ -39,7 +39,7 @@ returns-then-next-eq0-clause-test g c t tells is =
     let still = l.invariant.opened t tells is in
     let page = c.in_ok-next.ensures.page t tells still in
     walks_none (RowsFrom c.args.first) image (HoldsRows image l.rows.entries) l.left l.number c.loop-left-test.true (l.invariant.walks t tells is) (c.in_ok-next.ensures.test t tells still) (HoldsRows image c.add_rows.new.rows.entries)
-    (λ ps was. rows_more image ps l.number c.take_page.new.page c.add_rows.new.rows.entries page (c.in_ok-add_rows.ensures.rows (spots_of image ps) l.number was)) c.in_ok-next.next (c.in_ok-next.ensures.next ∙ ap next_in page) c.if-next-eq0.true
+    (λ ps was. rows_more image ps l.number c.chain_read.new.page c.add_rows.new.rows.entries page (c.in_ok-add_rows.ensures.rows (spots_of image ps) l.number was)) c.in_ok-next.next (c.in_ok-next.ensures.next ∙ ap next_in page) c.if-next-eq0.true
 
 pub returns-then-next-eq0-clause-rows : goal.returns-then-next-eq0-clause-rows
 returns-then-next-eq0-clause-rows g c t tells is =
@@ -48,7 +48,7 @@ returns-then-next-eq0-clause-rows g c t tells is =
     let still = l.invariant.opened t tells is in
     let page = c.in_ok-next.ensures.page t tells still in
     walks_all (RowsFrom c.args.first) image (HoldsRows image l.rows.entries) l.left l.number c.loop-left-test.true (l.invariant.walks t tells is) (c.in_ok-next.ensures.test t tells still) (HoldsRows image c.add_rows.new.rows.entries)
-    (λ ps was. rows_more image ps l.number c.take_page.new.page c.add_rows.new.rows.entries page (c.in_ok-add_rows.ensures.rows (spots_of image ps) l.number was)) c.in_ok-next.next (c.in_ok-next.ensures.next ∙ ap next_in page) c.if-next-eq0.true
+    (λ ps was. rows_more image ps l.number c.chain_read.new.page c.add_rows.new.rows.entries page (c.in_ok-add_rows.ensures.rows (spots_of image ps) l.number was)) c.in_ok-next.next (c.in_ok-next.ensures.next ∙ ap next_in page) c.if-next-eq0.true
     ∙ ap rows_in (spots_found (RowsFrom c.args.first) image)
 
 pub loop-left-preserved : goal.loop-left-preserved
@@ -60,7 +60,7 @@ loop-left-preserved g c =
           let still = l.invariant.opened t tells is in
           let page = c.in_ok-next.ensures.page t tells still in
           walks_next (RowsFrom c.args.first) image (HoldsRows image l.rows.entries) l.left l.number c.loop-left-test.true (l.invariant.walks t tells is) (c.in_ok-next.ensures.test t tells still) (HoldsRows image c.add_rows.new.rows.entries)
-          (λ ps was. rows_more image ps l.number c.take_page.new.page c.add_rows.new.rows.entries page (c.in_ok-add_rows.ensures.rows (spots_of image ps) l.number was)) c.in_ok-next.next (c.in_ok-next.ensures.next ∙ ap next_in page) c.if-next-eq0.false;
+          (λ ps was. rows_more image ps l.number c.chain_read.new.page c.add_rows.new.rows.entries page (c.in_ok-add_rows.ensures.rows (spots_of image ps) l.number was)) c.in_ok-next.next (c.in_ok-next.ensures.next ∙ ap next_in page) c.if-next-eq0.false;
       sized = c.in_ok-next.ensures.sized ∙ l.invariant.sized;
       opened = λ t tells is. c.in_ok-next.ensures.open t tells (l.invariant.opened t tells is);
       same = c.in_ok-next.ensures.same ∙ l.invariant.same;
@@ -78,4 +78,4 @@ add_rows-requires-clause-size g c =
     subst (λ (n : ℕ). IsTrue (is_page_size n)) (c.page_size-size.ensures.value ∙ sym (c.in_ok-next.ensures.sized ∙ c.loop-left.invariant.sized ∙ c.requires.size)) c.page_size-size.ensures.one_of
 
 pub add_rows-requires-clause-form : goal.add_rows-requires-clause-form
-add_rows-requires-clause-form g c = sym (any_rows c.args.first (slots_in c.take_page.new.page)) ∙ c.in_ok-next.ensures.form
+add_rows-requires-clause-form g c = sym (any_rows c.args.first (slots_in c.chain_read.new.page)) ∙ c.in_ok-next.ensures.form

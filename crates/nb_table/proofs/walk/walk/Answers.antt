@@ -1,6 +1,6 @@
 use Rattle.std.proofs.Common.{rules, ℕ, refl, ap, ◌∙◌, arith}
 use Rattle.std.specs.Prelude.{None}
-use Rattle.nb_page.proofs.QuietLemmas.{quiet_begun, quiet_joined}
+use Rattle.nb_page.proofs.QuietLaws.{quiet_begun, quiet_joined}
 use Rattle.nb_model.specs.Causes.{broken_at}
 use Rattle.nb_model.specs.Chains.{first_of, pages_of}
 use Rattle.nb_alloc.proofs.DoesLaws.{tested_on}
@@ -41,7 +41,7 @@ returns-then-next-eq0-clause-test g c t tells is =
     let l = c.loop-left in
     let sought = c.args.sought.now in
     let still = l.invariant.opened t tells is in
-    walks_none (chain_of sought) t.base.image (Gathers sought t.base.image l.walked) l.left l.number c.loop-left-test.true (l.invariant.walks t tells is) (c.in_ok-next.ensures.test t tells still) (Gathers sought t.base.image c.take_link.new.walked)
+    walks_none (chain_of sought) t.base.image (Gathers sought t.base.image l.walked) l.left l.number c.loop-left-test.true (l.invariant.walks t tells is) (c.in_ok-next.ensures.test t tells still) (Gathers sought t.base.image c.read_link.new.walked)
     (λ ps was. c.in_ok-next.ensures.walked t ps tells still was) c.in_ok-next.next (c.in_ok-next.ensures.next t tells still) c.if-next-eq0.true
 
 pub returns-then-next-eq0-clause-walked : goal.returns-then-next-eq0-clause-walked
@@ -49,7 +49,7 @@ returns-then-next-eq0-clause-walked g c t tells is =
     let l = c.loop-left in
     let sought = c.args.sought.now in
     let still = l.invariant.opened t tells is in
-    walks_all (chain_of sought) t.base.image (Gathers sought t.base.image l.walked) l.left l.number c.loop-left-test.true (l.invariant.walks t tells is) (c.in_ok-next.ensures.test t tells still) (Gathers sought t.base.image c.take_link.new.walked)
+    walks_all (chain_of sought) t.base.image (Gathers sought t.base.image l.walked) l.left l.number c.loop-left-test.true (l.invariant.walks t tells is) (c.in_ok-next.ensures.test t tells still) (Gathers sought t.base.image c.read_link.new.walked)
     (λ ps was. c.in_ok-next.ensures.walked t ps tells still was) c.in_ok-next.next (c.in_ok-next.ensures.next t tells still) c.if-next-eq0.true
     ∙ ap (gathered sought) (spots_found (chain_of sought) t.base.image)
 
@@ -58,7 +58,7 @@ returns-then-next-eq0-clause-last g c t tells is =
     let l = c.loop-left in
     let sought = c.args.sought.now in
     let still = l.invariant.opened t tells is in
-    walks_last (chain_of sought) t.base.image (Gathers sought t.base.image l.walked) l.left l.number c.loop-left-test.true (l.invariant.walks t tells is) (c.in_ok-next.ensures.test t tells still) (Gathers sought t.base.image c.take_link.new.walked)
+    walks_last (chain_of sought) t.base.image (Gathers sought t.base.image l.walked) l.left l.number c.loop-left-test.true (l.invariant.walks t tells is) (c.in_ok-next.ensures.test t tells still) (Gathers sought t.base.image c.read_link.new.walked)
     (λ ps was. c.in_ok-next.ensures.walked t ps tells still was) c.in_ok-next.next (c.in_ok-next.ensures.next t tells still) c.if-next-eq0.true
 
 pub returns-then-next-eq0-clause-once : goal.returns-then-next-eq0-clause-once
@@ -67,7 +67,7 @@ returns-then-next-eq0-clause-once g c t tells is =
     let sought = c.args.sought.now in
     let still = l.invariant.opened t tells is in
     let long =
-    walks_length (chain_of sought) t.base.image (Gathers sought t.base.image l.walked) l.left l.number c.loop-left-test.true (l.invariant.walks t tells is) (c.in_ok-next.ensures.test t tells still) (Gathers sought t.base.image c.take_link.new.walked)
+    walks_length (chain_of sought) t.base.image (Gathers sought t.base.image l.walked) l.left l.number c.loop-left-test.true (l.invariant.walks t tells is) (c.in_ok-next.ensures.test t tells still) (Gathers sought t.base.image c.read_link.new.walked)
     (λ ps was. c.in_ok-next.ensures.walked t ps tells still was) c.in_ok-next.next (c.in_ok-next.ensures.next t tells still) c.if-next-eq0.true in
     omega (arith, long, is.files.agrees.count, l.invariant.once tells, c.in_ok-next.ensures.once tells, c.loop-left-test.true, l.invariant.few)
 
@@ -78,7 +78,7 @@ loop-left-preserved g c =
     record {
       walks = λ t tells is.
           let still = l.invariant.opened t tells is in
-          walks_next (chain_of sought) t.base.image (Gathers sought t.base.image l.walked) l.left l.number c.loop-left-test.true (l.invariant.walks t tells is) (c.in_ok-next.ensures.test t tells still) (Gathers sought t.base.image c.take_link.new.walked)
+          walks_next (chain_of sought) t.base.image (Gathers sought t.base.image l.walked) l.left l.number c.loop-left-test.true (l.invariant.walks t tells is) (c.in_ok-next.ensures.test t tells still) (Gathers sought t.base.image c.read_link.new.walked)
           (λ ps was. c.in_ok-next.ensures.walked t ps tells still was) c.in_ok-next.next (c.in_ok-next.ensures.next t tells still) c.if-next-eq0.false;
       found = search rules;
       filled = search rules;

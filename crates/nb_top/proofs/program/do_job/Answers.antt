@@ -3,7 +3,7 @@ use Rattle.std.specs.Prelude.{Err}
 use Rattle.nb_host.specs.declared.faults.Fault.{Fault}
 use Rattle.nb_host.specs.declared.refusals.Refusal.TheVariants.{Usage}
 use Rattle.nb_host.specs.declared.faults.RunError.TheVariants.{Memory as MemoryError}
-use Rattle.nb_page.proofs.QuietLemmas.{quiet_begun}
+use Rattle.nb_page.proofs.QuietLaws.{quiet_begun}
 use Rattle.nb_top.specs.Goes.{Goes}
 use Rattle.nb_top.specs.Requests.{IsAskedBy, IsReadJob, Runs, request_asked}
 use Rattle.nb_top.specs.Shown.{IsShownOf}

@@ -1,6 +1,6 @@
 use Rattle.std.proofs.Common.{◌≡◌, subst}
 use Rattle.std.specs.Prelude.{Ok, IfOk}
-use Rattle.nb_page.proofs.QuietLemmas.{quiet_begun}
+use Rattle.nb_page.proofs.QuietLaws.{quiet_begun}
 use Rattle.nb_model.specs.Jobs.{asks_of}
 use Rattle.nb_top.specs.Goes.{Goes}
 use Rattle.nb_top.specs.Requests.{Runs, ToRun, attached, plan_of}

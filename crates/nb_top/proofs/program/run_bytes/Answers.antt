@@ -1,7 +1,7 @@
 use Rattle.std.proofs.Common.{[], ◌≡◌, ap, refl, sym, subst}
 use Rattle.std.specs.Prelude.{Some, Ok, Err}
 use Rattle.nb_host.specs.declared.faults.Fault.TheVariants.{Refused}
-use Rattle.nb_page.proofs.QuietLemmas.{quiet_begun}
+use Rattle.nb_page.proofs.QuietLaws.{quiet_begun}
 use Rattle.nb_script.specs.Scripts.{IsAnswer, script_of}
 use Rattle.nb_top.specs.Goes.{Goes}
 use Rattle.nb_top.specs.Requests.{Runs, to_run}

@@ -1,6 +1,6 @@
 use Rattle.std.proofs.Common.{arith}
 use Rattle.std.specs.Prelude.{Ok, Err}
-use Rattle.nb_chain.proofs.AnswerLemmas.{passed}
+use Rattle.nb_chain.proofs.AnswerLaws.{passed}
 use Rattle.nb_fold.specs.Verdict.{fold_turn}
 use Rattle.nb_top.specs.OneTurn.{folding}
 use Rattle.nb_top.specs.Served.{Serves}

@@ -1,5 +1,5 @@
 use Rattle.std.proofs.Common.{◌∙◌, List, ℕ, ap, ap₂}
-use Rattle.nb_chain.proofs.AnswerLemmas.{passed}
+use Rattle.nb_chain.proofs.AnswerLaws.{passed}
 use Rattle.nb_catalog.specs.Chained.{names_at}
 use Rattle.nb_catalog.specs.Turns.{plan_turn}
 use Rattle.nb_model.specs.declared.reply.Reply.TheVariants.{Planned}

@@ -1,5 +1,5 @@
 use Rattle.std.specs.Prelude.{Ok, Err}
-use Rattle.nb_chain.proofs.AnswerLemmas.{passed}
+use Rattle.nb_chain.proofs.AnswerLaws.{passed}
 use Rattle.nb_model.specs.Jobs.{restore_turn}
 use Rattle.nb_top.specs.OneTurn.{restoring}
 use Rattle.nb_top.specs.Served.{Serves}

@@ -1,5 +1,5 @@
 use Rattle.std.proofs.Common.{◌∙◌, sym}
-use Rattle.nb_words.proofs.JobLemmas.{backup_unnamed, backup_of_level}
+use Rattle.nb_words.proofs.JobLaws.{backup_unnamed, backup_of_level}
 use Rattle.nb_words.proofs.jobs.backup_of.Goals as goal
 
 pub returns-in_err-db : goal.returns-in_err-db

@@ -1,5 +1,5 @@
 use Rattle.std.proofs.Common.{◌∙◌, sym, subst}
-use Rattle.nb_words.proofs.JobLemmas.{Taken, nothing_taken, one_taken, taken_all, not_all}
+use Rattle.nb_words.proofs.JobLaws.{Taken, nothing_taken, one_taken, taken_all, not_all}
 use Rattle.nb_words.proofs.jobs.files.Goals as goal
 
 pub loop-word-init : goal.loop-word-init

@@ -1,4 +1,4 @@
-use Rattle.nb_words.proofs.JobLemmas.{Taken}
+use Rattle.nb_words.proofs.JobLaws.{Taken}
 use Rattle.nb_words.proofs.jobs.files.Given as goal
 
 abbrev pub invariant-loop-word : goal.invariant-loop-word

@@ -1,5 +1,5 @@
 use Rattle.std.proofs.Common.{◌∙◌, sym, arith}
-use Rattle.nb_words.proofs.JobLemmas.{folded, not_other}
+use Rattle.nb_words.proofs.JobLaws.{folded, not_other}
 use Rattle.nb_words.proofs.jobs.of_more.Goals as goal
 
 pub returns-in-Some-files-clause-exact : goal.returns-in-Some-files-clause-exact

@@ -1,5 +1,5 @@
 use Rattle.std.proofs.Common.{◌∙◌, sym}
-use Rattle.nb_words.proofs.JobLemmas.{asked_by_name}
+use Rattle.nb_words.proofs.JobLaws.{asked_by_name}
 use Rattle.nb_words.proofs.jobs.of_two.Goals as goal
 
 pub returns : goal.returns

@@ -1,5 +1,5 @@
 use Rattle.std.proofs.Common.{◌∙◌, sym, arith}
-use Rattle.nb_words.proofs.JobLemmas.{restored}
+use Rattle.nb_words.proofs.JobLaws.{restored}
 use Rattle.nb_words.proofs.jobs.restore.Goals as goal
 
 pub returns-in-Some-files-clause-exact : goal.returns-in-Some-files-clause-exact

@@ -7,7 +7,7 @@ use Rattle.nb_host.specs.World.{World}
 use Rattle.nb_host.specs.Crash.{IsDurable}
 use Rattle.nb_change.proofs.SettledLaws.{durable_still}
 use Rattle.nb_page.specs.Quiet.{Quiet}
-use Rattle.nb_page.proofs.QuietLemmas.{quiet_joined}
+use Rattle.nb_page.proofs.QuietLaws.{quiet_joined}
 use Rattle.nb_model.specs.Trail.{ShowsIn}
 use Rattle.nb_model.proofs.MainLaws.{some_page}
 use Rattle.nb_delta.specs.Known.{Known}

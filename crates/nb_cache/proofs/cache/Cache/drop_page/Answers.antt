@@ -1,6 +1,6 @@
 use Rattle.std.proofs.Common.{◌-◌, sym, arith}
-use Rattle.nb_cache.proofs.IndexedLemmas.{IsIndexed-dropped}
-use Rattle.nb_cache.proofs.ShownLemmas.{same_pages, IsCache-demoted, shown-demoted, removed-absent}
+use Rattle.nb_cache.proofs.IndexedLaws.{IsIndexed-dropped}
+use Rattle.nb_cache.proofs.ShownLaws.{same_pages, IsCache-demoted, shown-demoted, removed-absent}
 use Rattle.nb_cache.proofs.cache.Cache.drop_page.Goals as goal
 
 pub invariant_of-self : goal.invariant_of-self

@@ -1,6 +1,6 @@
 use Rattle.std.proofs.Common.{arith, ◌≡◌, is_some, refl, sym, ap, ◌∙◌}
-use Rattle.nb_cache.proofs.IndexedLemmas.{IsIndexed-promoted}
-use Rattle.nb_cache.proofs.ShownLemmas.{some_is, same_pages, lookup-split, size_here, IsCache-promoted, slot_of-found, slot_of-absent, shown-promoted, promoted-absent}
+use Rattle.nb_cache.proofs.IndexedLaws.{IsIndexed-promoted}
+use Rattle.nb_cache.proofs.ShownLaws.{some_is, same_pages, lookup-split, size_here, IsCache-promoted, slot_of-found, slot_of-absent, shown-promoted, promoted-absent}
 use Rattle.nb_cache.proofs.cache.Cache.look.Goals as goal
 
 pub returns-in_default-clause-found : goal.returns-in_default-clause-found

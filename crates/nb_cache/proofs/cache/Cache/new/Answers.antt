@@ -1,6 +1,6 @@
 use Rattle.std.proofs.Common.{◌≡◌, ◌<◌, ◌∷◌, ap, ◌∙◌, arith, length}
 use Rattle.lru.specs.LruCache.{lru_cache}
-use Rattle.nb_cache.proofs.ShownLemmas.{put-new, keys-below}
+use Rattle.nb_cache.proofs.ShownLaws.{put-new, keys-below}
 use Rattle.nb_cache.proofs.cache.Cache.new.Goals as goal
 
 pub loop-key-preserved : goal.loop-key-preserved

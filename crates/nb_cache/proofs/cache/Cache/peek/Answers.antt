@@ -1,5 +1,5 @@
 use Rattle.std.proofs.Common.{arith, ◌≡◌, is_some, refl, sym, ap, ◌∙◌}
-use Rattle.nb_cache.proofs.ShownLemmas.{some_is, lookup-split, size_here, slot_of-found, slot_of-absent}
+use Rattle.nb_cache.proofs.ShownLaws.{some_is, lookup-split, size_here, slot_of-found, slot_of-absent}
 use Rattle.nb_cache.proofs.cache.Cache.peek.Goals as goal
 
 pub returns-in_default-clause-found : goal.returns-in_default-clause-found

@@ -1,6 +1,6 @@
 use Rattle.std.proofs.Common.{arith, length, is_some, sym, ap, ◌∙◌}
-use Rattle.nb_cache.proofs.IndexedLemmas.{IsIndexed-marked}
-use Rattle.nb_cache.proofs.ShownLemmas.{some_is, same_pages, lookup-split, size_here, IsCache-set, slot_of-found, slot_of-absent, shown-marked, ranked-absent}
+use Rattle.nb_cache.proofs.IndexedLaws.{IsIndexed-marked}
+use Rattle.nb_cache.proofs.ShownLaws.{some_is, same_pages, lookup-split, size_here, IsCache-set, slot_of-found, slot_of-absent, shown-marked, ranked-absent}
 use Rattle.nb_cache.proofs.cache.Cache.set_rank.Goals as goal
 
 pub returns-in_default-clause-found : goal.returns-in_default-clause-found

@@ -3,7 +3,7 @@ use Rattle.std.specs.Prelude.{IsTrue}
 use Rattle.std.proofs.lemmas.List.{with_items_is}
 use Rattle.nb_fields.specs.Places.{is_page_size, is_scn_place}
 use Rattle.nb_level.specs.declared.head.LevelHead.{LevelHead}
-use Rattle.nb_page.proofs.QuietLemmas.{quiet_joined as quiet_joined}
+use Rattle.nb_page.proofs.QuietLaws.{quiet_joined as quiet_joined}
 use Rattle.nb_state.specs.Open.{Held}
 use Rattle.nb_state.proofs.MakesLaws.{open_still}
 use Rattle.nb_copy.specs.LevelCopying.{LevelCopying}

@@ -1,6 +1,6 @@
 use Rattle.std.proofs.Common.{◌≡◌, ◌≤◌, ℕ, List, length, sym, ap, subst, arith}
 use Rattle.std.specs.Prelude.{OnOk}
-use Rattle.nb_fields.proofs.SizeLemmas.{size_facts}
+use Rattle.nb_fields.proofs.SizeLaws.{size_facts}
 use Rattle.nb_model.specs.Levels.{joined}
 use Rattle.nb_copy.specs.Copying.{Copying, IsOf, IsBegun}
 use Rattle.nb_gather.specs.Making.{IsFreeOr, IsKept}

@@ -1,7 +1,7 @@
 use Rattle.std.proofs.Common.{◌≡◌, ◌+◌, length, sym, ap, subst, ◌∙◌, arith}
 use Rattle.std.specs.Vec.{with_items}
 use Rattle.std.proofs.lemmas.List.{with_items_is}
-use Rattle.nb_fields.proofs.SizeLemmas.{size_facts}
+use Rattle.nb_fields.proofs.SizeLaws.{size_facts}
 use Rattle.nb_copy.specs.Copying.{Copying, IsOf, IsBegun}
 use Rattle.nb_gather.specs.Making.{IsBlank}
 use Rattle.nb_gather.proofs.QuietLaws.{named, renamed}

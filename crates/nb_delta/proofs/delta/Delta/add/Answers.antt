@@ -1,4 +1,4 @@
-use Rattle.nb_delta.proofs.KnownLemmas.{add_changes, add_begun}
+use Rattle.nb_delta.proofs.KnownLaws.{add_changes, add_begun}
 use Rattle.nb_delta.proofs.delta.Delta.add.Goals as goal
 
 pub returns-in_err-add-clause-changes : goal.returns-in_err-add-clause-changes

@@ -4,7 +4,7 @@ use Rattle.nb_host.specs.Files.{File, Files}
 use Rattle.nb_fields.specs.Table.{table_of}
 use Rattle.nb_delta.specs.Known.{Known}
 use Rattle.nb_delta.specs.Reading.{Reads}
-use Rattle.nb_delta.proofs.AttachLemmas.{IsThere, there, not_attached}
+use Rattle.nb_delta.proofs.AttachLaws.{IsThere, there, not_attached}
 use Rattle.nb_delta.proofs.delta.Delta.attach.Goals as goal
 
 pub returns-in_err-read_table-clause-answer : goal.returns-in_err-read_table-clause-answer

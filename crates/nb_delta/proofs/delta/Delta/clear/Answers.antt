@@ -1,4 +1,4 @@
-use Rattle.nb_delta.proofs.KnownLemmas.{clear_changes}
+use Rattle.nb_delta.proofs.KnownLaws.{clear_changes}
 use Rattle.nb_delta.proofs.delta.Delta.clear.Goals as goal
 
 pub returns-in_err-remove_file-clause-changes : goal.returns-in_err-remove_file-clause-changes

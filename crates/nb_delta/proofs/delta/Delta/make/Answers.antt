@@ -1,5 +1,5 @@
 use Rattle.std.proofs.Common.{◌≡◌, length, arith}
-use Rattle.nb_delta.proofs.KnownLemmas.{make_changes}
+use Rattle.nb_delta.proofs.KnownLaws.{make_changes}
 use Rattle.nb_delta.proofs.delta.Delta.make.Goals as goal
 
 pub returns-in_err-make_file-clause-changes : goal.returns-in_err-make_file-clause-changes

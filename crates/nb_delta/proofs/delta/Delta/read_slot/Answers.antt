@@ -1,5 +1,5 @@
 use Rattle.std.proofs.Common.{length, ◌∙◌}
-use Rattle.nb_delta.proofs.KnownLemmas.{slot_read}
+use Rattle.nb_delta.proofs.KnownLaws.{slot_read}
 use Rattle.nb_delta.proofs.delta.Delta.read_slot.Goals as goal
 
 pub returns-clause-page : goal.returns-clause-page

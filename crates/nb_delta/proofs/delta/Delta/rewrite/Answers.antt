@@ -1,4 +1,4 @@
-use Rattle.nb_delta.proofs.KnownLemmas.{slot_changes}
+use Rattle.nb_delta.proofs.KnownLaws.{slot_changes}
 use Rattle.nb_delta.proofs.delta.Delta.rewrite.Goals as goal
 
 pub returns-in_err-rewrite_slot-clause-changes : goal.returns-in_err-rewrite_slot-clause-changes

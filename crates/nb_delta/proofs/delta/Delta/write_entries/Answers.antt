@@ -1,5 +1,5 @@
 use Rattle.std.proofs.Common.{◌≡◌, length, arith}
-use Rattle.nb_delta.proofs.KnownLemmas.{wait_changes, wait_begun, wait_writes, wait_zeros, none_waits}
+use Rattle.nb_delta.proofs.KnownLaws.{wait_changes, wait_begun, wait_writes, wait_zeros, none_waits}
 use Rattle.nb_delta.proofs.delta.Delta.write_entries.Goals as goal
 
 pub returns-then-self-eq0-clause-changes : goal.returns-then-self-eq0-clause-changes

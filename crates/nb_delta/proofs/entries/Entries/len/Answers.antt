@@ -1,5 +1,5 @@
 use Rattle.std.proofs.Common.{arith}
-use Rattle.nb_delta.proofs.EntryLemmas.{few}
+use Rattle.nb_delta.proofs.EntryLaws.{few}
 use Rattle.nb_delta.proofs.entries.Entries.len.Goals as goal
 
 pub overflow_cast-result : goal.overflow_cast-result

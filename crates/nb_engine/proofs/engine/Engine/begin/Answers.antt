@@ -1,6 +1,6 @@
 use Rattle.std.proofs.Common.{inl, ◌≡◌, replicate, refl, sym, subst, ◌∙◌}
 use Rattle.std.specs.Prelude.{true, None}
-use Rattle.nb_page.proofs.QuietLemmas.{quiet_begun}
+use Rattle.nb_page.proofs.QuietLaws.{quiet_begun}
 use Rattle.nb_model.specs.Image.{is_read_only}
 use Rattle.nb_model.specs.Causes.{read_only}
 use Rattle.nb_model.specs.Outcomes.{next_guid}

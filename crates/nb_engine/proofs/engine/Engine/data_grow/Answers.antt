@@ -4,7 +4,7 @@ use Rattle.std.proofs.lemmas.Result.{IfOk-weaker}
 use Rattle.nb_fields.specs.Payloads.{data_payload}
 use Rattle.nb_host.specs.declared.faults.Fault.TheVariants.{Refused}
 use Rattle.nb_host.specs.declared.refusals.Refusal.TheVariants.{NotDatabase}
-use Rattle.nb_page.proofs.QuietLemmas.{quiet_begun}
+use Rattle.nb_page.proofs.QuietLaws.{quiet_begun}
 use Rattle.nb_model.specs.Forms.{drafted}
 use Rattle.nb_model.specs.Chains.{owner_of, grown}
 use Rattle.nb_state.specs.Open.{Held, IsOpen, but_pages}

@@ -3,7 +3,7 @@ use Rattle.std.specs.Prelude.{Some, None, IfOk}
 use Rattle.nb_fields.specs.Payloads.{data_payload}
 use Rattle.nb_host.specs.declared.faults.Fault.TheVariants.{Refused}
 use Rattle.nb_host.specs.declared.refusals.Refusal.TheVariants.{NotDatabase}
-use Rattle.nb_page.proofs.QuietLemmas.{quiet_begun}
+use Rattle.nb_page.proofs.QuietLaws.{quiet_begun}
 use Rattle.nb_model.specs.Forms.{Draft}
 use Rattle.nb_model.proofs.SearchLaws.{draft_cause}
 use Rattle.nb_state.specs.Open.{Held, IsOpen, but_pages}

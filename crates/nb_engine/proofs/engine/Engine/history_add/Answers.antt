@@ -1,7 +1,7 @@
 use Rattle.std.proofs.Common.{◌<◌, ◌≤◌, ℕ, length, refl, sym, subst, arith}
 use Rattle.nb_host.specs.declared.faults.Fault.TheVariants.{Refused}
 use Rattle.nb_host.specs.declared.refusals.Refusal.TheVariants.{NotDatabase}
-use Rattle.nb_page.proofs.QuietLemmas.{quiet_begun}
+use Rattle.nb_page.proofs.QuietLaws.{quiet_begun}
 use Rattle.nb_model.specs.Image.{image_scn}
 use Rattle.nb_model.specs.Forms.{drafted}
 use Rattle.nb_model.specs.Chains.{backup_slot, put_slot}

@@ -13,22 +13,22 @@ use Rattle.nb_engine.proofs.FreeLaws.{free_untaken, free_closed, free_is, closed
 use Rattle.nb_alloc.proofs.WantLaws.{stops_after}
 use Rattle.nb_engine.proofs.engine.Engine.page_free.Goals as goal
 
-pub returns-in_err-take_raw-clause-turn : goal.returns-in_err-take_raw-clause-turn
-returns-in_err-take_raw-clause-turn g c s t tells same is =
+pub returns-in_err-read_raw-clause-turn : goal.returns-in_err-read_raw-clause-turn
+returns-in_err-read_raw-clause-turn g c s t tells same is =
     let here = subst (λ (h : Held). IsOpen (g.H.Host.world c.args.host.now) h t) (sym c.self.view_is) is in
-    let raw = c.in_err-take_raw.ensures in
+    let raw = c.in_err-read_raw.ensures in
     tested_does (Unit {0}) (Unit {0}) done _ _ _ _ _ _ t s (λ (x : Seen). free_turn x c.args.number) _ c.from_residual.ensures same (raw.same ∙ ap but_pages c.self.view_is) raw.quiet is (raw.open t tells here)
     (raw.reads t tells here).test (free_untaken (seeing s t.base) c.args.number)
 
 pub returns-then-number-eq0-clause-turn : goal.returns-then-number-eq0-clause-turn
 returns-then-number-eq0-clause-turn g c s t tells same is =
     let here = subst (λ (h : Held). IsOpen (g.H.Host.world c.args.host.now) h t) (sym c.self.view_is) is in
-    absurd (no_header t.base.image c.args.number is.files.agrees.header (c.in_ok-take_raw.ensures.reads t tells here).test c.if-number-eq0.true)
+    absurd (no_header t.base.image c.args.number is.files.agrees.header (c.in_ok-read_raw.ensures.reads t tells here).test c.if-number-eq0.true)
 
 pub returns-then-is_read_only-clause-turn : goal.returns-then-is_read_only-clause-turn
 returns-then-is_read_only-clause-turn g c s t tells same is =
     let here = subst (λ (h : Held). IsOpen (g.H.Host.world c.args.host.now) h t) (sym c.self.view_is) is in
-    let raw = c.in_ok-take_raw.ensures in
+    let raw = c.in_ok-read_raw.ensures in
     let still = raw.open t tells here in
     let closed : is_read_only t.base.image ≡ true = sym still.agrees.read_only ∙ sym c.is_read_only.ensures ∙ c.if-is_read_only.true in
     refused_does done _ _ _ _ _ t s (λ (x : Seen). free_turn x c.args.number) same (raw.same ∙ ap but_pages c.self.view_is) raw.quiet is (raw.open t tells here)
@@ -39,7 +39,7 @@ returns-clause-turn g c s t tells same is =
     let image = t.base.image in
     let old = g.H.Host.world c.args.host.now in
     let here = subst (λ (h : Held). IsOpen old h t) (sym c.self.view_is) is in
-    let raw = c.in_ok-take_raw.ensures in
+    let raw = c.in_ok-read_raw.ensures in
     let still = raw.open t tells here in
     let free : read_only image ≡ None = open_cause image (sym still.agrees.read_only ∙ sym c.is_read_only.ensures ∙ c.if-is_read_only.false) in
     let tries = tries_after c.mark.result _ _ _ _ _ _ t _ _ (raw.same ∙ ap but_pages c.self.view_is) raw.quiet is (c.mark.ensures.tries t tells still) in
@@ -48,5 +48,5 @@ returns-clause-turn g c s t tells same is =
 pub returns-clause-on_memory : goal.returns-clause-on_memory
 returns-clause-on_memory g c t tells is memory =
     let here = subst (λ (h : Held). IsOpen (g.H.Host.world c.args.host.now) h t) (sym c.self.view_is) is in
-    let raw = c.in_ok-take_raw.ensures in
+    let raw = c.in_ok-read_raw.ensures in
     stops_after _ _ _ c.args.self.now _ c.mark.new.store t _ (raw.same ∙ ap but_pages c.self.view_is) raw.quiet is (c.mark.ensures.on_memory t tells (raw.open t tells here) memory)

@@ -10,29 +10,29 @@ use Rattle.nb_alloc.proofs.DoesLaws.{seeing, valued_does, refused_does, tested_d
 use Rattle.nb_alloc.proofs.TestLaws.{at_ok, vec_whole, lt_from, le_from, text_short, read_refused, read_broken, read_says}
 use Rattle.nb_engine.proofs.engine.Engine.page_read.Goals as goal
 
-pub returns-in_err-take_raw-clause-turn : goal.returns-in_err-take_raw-clause-turn
-returns-in_err-take_raw-clause-turn g c s t tells same is =
+pub returns-in_err-read_raw-clause-turn : goal.returns-in_err-read_raw-clause-turn
+returns-in_err-read_raw-clause-turn g c s t tells same is =
     let here = subst (λ (h : Held). IsOpen (g.H.Host.world c.args.host.now) h t) (sym c.self.view_is) is in
-    let raw = c.in_err-take_raw.ensures in
+    let raw = c.in_err-read_raw.ensures in
     tested_does (Unit {0}) _ valued _ _ _ _ _ _ t s (λ (x : Seen). read_turn x c.args.number) _ c.from_residual.ensures same (raw.same ∙ ap but_pages c.self.view_is) raw.quiet is (raw.open t tells here)
     (raw.reads t tells here).test (read_refused (seeing s t.base) c.args.number)
 
 pub returns-in_default-clause-turn : goal.returns-in_default-clause-turn
 returns-in_default-clause-turn g c s t tells same is =
     let here = subst (λ (h : Held). IsOpen (g.H.Host.world c.args.host.now) h t) (sym c.self.view_is) is in
-    let raw = c.in_ok-take_raw.ensures in
+    let raw = c.in_ok-read_raw.ensures in
     let reads = raw.reads t tells here in
-    let page : c.deref.result.now ≡ page_at t.base.image c.args.number = vec_whole _ c.take_raw.new.page _ _ c.deref.ensures.value (omega (arith, c.take_raw.auto.page, c.deref_mut.ensures.len)) ∙ reads.page in
+    let page : c.deref.result.now ≡ page_at t.base.image c.args.number = vec_whole _ c.read_raw.new.page _ _ c.deref.ensures.value (omega (arith, c.read_raw.auto.page, c.deref_mut.ensures.len)) ∙ reads.page in
     let long : 200 < text_length (page_at t.base.image c.args.number) = omega (arith, lt_from _ _ c.in_default.ensures.exact, ap text_length page) in
     refused_does valued _ _ _ _ _ t s (λ (x : Seen). read_turn x c.args.number) same (raw.same ∙ ap but_pages c.self.view_is) raw.quiet is (raw.open t tells here) (read_broken (seeing s t.base) c.args.number reads.test long)
 
 pub returns-clause-turn : goal.returns-clause-turn
 returns-clause-turn g c s t tells same is =
     let here = subst (λ (h : Held). IsOpen (g.H.Host.world c.args.host.now) h t) (sym c.self.view_is) is in
-    let raw = c.in_ok-take_raw.ensures in
+    let raw = c.in_ok-read_raw.ensures in
     let reads = raw.reads t tells here in
     let x : Seen = seeing s t.base in
-    let page : c.deref.result.now ≡ page_at t.base.image c.args.number = vec_whole _ c.take_raw.new.page _ _ c.deref.ensures.value (omega (arith, c.take_raw.auto.page, c.deref_mut.ensures.len)) ∙ reads.page in
+    let page : c.deref.result.now ≡ page_at t.base.image c.args.number = vec_whole _ c.read_raw.new.page _ _ c.deref.ensures.value (omega (arith, c.read_raw.auto.page, c.deref_mut.ensures.len)) ∙ reads.page in
     let read : c.in-Some.text.now ≡ text_of (page_at t.base.image c.args.number) = c.in-Some.ensures.text ∙ ap text_of page in
     let short : text_length (page_at t.base.image c.args.number) ≤ 200 = omega (arith, le_from _ _ c.in-Some.ensures.exact, ap text_length page) in
     let fits : length c.new-copy.result.items + length c.in-Some.text.now ≤ 200 = omega (arith, ap length c.new-copy.ensures, ap length read, text_short _ short) in

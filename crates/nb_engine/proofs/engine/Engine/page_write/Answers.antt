@@ -28,16 +28,16 @@ use Rattle.nb_engine.proofs.engine.Engine.page_write.Goals.{After-deref_mut-2}
 
 -- The page was taken, and its entry was raised.
 module _ (g : _) (c : goal.After-deref_mut-2 g) (t : Trail) (tells : IsTrue g.H.Host.tells) (is : IsOpen (g.H.Host.world c.args.host.now) c.args.self.now t) where
-  still : IsOpen (g.H.Host.world c.take_raw.new.host) c.take_raw.new.store t
-  still = c.in_ok-take_raw.ensures.open t tells (subst (λ (h : Held). IsOpen (g.H.Host.world c.args.host.now) h t) (sym c.self.view_is) is)
+  still : IsOpen (g.H.Host.world c.read_raw.new.host) c.read_raw.new.store t
+  still = c.in_ok-read_raw.ensures.open t tells (subst (λ (h : Held). IsOpen (g.H.Host.world c.args.host.now) h t) (sym c.self.view_is) is)
 
   taken : not_raw t.base.image c.args.number ≡ None
-  taken = (c.in_ok-take_raw.ensures.reads t tells (subst (λ (h : Held). IsOpen (g.H.Host.world c.args.host.now) h t) (sym c.self.view_is) is)).test
+  taken = (c.in_ok-read_raw.ensures.reads t tells (subst (λ (h : Held). IsOpen (g.H.Host.world c.args.host.now) h t) (sym c.self.view_is) is)).test
 
   read : c.deref_mut-2.result.now ≡ page_at t.base.image c.args.number
   read =
-      vec_whole _ c.take_raw.new.page _ _ c.deref_mut-2.ensures.value (omega (arith, c.take_raw.auto.page, c.deref_mut.ensures.len))
-      ∙ (c.in_ok-take_raw.ensures.reads t tells (subst (λ (h : Held). IsOpen (g.H.Host.world c.args.host.now) h t) (sym c.self.view_is) is)).page
+      vec_whole _ c.read_raw.new.page _ _ c.deref_mut-2.ensures.value (omega (arith, c.read_raw.auto.page, c.deref_mut.ensures.len))
+      ∙ (c.in_ok-read_raw.ensures.reads t tells (subst (λ (h : Held). IsOpen (g.H.Host.world c.args.host.now) h t) (sym c.self.view_is) is)).page
 
   free : first_cause (read_only t.base.image ∷ too_long c.args.text.now ∷ []) ≡ None
   free = c.in_ok-check_write.ensures.test t.base.image (c.is_read_only.ensures ∙ still.agrees.read_only)
@@ -49,25 +49,25 @@ module _ (g : _) (c : goal.After-deref_mut-2 g) (t : Trail) (tells : IsTrue g.H.
 
   raised : Tries {T = Unit {0}} (Ok tt) (g.H.Host.world c.args.host.now) (g.H.Host.world c.raise_entry.new.host) c.args.self.now c.raise_entry.new.store t (entry_cause t.base.image c.args.number) (raise_strokes t.base.image c.args.number)
   raised =
-      let raw = c.in_ok-take_raw.ensures in
+      let raw = c.in_ok-read_raw.ensures in
       tries_after {T = Unit {0}} (Ok tt) _ _ _ c.args.self.now _ c.raise_entry.new.store t _ _ (raw.same ∙ ap but_pages c.self.view_is) raw.quiet is (c.in_ok-raise_entry.ensures.tries t tells still)
 
-pub returns-in_err-take_raw-clause-turn : goal.returns-in_err-take_raw-clause-turn
-returns-in_err-take_raw-clause-turn g c s t tells same is =
+pub returns-in_err-read_raw-clause-turn : goal.returns-in_err-read_raw-clause-turn
+returns-in_err-read_raw-clause-turn g c s t tells same is =
     let here = subst (λ (h : Held). IsOpen (g.H.Host.world c.args.host.now) h t) (sym c.self.view_is) is in
-    let raw = c.in_err-take_raw.ensures in
+    let raw = c.in_err-read_raw.ensures in
     tested_does (Unit {0}) (Unit {0}) done _ _ _ _ _ _ t s (λ (x : Seen). write_turn x c.args.number c.args.text.now) _ c.from_residual.ensures same (raw.same ∙ ap but_pages c.self.view_is) raw.quiet is (raw.open t tells here)
     (raw.reads t tells here).test (write_untaken (seeing s t.base) c.args.number c.args.text.now)
 
 pub returns-then-number-eq0-clause-turn : goal.returns-then-number-eq0-clause-turn
 returns-then-number-eq0-clause-turn g c s t tells same is =
     let here = subst (λ (h : Held). IsOpen (g.H.Host.world c.args.host.now) h t) (sym c.self.view_is) is in
-    absurd (no_header t.base.image c.args.number is.files.agrees.header (c.in_ok-take_raw.ensures.reads t tells here).test c.if-number-eq0.true)
+    absurd (no_header t.base.image c.args.number is.files.agrees.header (c.in_ok-read_raw.ensures.reads t tells here).test c.if-number-eq0.true)
 
 pub returns-in_err-check_write-clause-turn : goal.returns-in_err-check_write-clause-turn
 returns-in_err-check_write-clause-turn g c s t tells same is =
     let here = subst (λ (h : Held). IsOpen (g.H.Host.world c.args.host.now) h t) (sym c.self.view_is) is in
-    let raw = c.in_ok-take_raw.ensures in
+    let raw = c.in_ok-read_raw.ensures in
     let still = raw.open t tells here in
     tested_does (Unit {0}) (Unit {0}) done _ _ _ _ _ _ t s (λ (x : Seen). write_turn x c.args.number c.args.text.now) _ c.from_residual-in_err-check_write.ensures same (raw.same ∙ ap but_pages c.self.view_is) raw.quiet is (raw.open t tells here)
     (c.in_err-check_write.ensures.test t.base.image (c.is_read_only.ensures ∙ still.agrees.read_only)) (write_checked (seeing s t.base) c.args.number c.args.text.now (raw.reads t tells here).test)
@@ -80,7 +80,7 @@ returns-in_err-raise_entry-clause-turn g c s t tells same is =
     let old = g.H.Host.world c.args.host.now in
     let new = g.H.Host.world c.raise_entry.new.host in
     let here = subst (λ (h : Held). IsOpen old h t) (sym c.self.view_is) is in
-    let raw = c.in_ok-take_raw.ensures in
+    let raw = c.in_ok-read_raw.ensures in
     let still = raw.open t tells here in
     let some = entries_some _ image c.self.invariant.0 here.files.agrees.page_size in
     let turn = write_is (seeing s t.base) p text (raw.reads t tells here).test (c.in_ok-check_write.ensures.test image (c.is_read_only.ensures ∙ still.agrees.read_only)) some in
@@ -110,10 +110,10 @@ returns-in_err-write_raw-clause-turn g c s t tells same is =
 pub returns-in_err-raise_entry-clause-on_memory : goal.returns-in_err-raise_entry-clause-on_memory
 returns-in_err-raise_entry-clause-on_memory g c t tells is memory =
     let here = subst (λ (h : Held). IsOpen (g.H.Host.world c.args.host.now) h t) (sym c.self.view_is) is in
-    let raw = c.in_ok-take_raw.ensures in
+    let raw = c.in_ok-read_raw.ensures in
     let wants = sym (passed_on c.from_residual-in_err-raise_entry.result c.in_err-raise_entry.field-0.0 c.from_residual-in_err-raise_entry.ensures) ∙ memory in
     let left = c.in_err-raise_entry.ensures.on_memory t tells (raw.open t tells here) wants in
-    stops_after _ _ _ c.args.self.now _ c.raise_entry.new.store t _ (raw.same ∙ ap but_pages c.self.view_is) raw.quiet is (stops_first _ _ c.take_raw.new.store c.raise_entry.new.store t _ left.0 left.1)
+    stops_after _ _ _ c.args.self.now _ c.raise_entry.new.store t _ (raw.same ∙ ap but_pages c.self.view_is) raw.quiet is (stops_first _ _ c.read_raw.new.store c.raise_entry.new.store t _ left.0 left.1)
 
 pub returns-in_err-write_raw-clause-on_memory : goal.returns-in_err-write_raw-clause-on_memory
 returns-in_err-write_raw-clause-on_memory g c t tells is memory =
@@ -126,13 +126,13 @@ returns-in_err-write_raw-clause-on_memory g c t tells is memory =
 pub returns-in_err-write_raw-clause-cause : goal.returns-in_err-write_raw-clause-cause
 returns-in_err-write_raw-clause-cause g c =
     counts_passed c.from_residual-in_err-write_raw.result c.in_err-write_raw.field-0.0 c.from_residual-in_err-write_raw.ensures (Unit {0}) _ _ _
-    (c.in_ok-raise_entry.ensures.cause ∙ c.in_ok-take_raw.ensures.cause) c.in_err-write_raw.ensures.cause
+    (c.in_ok-raise_entry.ensures.cause ∙ c.in_ok-read_raw.ensures.cause) c.in_err-write_raw.ensures.cause
 
 pub returns-in_err-write_raw-clause-takes_none : goal.returns-in_err-write_raw-clause-takes_none
 returns-in_err-write_raw-clause-takes_none g c unstalled =
-    let raw = c.in_ok-take_raw.ensures in
+    let raw = c.in_ok-read_raw.ensures in
     none_wanted c.from_residual-in_err-write_raw.result c.in_err-write_raw.field-0.0 c.from_residual-in_err-write_raw.ensures
     (c.in_err-write_raw.ensures.takes_none (λ one. unstalled (sym (ap (λ (h : Held). h.files.state) (raw.same ∙ ap but_pages c.self.view_is)) ∙ sym c.in_ok-raise_entry.ensures.goes.state ∙ one)))
 
 pub write_raw-requires-clause-inside : goal.write_raw-requires-clause-inside
-write_raw-requires-clause-inside g c = omega (arith, c.in_ok-take_raw.ensures.inside, ap (λ (h : Held). h.files.count) c.in_ok-take_raw.ensures.same, c.in_ok-raise_entry.ensures.goes.longer)
+write_raw-requires-clause-inside g c = omega (arith, c.in_ok-read_raw.ensures.inside, ap (λ (h : Held). h.files.count) c.in_ok-read_raw.ensures.same, c.in_ok-raise_entry.ensures.goes.longer)

@@ -4,7 +4,7 @@ use Rattle.nb_fields.specs.States.{normal_state}
 use denote.Enum.Bare.{same_true, same_false}
 use Rattle.nb_host.specs.declared.faults.Fault.TheVariants.{Memory}
 use Rattle.nb_host.specs.declared.refusals.Refusal.TheVariants.{WrongState}
-use Rattle.nb_page.proofs.QuietLemmas.{quiet_begun}
+use Rattle.nb_page.proofs.QuietLaws.{quiet_begun}
 use Rattle.nb_model.specs.declared.reply.Reply.TheVariants.{Done}
 use Rattle.nb_model.specs.Lines.{flag}
 use Rattle.nb_model.specs.Causes.{Cause, not_state}

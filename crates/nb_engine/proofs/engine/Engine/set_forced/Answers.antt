@@ -1,7 +1,7 @@
 use Rattle.std.proofs.Common.{◌≡◌, ℕ, [], ◌∙◌, refl, sym, ap, subst}
 use Rattle.std.specs.Prelude.{true, None, Ok, Err}
 use Rattle.nb_page.specs.Quiet.{Quiet}
-use Rattle.nb_page.proofs.QuietLemmas.{quiet_begun}
+use Rattle.nb_page.proofs.QuietLaws.{quiet_begun}
 use Rattle.nb_model.specs.declared.reply.Reply.TheVariants.{Done}
 use Rattle.nb_model.specs.Image.{is_read_only}
 use Rattle.nb_model.specs.Lines.{flag}

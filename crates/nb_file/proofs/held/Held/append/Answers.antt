@@ -1,4 +1,4 @@
-use Rattle.nb_file.proofs.HeldLemmas.{added_at_end}
+use Rattle.nb_file.proofs.HeldLaws.{added_at_end}
 use Rattle.nb_file.proofs.held.Held.append.Goals as goal
 
 pub returns-clause-bytes : goal.returns-clause-bytes

@@ -1,5 +1,5 @@
 use Rattle.std.proofs.Common.{◌∙◌}
-use Rattle.nb_file.proofs.PartLemmas.{given_within}
+use Rattle.nb_file.proofs.PartLaws.{given_within}
 use Rattle.nb_file.proofs.held.Held.copy_to.Goals as goal
 
 pub returns-then-give : goal.returns-then-give

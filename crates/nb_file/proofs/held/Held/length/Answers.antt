@@ -1,6 +1,6 @@
 use Rattle.std.proofs.Common.{◌∙◌, sym, ap, length, max}
-use Rattle.nb_file.proofs.PutLemmas.{length-put_at}
-use Rattle.nb_file.proofs.GatheredLemmas.{seen-owner}
+use Rattle.nb_file.proofs.PutLaws.{length-put_at}
+use Rattle.nb_file.proofs.GatheredLaws.{seen-owner}
 use Rattle.nb_file.proofs.held.Held.length.Goals as goal
 
 pub returns-in-Some-clause-len : goal.returns-in-Some-clause-len

@@ -1,5 +1,5 @@
-use Rattle.nb_file.proofs.HeldLemmas.{measured_after}
-use Rattle.nb_file.proofs.PartLemmas.{empty_part}
+use Rattle.nb_file.proofs.HeldLaws.{measured_after}
+use Rattle.nb_file.proofs.PartLaws.{empty_part}
 use Rattle.nb_file.proofs.held.Held.put.Goals as goal
 
 pub invariant_of-self-2 : goal.invariant_of-self-2

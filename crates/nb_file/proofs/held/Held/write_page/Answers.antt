@@ -1,6 +1,6 @@
 use Rattle.std.proofs.Common.{ℕ, ◌+◌, length, subst, sym}
 use Rattle.nb_file.specs.Whole.{IsWhole}
-use Rattle.nb_file.proofs.GrowthLemmas.{page-ends}
+use Rattle.nb_file.proofs.GrowthLaws.{page-ends}
 use Rattle.nb_file.proofs.held.Held.write_page.Goals as goal
 
 pub write-requires-clause-whole : goal.write-requires-clause-whole

@@ -1,5 +1,5 @@
 use Rattle.std.proofs.Common.{arith, ◌∙◌}
-use Rattle.nb_file.proofs.TableLemmas.{last_named}
+use Rattle.nb_file.proofs.TableLaws.{last_named}
 use Rattle.nb_file.proofs.table.Table.add.Goals as goal
 
 pub returns-clause-name : goal.returns-clause-name

@@ -1,4 +1,4 @@
-use Rattle.nb_file.proofs.TableLemmas.{free_for_named}
+use Rattle.nb_file.proofs.TableLaws.{free_for_named}
 use Rattle.nb_file.proofs.table.Table.make.Goals as goal
 
 pub empty-outcome-requires : goal.empty-outcome-requires

@@ -1,11 +1,11 @@
 use Rattle.std.proofs.Common.{◌≡◌, ◌+◌, ◌-◌, ◌≤◌, List, ℕ, take, drop, length, Option, Some, Ok, IfSome, subst, refl, sym, ap, ◌∙◌, arith}
 use Rattle.nb_fields.specs.Bytes.{number_in}
-use Rattle.nb_fields.proofs.PartLemmas.{number_in-take}
-use Rattle.nb_fields.proofs.SizeLemmas.{size_facts}
+use Rattle.nb_fields.proofs.PartLaws.{number_in-take}
+use Rattle.nb_fields.proofs.SizeLaws.{size_facts}
 use Rattle.nb_fields.specs.Places.{most_pages}
 use Rattle.nb_host.specs.Files.{bytes_of}
 use Rattle.nb_level.specs.Reading.{Reading}
-use Rattle.nb_level.proofs.NextLemmas.{filled, to_end, window_is, page_is, run-broken, run-end, run-gives}
+use Rattle.nb_level.proofs.NextLaws.{filled, to_end, window_is, page_is, run-broken, run-end, run-gives}
 use Rattle.nb_level.proofs.reader.LevelReader.next_run.Goals as goal
 
 pub returns-in-Err-clause-answer : goal.returns-in-Err-clause-answer

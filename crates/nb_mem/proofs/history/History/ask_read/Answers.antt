@@ -1,5 +1,5 @@
 use Rattle.std.proofs.Common.{arith}
-use Rattle.nb_mem.proofs.CountLemmas.{reads-fit}
+use Rattle.nb_mem.proofs.CountLaws.{reads-fit}
 use Rattle.nb_mem.proofs.history.History.ask_read.Goals as goal
 
 pub overflow_add-self : goal.overflow_add-self

@@ -1,5 +1,5 @@
 use Rattle.std.proofs.Common.{arith}
-use Rattle.nb_mem.proofs.CountLemmas.{times-fit}
+use Rattle.nb_mem.proofs.CountLaws.{times-fit}
 use Rattle.nb_mem.proofs.history.History.ask_time.Goals as goal
 
 pub overflow_add-self : goal.overflow_add-self

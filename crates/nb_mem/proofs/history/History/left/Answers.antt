@@ -10,8 +10,8 @@ use Rattle.nb_mem.specs.Slots.{names_in}
 use Rattle.nb_mem.specs.Histories.{world_of}
 use Rattle.nb_mem.specs.Outcomes.{IsLeft, placed}
 use Rattle.nb_mem.specs.Chosen.{left_by, outcome_by, placed_all, picked, begun}
-use Rattle.nb_mem.proofs.OutcomeLemmas.{left_leaves}
-use Rattle.nb_mem.proofs.LeftLemmas.{IsLeftSoFar, one_placed, all_placed}
+use Rattle.nb_mem.proofs.OutcomeLaws.{left_leaves}
+use Rattle.nb_mem.proofs.LeftLaws.{IsLeftSoFar, one_placed, all_placed}
 use Rattle.nb_mem.proofs.history.History.left.Goals as goal
 
 pub loop-slot-preserved : goal.loop-slot-preserved

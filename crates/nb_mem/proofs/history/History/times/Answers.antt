@@ -1,5 +1,5 @@
 use Rattle.std.proofs.Common.{arith}
-use Rattle.nb_mem.proofs.CountLemmas.{times-fit}
+use Rattle.nb_mem.proofs.CountLaws.{times-fit}
 use Rattle.nb_mem.proofs.history.History.times.Goals as goal
 
 pub returns-clause-bound : goal.returns-clause-bound

@@ -3,7 +3,7 @@ use Rattle.std.specs.Prelude.{OnOk}
 use Rattle.nb_mem.specs.Memory.{Memory}
 use Rattle.nb_mem.specs.declared.entry.Change.TheVariants.{Synced}
 use Rattle.nb_mem.specs.declared.entry.Entry.TheVariants.{Changed}
-use Rattle.nb_mem.proofs.CallLemmas.{synced}
+use Rattle.nb_mem.proofs.CallLaws.{synced}
 use Rattle.nb_mem.proofs.host.MemHostHost.sync.Goals as goal
 
 pub returns-clause-files : goal.returns-clause-files

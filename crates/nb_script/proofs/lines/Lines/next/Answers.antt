@@ -1,6 +1,6 @@
 use Rattle.std.proofs.Common.{length, ap, sym, ◌∙◌, arith, eqb-true}
 use Rattle.nb_script.specs.Lines.{lines_of, numbered}
-use Rattle.nb_script.proofs.LineLemmas.{kept, skipped, no_lines, none_numbered}
+use Rattle.nb_script.proofs.LineLaws.{kept, skipped, no_lines, none_numbered}
 use Rattle.nb_script.proofs.lines.Lines.next.Goals as goal
 
 pub returns-then-not-is_skipped-clause-line : goal.returns-then-not-is_skipped-clause-line

@@ -1,6 +1,6 @@
 use Rattle.std.proofs.Common.{◌≢◌, [], ◌∷◌, refl, sym, ap, subst, ◌∙◌, arith}
 use Rattle.std.specs.Prelude.{Result, IfErr}
-use Rattle.nb_fields.proofs.SizeLemmas.{size_facts}
+use Rattle.nb_fields.proofs.SizeLaws.{size_facts}
 use Rattle.nb_host.specs.World.{World}
 use Rattle.nb_host.specs.Faults.{as_fault, as_answer}
 use Rattle.nb_host.specs.declared.faults.RunError.{RunError}
