@@ -1,5 +1,6 @@
 // A look at files beside the run, for what is said of them: it takes no lock, changes nothing, and says nothing of what fails.
 use nb_advice::{Levels, There, is_level_of};
+use nb_fields::MOST_PAGES;
 use nb_host::Name;
 use nb_page::{Header, read_header};
 use std::alloc::Global;
@@ -10,9 +11,6 @@ use std::time::UNIX_EPOCH;
 
 /// The page at which the history of a database begins.
 const HISTORY: u32 = 4;
-
-/// How many pages a database has at most.
-const MOST_PAGES: u32 = 1_048_576;
 
 /// A regular file that is looked at.
 #[derive(Drop)]
