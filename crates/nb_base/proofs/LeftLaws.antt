@@ -113,6 +113,13 @@ waits_none : (t : Trail) (p : ℕ) (bytes : Page) → is_synced t.base.image p �
 unfolding settles_at
 waits_none t p bytes e = waiting_false t.earlier (is_synced t.base.image p) e
 
+-- a write that isn't synced is of a page below the length, and neither of page 0 nor of an SCN page
+may_stay : (forced first scn longer : Bool) → (forced || (first || scn) || longer) ≡ false → ((forced || (first || longer)) ≡ false) × (first ≡ false) × (scn ≡ false) × (longer ≡ false)
+may_stay true first scn longer e = absurd (true≢false e)
+may_stay false true scn longer e = absurd (true≢false e)
+may_stay false false true longer e = absurd (true≢false e)
+may_stay false false false longer e = (e, refl, refl, e)
+
 some_base : (xs : List Base) (x : Base) → xs ++ x ∷ [] ≡ [] → ⊥
 some_base xs x e = absurd (omega (arith, ap length e, length-append xs (x ∷ [])))
 
