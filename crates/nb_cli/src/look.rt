@@ -1,7 +1,6 @@
 // A look at files beside the run, for what is said of them: it takes no lock, changes nothing, and says nothing of what fails.
 use nb_advice::{Levels, There, is_level_of};
 use nb_fields::MOST_PAGES;
-use nb_host::Name;
 use nb_page::{Header, read_header};
 use std::alloc::Global;
 use std::fs::{self, File, Metadata};

@@ -7,14 +7,12 @@
 //! (`look`), without a lock, and changes nothing.
 #![tactic(auto)]
 
-ghost use Rattle.std.specs.Prelude.{◌≡◌, ◌≢◌, None, Err, IsErr, map, string_bytes, IfOk, IfErr};
+ghost use Rattle.std.specs.Prelude.{◌≡◌, ◌≢◌, None, IsErr, map, string_bytes, IfOk, IfErr};
 ghost use Rattle.std.specs.Process.{exit_status};
 ghost use Rattle.std.specs.IoError.{error_kind};
 ghost use Rattle.nb_host.specs.Causes.{Rose};
-ghost use Rattle.nb_host.specs.declared.refusals.Refusal.TheVariants.{Usage as UsageRefusal};
 ghost use Rattle.nb_model.specs.Words.{job_of};
-ghost use Rattle.nb_top.specs.Requests.{Asked, IsAskedBy, IsReadJob, NamesNone, Runs, request_asked};
-ghost use Rattle.nb_top.specs.Shown.{IsShown};
+ghost use Rattle.nb_top.specs.Requests.{Asked, IsAskedBy, IsReadJob, NamesNone};
 ghost use Rattle.nb_cli.specs.Ended.{EndsRun, ExitsAs, IsAskedOf, IsReadOf};
 ghost use Rattle.nb_cli.specs.Exit.{number_of};
 
