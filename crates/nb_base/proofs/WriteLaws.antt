@@ -46,6 +46,11 @@ pub not_done : {T E : Type 0} (result : Result T E) (X : Type 0) → IsErr resul
 not_done {T} {E} (Ok x) X is = absurd (no_err T E x is)
 not_done (Err e) X is = tt
 
+-- what two facts under Ok give together, of which one has a premise
+pub on_ok_both : {T E F A B C : Type 0} (result : Result T E) → (A → (F → B) → C) → OnOk result A → (F → OnOk result B) → OnOk result C
+on_ok_both (Ok x) give a b = give a b
+on_ok_both (Err e) give a b = tt
+
 -- One of the two files as it reads, and an outcome of the other.
 module _ (w : World) (reads : (n : List ℕ) → Leaves w n (w.files n)) (name : List ℕ) (t : Trail) (seen : IsSeen w name t) where
   pub with_delta : (d : File) → Leaves w (delta_name name) d → StandsFirmOn name t (w.files name) d
@@ -248,6 +253,10 @@ takes_passed result passed old mid new name opened other t strokes same takes fa
   left = subst (λ (w : World). StrikesFirm w new name t strokes) same takes.left;
   done = not_done passed _ failed;
 }
+
+pub takes_from : {T E : Type 0} (result : Result T E) (old mid new : World) (name : List ℕ) (opened : Trail → Type 0) (t : Trail) (strokes : List Stroke)
+    → mid ≡ old → TakesFirm result mid new name opened t strokes → TakesFirm result old new name opened t strokes
+takes_from result old mid new name opened t strokes same takes = subst (λ (w : World). TakesFirm result w new name opened t strokes) same takes
 
 pub takes_done : {T E U F : Type 0} (x : T) (y : U) (old mid new : World) (name : List ℕ) (opened : Trail → Type 0) (t : Trail) (strokes : List Stroke)
     → mid ≡ old → TakesFirm {T = T} {E = E} (Ok x) mid new name opened t strokes → TakesFirm {T = U} {E = F} (Ok y) old new name opened t strokes
