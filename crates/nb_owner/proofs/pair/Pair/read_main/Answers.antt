@@ -1,5 +1,5 @@
 use Rattle.std.proofs.Common.{length, sym, subst, ap, ◌∙◌, arith}
-use Rattle.nb_change.proofs.ResultLaws.{on_ok_then}
+use Rattle.std.proofs.lemmas.Result.{on_ok_weaker}
 use Rattle.nb_fields.specs.Header.{state_of}
 use Rattle.nb_model.specs.Image.{Image, page_at}
 use Rattle.nb_owner.specs.Open.{Held, IsOpen}
@@ -19,6 +19,6 @@ pub returns-clause-page : goal.returns-clause-page
 returns-clause-page g c t tells given stalled low =
     let old = g.H.Host.world c.args.host.now in
     let is = subst (λ (h : Held). IsOpen old h t) (sym c.self.view_is) given in
-    on_ok_then c.read_main.result (λ same. same ∙ ap (λ (x : Image). page_at x c.args.number) is.waits.behind.frozen)
+    on_ok_weaker c.read_main.result (λ same. same ∙ ap (λ (x : Image). page_at x c.args.number) is.waits.behind.frozen)
     (c.read_main.ensures.page is.sees.base tells is.files.shows (sees_size old (the_view c.self.inside) t is) (ap state_of is.waits.behind.first ∙ sym is.agrees.state ∙ ap (λ (h : Held). h.files.state) c.self.view_is ∙ stalled)
     (omega (arith, low, ap length is.waits.behind.frozen)))
