@@ -1,6 +1,6 @@
 -- What is in memory is what was seen last, after each call.
 use Rattle.std.proofs.Common.{◌≡◌, ◌≢◌, ◌⊎◌, inl, inr, ⊎_elim, ℕ, zero, suc, ◌+◌, ◌-◌, ◌<◌, ◌≤◌, Bool, nat_eq, true, false, List, [], ◌∷◌, length, take, Option, Some, None, refl, sym, ap, subst, ◌∙◌, arith}
-use Rattle.std.specs.Prelude.{is_some, slice_get, MatchOption, Result, Ok, Err, OnErr, if◌then◌else◌}
+use Rattle.std.specs.Prelude.{is_some, slice_get, MatchOption, if◌then◌else◌}
 use Rattle.std.specs.Option.{option_and_then, option_map, option_map_or}
 use Rattle.std.specs.List.{AllByRecursion, IsDistinct}
 use Rattle.std.specs.Map.{keys_of, lookup_entry, remove_entry}
@@ -311,11 +311,6 @@ may_write w held t p bytes is low block = record { low = omega (arith, low, is.a
 pub valid_blank : (cache : Rattle.nb_cache.specs.Held.Held) (pages made size : ℕ) → cache ≡ record { pages = []; cap = pages; page_size = made } → size ≡ made → 0 < pages → IsValid cache size
 unfolding IsDistinct
 valid_blank cache pages made size is same some = subst (λ (h : Rattle.nb_cache.specs.Held.Held). IsValid h size) (sym is) (record { wide = sym same; once = tt; some = some; most = omega arith })
-
--- what holds in any case holds where a call failed
-pub on_err : {T E : Type 0} (result : Result T E) (P : Type 0) → P → OnErr result P
-on_err (Ok value) P is = tt
-on_err (Err e) P is = is
 
 -- a page that is kept with the rank that it had lets none wait where none did
 pub none_waits_kept : (pages : Pages) → IsDistinct nat_eq (keys_of pages) → (cap p : ℕ) (bytes : List ℕ) → NoneWaits pages → NoneWaits (put_first pages cap p (record { bytes = bytes; rank = rank_of pages p }))
