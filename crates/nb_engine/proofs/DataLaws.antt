@@ -17,6 +17,7 @@ use Rattle.nb_model.specs.Causes.{not_kind}
 use Rattle.nb_model.specs.Sound.{IsSoundImage}
 use Rattle.nb_model.specs.Trail.{Trail}
 use Rattle.nb_model.proofs.PutSound.{IsPlace}
+use Rattle.nb_model.proofs.StepLaws.{kind_parts}
 use Rattle.nb_base.specs.Takes.{IsNoRefusal}
 use Rattle.nb_state.specs.Open.{Held, IsOpen, but_pages}
 use Rattle.nb_state.specs.Does.{Tested}
@@ -27,13 +28,13 @@ use Rattle.nb_alloc.specs.Tries.{Tries}
 use Rattle.nb_alloc.proofs.CauseLaws.{first_next, first_here, one_cause}
 use Rattle.nb_alloc.proofs.DoesLaws.{sure_of, tries_after, tries_these}
 use Rattle.nb_alloc.proofs.MakeLaws.{entry_none, tries_named}
-use Rattle.nb_alloc.proofs.PutLaws.{is_kind-parts, none_of}
+use Rattle.nb_alloc.proofs.PutLaws.{none_of}
 use Rattle.nb_engine.proofs.LinkLaws.{any_strokes}
 use Rattle.nb_engine.proofs.NewTurn.{well_of}
 
 -- a data page is below the length
 pub data_there : (image : Image) (p : ℕ) → not_kind image data_kind p ≡ None → p < length image
-data_there image p kind = (is_kind-parts image data_kind p (none_of (is_kind image data_kind p) (NotDatabase p) kind)).0
+data_there image p kind = (kind_parts image data_kind p (none_of (is_kind image data_kind p) (NotDatabase p) kind)).0
 
 -- why it isn't written
 pub none_there : (image : Image) (p : ℕ) (r : Refusal) → not_kind image data_kind p ≡ Some r → data_cause image p ≡ Some r

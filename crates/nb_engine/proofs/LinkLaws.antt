@@ -22,8 +22,8 @@ use Rattle.nb_alloc.specs.Make.{page_strokes}
 use Rattle.nb_engine.specs.Room.{write_cause}
 use Rattle.nb_alloc.proofs.CauseLaws.{first_next, first_here, one_cause}
 use Rattle.nb_alloc.proofs.TestLaws.{applies, rests, le_yes}
-use Rattle.nb_alloc.proofs.PutLaws.{Keeps, put_stroke-after, draft_raised, not_raised, raised_not, scn_page-without}
-use Rattle.nb_alloc.proofs.MakeLaws.{RaisesAlone, raise_alone, old_below}
+use Rattle.nb_alloc.proofs.PutLaws.{Keeps, put_stroke-after, draft_raised, not_raised, raised_not, scn_page-without, old_below}
+use Rattle.nb_alloc.proofs.MakeLaws.{RaisesAlone, raise_alone}
 
 -- bytes after the head of a page were written
 module _ (at : ℕ) (bytes old : List ℕ) (low : 16 ≤ at) (before : at ≤ length old) (long : length (with_part at bytes old) ≡ length old) where

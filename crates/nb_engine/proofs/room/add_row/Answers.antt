@@ -8,7 +8,8 @@ use Rattle.nb_model.specs.Forms.{old_page}
 use Rattle.nb_model.specs.Chains.{Slot, backup_slot}
 use Rattle.nb_alloc.specs.Put.{entry_cause}
 use Rattle.nb_alloc.proofs.DoesLaws.{tries_after, tries_these}
-use Rattle.nb_alloc.proofs.MakeLaws.{tries_fault, old_below}
+use Rattle.nb_alloc.proofs.MakeLaws.{tries_fault}
+use Rattle.nb_alloc.proofs.PutLaws.{old_below}
 use Rattle.nb_state.specs.Open.{Held}
 use Rattle.nb_engine.proofs.LinkLaws.{written_payload, payload_inside, slot_strokes}
 use Rattle.nb_engine.proofs.room.add_row.Goals as goal
