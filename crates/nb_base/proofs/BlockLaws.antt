@@ -21,8 +21,9 @@ use Rattle.nb_model.specs.Strokes.{controlled, with_control}
 use Rattle.nb_model.proofs.HeaderLaws.{header-long, header-other, header-scn}
 use Rattle.nb_model.proofs.ImageLaws.{length-joined, page-joined}
 use Rattle.nb_model.proofs.MainLaws.{IsLaid, laid, some_page}
+use Rattle.nb_model.proofs.ControlLaws.{control_length, control_size}
 use Rattle.nb_base.specs.Control.{next_scn, next_guid, in_state, HasRoom, HasImage, IsImageOf, ControlLeft}
-use Rattle.nb_base.proofs.ControlLaws.{controlled-length, controlled-header, controlled-size}
+use Rattle.nb_base.proofs.ControlLaws.{controlled-header}
 use Rattle.nb_base.proofs.WrittenLaws.{HasMain, MayWrite, main_put, main_written, laid_formed, laid_image, main_sizes}
 
 -- a file that holds an image is laid so
@@ -91,10 +92,10 @@ module _ (image : Image) (m : File) (h : HasImage image m) (state : ℕ) (guid :
       let formed : is_header page ≡ true = ap is_header is ∙ controlled-header state _ _ sixteen (first_page image) long header low fits.0 fits.1 next_room in
       record {
         below = omega arith;
-        long = ap length is ∙ controlled-length state _ _ sixteen (first_page image) long ∙ main_sizes image h.bytes (laid_as image m h) 0 (some image m h);
+        long = ap length is ∙ control_length state _ _ (first_page image) long sixteen ∙ main_sizes image h.bytes (laid_as image m h) 0 (some image m h);
         other = header-other page formed;
         header = λ e. formed;
-        size = λ e. ap size_of is ∙ controlled-size state _ _ sixteen (first_page image) long;
+        size = λ e. ap size_of is ∙ control_size state _ _ (first_page image) long sixteen;
       }
 
   set_first : (x : Image) → 1 ≤ length x → written_at (image_size image) (0, page) x ≡ page ∷ drop 1 x
