@@ -32,14 +32,11 @@ use Rattle.nb_model.proofs.OverLaws.{owned_length, owned_at}
 use Rattle.nb_base.specs.Open.{Held, IsOpen}
 use Rattle.nb_base.specs.Going.{StandsAs, HasPageIn, IsSlotted, GoesIn}
 use Rattle.nb_base.proofs.MergingLaws.{entry_named}
-use Rattle.nb_base.proofs.OwnedLaws.{Holds, holds, shows, base-length, base-page, base-state, base-size, owned-entry, owned-none, entry-front, entry-behind, entry-first, entry-later, later, slots_stay}
+use Rattle.nb_base.proofs.OwnedLaws.{Holds, holds, shows, base-length, base-page, base-state, base-size, owned-entry, owned-none, entry-front, entry-behind, entry-first, entry-later, later, slots_stay, some_same, none_some}
 use Rattle.nb_base.proofs.StateLaws.{same_main}
 use Rattle.nb_base.proofs.StepLaws.{delta_moved}
 use Rattle.nb_base.proofs.WriteLaws.{main_apart, delta_apart}
 use Rattle.nb_base.proofs.WrittenLaws.{HasMain}
-
-some_same : {j k : ℕ} → Some j ≡ Some k → j ≡ k
-some_same h = cc
 
 -- no page stands past the end
 page_past : (image : Image) (p : ℕ) → length image ≤ p → page_at image p ≡ []
@@ -207,9 +204,6 @@ module _ (w : World) (reads : (n : List ℕ) → Leaves w n (w.files n)) (held :
         none_front : entry_for p f.base.diverted ≡ None
         none_front = by (entry_for p table) refl
           where
-            none_some : {k : ℕ} → None ≡ Some k → ⊥
-            none_some h = cc
-
             by : (x : Option ℕ) → entry_for p table ≡ x → entry_for p table ≡ None
             by None at = at
             by (Some k) at = absurd (none_some (sym e ∙ entry-front p table front k at))

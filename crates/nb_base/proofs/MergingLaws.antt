@@ -32,7 +32,7 @@ use Rattle.nb_base.specs.Open.{Held, OfFiles, IsOpen, IsMerged, AreMerged}
 use Rattle.nb_base.specs.Seen.{IsSeen}
 use Rattle.nb_base.specs.Takes.{StrikesFirm}
 use Rattle.nb_base.proofs.MergeLaws.{page_in-main}
-use Rattle.nb_base.proofs.OwnedLaws.{Holds, entry-first, entry-later, later, owned-entry, base-length, base-page, base-size, bytes-size, main-some, main-long}
+use Rattle.nb_base.proofs.OwnedLaws.{Holds, entry-first, entry-later, later, owned-entry, base-length, base-page, base-size, bytes-size, main-some, main-long, some_same}
 use Rattle.nb_base.proofs.HiddenLaws.{MayHide, may_lay}
 use Rattle.nb_base.proofs.StrokeLaws.{h0}
 use Rattle.nb_base.proofs.WrittenLaws.{HasMain, MayLay, main_over, written_same, written_sizes, laid_formed, laid_image}
@@ -47,9 +47,6 @@ entry_named (x ∷ xs) (suc k) once low = entry-later (get_or xs k 0) x xs (λ e
   where
     other : nat_eq (get_or xs k 0) x ≡ false → get_or xs k 0 ≡ x → ⊥
     other apart same = elim (eqb_tells (get_or xs k 0) x) [ inl w ↦ true≢false (sym w.0 ∙ apart) | inr w ↦ absurd (w.1 same) ]
-
-some_same : {j k : ℕ} → Some j ≡ Some k → j ≡ k
-some_same e = cc
 
 -- calls that change nothing
 pub seen_still : (old new : World) (name : List ℕ) (t : Trail) → IsStill old new → IsSeen old name t → IsSeen new name t

@@ -74,10 +74,10 @@ unfolding entry_for
 owned-alone size main delta = is_owned size main delta [] main (omega arith) (λ p low. sym (main_here size main p low) ∙ sym (owned-none size main delta [] p refl))
 
 -- Entries by their place.
-none_some : {k : ℕ} → None ≡ Some k → ⊥
+pub none_some : {k : ℕ} → None ≡ Some k → ⊥
 none_some h = cc
 
-some_same : {j k : ℕ} → Some j ≡ Some k → j ≡ k
+pub some_same : {j k : ℕ} → Some j ≡ Some k → j ≡ k
 some_same h = cc
 
 -- after the first entry

@@ -26,7 +26,7 @@ use Rattle.nb_base.specs.Seen.{IsSeen, IsWrite}
 use Rattle.nb_base.specs.Takes.{StrikesFirm, TakesFirm}
 use Rattle.nb_delta.specs.Entries.{place_of}
 use Rattle.nb_model.proofs.TrailLaws.{trail_base}
-use Rattle.nb_base.proofs.OwnedLaws.{Holds, holds, base-state, base-size}
+use Rattle.nb_base.proofs.OwnedLaws.{Holds, holds, base-state, base-size, none_some}
 use Rattle.nb_base.proofs.LeftLaws.{later_state, stroke-other}
 use Rattle.nb_base.proofs.PlaceLaws.{place-entry}
 use Rattle.nb_base.proofs.OutcomeLaws.{stands_stays, stands_main, stands_main_put, shows_main_put, all_entries, stands_slot, stands_slot_put, shows_slot_put, stands_add, stands_added, shows_added}
@@ -268,9 +268,6 @@ takes_done x y old mid new name opened t strokes same takes = record {
 entry_none : (p : ℕ) → entry_for p [] ≡ None
 unfolding entry_for
 entry_none p = refl
-
-none_some : {k : ℕ} → None ≡ Some k → ⊥
-none_some e = cc
 
 -- where there are no entries, none names a page
 pub none_at : (p k : ℕ) (entries : List ℕ) → entries ≡ [] → entry_for p entries ≡ Some k → ⊥

@@ -1,5 +1,4 @@
-use Rattle.std.proofs.Common.{◌≡◌, ℕ, sym, ap, subst, ◌∙◌}
-use Rattle.std.specs.Prelude.{None, Some}
+use Rattle.std.proofs.Common.{sym, ap, subst, ◌∙◌}
 use Rattle.std.proofs.lemmas.Result.{on_ok_weaker}
 use Rattle.nb_change.specs.Changes.{Only, Changes}
 use Rattle.nb_delta.specs.Known.{Known}
@@ -12,9 +11,7 @@ use Rattle.nb_base.specs.contracts.files.TwoFiles.{the_view}
 use Rattle.nb_base.proofs.PlaceLaws.{slot_answered, none_found}
 use Rattle.nb_base.proofs.SlotLaws.{slot_changes, slot_puts, slot_left, slot_goes}
 use Rattle.nb_base.proofs.files.TwoFiles.put_slot.Goals as goal
-
-none_some : {k : ℕ} → None ≡ Some k → ⊥
-none_some h = cc
+use Rattle.nb_base.proofs.OwnedLaws.{none_some}
 
 pub returns-in-Some-clause-left : goal.returns-in-Some-clause-left
 returns-in-Some-clause-left g c f t waits tells given may =
