@@ -1,6 +1,6 @@
 -- Making a page: its strokes and what they leave, and what is never refused where the inventories agree with the pages.
 use Rattle.std.proofs.Common.{◌≡◌, ◌≢◌, ℕ, ◌+◌, ◌-◌, ◌/◌, ◌<◌, ◌≤◌, List, [], ◌∷◌, ◌++◌, length, take, drop, replicate, refl, sym, ap, subst, ◌∙◌, arith}
-use Rattle.std.specs.Prelude.{Bool, true, false, not, ◌&&◌, ◌==◌, IsTrue, None, Result, Ok, IsErr, IsErrAnd, IfErr, max}
+use Rattle.std.specs.Prelude.{Bool, true, false, not, ◌==◌, IsTrue, None, Result, Ok, IsErr, IsErrAnd, IfErr, max}
 use Rattle.nb_fields.specs.Kinds.{code_of, inventory_kind}
 use Rattle.nb_fields.specs.declared.kinds.PageKind.{PageKind}
 use Rattle.nb_fields.specs.declared.kinds.PageKind.TheVariants.{Header, Inventory, Data, Raw, ScnInventory}
@@ -26,7 +26,7 @@ use Rattle.nb_model.proofs.StrokeLaws.{base_after-append, stroke_page, stroke_ot
 use Rattle.nb_model.proofs.SoundLaws.{with_page_length, inventory_there, inventory_place_some, scn_page_there, scn_place_some}
 use Rattle.nb_model.proofs.PutSound.{IsPlace}
 use Rattle.nb_model.proofs.NewSound.{inventory_before, places_apart}
-use Rattle.nb_model.proofs.ReadLaws.{lt_no, lt_yes}
+use Rattle.nb_model.proofs.ReadLaws.{lt_no}
 use Rattle.nb_model.proofs.FreshSound.{inventory_length, scn_length}
 use Rattle.nb_model.proofs.FitLaws.{IsWhole}
 use Rattle.nb_model.proofs.RoundLaws as rounds
@@ -177,16 +177,6 @@ stamped_page image p code kind scn payload before now filled stamp same current 
 pub old_past : (p : ℕ) (image : Image) → length image ≤ p → old_page p image ≡ replicate (image_size image) 0
 unfolding old_page
 old_past p image far = ap (λ (t : Bool). elim t as (λ z. Page) [ true ↦ page_at image p | false ↦ replicate (image_size image) 0 ]) (lt_no p (length image) far)
-
--- whether there is a page of that kind
-module _ (image : Image) (kind p : ℕ) where
-  pub kind_below : p < length image → is_kind image kind p ≡ (kind_of (page_at image p) == kind)
-  unfolding is_kind
-  kind_below low = ap (λ (t : Bool). t && kind_of (page_at image p) == kind) (lt_yes p (length image) low)
-
-  pub kind_past_end : length image ≤ p → is_kind image kind p ≡ false
-  unfolding is_kind
-  kind_past_end far = ap (λ (t : Bool). t && kind_of (page_at image p) == kind) (lt_no p (length image) far)
 
 -- bytes that fill a page after its head
 pub filled_page : (old payload new : Page) → length payload ≡ length old - 16 → new ≡ take 16 old ++ payload → new ≡ with_payload old payload
