@@ -71,7 +71,7 @@ module _ (pages : Pages) (once : IsDistinct nat_eq (keys_of pages)) where
   pub none_waits_gone : (p : ℕ) → NoneWaits pages → NoneWaits (remove_entry (nat_eq p) pages)
   none_waits_gone p none = All-dropped p pages once (λ e. e.1.rank ≡ None) (λ e. e.1.rank ≡ None) (λ e apart waits. waits) none
 
-  pub none_waits_dropped : NoneWaits pages → NoneWaits (behind_first pages)
+  none_waits_dropped : NoneWaits pages → NoneWaits (behind_first pages)
   none_waits_dropped none = none_waits_gone 0 none
 
 -- Pages of so many numbers below one are held no longer.
@@ -262,6 +262,10 @@ module _ (cache after : Rattle.nb_cache.specs.Held.Held) (before size : ℕ) (va
 
     pub valid_gone : IsValid after size
     valid_gone = valid_dropped 0 gone
+
+    -- and none waits where none did
+    pub none_gone : NoneWaits cache.pages → NoneWaits after.pages
+    none_gone none = subst (λ (ps : Pages). NoneWaits ps) (sym gone_behind) (none_waits_dropped cache.pages valid.once none)
 
   -- a page is looked for
   module _ (p : ℕ) (looked : after ≡ record cache { pages = promoted (nat_eq p) cache.pages }) where
