@@ -5,7 +5,7 @@ use Rattle.nb_base.specs.Open.{AreMerged}
 use Rattle.nb_cache.specs.Held.{NoneWaits}
 use Rattle.nb_owner.specs.Open.{Held, IsOpen}
 use Rattle.nb_owner.specs.contracts.pair.Pair.{the_view}
-use Rattle.nb_owner.proofs.WaitLaws.{still_open, files_open, open_settled}
+use Rattle.nb_owner.proofs.WaitLaws.{files_still, files_open, open_settled}
 use Rattle.nb_owner.proofs.pair.Pair.sync_files.Goals as goal
 
 pub returns-clause-open : goal.returns-clause-open
@@ -13,8 +13,7 @@ returns-clause-open g c t tells given =
     let old = g.H.Host.world c.args.host.now in
     let new = g.H.Host.world c.sync.new.host in
     let is = subst (λ (h : Held). IsOpen old h t) (sym c.self.view_is) given in
-    subst (λ (f : Rattle.nb_base.specs.Open.Held). let h : Held = record { files = f; pages = c.self.inside.cache.pages; cap = c.self.inside.cache.cap } in IsOpen new h t) (sym c.sync.ensures.same)
-    (still_open old new (the_view c.self.inside) t c.sync.ensures.quiet.still is)
+    files_still old new (the_view c.self.inside) t c.sync.new.self c.sync.ensures.same c.sync.ensures.quiet.still is
 
 pub returns-clause-settled : goal.returns-clause-settled
 returns-clause-settled g c t tells given =
