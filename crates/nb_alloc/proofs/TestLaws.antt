@@ -132,11 +132,11 @@ module _ (image : Image) (p : ℕ) where
   pub taken_other : (r : Refusal) → not_kind image inventory_kind (inventory_of image p) ≡ Some r → not_taken image p ≡ Some r
   taken_other r e = first_here _ _ r e
 
-  pub taken_free : (map : Page) (bit : ℕ) → ReadsBit image p map bit → get_or (bits map) bit 0 ≢ 0 → not_taken image p ≡ Some (NotAllocated p)
-  taken_free map bit reads some = first_next _ _ reads.form ∙ first_here _ [] _ (applies _ _ (free_read map bit reads some))
+  pub taken_free : not_kind image inventory_kind (inventory_of image p) ≡ None → is_free_page image p ≡ true → not_taken image p ≡ Some (NotAllocated p)
+  taken_free form free = first_next _ _ form ∙ first_here _ [] _ (applies _ _ free)
 
-  pub taken_is : (map : Page) (bit : ℕ) → ReadsBit image p map bit → get_or (bits map) bit 0 ≡ 0 → not_taken image p ≡ None
-  taken_is map bit reads none = first_next _ _ reads.form ∙ first_next _ [] (rests _ _ (used_read map bit reads none)) ∙ first_none
+  pub taken_is : not_kind image inventory_kind (inventory_of image p) ≡ None → is_free_page image p ≡ false → not_taken image p ≡ None
+  taken_is form used = first_next _ _ form ∙ first_next _ [] (rests _ _ used) ∙ first_none
 
   not_raw-below : p < length image → not_raw image p ≡ first_cause (untaken ++ system ∷ [])
   unfolding not_raw
