@@ -16,7 +16,7 @@ use Rattle.nb_model.proofs.SoundLaws.{inventory_place_some, scn_place_some}
 use Rattle.nb_model.proofs.PutSound.{needs_image}
 use Rattle.nb_model.proofs.StepLaws.{kind_parts}
 use Rattle.nb_engine.specs.Room.{taken_draft}
-use Rattle.nb_alloc.proofs.CauseLaws.{first_none, first_next, first_here}
+use Rattle.nb_alloc.proofs.CauseLaws.{first_next, first_here, one_cause}
 use Rattle.nb_alloc.proofs.PutLaws.{none_of}
 use Rattle.nb_alloc.proofs.SearchReads.{inventory_most}
 use Rattle.nb_alloc.proofs.BehindLaws.{page_alone}
@@ -194,8 +194,5 @@ module _ (image : Image) (p : ℕ) where
         form_none e = form_is true true false is_inventory is_scn_page e ∙ none
 
         -- the SCN
-        pub scn_spent : is_free_page image p ≡ false → (r : Refusal) → no_scn image ≡ Some r → cause ≡ Some r
-        scn_spent e r f = first_next (not_of_form (taken_draft image p)) (no_scn image ∷ []) (form_none e) ∙ first_here (no_scn image) [] r f
-
-        pub room_free : is_free_page image p ≡ false → no_scn image ≡ None → cause ≡ None
-        room_free e f = first_next (not_of_form (taken_draft image p)) (no_scn image ∷ []) (form_none e) ∙ first_next (no_scn image) [] f ∙ first_none
+        pub room_cause : is_free_page image p ≡ false → cause ≡ no_scn image
+        room_cause e = first_next (not_of_form (taken_draft image p)) (no_scn image ∷ []) (form_none e) ∙ one_cause (no_scn image)

@@ -101,8 +101,7 @@ pub(crate) fn check_room<H: Host>(
     if free {
         return Err(Fault::Refused(Refusal::NotDatabase { page: number }));
     }
-    check_scn(scn)?;
-    Ok(())
+    check_scn(scn)
 }
 
 /// Makes a new page after `last`, the last page of the history, which is linked to it once it stands. It answers its number.
