@@ -5,7 +5,7 @@ use Rattle.nb_model.specs.Forms.{inventory_of}
 use Rattle.nb_model.specs.Causes.{not_kind}
 use Rattle.nb_alloc.proofs.DoesLaws.{tested_on}
 use Rattle.nb_alloc.proofs.TestLaws.{not_false, inventory_place_is, reads_bit, free_read, used_read}
-use Rattle.nb_engine.proofs.room.is_free.Goals as goal
+use Rattle.nb_alloc.proofs.reads.is_free.Goals as goal
 
 pub returns-in_err-read-clause-test : goal.returns-in_err-read-clause-test
 returns-in_err-read-clause-test g c t tells is =
