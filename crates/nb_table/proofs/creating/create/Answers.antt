@@ -64,7 +64,7 @@ returns-in-None-clause-turn g c s t tells same is =
     let tests = c.in_ok-free.ensures in
     let new = tests.test t tells is in
     let last = tests.last t tells is in
-    let kind = last_is_data Catalogue image (new_formed image table new) c.in_ok-free.last last in
+    let kind = last_is_data Catalogue image (new_formed image table new) _ last in
     let made = created_behind image table in
     tries_does done c.create_behind.result _ _ _ _ t s (λ (x : Seen). create_turn x table) (unmade image made) Done refl made.strokes same
     (create_last (seeing s t.base) table (c.in_ok-check_access.ensures.test image closed) new (sym c.in-None.is ∙ tests.room t tells is)) (said c.create_behind.result)
