@@ -31,6 +31,10 @@ chain_at spot = RowsFrom (first_in spot.bytes)
 abbrev pub find_cause : Image → (table : List ℕ) → Cause
 find_cause image table = first_cause (broken_at (pages_of Catalogue image) ∷ when (is_none (table_spot table image)) NoTable ∷ [])
 
+-- no cause is none
+pub none_some : (r : Refusal) → None ≡ Some r → ⊥
+none_some r e = cc
+
 some_same : (x y : Spot) → Some x ≡ Some y → x ≡ y
 some_same x y e = cc
 
