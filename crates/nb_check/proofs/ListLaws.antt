@@ -104,7 +104,7 @@ cause_here image c cs r e = cause_first image c cs ∙ ap (λ (o : Cause). or_el
 pub cause_later : (image : Image) (c : Chain) (cs : List Chain) → broken_at (pages_of c image) ≡ None → chains_cause image (c ∷ cs) ≡ chains_cause image cs
 cause_later image c cs e = cause_first image c cs ∙ ap (λ (o : Cause). or_else o (chains_cause image cs)) e
 
-none_some : (r : Refusal) → None ≡ Some r → ⊥
+pub none_some : (r : Refusal) → None ≡ Some r → ⊥
 none_some r e = cc
 
 -- or the first that isn't is among them

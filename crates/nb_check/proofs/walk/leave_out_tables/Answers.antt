@@ -1,6 +1,5 @@
 use Rattle.std.proofs.Common.{◌≡◌, ℕ, List, ◌+◌, length, refl, sym, ap, subst, ◌∙◌, arith, ◌++◌, ◌≢◌, ◌-◌, ◌∷◌}
-use Rattle.std.specs.Prelude.{None, Some, IsTrue}
-use Rattle.nb_host.specs.declared.refusals.Refusal.{Refusal}
+use Rattle.std.specs.Prelude.{None, IsTrue}
 use Rattle.nb_page.proofs.QuietLaws.{quiet_begun, quiet_joined}
 use Rattle.nb_model.specs.Image.{Image, page_at}
 use Rattle.nb_model.specs.Chains.{Catalogue, Chain, next_in, found_pages, pages_of}
@@ -9,15 +8,12 @@ use Rattle.nb_state.specs.Open.{Held, IsOpen}
 use Rattle.nb_alloc.proofs.DoesLaws.{tested_on}
 use Rattle.nb_walk.specs.Walks.{not_linked}
 use Rattle.nb_check.specs.Walks.{chains_on}
-use Rattle.nb_check.proofs.ListLaws.{AreOut, chains_of_pages, tables, tables_begun, tables_more, tables_are, tables_broken}
+use Rattle.nb_check.proofs.ListLaws.{AreOut, chains_of_pages, tables, tables_begun, tables_more, tables_are, tables_broken, none_some}
 use Rattle.nb_walk.proofs.WalkLaws.{so, walks_first, walks_broken, walks_split, walks_next, walks_all, walks_over, Walks}
 use Rattle.nb_model.specs.Trail.{Trail}
 use Rattle.nb_model.specs.Causes.{broken_at}
 use Rattle.nb_check.proofs.walk.leave_out_tables.Goals as goal
 use Rattle.nb_check.proofs.walk.leave_out_tables.Goals.{In_ok-leave_out_listed}
-
-none_some : (r : Refusal) → None ≡ Some r → ⊥
-none_some r e = cc
 
 -- what came of the pages of the catalogue so far
 abbrev Out : Image → (before after : List ℕ) (old now : ℕ) → List ℕ → Type 0
