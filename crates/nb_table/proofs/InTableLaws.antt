@@ -31,7 +31,7 @@ chain_at spot = RowsFrom (first_in spot.bytes)
 abbrev pub find_cause : Image → (table : List ℕ) → Cause
 find_cause image table = first_cause (broken_at (pages_of Catalogue image) ∷ when (is_none (table_spot table image)) NoTable ∷ [])
 
--- no cause is none
+-- a cause isn't none
 pub none_some : (r : Refusal) → None ≡ Some r → ⊥
 none_some r e = cc
 
