@@ -5,7 +5,7 @@ use Rattle.std.specs.List.{slice_index_or}
 use Rattle.std.proofs.lemmas.List.{append-nil}
 use Rattle.nb_host.specs.World.{World}
 use Rattle.nb_host.specs.declared.faults.Fault.{Fault}
-use Rattle.nb_host.specs.declared.faults.Fault.TheVariants.{Refused}
+use Rattle.nb_host.specs.declared.faults.Fault.TheVariants.{Refused, Device, Memory}
 use Rattle.nb_host.specs.declared.refusals.Refusal.{Refusal}
 use Rattle.nb_host.specs.declared.faults.RunError.{RunError}
 use Rattle.nb_model.specs.declared.reply.Reply.{Reply}
@@ -23,6 +23,7 @@ use Rattle.nb_model.specs.Turns.{first_turn, turn}
 use Rattle.nb_model.proofs.StatusLaws.{status_plain}
 use Rattle.nb_model.proofs.TodoLaws.{IsSingle}
 use Rattle.nb_model.proofs.UsageLaws.{never_usage}
+use Rattle.nb_base.specs.Takes.{IsNoRefusal}
 use Rattle.nb_state.specs.Open.{Held}
 use Rattle.nb_change.proofs.ResultLaws.{passed_on}
 use Rattle.nb_session.specs.declared.task.Left.{Left}
@@ -32,7 +33,7 @@ use Rattle.nb_session.specs.declared.told.Told.{Told}
 use Rattle.nb_session.specs.Acts.{Says, Grows, shown_by, Acts, MayAct}
 use Rattle.nb_session.specs.Ready.{IsReady}
 use Rattle.nb_session.specs.Replies.{HasEnded, is_refusal}
-use Rattle.nb_session.specs.Says.{SaysLine}
+use Rattle.nb_session.specs.Says.{EndsEarly, SaysLine}
 use Rattle.nb_session.specs.Steps.{as_played, touching, GoesFurther, IsBehind, Turns}
 use Rattle.nb_session.specs.Stops.{Plays}
 use Rattle.nb_session.specs.Told.{told_line, told_reply, told_turns}
@@ -118,10 +119,18 @@ module _ {T S : Type 0} (how : Told) (reply : T → Option Reply) (result : Resu
       behind = λ told. behind (before told);
     }
 
--- what doesn't come
-pub turns_never : {S : Type 0} (how : Told) (refused : S → Bool) (task : S → Option Task) (answer : Result S RunError) (old new : World) (a b : Held) (t : Trail) (now : Now) (session : ℕ) (u : Turn) (tail more : List Turn) → ⊥
-    → Turns how refused task answer old new a b t now session u tail more
-turns_never how refused task answer old new a b t now session u tail more never = absurd never
+-- A turn that isn't refused ended early by a fault.
+pub turns_lost : {T S : Type 0} (how : Told) (reply : T → Option Reply) (refused : S → Bool) (task : S → Option Task) (old mid new : World) (e0 e1 : Held) (t : Trail) (now : Now) (session : ℕ) (u : Turn) (tail more : List Turn)
+    (files : List MadeFile) → files ≡ touching session u tail now → IsMaking now → slice_index_or now.todo (session - 1) [] ≡ u ∷ (tail ++ more) → (fault : Fault) → IsNoRefusal fault → MayAct reply (Err fault) old mid e0 e1 t now session u files
+    → (Acts reply (Err fault) old mid e0 e1 t now session u files → Marks old mid e0 files) → (ended : Result Taken RunError) → EndsEarly session fault ended mid new → (answer : Result S RunError) → (IsErr ended → IsErr answer)
+    → Turns how refused task answer old new e0 e1 t now session u tail more
+turns_lost how reply refused task old mid new e0 e1 t now session u tail more files files_are makes place (Refused refusal) none may mark ended early answer passed = absurd none
+turns_lost how reply refused task old mid new e0 e1 t now session u tail more files files_are makes place Device none may mark ended early answer passed =
+    subst (λ (w : World). Turns how refused task answer old w e0 e1 t now session u tail more) (sym early.1)
+    (turns_failed how reply (Err Device) refused task old mid mid e0 e1 t now session u tail more files files_are makes place may mark answer (passed early.0))
+turns_lost how reply refused task old mid new e0 e1 t now session u tail more files files_are makes place Memory none may mark ended early answer passed =
+    subst (λ (w : World). Turns how refused task answer old w e0 e1 t now session u tail more) (sym early.1)
+    (turns_failed how reply (Err Memory) refused task old mid mid e0 e1 t now session u tail more files files_are makes place may mark answer (passed early.0))
 
 -- what is said of the task that is under way
 pub under_is : {under : Option Task} {field task : Task} → under ≡ Some field → field ≡ task → under ≡ Some task
@@ -156,22 +165,32 @@ pub single_behind : (w : World) (held : Held) (session : ℕ) (statement : State
 single_behind w held session statement now single =
     record { next = append-nil (outcome session (Begins statement) now).next ∙ ap (λ o. o.next) (outcome_is session statement now) ∙ single (seen_now now) session; goes = tt }
 
--- A turn that was refused, and whose refusal is said.
-module _ {T : Type 0} (how : Told) (reply : T → Option Reply) (refusal : Refusal) (old mid new : World) (e0 e1 : Held) (t : Trail) (now : Now) (session : ℕ) (u : Turn) (tail more : List Turn)
-    (files : List MadeFile) (files_are : files ≡ touching session u tail now) (makes : IsMaking now) (place : slice_index_or now.todo (session - 1) [] ≡ u ∷ (tail ++ more))
-    (may : MayAct reply (Err (Refused refusal)) old mid e0 e1 t now session u files) (mark : Acts reply (Err (Refused refusal)) old mid e0 e1 t now session u files → Marks old mid e0 files) (ready : IsReady old e0 t now) where
-  pub turns_refused : (answer : Result Taken RunError) → SaysLine answer mid new (line_text session (RefusedBy refusal)) → IfOk answer (λ taken. taken ≡ record { task = None; refused = true })
-      → ((outcome session u now).reply ≡ Some (RefusedBy refusal) → status_after (RefusedBy refusal) ≡ 1) → (Foretells now.given (shown_by u e0) old mid → IsBehind new e1 session u tail now None)
-      → Turns how (λ taken. taken.refused) (λ taken. taken.task) answer old new e0 e1 t now session u tail more
-  turns_refused (Ok taken) says is status behind =
-      turns_said how reply (Err (Refused refusal)) (λ (x : Taken). x.refused) (λ (x : Taken). x.task) old mid new e0 e1 t now session u tail more files files_are makes place may mark tt (RefusedBy refusal) (λ said s. s) (Ok taken)
+-- The first turn of a statement ended early: where it was refused, that is said.
+module _ {T : Type 0} (how : Told) (reply : T → Option Reply) (old mid new : World) (e0 e1 : Held) (t : Trail) (now : Now) (session : ℕ) (it : Statement) (more : List Turn)
+    (files : List MadeFile) (files_are : files ≡ touching session (Begins it) [] now) (makes : IsMaking now) (place : slice_index_or now.todo (session - 1) [] ≡ Begins it ∷ more) (ready : IsReady old e0 t now) where
+  begun_refused : (refusal : Refusal) → MayAct reply (Err (Refused refusal)) old mid e0 e1 t now session (Begins it) files → (Acts reply (Err (Refused refusal)) old mid e0 e1 t now session (Begins it) files → Marks old mid e0 files)
+      → (answer : Result Taken RunError) → SaysLine answer mid new (line_text session (RefusedBy refusal)) → IfOk answer (λ taken. taken ≡ record { task = None; refused = true })
+      → (Foretells now.given (shown_by (Begins it) e0) old mid → IsBehind new e1 session (Begins it) [] now None)
+      → Turns how (λ taken. taken.refused) (λ taken. taken.task) answer old new e0 e1 t now session (Begins it) [] more
+  begun_refused refusal may mark (Ok taken) says is behind =
+      turns_said how reply (Err (Refused refusal)) (λ (x : Taken). x.refused) (λ (x : Taken). x.task) old mid new e0 e1 t now session (Begins it) [] more files files_are makes place may mark tt (RefusedBy refusal) (λ said s. s) (Ok taken)
       (says_other (Ok taken) mid new _ _ (refusal_line how session refusal) says) ready taken (says.said ∙ ap (λ (l : List ℕ). mid.said ++ l) (refusal_line how session refusal))
-      (λ replied. status replied ∙ ap (λ (x : Taken). if x.refused then 1 else 0) (sym is))
-      (λ told. subst (λ (x : Taken). IsBehind new e1 session u tail now x.task) (sym is) (behind told))
-  turns_refused (Err e) says is status behind =
-      turns_unsaid how reply (Err (Refused refusal)) (λ (x : Taken). x.refused) (λ (x : Taken). x.task) old mid new e0 e1 t now session u tail more files files_are makes place may mark tt (RefusedBy refusal) (λ said s. s) (Err e)
+      (λ replied. status_told session it now (RefusedBy refusal) replied ∙ ap (λ (x : Taken). if x.refused then 1 else 0) (sym is))
+      (λ told. subst (λ (x : Taken). IsBehind new e1 session (Begins it) [] now x.task) (sym is) (behind told))
+  begun_refused refusal may mark (Err e) says is behind =
+      turns_unsaid how reply (Err (Refused refusal)) (λ (x : Taken). x.refused) (λ (x : Taken). x.task) old mid new e0 e1 t now session (Begins it) [] more files files_are makes place may mark tt (RefusedBy refusal) (λ said s. s) (Err e)
       (says_other (Err e) mid new _ _ (refusal_line how session refusal) says) ready
       (Err e) refl
+
+  pub begun_ended : (fault : Fault) → MayAct reply (Err fault) old mid e0 e1 t now session (Begins it) files → (Acts reply (Err fault) old mid e0 e1 t now session (Begins it) files → Marks old mid e0 files)
+      → (answer : Result Taken RunError) → EndsEarly session fault answer mid new → IfOk answer (λ taken. taken ≡ record { task = None; refused = true })
+      → ((refusal : Refusal) → fault ≡ Refused refusal → Foretells now.given (shown_by (Begins it) e0) old mid → IsBehind new e1 session (Begins it) [] now None)
+      → Turns how (λ taken. taken.refused) (λ taken. taken.task) answer old new e0 e1 t now session (Begins it) [] more
+  begun_ended (Refused refusal) may mark answer early is behind = begun_refused refusal may mark answer early is (behind refusal refl)
+  begun_ended Device may mark answer early is behind =
+      turns_lost how reply (λ (x : Taken). x.refused) (λ (x : Taken). x.task) old mid new e0 e1 t now session (Begins it) [] more files files_are makes place Device tt may mark answer early answer (λ failed. failed)
+  begun_ended Memory may mark answer early is behind =
+      turns_lost how reply (λ (x : Taken). x.refused) (λ (x : Taken). x.task) old mid new e0 e1 t now session (Begins it) [] more files files_are makes place Memory tt may mark answer early answer (λ failed. failed)
 
 -- A failure is handed on.
 module _ (error : RunError) (answer : Result Taken RunError) (handed : IsErr answer × IsErrAnd answer (λ e. e ≡ error)) where

@@ -22,7 +22,7 @@ ghost use Rattle.nb_session.specs.Ready.{IsReady, TaskGoes};
 ghost use Rattle.nb_session.specs.Steps.{Turns};
 
 use crate::answer::tell;
-use crate::merges::say_refused;
+use crate::merges::end_early;
 use crate::task::{Left, Taken, Task};
 use crate::told::Told;
 use nb_copy::{Copier, FileCopier};
@@ -105,9 +105,7 @@ pub fn begin_backup<H: Host>(
 {
     match start(alloc, host, engine, session, statement) {
         Ok(copier) => Ok(under_way(Task::Backup(copier))),
-        Err(Fault::Refused(refusal)) => say_refused(alloc, host, session, refusal),
-        Err(Fault::Device) => Err(RunError::Device),
-        Err(Fault::Memory) => Err(RunError::Memory),
+        Err(fault) => end_early(alloc, host, session, fault),
     }
 }
 
@@ -129,9 +127,7 @@ pub fn begin_copy<H: Host>(
 {
     match FileCopier::start(alloc, host, engine, session, name) {
         Ok(copier) => Ok(under_way(Task::Copy(copier))),
-        Err(Fault::Refused(refusal)) => say_refused(alloc, host, session, refusal),
-        Err(Fault::Device) => Err(RunError::Device),
-        Err(Fault::Memory) => Err(RunError::Memory),
+        Err(fault) => end_early(alloc, host, session, fault),
     }
 }
 
@@ -160,12 +156,7 @@ pub fn back_up_on<H: Host>(
             pages: copier.written(),
             guid: copier.guid(),
         })))),
-        Err(Fault::Refused(refusal)) => {
-            stop_running(engine, session);
-            Ok(Left::Other(say_refused(alloc, host, session, refusal)?))
-        }
-        Err(Fault::Device) => Err(RunError::Device),
-        Err(Fault::Memory) => Err(RunError::Memory),
+        Err(fault) => Ok(Left::Other(end_early(alloc, host, session, fault)?)),
     }
 }
 

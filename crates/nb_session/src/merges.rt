@@ -1,7 +1,7 @@
 // The end of a backup, which takes many turns: one that ends the stalled state, one for each page that is merged, and a last one.
-ghost use Rattle.std.specs.Prelude.{◌≡◌, ◌<◌, ◌-◌, List, [], ◌∷◌, ◌++◌, length, None, Some, true, false, IsTrue, IfOk};
+ghost use Rattle.std.specs.Prelude.{◌≡◌, ◌<◌, ◌-◌, ℕ, List, [], ◌∷◌, ◌++◌, length, None, Some, Err, true, false, IsTrue, IfOk};
 ghost use Rattle.std.specs.List.{slice_index_or};
-ghost use Rattle.nb_host.specs.Causes.{CountsRun};
+ghost use Rattle.nb_host.specs.Causes.{CountsDevice, CountsRun};
 ghost use Rattle.nb_change.specs.Gave.{GaveNothing};
 ghost use Rattle.nb_model.specs.declared.reply.Reply.TheVariants.{Refused as RefusedReply};
 ghost use Rattle.nb_model.specs.declared.statement.Statement.TheVariants.{EndBackup};
@@ -11,10 +11,11 @@ ghost use Rattle.nb_model.specs.Outcomes.{Begins, Turn};
 ghost use Rattle.nb_model.specs.Run.{Now};
 ghost use Rattle.nb_model.specs.Trail.{Trail};
 ghost use Rattle.nb_session.specs.Askers.{KeepsOthers, TaskFits, left_refused, left_task, task_first, task_rest, task_left};
+ghost use Rattle.nb_session.specs.declared.task.Taken.{Taken};
 ghost use Rattle.nb_session.specs.declared.task.Task.TheVariants.{End, Merge};
 ghost use Rattle.nb_session.specs.declared.told.Told.{Told};
 ghost use Rattle.nb_session.specs.Ready.{IsReady, TaskGoes};
-ghost use Rattle.nb_session.specs.Says.{SaysLine};
+ghost use Rattle.nb_session.specs.Says.{EndsEarly, SaysLine};
 ghost use Rattle.nb_session.specs.Steps.{Turns};
 
 use crate::answer::{say, tell};
@@ -41,7 +42,7 @@ fn merge_of(engine: &Engine, reply: Reply) -> Taken
 }
 
 /// Says a refusal, with which a statement is done.
-pub fn say_refused<H: Host>(
+fn say_refused<H: Host>(
     alloc: Global,
     host: &mut H,
     session: u32,
@@ -57,6 +58,24 @@ pub fn say_refused<H: Host>(
         task: None,
         refused: true,
     })
+}
+
+/// Ends a statement early: a refusal is said, with which it is done, and a failure is handed on.
+pub fn end_early<H: Host>(
+    alloc: Global,
+    host: &mut H,
+    session: u32,
+    fault: Fault,
+) -> Result<Taken, RunError>
+    ensures ended { IsTrue H.tells → EndsEarly session fault result (H.world host.old) (H.world host.new) }
+    ensures taken { IfOk result (λ taken. taken ≡ record { task = None; refused = true }) }
+    ensures cause { (before : ℕ) → CountsDevice {T = Taken} (Err fault) before (H.faults host.old) → CountsRun result before (H.faults host.new) }
+{
+    match fault {
+        Fault::Refused(refusal) => say_refused(alloc, host, session, refusal),
+        Fault::Device => Err(RunError::Device),
+        Fault::Memory => Err(RunError::Memory),
+    }
 }
 
 /// The first turn of `alter database end backup`. Where it is refused the refusal is said, and it is done.
@@ -75,9 +94,7 @@ pub fn begin_merge<H: Host>(
 {
     match engine.end(host, session) {
         Ok(scn) => Ok(merge_of(engine, Reply::Scn { scn })),
-        Err(Fault::Refused(refusal)) => say_refused(alloc, host, session, refusal),
-        Err(Fault::Device) => Err(RunError::Device),
-        Err(Fault::Memory) => Err(RunError::Memory),
+        Err(fault) => end_early(alloc, host, session, fault),
     }
 }
 
@@ -103,11 +120,7 @@ pub fn end_backup<H: Host>(
             let reply = mem::replace(reply, Reply::Done);
             Ok(Left::Other(merge_of(engine, reply)))
         }
-        Err(Fault::Refused(refusal)) => {
-            Ok(Left::Other(say_refused(alloc, host, session, refusal)?))
-        }
-        Err(Fault::Device) => Err(RunError::Device),
-        Err(Fault::Memory) => Err(RunError::Memory),
+        Err(fault) => Ok(Left::Other(end_early(alloc, host, session, fault)?)),
     }
 }
 
