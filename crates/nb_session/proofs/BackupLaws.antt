@@ -65,7 +65,7 @@ use Rattle.nb_session.proofs.ActLaws.{trail_plain, ended_map, kept_none, says_no
 use Rattle.nb_state.specs.Does.{has_only_told}
 use Rattle.nb_session.specs.Replies.{only_told}
 use Rattle.nb_session.proofs.EventLaws.{Marks, marks_made, unsaid}
-use Rattle.nb_session.proofs.CopyLaws.{apart_one, one_file, file_left, each_one, kept_one, made_by, no_stroke, stalled_now}
+use Rattle.nb_session.proofs.CopyLaws.{apart_one, one_file, file_left, each_one, kept_one, made_by, no_stroke, stalled_now, finished_not, more_not}
 use Rattle.nb_session.proofs.GiftLaws.{given_nothing, grows_none}
 use Rattle.nb_session.proofs.MakesLaws.{none_runs}
 use Rattle.nb_session.proofs.NameLaws.{given_plain}
@@ -506,12 +506,6 @@ may_go_on {sound = sound} w held t now session copier more ready going here apar
       below = subst (λ (x : Base). copier.backing.page < length x.image) (sym ready.base) backs.below;
       apart = apart_files held copier.backing.name apart;
     }
-
-finished_not : Finished ≡ More → ⊥
-finished_not e = cc
-
-more_not : More ≡ Finished → ⊥
-more_not e = cc
 
 -- A further turn, by what its call promises of it.
 module _ (how : Told) (old mid : World) (a b : Held) (t : Trail) (now : Now) (session : ℕ) (copier later : Backed) (more : List Turn) (ready : IsReady old a t now) (makes : IsMaking now)

@@ -1,5 +1,5 @@
 -- One turn, by what it made of the database and by its line.
-use Rattle.std.proofs.Common.{◌≡◌, ℕ, ◌-◌, List, [], ◌∷◌, ◌++◌, Bool, false, refl, sym, ap, subst, ◌∙◌}
+use Rattle.std.proofs.Common.{◌≡◌, ◌<◌, ℕ, ◌-◌, List, [], ◌∷◌, ◌++◌, Bool, false, refl, sym, ap, subst, ◌∙◌}
 use Rattle.std.specs.Prelude.{true, Result, Ok, Err, IsErr, IsErrAnd, IfOk, Option, Some, None, if◌then◌else◌}
 use Rattle.std.specs.List.{slice_index_or}
 use Rattle.std.proofs.lemmas.List.{append-nil}
@@ -27,10 +27,12 @@ use Rattle.nb_base.specs.Takes.{IsNoRefusal}
 use Rattle.nb_state.specs.Open.{Held}
 use Rattle.nb_change.proofs.ResultLaws.{passed_on}
 use Rattle.nb_session.specs.declared.task.Left.{Left}
+use Rattle.nb_session.specs.declared.task.Left.TheVariants.{Other}
 use Rattle.nb_session.specs.declared.task.Task.{Task}
 use Rattle.nb_session.specs.declared.task.Taken.{Taken}
 use Rattle.nb_session.specs.declared.told.Told.{Told}
 use Rattle.nb_session.specs.Acts.{Says, Grows, shown_by, Acts, MayAct}
+use Rattle.nb_session.specs.Askers.{TaskFits, left_refused, left_task, task_left}
 use Rattle.nb_session.specs.Ready.{IsReady}
 use Rattle.nb_session.specs.Replies.{HasEnded, is_refusal}
 use Rattle.nb_session.specs.Says.{EndsEarly, SaysLine}
@@ -118,6 +120,33 @@ module _ {T S : Type 0} (how : Told) (reply : T → Option Reply) (result : Resu
       unchanged = λ told only. says.still.files ∙ (acting (before told)).unchanged only;
       behind = λ told. behind (before told);
     }
+
+-- what the last turn of a statement leaves
+abbrev pub was_last : Left
+was_last = Other (record { task = None; refused = false })
+
+-- either it is left, or the turn failed
+last_either : (answer : Result Left RunError) → IfOk answer (λ left. left ≡ was_last) → (P : Result Left RunError → Type 0) → P (Ok was_last) → ((e : RunError) → P (Err e)) → P answer
+last_either (Ok left) is P last failed = subst (λ (x : Left). P (Ok x)) (sym is) last
+last_either (Err e) is P last failed = failed e
+
+module _ (answer : Result Left RunError) (is : IfOk answer (λ left. left ≡ was_last)) where
+  -- its reply is told
+  pub turns_told : {T : Type 0} (how : Told) (reply : T → Option Reply) (result : Result T Fault) (task : Option Task) (old mid new : World) (e0 e1 : Held) (t : Trail) (now : Now) (session : ℕ) (u : Turn) (tail more : List Turn)
+      (files : List MadeFile) → files ≡ touching session u tail now → IsMaking now → slice_index_or now.todo (session - 1) [] ≡ u ∷ (tail ++ more) → MayAct reply result old mid e0 e1 t now session u files
+      → (Acts reply result old mid e0 e1 t now session u files → Marks old mid e0 files) → HasEnded result → (r : Reply) → ((said : Option Reply) → Says reply result said → said ≡ Some r) → IsReady old e0 t now
+      → SaysLine answer mid new (told_line session (told_reply how (Some r))) → status_after r ≡ 0 → IsBehind new e1 session u tail now None → Turns how left_refused (left_task task) answer old new e0 e1 t now session u tail more
+  turns_told how reply result task old mid new e0 e1 t now session u tail more files files_are makes place may mark ended r is_said ready says status behind =
+      last_either answer is (λ (a : Result Left RunError). SaysLine a mid new (told_line session (told_reply how (Some r))) → Turns how left_refused (left_task task) a old new e0 e1 t now session u tail more)
+      (λ line. turns_said how reply result left_refused (left_task task) old mid new e0 e1 t now session u tail more files files_are makes place may mark ended r is_said {V = Left} {E = RunError} (Ok was_last) line ready was_last line.said (λ replied. status) (λ told. behind))
+      (λ e line. turns_unsaid how reply result left_refused (left_task task) old mid new e0 e1 t now session u tail more files files_are makes place may mark ended r is_said {V = Left} {E = RunError} (Err e) line ready (Err e) refl) says
+
+  -- nothing of it is left, and it needs nothing
+  pub last_falls : (now_task : Option Task) (task : Task) → 0 < task_left (Some task) → IfOk answer (λ left. task_left (left_task now_task left) < task_left (Some task))
+  last_falls now_task task some = last_either answer is (λ (a : Result Left RunError). IfOk a (λ left. task_left (left_task now_task left) < task_left (Some task))) some (λ e. tt)
+
+  pub last_fits : (now_task : Option Task) (session : ℕ) (held : Held) → IfOk answer (λ left. TaskFits session (left_task now_task left) held)
+  last_fits now_task session held = last_either answer is (λ (a : Result Left RunError). IfOk a (λ left. TaskFits session (left_task now_task left) held)) tt (λ e. tt)
 
 -- A turn that isn't refused ended early by a fault.
 pub turns_lost : {T S : Type 0} (how : Told) (reply : T → Option Reply) (refused : S → Bool) (task : S → Option Task) (old mid new : World) (e0 e1 : Held) (t : Trail) (now : Now) (session : ℕ) (u : Turn) (tail more : List Turn)

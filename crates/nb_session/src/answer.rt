@@ -1,5 +1,5 @@
 // A statement and the line of its reply.
-ghost use Rattle.std.specs.Prelude.{◌≡◌, ℕ, ◌-◌, List, [], ◌∷◌, None, Some, IsTrue};
+ghost use Rattle.std.specs.Prelude.{◌≡◌, ℕ, ◌-◌, List, [], ◌∷◌, None, Some, false, IsTrue, IfOk};
 ghost use Rattle.std.specs.List.{slice_index_or};
 ghost use Rattle.nb_host.specs.Causes.{CountsRun};
 ghost use Rattle.nb_change.specs.Gave.{GaveNothing};
@@ -10,6 +10,7 @@ ghost use Rattle.nb_model.specs.Run.{Now};
 ghost use Rattle.nb_model.specs.Trail.{Trail};
 ghost use Rattle.nb_script.specs.Asked.{IsFurther};
 ghost use Rattle.nb_session.specs.Askers.{IsOneTurn, KeepsOthers};
+ghost use Rattle.nb_session.specs.declared.task.Left.TheVariants.{Other};
 ghost use Rattle.nb_session.specs.Ready.{IsReady};
 ghost use Rattle.nb_session.specs.Replies.{is_refusal};
 ghost use Rattle.nb_session.specs.Says.{SaysLine};
@@ -17,6 +18,7 @@ ghost use Rattle.nb_session.specs.Steps.{Turns};
 ghost use Rattle.nb_session.specs.Told.{told_line, told_reply};
 
 use crate::statement::{do_statement, reply_to};
+use crate::task::{Left, Taken};
 use crate::told::Told;
 use nb_engine::Engine;
 use nb_host::{Host, RunError};
@@ -44,7 +46,7 @@ pub fn say<H: Host>(
 }
 
 /// Says what is told of a reply, if anything is.
-pub(crate) fn tell<H: Host>(
+fn tell<H: Host>(
     alloc: Global,
     host: &mut H,
     session: u32,
@@ -59,6 +61,25 @@ pub(crate) fn tell<H: Host>(
         Some(reply) => say(alloc, host, session, &reply),
         None => Ok(()),
     }
+}
+
+/// Says what is told of the reply to a statement of many turns, which is done with that.
+pub(crate) fn tell_last<H: Host>(
+    alloc: Global,
+    host: &mut H,
+    session: u32,
+    told: Told,
+    reply: Reply,
+) -> Result<Left, RunError>
+    ensures line { IsTrue H.tells → SaysLine result (H.world host.old) (H.world host.new) (told_line session (told_reply told (Some reply))) }
+    ensures left { IfOk result (λ left. left ≡ Other (record { task = None; refused = false })) }
+    ensures cause { CountsRun result (H.faults host.old) (H.faults host.new) }
+{
+    tell(alloc, host, session, told, reply)?;
+    Ok(Left::Other(Taken {
+        task: None,
+        refused: false,
+    }))
 }
 
 /// Whether the reply is a refusal.

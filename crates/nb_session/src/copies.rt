@@ -21,7 +21,7 @@ ghost use Rattle.nb_session.specs.declared.told.Told.{Told};
 ghost use Rattle.nb_session.specs.Ready.{IsReady, TaskGoes};
 ghost use Rattle.nb_session.specs.Steps.{Turns};
 
-use crate::answer::tell;
+use crate::answer::tell_last;
 use crate::merges::end_early;
 use crate::task::{Left, Taken, Task};
 use crate::told::Told;
@@ -182,19 +182,8 @@ pub fn copy_on<H: Host>(
         Progress::More => Ok(Left::Same),
         Progress::Finished => {
             stop_running(engine, session);
-            tell(
-                alloc,
-                host,
-                session,
-                told,
-                Reply::Pages {
-                    pages: copier.written(),
-                },
-            )?;
-            Ok(Left::Other(Taken {
-                task: None,
-                refused: false,
-            }))
+            let pages = copier.written();
+            tell_last(alloc, host, session, told, Reply::Pages { pages })
         }
     }
 }

@@ -18,7 +18,7 @@ ghost use Rattle.nb_session.specs.Ready.{IsReady, TaskGoes};
 ghost use Rattle.nb_session.specs.Says.{EndsEarly, SaysLine};
 ghost use Rattle.nb_session.specs.Steps.{Turns};
 
-use crate::answer::{say, tell};
+use crate::answer::{say, tell_last};
 use crate::task::{Left, Merging, Taken, Task};
 use crate::told::Told;
 use nb_engine::Engine;
@@ -149,11 +149,7 @@ pub fn merge_on<H: Host>(
         }
         Progress::Finished => {
             let reply = mem::replace(&mut merging.reply, Reply::Done);
-            tell(alloc, host, session, told, reply)?;
-            Ok(Left::Other(Taken {
-                task: None,
-                refused: false,
-            }))
+            tell_last(alloc, host, session, told, reply)
         }
     }
 }
