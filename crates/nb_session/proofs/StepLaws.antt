@@ -119,11 +119,11 @@ module _ {S : Type 0} (error : RunError) where
       by DeviceError is = is
       by MemoryError is = is
 
--- what is said of a call's fault is said of what ends early by it
-pub counts_as : (S : Type 0) (fault : Fault) (before after : ℕ) → CountsDevice {T = S} (Err fault) before after → CountsDevice {T = Taken} (Err fault) before after
-counts_as S (Refused refusal) before after is = is
-counts_as S Device before after is = is
-counts_as S Memory before after is = is
+-- what is said of a call's fault is said of another answer with it
+pub counts_as : (S T : Type 0) (fault : Fault) (before after : ℕ) → CountsDevice {T = S} (Err fault) before after → CountsDevice {T = T} (Err fault) before after
+counts_as S T (Refused refusal) before after is = is
+counts_as S T Device before after is = is
+counts_as S T Memory before after is = is
 
 -- what is under way comes first
 going_on : (asker : Asker) (task : Task) → asker.task ≡ Some task → todo_of asker ≡ task_first task ∷ (task_rest task ++ map Begins asker.statements)

@@ -55,4 +55,4 @@ returns-in-Err-clause-turn g c how now t more tells ready makes here =
     (subst (λ (f : Fault). StartsBackup (Err f) old mid a b t (file_asked it) (next_guid now.given) (first_turn (seen_now now) session it)) is (starts_told old mid a b t now session it asks ready (Err fault) starts asked.0 asked.2 told)) new)
 
 pub returns-in-Err-clause-cause : goal.returns-in-Err-clause-cause
-returns-in-Err-clause-cause g c = c.end_early.ensures.cause _ (counts_as Backed c.in-Err.fault _ _ c.in-Err.ensures.cause)
+returns-in-Err-clause-cause g c = c.end_early.ensures.cause _ (counts_as Backed Taken c.in-Err.fault _ _ c.in-Err.ensures.cause)

@@ -48,4 +48,4 @@ returns-in-Err-clause-turn g c how now t more tells ready makes here =
     (λ refusal is told. begin_refused old mid a b t now session name ready named refusal (subst (λ (f : Fault). StartsCopy (Err f) old mid a b t name (copy_turn (seen_now now) session name)) is starts) new)
 
 pub returns-in-Err-clause-cause : goal.returns-in-Err-clause-cause
-returns-in-Err-clause-cause g c = c.end_early.ensures.cause _ (counts_as Copying c.in-Err.fault _ _ c.in-Err.ensures.cause)
+returns-in-Err-clause-cause g c = c.end_early.ensures.cause _ (counts_as Copying Taken c.in-Err.fault _ _ c.in-Err.ensures.cause)

@@ -41,4 +41,4 @@ returns-in-Err-clause-turn g c how now t more tells ready makes here =
     (λ refusal is told. end_refused old mid a b t now session ready refusal (subst (λ (f : Fault). DoesEnd (Err f) old mid a b t (end_scn t.base.image) (end_turn (seen_now now) session)) is does) new)
 
 pub returns-in-Err-clause-cause : goal.returns-in-Err-clause-cause
-returns-in-Err-clause-cause g c = c.end_early.ensures.cause _ (counts_as ℕ c.in-Err.fault _ _ c.in-Err.ensures.cause)
+returns-in-Err-clause-cause g c = c.end_early.ensures.cause _ (counts_as ℕ Taken c.in-Err.fault _ _ c.in-Err.ensures.cause)

@@ -44,8 +44,8 @@ returns-in_ok-end_early-in-Err-clause-turn g c how now t more tells ready makes 
 pub returns-in_err-end_early-in-Err-clause-cause : goal.returns-in_err-end_early-in-Err-clause-cause
 returns-in_err-end_early-in-Err-clause-cause g c =
     counts_handed c.in_err-end_early-in-Err.field-0.0 Taken c.from_residual.result _ _ c.from_residual.ensures
-    (c.in_err-end_early-in-Err.ensures.cause _ (counts_as ℕ c.in-Err.fault _ _ c.in-Err.ensures.cause))
+    (c.in_err-end_early-in-Err.ensures.cause _ (counts_as ℕ Taken c.in-Err.fault _ _ c.in-Err.ensures.cause))
 
 pub returns-in_ok-end_early-in-Err-clause-cause : goal.returns-in_ok-end_early-in-Err-clause-cause
 returns-in_ok-end_early-in-Err-clause-cause g c =
-    c.in_ok-end_early-in-Err.ensures.cause (g.H.Host.faults c.args.host.now) (counts_as ℕ c.in-Err.fault _ _ c.in-Err.ensures.cause)
+    c.in_ok-end_early-in-Err.ensures.cause (g.H.Host.faults c.args.host.now) (counts_as ℕ Taken c.in-Err.fault _ _ c.in-Err.ensures.cause)
