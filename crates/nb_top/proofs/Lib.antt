@@ -40,6 +40,7 @@ pub mod CountedGuids
 pub mod JobLaws
 pub mod ToldLaws
 pub mod ChainRefusals
+pub mod TargetTurns
 pub mod RestoreTurns
 pub mod SureTargets
 pub mod FixTurns
