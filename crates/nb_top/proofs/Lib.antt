@@ -54,6 +54,7 @@ pub mod Fixed
 pub mod MergeTurns
 pub mod Merged
 pub mod GoesLaws
+pub mod GeneratedGoes
 pub mod ShownLaws
 pub mod FoldTurns
 pub mod Folded
