@@ -1,6 +1,6 @@
 -- One turn, by what it made of the database and by its line.
 use Rattle.std.proofs.Common.{◌≡◌, ◌<◌, ℕ, ◌-◌, List, [], ◌∷◌, ◌++◌, Bool, false, refl, sym, ap, subst, ◌∙◌}
-use Rattle.std.specs.Prelude.{true, Result, Ok, Err, IsErr, IsErrAnd, IfOk, Option, Some, None, if◌then◌else◌}
+use Rattle.std.specs.Prelude.{true, Result, Ok, Err, IsErr, IfOk, Option, Some, None, if◌then◌else◌}
 use Rattle.std.specs.List.{slice_index_or}
 use Rattle.std.proofs.lemmas.List.{append-nil}
 use Rattle.nb_host.specs.World.{World}
@@ -25,7 +25,6 @@ use Rattle.nb_model.proofs.TodoLaws.{IsSingle}
 use Rattle.nb_model.proofs.UsageLaws.{never_usage}
 use Rattle.nb_base.specs.Takes.{IsNoRefusal}
 use Rattle.nb_state.specs.Open.{Held}
-use Rattle.nb_change.proofs.ResultLaws.{passed_on}
 use Rattle.nb_session.specs.declared.task.Left.{Left}
 use Rattle.nb_session.specs.declared.task.Left.TheVariants.{Other}
 use Rattle.nb_session.specs.declared.task.Task.{Task}
@@ -220,18 +219,3 @@ module _ {T : Type 0} (how : Told) (reply : T → Option Reply) (old mid new : W
       turns_lost how reply (λ (x : Taken). x.refused) (λ (x : Taken). x.task) old mid new e0 e1 t now session (Begins it) [] more files files_are makes place Device tt may mark answer early answer (λ failed. failed)
   begun_ended Memory may mark answer early is behind =
       turns_lost how reply (λ (x : Taken). x.refused) (λ (x : Taken). x.task) old mid new e0 e1 t now session (Begins it) [] more files files_are makes place Memory tt may mark answer early answer (λ failed. failed)
-
--- A failure is handed on.
-module _ (error : RunError) (answer : Result Taken RunError) (handed : IsErr answer × IsErrAnd answer (λ e. e ≡ error)) where
-  pub handed_turns : {T : Type 0} (how : Told) (refused : T → Bool) (task : T → Option Task) (old new : World) (a b : Held) (t : Trail) (now : Now) (session : ℕ) (u : Turn) (tail more : List Turn)
-      → Turns how refused task (Err error) old new a b t now session u tail more → Turns how (λ taken. taken.refused) (λ taken. taken.task) answer old new a b t now session u tail more
-  handed_turns how refused task old new a b t now session u tail more turns =
-      subst (λ (r : Result Taken RunError). Turns how (λ taken. taken.refused) (λ taken. taken.task) r old new a b t now session u tail more) (sym (passed_on answer error handed)) (record {
-        grows = turns.grows;
-        plays = turns.plays;
-        unchanged = turns.unchanged;
-        behind = λ told. tt;
-      })
-
-  pub handed_none : (P : Taken → Type 0) → IfOk answer P
-  handed_none P = err_none answer P handed.0

@@ -9,7 +9,7 @@ ghost use Rattle.nb_model.specs.Outcomes.{Begins, Turn};
 ghost use Rattle.nb_model.specs.Run.{Now};
 ghost use Rattle.nb_model.specs.Trail.{Trail};
 ghost use Rattle.nb_script.specs.Asked.{IsFurther};
-ghost use Rattle.nb_session.specs.Askers.{IsOneTurn, KeepsOthers};
+ghost use Rattle.nb_session.specs.Askers.{IsOneTurn, KeepsOthers, TaskFits};
 ghost use Rattle.nb_session.specs.declared.task.Left.TheVariants.{Other};
 ghost use Rattle.nb_session.specs.Ready.{IsReady};
 ghost use Rattle.nb_session.specs.Replies.{is_refusal};
@@ -92,7 +92,7 @@ pub(crate) fn is_refusal(reply: &Reply) -> bool
     }
 }
 
-/// Does a statement in one turn and says what is told of its reply, and answers whether it was refused.
+/// Does a statement in one turn and says what is told of its reply. Then it is done.
 pub fn answer<H: Host>(
     alloc: Global,
     host: &mut H,
@@ -100,17 +100,21 @@ pub fn answer<H: Host>(
     session: u32,
     told: Told,
     statement: &Statement,
-) -> Result<bool, RunError>
+) -> Result<Taken, RunError>
     requires asked { IsFurther statement.now }
     requires single { IsOneTurn statement.now }
     ensures turn { (now : Now) (t : Trail) (more : List Turn) → IsTrue H.tells → IsReady (H.world host.old) engine.old t now → IsMaking now
         → slice_index_or now.todo (session - 1) [] ≡ Begins statement.now ∷ more
-        → Turns told (λ refused. refused) (λ refused. None) result (H.world host.old) (H.world host.new) engine.old engine.new t now session (Begins statement.now) [] more }
-    ensures others { (number : ℕ) → KeepsOthers number engine.old engine.new }
+        → Turns told (λ taken. taken.refused) (λ taken. taken.task) result (H.world host.old) (H.world host.new) engine.old engine.new t now session (Begins statement.now) [] more }
+    ensures fits { IfOk result (λ taken. TaskFits session taken.task engine.new) }
+    ensures others { KeepsOthers session engine.old engine.new }
     ensures cause { CountsRun result (H.faults host.old) (H.faults host.new) }
 {
     let reply = reply_to(do_statement(alloc, host, engine, statement))?;
     let refused = is_refusal(&reply);
     tell(alloc, host, session, told, reply)?;
-    Ok(refused)
+    Ok(Taken {
+        task: None,
+        refused,
+    })
 }
