@@ -1,5 +1,5 @@
 // A statement and the line of its reply.
-ghost use Rattle.std.specs.Prelude.{◌≡◌, ℕ, ◌-◌, List, [], ◌∷◌, None, Some, false, IsTrue, IfOk};
+ghost use Rattle.std.specs.Prelude.{◌≡◌, ◌-◌, List, [], ◌∷◌, None, Some, false, IsTrue, IfOk};
 ghost use Rattle.std.specs.List.{slice_index_or};
 ghost use Rattle.nb_host.specs.Causes.{CountsRun};
 ghost use Rattle.nb_change.specs.Gave.{GaveNothing};

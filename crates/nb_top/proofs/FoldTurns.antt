@@ -13,16 +13,15 @@ use Rattle.nb_model.specs.Run.{with_made}
 use Rattle.nb_fold.specs.Folding.{bytes_for, folded}
 use Rattle.nb_fold.specs.Verdict.{chained, fold_turn, fold_verdict, made_turn}
 use Rattle.nb_top.proofs.ChainRefusals.{refused_files}
-use Rattle.nb_top.proofs.TargetTurns.{IsRefused, Decided, refused, accepted, decided, never_usage}
+use Rattle.nb_top.proofs.TargetTurns.{IsRefused, TargetTurn, target_refused, target_turn, never_usage}
 
 -- why a fold is refused: the name of its file isn't free, or the files don't go on from one another
 abbrev pub WhyRefused : Files → Account → (out : List ℕ) (names : List (List ℕ)) → Refusal → Type 0
 WhyRefused files account out names refusal = IsRefused account out (chained files names) refusal
 
 -- The turn is refused, or it makes the file that the files are folded into.
-pub data FoldTurn (files : Files) (account : Account) (out : List ℕ) (names : List (List ℕ)) : Type 0 where
-  refuses : (refusal : Refusal) → WhyRefused files account out names refusal → fold_turn files account out names ≡ only_refusal refusal → FoldTurn files account out names
-  folds : (cs : List Contents) → is_free_entry (account.entry out) ≡ true → chained files names ≡ Ok cs → fold_turn files account out names ≡ made_turn out (folded cs) → FoldTurn files account out names
+abbrev pub FoldTurn : Files → Account → (out : List ℕ) (names : List (List ℕ)) → Type 0
+FoldTurn files account out names = TargetTurn (List Contents) account out (chained files names) (fold_turn files account out names) (λ cs. made_turn out (folded cs))
 
 module _ (files : Files) (account : Account) (out : List ℕ) (names : List (List ℕ)) where
   taken_turn : is_free_entry (account.entry out) ≡ false → fold_turn files account out names ≡ only_refusal (FileExists out)
@@ -35,8 +34,7 @@ module _ (files : Files) (account : Account) (out : List ℕ) (names : List (Lis
 
   -- it is refused
   pub refused_turn : (refusal : Refusal) → WhyRefused files account out names refusal → fold_turn files account out names ≡ only_refusal refusal
-  refused_turn refusal (inl taken) = taken_turn taken.0 ∙ ap only_refusal (sym taken.1)
-  refused_turn refusal (inr broken) = broken_turn refusal broken.0 broken.1
+  refused_turn = target_refused account out (chained files names) (fold_turn files account out names) (λ cs. made_turn out (folded cs)) taken_turn broken_turn
 
   -- it makes the file
   pub done_turn : (cs : List Contents) → is_free_entry (account.entry out) ≡ true → chained files names ≡ Ok cs → fold_turn files account out names ≡ made_turn out (folded cs)
@@ -45,11 +43,7 @@ module _ (files : Files) (account : Account) (out : List ℕ) (names : List (Lis
 
   -- There is nothing else that it may be.
   pub turn_is : FoldTurn files account out names
-  turn_is = by (decided account out (chained files names))
-    where
-      by : Decided (List Contents) account out (chained files names) → FoldTurn files account out names
-      by (refused refusal why) = refuses refusal why (refused_turn refusal why)
-      by (accepted cs free is) = folds cs free is (done_turn cs free is)
+  turn_is = target_turn account out (chained files names) (fold_turn files account out names) (λ cs. made_turn out (folded cs)) taken_turn broken_turn done_turn
 
   pub made_account : (c : Contents) → account_behind out (made_turn out c) account ≡ with_entry out (Plain (bytes_for c) None) account
   unfolding account_behind with_made

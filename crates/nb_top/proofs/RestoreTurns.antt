@@ -1,5 +1,5 @@
 -- The one turn of a restore: what it must be, and what stands after it.
-use Rattle.std.proofs.Common.{◌≡◌, ◌≢◌, inl, inr, ℕ, List, [], ◌∷◌, length, true, false, refl, sym, ap, ◌∙◌}
+use Rattle.std.proofs.Common.{◌≡◌, ◌≢◌, ℕ, List, [], ◌∷◌, length, true, false, refl}
 use Rattle.std.specs.Prelude.{None, Ok, Err}
 use Rattle.nb_host.specs.Files.{Files}
 use Rattle.nb_host.specs.declared.refusals.Refusal.{Refusal}
@@ -12,7 +12,7 @@ use Rattle.nb_model.specs.Restoring.{Link, verdict, applied}
 use Rattle.nb_model.specs.Run.{Event, account_after, with_made}
 use Rattle.nb_model.specs.Strokes.{make, fixed}
 use Rattle.nb_top.proofs.ChainRefusals.{refused_chain}
-use Rattle.nb_top.proofs.TargetTurns.{IsRefused, Decided, refused, accepted, decided, never_usage}
+use Rattle.nb_top.proofs.TargetTurns.{IsRefused, TargetTurn, target_refused, target_turn, never_usage}
 
 -- the turn that makes the database which these files give
 abbrev pub made_turn : List Link → Event
@@ -23,9 +23,8 @@ abbrev pub WhyRefused : Files → Account → (db : List ℕ) (names : List (Lis
 WhyRefused files account db names refusal = IsRefused account db (verdict files names) refusal
 
 -- The turn is refused, or it makes the database that the files give.
-pub data RestoreTurn (files : Files) (account : Account) (db : List ℕ) (names : List (List ℕ)) : Type 0 where
-  refuses : (refusal : Refusal) → WhyRefused files account db names refusal → restore_turn files account db names ≡ only_refusal refusal → RestoreTurn files account db names
-  restores : (links : List Link) → is_free_entry (account.entry db) ≡ true → verdict files names ≡ Ok links → restore_turn files account db names ≡ made_turn links → RestoreTurn files account db names
+abbrev pub RestoreTurn : Files → Account → (db : List ℕ) (names : List (List ℕ)) → Type 0
+RestoreTurn files account db names = TargetTurn (List Link) account db (verdict files names) (restore_turn files account db names) made_turn
 
 module _ (files : Files) (account : Account) (db : List ℕ) (names : List (List ℕ)) where
   taken_turn : is_free_entry (account.entry db) ≡ false → restore_turn files account db names ≡ only_refusal (FileExists db)
@@ -38,8 +37,7 @@ module _ (files : Files) (account : Account) (db : List ℕ) (names : List (List
 
   -- it is refused
   pub refused_turn : (refusal : Refusal) → WhyRefused files account db names refusal → restore_turn files account db names ≡ only_refusal refusal
-  refused_turn refusal (inl taken) = taken_turn taken.0 ∙ ap only_refusal (sym taken.1)
-  refused_turn refusal (inr broken) = broken_turn refusal broken.0 broken.1
+  refused_turn = target_refused account db (verdict files names) (restore_turn files account db names) made_turn taken_turn broken_turn
 
   -- it makes the database
   pub done_turn : (links : List Link) → is_free_entry (account.entry db) ≡ true → verdict files names ≡ Ok links → restore_turn files account db names ≡ made_turn links
@@ -48,11 +46,7 @@ module _ (files : Files) (account : Account) (db : List ℕ) (names : List (List
 
   -- There is nothing else that it may be.
   pub turn_is : RestoreTurn files account db names
-  turn_is = by (decided account db (verdict files names))
-    where
-      by : Decided (List Link) account db (verdict files names) → RestoreTurn files account db names
-      by (refused refusal why) = refuses refusal why (refused_turn refusal why)
-      by (accepted links free is) = restores links free is (done_turn links free is)
+  turn_is = target_turn account db (verdict files names) (restore_turn files account db names) made_turn taken_turn broken_turn done_turn
 
   pub made_account : (links : List Link) → account_behind db (made_turn links) account ≡ account_after db (make (fixed (applied links)) ∷ []) None account
   unfolding account_behind with_made
