@@ -48,7 +48,7 @@ returns-in_err-new-in-Get-clause-turn g c now t session tells ready =
 pub returns-in_ok-new-in-Get-clause-turn : goal.returns-in_ok-new-in-Get-clause-turn
 unfolding first_turn
 returns-in_ok-new-in-Get-clause-turn g c now t session tells ready =
-    does_replied valued (Ok c.in_ok-text-in-Get.text) (Ok (Value c.in_ok-new-in-Get.field-0)) (ap Value (c.in_ok-new-in-Get.ensures.ok ∙ c.as_slice-in-Get.ensures.value)) _ _ _ _ t now session c.args.statement.now _ c.in-Get.is refl refl refl _ refl ready
+    does_replied valued (Ok c.in_ok-text-in-Get.text) (Ok (Value c.in_ok-new-in-Get.field-0)) (ap Value (c.in_ok-new-in-Get.ensures.ok ∙ c.as_slice.ensures.value)) _ _ _ _ t now session c.args.statement.now _ c.in-Get.is refl refl refl _ refl ready
     (c.in_ok-text-in-Get.ensures.turn (seen_now now) t tells ready.base ready.opened)
 
 pub returns-in_err-rows-in-Scan-clause-turn : goal.returns-in_err-rows-in-Scan-clause-turn
