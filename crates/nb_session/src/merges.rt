@@ -1,5 +1,5 @@
 // The end of a backup, which takes many turns: one that ends the stalled state, one for each page that is merged, and a last one.
-ghost use Rattle.std.specs.Prelude.{◌≡◌, ◌<◌, ◌-◌, ℕ, List, [], ◌∷◌, ◌++◌, length, None, Some, Err, true, false, IsTrue, IfOk};
+ghost use Rattle.std.specs.Prelude.{◌≡◌, ◌<◌, ◌-◌, ℕ, List, [], ◌∷◌, length, None, Some, Err, true, false, IsTrue, IfOk};
 ghost use Rattle.std.specs.List.{slice_index_or};
 ghost use Rattle.nb_host.specs.Causes.{CountsDevice, CountsRun};
 ghost use Rattle.nb_change.specs.Gave.{GaveNothing};
@@ -10,13 +10,13 @@ ghost use Rattle.nb_model.specs.Lines.{line_text};
 ghost use Rattle.nb_model.specs.Outcomes.{Begins, Turn};
 ghost use Rattle.nb_model.specs.Run.{Now};
 ghost use Rattle.nb_model.specs.Trail.{Trail};
-ghost use Rattle.nb_session.specs.Askers.{KeepsOthers, TaskFits, left_refused, left_task, task_first, task_rest, task_left};
+ghost use Rattle.nb_session.specs.Askers.{KeepsOthers, TaskFits, left_task, task_left};
 ghost use Rattle.nb_session.specs.declared.task.Taken.{Taken};
 ghost use Rattle.nb_session.specs.declared.task.Task.TheVariants.{End, Merge};
 ghost use Rattle.nb_session.specs.declared.told.Told.{Told};
-ghost use Rattle.nb_session.specs.Ready.{IsReady, TaskGoes};
+ghost use Rattle.nb_session.specs.Ready.{IsReady};
 ghost use Rattle.nb_session.specs.Says.{EndsEarly, SaysLine};
-ghost use Rattle.nb_session.specs.Steps.{Turns};
+ghost use Rattle.nb_session.specs.Steps.{GoesFurther, Turns};
 
 use crate::answer::{say, tell_last};
 use crate::task::{Left, Merging, Taken, Task};
@@ -108,8 +108,7 @@ pub fn end_backup<H: Host>(
 ) -> Result<Left, RunError>
     requires fits { TaskFits session (Some (End reply.old)) engine.old }
     ensures turn { (told : Told) (now : Now) (t : Trail) (more : List Turn) → IsTrue H.tells → IsReady (H.world host.old) engine.old t now → IsMaking now
-        → slice_index_or now.todo (session - 1) [] ≡ task_first (End reply.old) ∷ (task_rest (End reply.old) ++ more) → TaskGoes session (H.world host.old) engine.old t.base.frozen (Some (End reply.old))
-        → Turns told left_refused (left_task (Some (End reply.new))) result (H.world host.old) (H.world host.new) engine.old engine.new t now session (task_first (End reply.old)) (task_rest (End reply.old)) more }
+        → GoesFurther told (Some (End reply.old)) (Some (End reply.new)) result (H.world host.old) (H.world host.new) engine.old engine.new t now session more }
     ensures falls { IfOk result (λ left. task_left (left_task (Some (End reply.new)) left) < task_left (Some (End reply.old))) }
     ensures fits { IfOk result (λ left. TaskFits session (left_task (Some (End reply.new)) left) engine.new) }
     ensures others { KeepsOthers session engine.old engine.new }
@@ -135,8 +134,7 @@ pub fn merge_on<H: Host>(
 ) -> Result<Left, RunError>
     requires fits { TaskFits session (Some (Merge merging.old)) engine.old }
     ensures turn { (now : Now) (t : Trail) (more : List Turn) → IsTrue H.tells → IsReady (H.world host.old) engine.old t now → IsMaking now
-        → slice_index_or now.todo (session - 1) [] ≡ task_first (Merge merging.old) ∷ (task_rest (Merge merging.old) ++ more)
-        → Turns told left_refused (left_task (Some (Merge merging.new))) result (H.world host.old) (H.world host.new) engine.old engine.new t now session (task_first (Merge merging.old)) (task_rest (Merge merging.old)) more }
+        → GoesFurther told (Some (Merge merging.old)) (Some (Merge merging.new)) result (H.world host.old) (H.world host.new) engine.old engine.new t now session more }
     ensures falls { IfOk result (λ left. task_left (left_task (Some (Merge merging.new)) left) < task_left (Some (Merge merging.old))) }
     ensures fits { IfOk result (λ left. TaskFits session (left_task (Some (Merge merging.new)) left) engine.new) }
     ensures others { KeepsOthers session engine.old engine.new }

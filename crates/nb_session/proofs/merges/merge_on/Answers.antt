@@ -17,7 +17,7 @@ use Rattle.nb_session.proofs.TurnLaws.{turns_failed, turns_quiet, turns_told, la
 use Rattle.nb_session.proofs.merges.merge_on.Goals as goal
 
 pub returns-in_err-merge_turn-clause-turn : goal.returns-in_err-merge_turn-clause-turn
-returns-in_err-merge_turn-clause-turn g c now t more tells ready makes here =
+returns-in_err-merge_turn-clause-turn g c now t more tells ready makes here goes_on =
     let old = g.H.Host.world c.args.host.now in
     let mid = g.H.Host.world c.merge_turn.new.host in
     let a = c.args.engine.now in
@@ -28,7 +28,7 @@ returns-in_err-merge_turn-clause-turn g c now t more tells ready makes here =
     c.from_residual.result c.from_residual.ensures.0
 
 pub returns-in-More-clause-turn : goal.returns-in-More-clause-turn
-returns-in-More-clause-turn g c now t more tells ready makes here =
+returns-in-More-clause-turn g c now t more tells ready makes here goes_on =
     let old = g.H.Host.world c.args.host.now in
     let mid = g.H.Host.world c.merge_turn.new.host in
     let a = c.args.engine.now in
@@ -41,7 +41,7 @@ returns-in-More-clause-turn g c now t more tells ready makes here =
     Same tt refl ready (λ said is. is) (λ told. more_behind c.args.session m.reply a b mid now m.left c.requires.fits.0 goes)
 
 pub returns-in-Finished-clause-turn : goal.returns-in-Finished-clause-turn
-returns-in-Finished-clause-turn g c now t more tells ready makes here =
+returns-in-Finished-clause-turn g c now t more tells ready makes here goes_on =
     let old = g.H.Host.world c.args.host.now in
     let mid = g.H.Host.world c.merge_turn.new.host in
     let new = g.H.Host.world c.tell_last.new.host in
