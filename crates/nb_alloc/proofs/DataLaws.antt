@@ -11,8 +11,8 @@ use Rattle.nb_model.specs.Causes.{when, not_kind}
 use Rattle.nb_model.specs.Chains.{owner_in}
 use Rattle.nb_model.proofs.HeaderLaws.{header-kind}
 use Rattle.nb_model.proofs.ReadLaws.{eq_yes}
+use Rattle.nb_model.proofs.StepLaws.{kind_parts}
 use Rattle.nb_alloc.specs.Data.{not_data}
-use Rattle.nb_alloc.proofs.PutLaws.{is_kind-parts}
 
 -- tests of the owner after tests of the kind
 by_kind : (kind owner : Bool) (r s : Refusal) → when (not kind) r ≡ Some s → when (not (kind && owner)) r ≡ Some s
@@ -36,7 +36,7 @@ module _ (image : Image) (owner p : ℕ) where
 
 -- page 0 of a database is none
 kind_of_header : (image : Image) → is_header (first_page image) ≡ true → is_kind image data_kind 0 ≡ true → ⊥
-kind_of_header image header is = absurd (omega (arith, (is_kind-parts image data_kind 0 is).1, header-kind (page_at image 0) header))
+kind_of_header image header is = absurd (omega (arith, (kind_parts image data_kind 0 is).1, header-kind (page_at image 0) header))
 
 header_none : (image : Image) → is_header (first_page image) ≡ true → not_kind image data_kind 0 ≡ Some (NotDatabase 0)
 header_none image header = by (is_kind image data_kind 0) refl

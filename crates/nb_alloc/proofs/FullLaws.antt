@@ -7,6 +7,7 @@ use Rattle.nb_fields.specs.Places.{is_page_size, entries_in, bits_in, is_invento
 use Rattle.nb_fields.proofs.PlaceLaws.{entries-least}
 use Rattle.nb_model.specs.Image.{image_scn}
 use Rattle.nb_model.specs.Forms.{Draft, wrote, written, needs, is_kind, scn_page_of, scn_entry, has_entry, entry_written, entry_raised, raised, put}
+use Rattle.nb_model.proofs.DraftLaws.{either}
 
 -- a system page stands at a multiple of the entries, or before one
 multiple : (size p : ℕ) → IsTrue (is_page_size size) → 3 ≤ p → is_system_place size p ≡ true → (k : ℕ) × ((p ≤ k * entries_in size) × (k * entries_in size ≤ p + 1))
@@ -54,21 +55,17 @@ three_apart size p is behind system = by (is_system_place size (p + 2)) refl
         absurd (apart (entries_in size) first.0 second.0 (omega arith) (omega arith) (omega arith))
 
 -- What reading and writing do to whether a page was left: nothing.
-chosen : (P : Draft → Type 0) (t : Bool) (x y : Draft) → P x → P y → P (elim t as (λ z. Draft) [ true ↦ x | false ↦ y ])
-chosen P true x y px py = px
-chosen P false x y px py = py
-
 pub needs_full : (kind p : ℕ) (d : Draft) → (needs kind p d).full ≡ d.full
 unfolding needs
-needs_full kind p d = chosen (λ (e : Draft). e.full ≡ d.full) (is_kind d.image kind p) _ _ refl refl
+needs_full kind p d = either (λ (e : Draft). e.full ≡ d.full) (is_kind d.image kind p) _ _ refl refl
 
 entry_full : (p : ℕ) (d : Draft) → (entry_raised p d).full ≡ d.full
 unfolding entry_raised entry_written written wrote
-entry_full p d = chosen (λ (e : Draft). e.full ≡ d.full) (nat_lt (scn_entry d.image p) (image_scn d.image)) _ _ refl refl
+entry_full p d = either (λ (e : Draft). e.full ≡ d.full) (nat_lt (scn_entry d.image p) (image_scn d.image)) _ _ refl refl
 
 raised_full : (p : ℕ) (d : Draft) → (raised p d).full ≡ d.full
 unfolding raised
-raised_full p d = chosen (λ (e : Draft). e.full ≡ d.full) (has_entry d.image p) _ _ (entry_full p _ ∙ needs_full 10 (scn_page_of d.image p) d) refl
+raised_full p d = either (λ (e : Draft). e.full ≡ d.full) (has_entry d.image p) _ _ (entry_full p _ ∙ needs_full 10 (scn_page_of d.image p) d) refl
 
 pub put_full : (p kind : ℕ) (payload : List ℕ) (d : Draft) → (put p kind payload d).full ≡ d.full
 unfolding put written wrote

@@ -1,6 +1,6 @@
 -- Making a page: its strokes and what they leave, and what is never refused where the inventories agree with the pages.
 use Rattle.std.proofs.Common.{◌≡◌, ◌≢◌, ℕ, ◌+◌, ◌-◌, ◌/◌, ◌<◌, ◌≤◌, List, [], ◌∷◌, ◌++◌, length, take, drop, replicate, refl, sym, ap, subst, ◌∙◌, arith}
-use Rattle.std.specs.Prelude.{Bool, true, false, not, ◌&&◌, ◌==◌, IsTrue, None, Result, Ok, IsErr, IsErrAnd, IfErr, max}
+use Rattle.std.specs.Prelude.{Bool, true, false, not, ◌==◌, IsTrue, None, Result, Ok, IsErr, IsErrAnd, IfErr, max}
 use Rattle.nb_fields.specs.Kinds.{code_of, inventory_kind}
 use Rattle.nb_fields.specs.declared.kinds.PageKind.{PageKind}
 use Rattle.nb_fields.specs.declared.kinds.PageKind.TheVariants.{Header, Inventory, Data, Raw, ScnInventory}
@@ -26,10 +26,11 @@ use Rattle.nb_model.proofs.StrokeLaws.{base_after-append, stroke_page, stroke_ot
 use Rattle.nb_model.proofs.SoundLaws.{with_page_length, inventory_there, inventory_place_some, scn_page_there, scn_place_some}
 use Rattle.nb_model.proofs.PutSound.{IsPlace}
 use Rattle.nb_model.proofs.NewSound.{inventory_before, places_apart}
-use Rattle.nb_model.proofs.ReadLaws.{lt_no, lt_yes}
+use Rattle.nb_model.proofs.ReadLaws.{lt_no}
 use Rattle.nb_model.proofs.FreshSound.{inventory_length, scn_length}
 use Rattle.nb_model.proofs.FitLaws.{IsWhole}
 use Rattle.nb_model.proofs.RoundLaws as rounds
+use Rattle.nb_model.proofs.StepLaws.{kind_parts}
 use Rattle.nb_base.specs.Takes.{after_strokes, IsNoRefusal}
 use Rattle.nb_state.specs.Open.{Held, IsOpen, but_pages}
 use Rattle.nb_state.specs.Does.{Makes, unless_by}
@@ -41,7 +42,7 @@ use Rattle.nb_alloc.specs.Find.{IsMap}
 use Rattle.nb_alloc.specs.Make.{IsWell, page_strokes, system_strokes, system_cause}
 use Rattle.nb_alloc.proofs.CauseLaws.{first_none, first_next}
 use Rattle.nb_alloc.proofs.DoesLaws.{tries_opened, tries_passed, tries_then}
-use Rattle.nb_alloc.proofs.PutLaws.{stroke_long, is_kind-parts, none_of, may_raise, raised_once, raised_not, no_entry_cause, entry_cause-is}
+use Rattle.nb_alloc.proofs.PutLaws.{stroke_long, none_of, may_raise, raised_once, raised_not, no_entry_cause, entry_cause-is}
 use Rattle.nb_alloc.proofs.PageLaws.{makes_one}
 use Rattle.nb_alloc.proofs.TestLaws.{kind_is}
 
@@ -150,7 +151,7 @@ module _ (b : Base) (p kind : ℕ) (payload : List ℕ) (none : entry_cause b.im
       let read : page_at paged.image q ≡ page_at b.image q = page_other q (λ e. absurd (omega (arith, e, before))) (map_apart b.image p q is place) in
       let first : page_at paged.image 0 ≡ page_at b.image 0 = page_other 0 (λ e. absurd (omega (arith, e, five))) (λ e. absurd (omega (arith, e, two))) in
       let same : inventory_of paged.image p ≡ q = ap (λ (s : ℕ). inventory_place s (p / bits_in s)) (ap size_of first) in
-      let parts = is_kind-parts b.image inventory_kind q (none_of (is_kind b.image inventory_kind q) (NotDatabase q) held.kind) in
+      let parts = kind_parts b.image inventory_kind q (none_of (is_kind b.image inventory_kind q) (NotDatabase q) held.kind) in
       let inside : q < length paged.image = omega (arith, before, page_long) in
       record {
         kind = ap (λ (r : ℕ). not_kind paged.image inventory_kind r) same ∙ kind_is paged.image inventory_kind q inside (ap kind_of read ∙ parts.1);
@@ -172,24 +173,10 @@ stamped_page image p code kind scn payload before now filled stamp same current 
     stamp ∙ ap (λ (k : ℕ). stamped before k (drop 16 before) scn p) same ∙ ap (λ (x : Page). stamped x kind (drop 16 x) scn p) filled
     ∙ stamped-with_payload (old_page p image) kind payload scn p room ∙ ap (λ (n : ℕ). stamped (old_page p image) kind payload n p) current
 
--- what page p is about to be written over
-pub old_below : (p : ℕ) (image : Image) → p < length image → old_page p image ≡ page_at image p
-unfolding old_page
-old_below p image low = ap (λ (t : Bool). elim t as (λ z. Page) [ true ↦ page_at image p | false ↦ replicate (image_size image) 0 ]) (lt_yes p (length image) low)
-
+-- zeros, where a page is added
 pub old_past : (p : ℕ) (image : Image) → length image ≤ p → old_page p image ≡ replicate (image_size image) 0
 unfolding old_page
 old_past p image far = ap (λ (t : Bool). elim t as (λ z. Page) [ true ↦ page_at image p | false ↦ replicate (image_size image) 0 ]) (lt_no p (length image) far)
-
--- whether there is a page of that kind
-module _ (image : Image) (kind p : ℕ) where
-  pub kind_below : p < length image → is_kind image kind p ≡ (kind_of (page_at image p) == kind)
-  unfolding is_kind
-  kind_below low = ap (λ (t : Bool). t && kind_of (page_at image p) == kind) (lt_yes p (length image) low)
-
-  pub kind_past_end : length image ≤ p → is_kind image kind p ≡ false
-  unfolding is_kind
-  kind_past_end far = ap (λ (t : Bool). t && kind_of (page_at image p) == kind) (lt_no p (length image) far)
 
 -- bytes that fill a page after its head
 pub filled_page : (old payload new : Page) → length payload ≡ length old - 16 → new ≡ take 16 old ++ payload → new ≡ with_payload old payload

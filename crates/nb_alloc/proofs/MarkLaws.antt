@@ -15,12 +15,13 @@ use Rattle.nb_model.specs.Image.{Page, Image, page_at, image_size, image_scn}
 use Rattle.nb_model.specs.Account.{Base}
 use Rattle.nb_model.specs.Strokes.{page}
 use Rattle.nb_model.specs.Forms.{Draft, drafted, put, set_bit, with_bit, is_kind, inventory_of, bit_number}
-use Rattle.nb_model.specs.Causes.{Cause, first_cause, not_kind, not_of_form, no_room}
+use Rattle.nb_model.specs.Causes.{Cause, not_kind, not_of_form, no_room}
 use Rattle.nb_model.proofs.BitLaws.{with_bit_length}
+use Rattle.nb_model.proofs.StepLaws.{kind_parts, needs_found}
 use Rattle.nb_alloc.specs.Put.{entry_cause, raise_strokes, put_stroke}
 use Rattle.nb_alloc.specs.Mark.{bit_for, mark_cause, bit_stroke, mark_stroke, mark_strokes}
-use Rattle.nb_alloc.proofs.CauseLaws.{first_next, first_here}
-use Rattle.nb_alloc.proofs.PutLaws.{Keeps, put_stroke-after, is_kind-parts, none_of, needs-found, put_strokes, put_form, put_room, put_refused}
+use Rattle.nb_alloc.proofs.CauseLaws.{first_next, first_here, one_cause}
+use Rattle.nb_alloc.proofs.PutLaws.{Keeps, put_stroke-after, none_of, put_strokes, put_form, put_room, put_refused}
 use Rattle.nb_alloc.proofs.RaiseLaws.{stamped-over}
 
 -- the bit that says whether a page is free
@@ -52,11 +53,6 @@ bit_stroke-is image place index bit scn old new is now made =
     ∙ ap (λ (x : Page). page place (stamped x inventory_kind (drop 16 (with_bit index bit x)) scn place)) is
     ∙ ap (λ (n : ℕ). page place (stamped (page_at image place) inventory_kind (drop 16 (with_bit index bit (page_at image place))) n place)) now
 
-one_cause : (c : Cause) → first_cause (c ∷ []) ≡ c
-unfolding first_cause
-one_cause None = refl
-one_cause (Some r) = refl
-
 module _ (b : Base) (p : ℕ) where
   abbrev place : ℕ
   place = inventory_of b.image p
@@ -70,10 +66,10 @@ module _ (b : Base) (p : ℕ) where
     found = none_of (is_kind b.image inventory_kind place) (NotDatabase place) form
 
     pub there : place < length b.image
-    there = (is_kind-parts b.image inventory_kind place found).0
+    there = (kind_parts b.image inventory_kind place found).0
 
     pub plain : kind_of (page_at b.image place) ≢ scn_kind
-    plain = λ e. absurd (omega (arith, e, (is_kind-parts b.image inventory_kind place found).1))
+    plain = λ e. absurd (omega (arith, e, (kind_parts b.image inventory_kind place found).1))
 
     -- then the SCN page decides
     pub mark_cause-is : mark_cause b.image p ≡ entry_cause b.image place
@@ -88,7 +84,7 @@ module _ (b : Base) (p : ℕ) where
 
       draft-is : draft ≡ put place inventory_kind payload (drafted b.image)
       unfolding set_bit
-      draft-is = ap (λ (d : Draft). put place inventory_kind payload d) (needs-found b.image 2 place found)
+      draft-is = ap (λ (d : Draft). put place inventory_kind payload d) (needs_found b.image 2 place found)
 
       -- the table refuses it by this alone, and asks for no page
       pub mark_form : not_of_form draft ≡ mark_cause b.image p

@@ -1,9 +1,9 @@
 -- The tests of a search for new pages at one page, each as a need that is met or not.
-use Rattle.std.proofs.Common.{◌≡◌, ◌≢◌, ℕ, ◌-◌, List, [], ◌∷◌, ◌++◌, length, refl, sym, ap, ◌∙◌}
+use Rattle.std.proofs.Common.{◌≡◌, ◌≢◌, ℕ, ◌-◌, ◌/◌, List, [], ◌∷◌, ◌++◌, length, refl, sym, ap, subst, ◌∙◌}
 use Rattle.std.specs.Prelude.{Bool, true, false, not, ◌==◌, ◌&&◌, nat_lt, IsTrue, Option, Some, None}
 use Rattle.std.proofs.lemmas.Bool.{true≢false}
-use Rattle.nb_fields.specs.Places.{is_page_size, is_inventory_place, is_scn_place, is_system_place, most_pages}
-use Rattle.nb_fields.specs.Kinds.{scn_kind}
+use Rattle.nb_fields.specs.Places.{is_page_size, bits_in, entries_in, is_inventory_place, is_scn_place, is_system_place, most_pages}
+use Rattle.nb_fields.specs.Kinds.{inventory_kind, scn_kind}
 use Rattle.nb_host.specs.declared.refusals.Refusal.{Refusal}
 use Rattle.nb_host.specs.declared.refusals.Refusal.TheVariants.{NotDatabase, Full}
 use Rattle.nb_model.specs.Image.{Image, image_size}
@@ -11,6 +11,7 @@ use Rattle.nb_model.specs.Forms.{is_kind, inventory_of, scn_page_of, has_entry, 
 use Rattle.nb_model.specs.Causes.{Cause, first_cause, when, not_kind}
 use Rattle.nb_model.proofs.ReadLaws.{eq_no, eq_yes}
 use Rattle.nb_model.proofs.NeedLaws.{first_behind, first_append, behind_none, behind_some, first_none}
+use Rattle.nb_model.proofs.SoundLaws.{inventory_there, scn_page_there}
 use Rattle.nb_model.proofs.NewSound.{plain_place, places_apart}
 use Rattle.nb_alloc.specs.Find.{need_cause}
 use Rattle.nb_model.specs.Way.{next_place, maps_up_to, maps_on, entry_on, map_entry_on, own_entry_on, needed_on, IsMadeBehind, same_made, made_here, IsFreshBehind, same_fresh, fresh_here}
@@ -186,3 +187,21 @@ made_plain x p made plain = same_made refl (λ at. absurd (true≢false (sym at 
 
 pub fresh_plain : (x : Image) (p fresh : ℕ) → is_system_place (image_size x) p ≡ false → IsFreshBehind x p fresh fresh
 fresh_plain x p fresh plain = same_fresh refl (λ at. absurd (true≢false (sym at ∙ (plain_place (image_size x) p plain).0)))
+
+-- Whether the system page of page p that was looked for at this place is there.
+module _ (x : Image) (size p place : ℕ) (there test : Bool) (same : size ≡ image_size x) (sized : IsTrue (is_page_size size)) (read : there ≡ is_kind x (system_kind x place) place) (is : there ≡ test) where
+  x_sized : IsTrue (is_page_size (image_size x))
+  x_sized = subst (λ (s : ℕ). IsTrue (is_page_size s)) same sized
+
+  of_kind : (kind q : ℕ) → place ≡ q → system_kind x q ≡ kind → is_kind x kind q ≡ test
+  of_kind kind q at kinds = ap (λ (n : ℕ). is_kind x n q) (sym kinds) ∙ ap (λ (r : ℕ). is_kind x (system_kind x r) r) (sym at) ∙ sym read ∙ is
+
+  -- its inventory page,
+  pub map_found : place ≡ inventory_of x p → is_kind x inventory_kind (inventory_of x p) ≡ test
+  map_found at = of_kind 2 (inventory_of x p) at (kind_map x (inventory_of x p) x_sized (inventory_there (image_size x) (p / bits_in (image_size x)) x_sized))
+
+  -- or the SCN page with its entry
+  pub entries_found : place ≡ scn_page_of x p → is_kind x scn_kind (scn_page_of x p) ≡ test
+  entries_found at =
+      let apart = no_map x (scn_page_of x p) x_sized (scn_page_there (image_size x) (p / entries_in (image_size x)) x_sized) in
+      of_kind 10 (scn_page_of x p) at (kind_entries x (scn_page_of x p) x_sized apart)

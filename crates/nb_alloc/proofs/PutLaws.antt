@@ -1,7 +1,7 @@
 -- A write of a page is its SCN entry first, where that is raised, and then the page.
 use Rattle.std.proofs.Common.{◌≡◌, ◌≢◌, inl, inr, ℕ, zero, suc, ◌+◌, ◌*◌, ◌/◌, ◌<◌, ◌≤◌, List, [], ◌∷◌, ◌++◌, length, drop, refl, sym, ap, subst, ◌∙◌, arith}
 use Rattle.std.specs.Prelude.{Bool, true, false, ◌&&◌, ◌||◌, ◌==◌, not, nat_lt, Some, None}
-use Rattle.std.proofs.lemmas.Bool.{and_parts, and_left, or_left, or_right, or_from, ltb-true, lt-ltb, eqb-true, eq-eqb, ne_eqb}
+use Rattle.std.proofs.lemmas.Bool.{and_parts, and_left, or_left, or_right, or_from, ltb-true, lt-ltb, eq-eqb, ne_eqb}
 use Rattle.std.proofs.lemmas.Bool.Decides.{leb_tells}
 use Rattle.std.proofs.lemmas.List.{length-set}
 use Rattle.nb_fields.specs.Bytes.{bytes_of, with_part}
@@ -16,7 +16,9 @@ use Rattle.nb_model.specs.Strokes.{Stroke, page, on_base, base_after, merged_pag
 use Rattle.nb_model.specs.Forms.{Draft, drafted, old_page, wrote, written, is_kind, needs, scn_page_of, entry_number, scn_entry, has_entry, entry_written, entry_raised, raised, put}
 use Rattle.nb_model.specs.Causes.{Cause, when, not_kind, lowest_broken, not_of_form, no_room}
 use Rattle.nb_model.proofs.StrokeLaws.{stroke_page, stroke_other}
+use Rattle.nb_model.proofs.StepLaws.{kind_parts, needs_found}
 use Rattle.nb_alloc.specs.Put.{entry_cause, must_raise, raise_stroke, raise_strokes, put_stroke}
+use Rattle.nb_alloc.proofs.BehindLaws.{page_alone}
 
 -- a page stroke below the length keeps the length
 pub length-with_page : (p : ℕ) (bytes : Page) (image : Image) → p < length image → length (with_page p bytes image) ≡ length image
@@ -28,13 +30,6 @@ length-with_page p bytes image low = elim (leb_tells (suc p) (length image)) [
 
 pub stroke_long : (b : Base) (p : ℕ) (bytes : Page) → p < length b.image → length (on_base (page p bytes) b).image ≡ length b.image
 stroke_long b p bytes low = ap length (stroke_page b p bytes) ∙ length-with_page p (merged_page p bytes b.image) b.image low
-
--- a page of that kind is below the length
-pub is_kind-parts : (image : Image) (kind p : ℕ) → is_kind image kind p ≡ true → (p < length image) × (kind_of (page_at image p) ≡ kind)
-unfolding is_kind
-is_kind-parts image kind p is =
-    let parts = and_parts (nat_lt p (length image)) (kind_of (page_at image p) == kind) is in
-    (ltb-true p (length image) parts.0, eqb-true (kind_of (page_at image p)) kind parts.1)
 
 -- no SCN page stands at page 0
 pub scn_place-some : (size k : ℕ) → 0 < entries_in size → 0 < scn_place size k
@@ -57,7 +52,7 @@ pub may_raise : (image : Image) (p : ℕ) → entry_cause image p ≡ None → m
 may_raise image p none must =
     let both = and_parts (has_entry image p) (nat_lt (scn_entry image p) (image_scn image)) must in
     let is : is_kind image scn_kind (scn_page_of image p) ≡ true = none_of (is_kind image scn_kind (scn_page_of image p)) (NotDatabase (scn_page_of image p)) (sym (there both.0) ∙ none) in
-    let parts = is_kind-parts image scn_kind (scn_page_of image p) is in
+    let parts = kind_parts image scn_kind (scn_page_of image p) is in
     record { has = both.0; is = is; low = parts.0; kind = parts.1; below = ltb-true (scn_entry image p) (image_scn image) both.1 }
   where
     there : has_entry image p ≡ true → entry_cause image p ≡ not_kind image scn_kind (scn_page_of image p)
@@ -110,9 +105,9 @@ put_stroke-after image after p kind payload keeps =
     ∙ ap (λ (first : Page). page p (stamped (page_at image p) kind payload (Rattle.nb_fields.specs.Header.scn_of first) p)) keeps.first
 
 -- the page's bytes before a stroke, where it is below the length
-old_page-is : (p : ℕ) (image : Image) → p < length image → old_page p image ≡ page_at image p
+pub old_below : (p : ℕ) (image : Image) → p < length image → old_page p image ≡ page_at image p
 unfolding old_page
-old_page-is p image low = rw (lt-ltb p (length image) low, old_page) refl
+old_below p image low = rw (lt-ltb p (length image) low, old_page) refl
 
 -- which pages have an entry, by the test of the place
 entry_by : (image : Image) (p : ℕ) (t : Bool) → (p == 0 || is_scn_place (image_size image) p) ≡ t → has_entry image p ≡ not t
@@ -148,12 +143,6 @@ pub record Raises (b : Base) (p : ℕ) (d : Draft) : Type 0 where
   pub broken : d.broken ≡ []
   pub full : d.full ≡ false
   pub image : d.image ≡ (base_after b (raise_strokes b.image p)).image
-
--- an inventory page that is of the form is found so
-pub needs-found : (image : Image) (kind p : ℕ) → is_kind image kind p ≡ true → needs kind p (drafted image) ≡ drafted image
-unfolding needs
-needs-found image kind p e =
-    ap (λ (t : Bool). elim t as (λ z. Draft) [ true ↦ drafted image | false ↦ record { image = image; strokes = []; broken = p ∷ []; full = false } ]) e
 
 -- the forms, by the tests that they make
 module _ (image : Image) (p : ℕ) where
@@ -215,7 +204,7 @@ written_draft b p none must =
     let may = may_raise b.image p none must in
     let q : ℕ = scn_page_of b.image p in
     let payload : List ℕ = raised_payload b.image p in
-    let old : old_page q b.image ≡ page_at b.image q = old_page-is q b.image may.low in
+    let old : old_page q b.image ≡ page_at b.image q = old_below q b.image may.low in
     let one : raise_strokes b.image p ≡ raise_stroke b.image p ∷ [] = raised_once b.image p must in
     record {
       strokes = ap (λ (x : Page). page q (stamped x scn_kind payload (image_scn b.image) q) ∷ []) old ∙ sym one;
@@ -234,19 +223,15 @@ draft_raised b p none = by (has_entry b.image p) (nat_lt (scn_entry b.image p) (
     by : (has low : Bool) → has_entry b.image p ≡ has → nat_lt (scn_entry b.image p) (image_scn b.image) ≡ low → Raises b p (raised p (drafted b.image))
     by false low e f = subst (Raises b p) (sym (raised-none b.image p e)) (kept_draft b p (not_raised b.image p e))
     by true false e f =
-        subst (Raises b p) (sym (raised-one b.image p e ∙ ap (entry_raised p) (needs-found b.image 10 (scn_page_of b.image p) (is e)) ∙ entry_raised-not b.image p f))
+        subst (Raises b p) (sym (raised-one b.image p e ∙ ap (entry_raised p) (needs_found b.image 10 (scn_page_of b.image p) (is e)) ∙ entry_raised-not b.image p f))
         (kept_draft b p (must_raise-is b.image p e ∙ f))
     by true true e f =
-        subst (Raises b p) (sym (raised-one b.image p e ∙ ap (entry_raised p) (needs-found b.image 10 (scn_page_of b.image p) (is e)) ∙ entry_raised-done b.image p f))
+        subst (Raises b p) (sym (raised-one b.image p e ∙ ap (entry_raised p) (needs_found b.image 10 (scn_page_of b.image p) (is e)) ∙ entry_raised-done b.image p f))
         (written_draft b p none (must_raise-is b.image p e ∙ f))
 
 none_broken : lowest_broken [] ≡ None
 unfolding lowest_broken
 none_broken = refl
-
-one_broken : (q : ℕ) → lowest_broken (q ∷ []) ≡ Some (NotDatabase q)
-unfolding lowest_broken
-one_broken q = refl
 
 -- what the short form of a page finds and does
 module _ (b : Base) (p kind : ℕ) (payload : List ℕ) where
@@ -277,7 +262,7 @@ module _ (b : Base) (p kind : ℕ) (payload : List ℕ) where
   put_strokes low plain some none =
       let d = draft_raised b p none in
       let keeps : Keeps b.image p so_far.image = subst (Keeps b.image p) (sym d.image) (raise_keeps b p none plain some) in
-      let old : old_page p so_far.image ≡ page_at so_far.image p = old_page-is p so_far.image (omega (arith, low, keeps.long)) in
+      let old : old_page p so_far.image ≡ page_at so_far.image p = old_below p so_far.image (omega (arith, low, keeps.long)) in
       made_strokes ∙ ap (λ (ss : List Stroke). ss ++ last ∷ []) d.strokes
       ∙ ap (λ (x : Page). raise_strokes b.image p ++ page p (stamped x kind payload (image_scn so_far.image) p) ∷ []) old
       ∙ ap (λ (s : Stroke). raise_strokes b.image p ++ s ∷ []) (put_stroke-after b.image so_far.image p kind payload keeps)
@@ -304,4 +289,4 @@ module _ (b : Base) (p kind : ℕ) (payload : List ℕ) where
       by true true e f = absurd (none_some (ap (λ (t : Bool). when (not t) (NotDatabase q)) (sym f) ∙ sym (entry_cause-is b.image p e) ∙ cause))
       by true false e f =
           ap lowest_broken (made_broken ∙ ap (λ (d : Draft). d.broken) (raised-one b.image p e) ∙ entry_raised-broken b.image p _ ∙ ap (λ (d : Draft). d.broken) (needs-broken b.image p f))
-          ∙ one_broken q ∙ ap (λ (t : Bool). when (not t) (NotDatabase q)) (sym f) ∙ sym (entry_cause-is b.image p e) ∙ cause
+          ∙ page_alone q ∙ ap (λ (t : Bool). when (not t) (NotDatabase q)) (sym f) ∙ sym (entry_cause-is b.image p e) ∙ cause

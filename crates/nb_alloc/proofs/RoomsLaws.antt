@@ -20,6 +20,7 @@ use Rattle.nb_model.proofs.DraftJoin.{joined, joined_new, join_new}
 use Rattle.nb_model.proofs.SearchLaws.{draft_cause, joined_cause}
 use Rattle.nb_model.proofs.StepLaws.{IsClear}
 use Rattle.nb_state.specs.Does.{Tested, WhereEnded}
+use Rattle.nb_state.proofs.MakesLaws.{where_ended}
 use Rattle.nb_alloc.specs.declared.behind.Behind.{Behind}
 use Rattle.nb_alloc.specs.Behind.{judged, entry_broken, behind_cause, page_if, IsKnown, Judges, EndsAlike}
 use Rattle.nb_alloc.specs.Data.{new_behind, second_data, unmade, unmade_behind}
@@ -33,12 +34,6 @@ use Rattle.nb_alloc.proofs.FullLaws.{put_full}
 use Rattle.nb_alloc.proofs.PutLaws.{no_entry_cause, entry_cause-is}
 use Rattle.nb_alloc.proofs.TestLaws.{applies, rests}
 
-held : {T : Type 0} (result : Result T Fault) (P : Type 0) → P → WhereEnded result P
-held (Ok value) P p = p
-held (Err (Refused r)) P p = p
-held (Err Device) P p = tt
-held (Err Memory) P p = tt
-
 pub not_lost : (t : Bool) → (t ≡ true → ⊥) → not t ≡ true
 not_lost false never = refl
 not_lost true never = absurd (never refl)
@@ -51,8 +46,8 @@ tested_where (Err Device) P cause ended told = tt
 tested_where (Err Memory) P cause ended told = tt
 
 pub ended_alike : {S T : Type 0} (found : Result S Fault) (result : Result T Fault) (P : Type 0) → EndsAlike found result → WhereEnded found P → WhereEnded result P
-ended_alike (Ok value) result P alike p = held result P p
-ended_alike (Err (Refused r)) result P alike p = held result P p
+ended_alike (Ok value) result P alike p = where_ended result P p
+ended_alike (Err (Refused r)) result P alike p = where_ended result P p
 ended_alike {T = T} (Err Device) result P alike p = subst (λ (x : Result T Fault). WhereEnded x P) (sym alike) tt
 ended_alike {T = T} (Err Memory) result P alike p = subst (λ (x : Result T Fault). WhereEnded x P) (sym alike) tt
 

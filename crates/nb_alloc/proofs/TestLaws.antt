@@ -58,26 +58,27 @@ pub kind_read : (head : PageHead) (page : Page) (image : Image) (p : ℕ) → he
 unfolding head_in
 kind_read head page image p read is = ap (λ (h : PageHead). h.kind) read ∙ ap kind_of is
 
+-- whether there is a page of that kind
 module _ (image : Image) (kind p : ℕ) where
-  is_kind-past : length image ≤ p → is_kind image kind p ≡ false
+  pub kind_past_end : length image ≤ p → is_kind image kind p ≡ false
   unfolding is_kind
-  is_kind-past far = ap (λ (t : Bool). t && kind_of (page_at image p) == kind) (lt_no p (length image) far)
+  kind_past_end far = ap (λ (t : Bool). t && kind_of (page_at image p) == kind) (lt_no p (length image) far)
 
-  is_kind-is : p < length image → is_kind image kind p ≡ (kind_of (page_at image p) == kind)
+  pub kind_below : p < length image → is_kind image kind p ≡ (kind_of (page_at image p) == kind)
   unfolding is_kind
-  is_kind-is low = ap (λ (t : Bool). t && kind_of (page_at image p) == kind) (lt_yes p (length image) low)
+  kind_below low = ap (λ (t : Bool). t && kind_of (page_at image p) == kind) (lt_yes p (length image) low)
 
   -- there is no page
   pub kind_past : length image ≤ p → not_kind image kind p ≡ Some (NotDatabase p)
-  kind_past far = applies _ _ (ap not (is_kind-past far))
+  kind_past far = applies _ _ (ap not (kind_past_end far))
 
   -- the page is of another kind
   pub kind_other : p < length image → kind_of (page_at image p) ≢ kind → not_kind image kind p ≡ Some (NotDatabase p)
-  kind_other low other = applies _ _ (ap not (is_kind-is low ∙ eq_no _ kind other))
+  kind_other low other = applies _ _ (ap not (kind_below low ∙ eq_no _ kind other))
 
   -- the page is of that kind
   pub kind_is : p < length image → kind_of (page_at image p) ≡ kind → not_kind image kind p ≡ None
-  kind_is low same = rests _ _ (ap not (is_kind-is low ∙ eq_yes _ kind same))
+  kind_is low same = rests _ _ (ap not (kind_below low ∙ eq_yes _ kind same))
 
 -- the place of the inventory page of page p
 pub inventory_place_is : (image : Image) (size p place k : ℕ) → place ≡ inventory_place size k → k ≡ p / bits_in size → size ≡ image_size image → place ≡ inventory_of image p
@@ -131,11 +132,11 @@ module _ (image : Image) (p : ℕ) where
   pub taken_other : (r : Refusal) → not_kind image inventory_kind (inventory_of image p) ≡ Some r → not_taken image p ≡ Some r
   taken_other r e = first_here _ _ r e
 
-  pub taken_free : (map : Page) (bit : ℕ) → ReadsBit image p map bit → get_or (bits map) bit 0 ≢ 0 → not_taken image p ≡ Some (NotAllocated p)
-  taken_free map bit reads some = first_next _ _ reads.form ∙ first_here _ [] _ (applies _ _ (free_read map bit reads some))
+  pub taken_free : not_kind image inventory_kind (inventory_of image p) ≡ None → is_free_page image p ≡ true → not_taken image p ≡ Some (NotAllocated p)
+  taken_free form free = first_next _ _ form ∙ first_here _ [] _ (applies _ _ free)
 
-  pub taken_is : (map : Page) (bit : ℕ) → ReadsBit image p map bit → get_or (bits map) bit 0 ≡ 0 → not_taken image p ≡ None
-  taken_is map bit reads none = first_next _ _ reads.form ∙ first_next _ [] (rests _ _ (used_read map bit reads none)) ∙ first_none
+  pub taken_is : not_kind image inventory_kind (inventory_of image p) ≡ None → is_free_page image p ≡ false → not_taken image p ≡ None
+  taken_is form used = first_next _ _ form ∙ first_next _ [] (rests _ _ used) ∙ first_none
 
   not_raw-below : p < length image → not_raw image p ≡ first_cause (untaken ++ system ∷ [])
   unfolding not_raw

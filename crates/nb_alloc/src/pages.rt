@@ -166,7 +166,7 @@ impl InventoryPage {
     }
 
     /// Whether bit `index` says that its page is used.
-    pub fn is_used(&self, index: u32) -> bool
+    pub(crate) fn is_used(&self, index: u32) -> bool
         requires { index < bits_in (length self.now) }
         ensures { IsTrue result ↔ (slice_index (bits self.now) index ≡ 0) }
     {

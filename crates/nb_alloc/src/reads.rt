@@ -1,11 +1,12 @@
 // Pages of an open database are read, and tested as far as a statement needs it. Nothing changes.
-ghost use Rattle.std.specs.Prelude.{◌≡◌, ◌≢◌, ◌+◌, ◌<◌, ◌≤◌, IsTrue, IfErr, OnOk, length};
-ghost use Rattle.nb_fields.specs.Kinds.{code_of};
+ghost use Rattle.std.specs.Prelude.{◌≡◌, ◌≢◌, ◌+◌, ◌<◌, ◌≤◌, IsTrue, IfErr, IfOk, OnOk, length};
+ghost use Rattle.nb_fields.specs.Kinds.{code_of, inventory_kind};
 ghost use Rattle.nb_fields.specs.Places.{is_page_size, most_pages};
 ghost use Rattle.nb_host.specs.declared.faults.Fault.TheVariants.{Memory};
 ghost use Rattle.nb_host.specs.Causes.{CountsDevice};
 ghost use Rattle.nb_page.specs.Quiet.{Quiet};
 ghost use Rattle.nb_model.specs.Causes.{not_kind, not_raw};
+ghost use Rattle.nb_model.specs.Forms.{inventory_of, is_free_page};
 ghost use Rattle.nb_model.specs.Trail.{Trail};
 ghost use Rattle.nb_state.specs.Open.{IsOpen, but_pages};
 ghost use Rattle.nb_state.specs.Does.{Tested};
@@ -90,6 +91,35 @@ pub fn read_data<H: Host>(
     Ok(())
 }
 
+/// Whether the inventory page of page `number` says that it is free. It takes one read at most, changes nothing but which pages are in memory,
+/// and wants no memory. The refusal is `NotDatabase` of the inventory page.
+pub fn is_free<H: Host>(
+    store: &mut Store,
+    host: &mut H,
+    number: u32,
+    map: &mut InventoryPage,
+) -> Result<bool, Fault>
+    requires room { length map.old ≡ store.old.files.page_size }
+    requires number { number < most_pages }
+    ensures test { (t : Trail) → IsTrue H.tells → IsOpen (H.world host.old) store.old t → Tested result (not_kind t.base.image inventory_kind (inventory_of t.base.image number)) }
+    ensures value { (t : Trail) → IsTrue H.tells → IsOpen (H.world host.old) store.old t → IfOk result (λ free. free ≡ is_free_page t.base.image number) }
+    ensures room { length map.new ≡ length map.old }
+    ensures open { (t : Trail) → IsTrue H.tells → IsOpen (H.world host.old) store.old t → IsOpen (H.world host.new) store.new t }
+    ensures same { but_pages store.new ≡ but_pages store.old }
+    ensures quiet { Quiet (H.world host.old) (H.world host.new) }
+    ensures once { IsTrue H.tells → (H.world host.new).reads ≤ (H.world host.old).reads + 1 }
+    ensures cause { CountsDevice result (H.faults host.old) (H.faults host.new) }
+    ensures takes_none { IfErr result (λ fault. fault ≢ Memory) }
+{
+    let page_size = store.page_size();
+    let (k, bit) = covers(page_size, number);
+    map.read(store, host, place_of(page_size, k))?;
+    if map.is_used(bit) {
+        return Ok(false);
+    }
+    Ok(true)
+}
+
 /// Tests that page `number` is taken. The refusals are `NotDatabase` of its inventory page, and `NotAllocated`.
 fn check_taken<H: Host>(
     store: &mut Store,
@@ -108,10 +138,8 @@ fn check_taken<H: Host>(
     ensures cause { CountsDevice result (H.faults host.old) (H.faults host.new) }
     ensures takes_none { IfErr result (λ fault. fault ≢ Memory) }
 {
-    let page_size = store.page_size();
-    let (k, bit) = covers(page_size, number);
-    map.read(store, host, place_of(page_size, k))?;
-    if !map.is_used(bit) {
+    let free = is_free(store, host, number, map)?;
+    if free {
         return Err(Fault::Refused(Refusal::NotAllocated { page: number }));
     }
     Ok(())

@@ -248,18 +248,6 @@ there name None e = absurd (some_none e)
 there name (Some bytes) e = record { bytes = bytes; is = refl }
 
 -- a file that has a length has so many bytes
-pub record IsLong (file : File) (long : ℕ) : Type 0 where
-  pub bytes : List ℕ
-  pub is : file ≡ Some bytes
-  pub same : length bytes ≡ long
-
-pub long_file : (file : File) (size : Option ℕ) (long : ℕ) → size ≡ option_map length file → size ≡ Some long → IsLong file long
-long_file (Some bytes) size long told is = record { bytes = bytes; is = refl; same = cc }
-long_file None size long told is = absurd (none_some long (sym told ∙ is))
-  where
-    none_some : (n : ℕ) → option_map (length {A = ℕ}) None ≡ Some n → ⊥
-    none_some n e = cc
-
 pub of_length : (file : File) (size : Option ℕ) (long : ℕ) (bytes : List ℕ) → size ≡ option_map length file → size ≡ Some long → file ≡ Some bytes → length bytes ≡ long
 of_length file size long bytes told is there = some_same (sym (ap (option_map length) there) ∙ sym told ∙ is)
   where

@@ -3,6 +3,7 @@ use Rattle.std.proofs.Common.{◌≡◌, ◌⊎◌, inl, inr, ⊎_elim, ℕ, zer
 use Rattle.std.specs.Prelude.{Bool, true, false, IsTrue, Option, Result, OnOk}
 use Rattle.std.proofs.lemmas.Bool.Decides.{leb_tells}
 use Rattle.std.proofs.lemmas.List.{get_or_append_left}
+use Rattle.std.proofs.lemmas.Result.{on_ok_weaker}
 use Rattle.nb_fields.specs.Header.{is_header, size_of, scn_of, guid_of}
 use Rattle.nb_fields.specs.States.{stalled_state}
 use Rattle.nb_host.specs.Files.{File, Files, bytes_of, with_file, with_page as with_page_at}
@@ -13,7 +14,6 @@ use Rattle.nb_host.specs.Moments.{IsTimely, Passes}
 use Rattle.nb_change.specs.Changes.{Changes, Only}
 use Rattle.nb_change.proofs.MomentLaws.{left_before}
 use Rattle.nb_change.proofs.NameLaws.{with_file-same}
-use Rattle.nb_change.proofs.ResultLaws.{on_ok_then}
 use Rattle.nb_change.proofs.CallLaws.{page_more, still_alone}
 use Rattle.nb_change.proofs.SettledLaws.{durable_is}
 use Rattle.nb_model.specs.Image.{Page, Image, first_page, image_size, image_scn, image_guid, written_at}
@@ -21,8 +21,9 @@ use Rattle.nb_model.specs.Strokes.{controlled, with_control}
 use Rattle.nb_model.proofs.HeaderLaws.{header-long, header-other, header-scn}
 use Rattle.nb_model.proofs.ImageLaws.{length-joined, page-joined}
 use Rattle.nb_model.proofs.MainLaws.{IsLaid, laid, some_page}
+use Rattle.nb_model.proofs.ControlLaws.{control_length, control_size}
 use Rattle.nb_base.specs.Control.{next_scn, next_guid, in_state, HasRoom, HasImage, IsImageOf, ControlLeft}
-use Rattle.nb_base.proofs.ControlLaws.{controlled-length, controlled-header, controlled-size}
+use Rattle.nb_base.proofs.ControlLaws.{controlled-header}
 use Rattle.nb_base.proofs.WrittenLaws.{HasMain, MayWrite, main_put, main_written, laid_formed, laid_image, main_sizes}
 
 -- a file that holds an image is laid so
@@ -91,10 +92,10 @@ module _ (image : Image) (m : File) (h : HasImage image m) (state : ℕ) (guid :
       let formed : is_header page ≡ true = ap is_header is ∙ controlled-header state _ _ sixteen (first_page image) long header low fits.0 fits.1 next_room in
       record {
         below = omega arith;
-        long = ap length is ∙ controlled-length state _ _ sixteen (first_page image) long ∙ main_sizes image h.bytes (laid_as image m h) 0 (some image m h);
+        long = ap length is ∙ control_length state _ _ (first_page image) long sixteen ∙ main_sizes image h.bytes (laid_as image m h) 0 (some image m h);
         other = header-other page formed;
         header = λ e. formed;
-        size = λ e. ap size_of is ∙ controlled-size state _ _ sixteen (first_page image) long;
+        size = λ e. ap size_of is ∙ control_size state _ _ (first_page image) long sixteen;
       }
 
   set_first : (x : Image) → 1 ≤ length x → written_at (image_size image) (0, page) x ≡ page ∷ drop 1 x
@@ -148,7 +149,7 @@ module _ (name : List ℕ) (image : Image) (state : ℕ) (guid : Option (List �
     -- and was kept for good
     pub block_done : {T E : Type 0} (tells : Bool) (result : Result T E) (mid written new : World) → IsTrue tells → IsImageOf mid name image
         → written.files ≡ with_file mid.files name (with_page_at (mid.files name) (0 * length page) page) → Syncs tells result written new name → OnOk result (IsImageOf new name (in_state state guid image))
-    block_done tells result mid written new told here put syncs = on_ok_then result
+    block_done tells result mid written new told here put syncs = on_ok_weaker result
         (λ durable. record {
           left = λ m left. subst (λ (x : File). HasImage (in_state state guid image) x) (sym (durable_is new name (written.files name) durable m left)) stands;
           reads = subst (λ (f : Files). HasImage (in_state state guid image) (f name)) (sym syncs.still.files) stands;

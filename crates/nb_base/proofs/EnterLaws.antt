@@ -28,17 +28,15 @@ use Rattle.nb_model.proofs.BehindLaws.{way_left, enter_left}
 use Rattle.nb_model.proofs.OwnerLaws.{named}
 use Rattle.nb_model.proofs.TrailLaws.{itself_firm}
 use Rattle.nb_model.proofs.WayLaws.{same_pages}
+use Rattle.nb_model.proofs.OverLaws.{owned_length, owned_at}
 use Rattle.nb_base.specs.Open.{Held, IsOpen}
 use Rattle.nb_base.specs.Going.{StandsAs, HasPageIn, IsSlotted, GoesIn}
 use Rattle.nb_base.proofs.MergingLaws.{entry_named}
-use Rattle.nb_base.proofs.OwnedLaws.{Holds, holds, shows, base-length, base-page, base-state, base-size, owned-length, owned-page, owned-entry, owned-none, entry-front, entry-behind, entry-first, entry-later, later, slots_stay}
+use Rattle.nb_base.proofs.OwnedLaws.{Holds, holds, shows, base-length, base-page, base-state, base-size, owned-entry, owned-none, entry-front, entry-behind, entry-first, entry-later, later, slots_stay, some_same, none_some}
 use Rattle.nb_base.proofs.StateLaws.{same_main}
 use Rattle.nb_base.proofs.StepLaws.{delta_moved}
 use Rattle.nb_base.proofs.WriteLaws.{main_apart, delta_apart}
 use Rattle.nb_base.proofs.WrittenLaws.{HasMain}
-
-some_same : {j k : ℕ} → Some j ≡ Some k → j ≡ k
-some_same h = cc
 
 -- no page stands past the end
 page_past : (image : Image) (p : ℕ) → length image ≤ p → page_at image p ≡ []
@@ -174,14 +172,14 @@ module _ (w : World) (reads : (n : List ℕ) → Leaves w n (w.files n)) (held :
     long =
         let most = behind_most (length t.base.image) all low in
         let more = behind_more table front in
-        omega (arith, owned-length (image_size h.main) h.main (bytes_of c) all, most, more, r_long, is.long)
+        omega (arith, owned_length (image_size h.main) h.main (bytes_of c) all, most, more, r_long, is.long)
 
     slot_is : (p k : ℕ) → owned_slot (image_size h.main) h.main (bytes_of c) p k ≡ owned_slot (image_size h.main) h.main (bytes_of d) p k
     slot_is p k = slot_same (image_size h.main) h.main (bytes_of d) (bytes_of c) p k (subst (λ n. page_in n (bytes_of c) (slot_place n k) ≡ page_in n (bytes_of d) (slot_place n k)) (sym h_size) (slots k))
 
     at_entry : (p k : ℕ) → entry_for p (f.base.diverted ++ front) ≡ Some k → page_at (owned (image_size h.main) h.main (bytes_of c) (f.base.diverted ++ front)) p ≡ owned_slot (image_size h.main) h.main (bytes_of d) p k
     at_entry p k e =
-        owned-page (image_size h.main) h.main (bytes_of c) all p (omega (arith, low p k e, long)) ∙ owned-entry (image_size h.main) h.main (bytes_of c) all p k e ∙ slot_is p k
+        owned_at (image_size h.main) h.main (bytes_of c) all p (omega (arith, low p k e, long)) ∙ owned-entry (image_size h.main) h.main (bytes_of c) all p k e ∙ slot_is p k
 
     of_entry : (p k : ℕ) → entry_for p (f.base.diverted ++ front) ≡ Some k → page_at (owned (image_size h.main) h.main (bytes_of c) (f.base.diverted ++ front)) p ≡ page_at t.base.image p
     of_entry p k e = either p k e (page_at entered.image p ≡ page_at t.base.image p)
@@ -197,7 +195,7 @@ module _ (w : World) (reads : (n : List ℕ) → Leaves w n (w.files n)) (held :
     of_none p e = elim (leb_tells (suc p) (length t.base.image)) [
       | inl v ↦
           let inside : p < length r.image = omega (arith, v.1, is.long) in
-          owned-page (image_size h.main) h.main (bytes_of c) all p (omega (arith, v.1, long)) ∙ owned-none (image_size h.main) h.main (bytes_of c) all p e
+          owned_at (image_size h.main) h.main (bytes_of c) all p (omega (arith, v.1, long)) ∙ owned-none (image_size h.main) h.main (bytes_of c) all p e
           ∙ sym (base-page r m d h p inside ∙ owned-none (image_size h.main) h.main (bytes_of d) r.diverted p (ap (entry_for p) is.diverted ∙ none_front))
           ∙ is.others p none_front
       | inr v ↦ page_past entered.image p (omega (arith, v.1, long)) ∙ sym (page_past f.base.image p (omega (arith, v.1, goes.behind.long)))
@@ -206,9 +204,6 @@ module _ (w : World) (reads : (n : List ℕ) → Leaves w n (w.files n)) (held :
         none_front : entry_for p f.base.diverted ≡ None
         none_front = by (entry_for p table) refl
           where
-            none_some : {k : ℕ} → None ≡ Some k → ⊥
-            none_some h = cc
-
             by : (x : Option ℕ) → entry_for p table ≡ x → entry_for p table ≡ None
             by None at = at
             by (Some k) at = absurd (none_some (sym e ∙ entry-front p table front k at))

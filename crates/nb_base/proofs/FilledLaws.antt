@@ -24,7 +24,7 @@ use Rattle.nb_base.specs.Takes.{StrikesFirm}
 use Rattle.nb_base.proofs.AgreeLaws.{open_seen, seen_open}
 use Rattle.nb_base.proofs.AttachLaws.{last_other}
 use Rattle.nb_base.proofs.MergingLaws.{seen_still, struck_quiet}
-use Rattle.nb_base.proofs.OwnedLaws.{Holds, owned-none, entry-first, entry-later, later, main-some, base-length, base-page}
+use Rattle.nb_base.proofs.OwnedLaws.{Holds, owned-none, entry-first, entry-later, later, main-some, base-length, base-page, none_some}
 use Rattle.nb_base.proofs.StrokeLaws.{h0}
 
 -- The image has so many pages or fewer.
@@ -65,9 +65,6 @@ greatest (q ∷ qs) some = elim (leb_tells (behind_entries qs) (q + 1)) [
   where
     by : IsGreatest qs → q + 1 < behind_entries qs → IsGreatest (q ∷ qs)
     by g above = record { page = g.page; entry = suc g.entry; at = entry-later g.page q qs (λ e. absurd (omega (arith, e, above, g.last))) ∙ ap later g.at; last = omega (arith, g.last, above) }
-
-none_some : {k : ℕ} → None ≡ Some k → ⊥
-none_some e = cc
 
 -- Where no entry names the last page it is the main file's, which isn't zeros.
 pub none_cut : (old : World) (held : Held) (t : Trail) → IsOpen old held t → entry_for (held.count - 1) held.entries ≡ None → held.count ≡ length (trimmed t.base.image)

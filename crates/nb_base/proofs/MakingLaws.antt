@@ -3,6 +3,7 @@ use Rattle.std.proofs.Common.{◌≡◌, ◌≢◌, ◌⊎◌, inl, inr, ⊎_eli
 use Rattle.std.specs.Prelude.{Bool, true, IsTrue, ◌||◌, ◌==◌, Some, None, Result, Ok, Err, OnOk}
 use Rattle.std.proofs.lemmas.Bool.{and_parts, and_from}
 use Rattle.std.proofs.lemmas.List.{take-append-le, take-take, length-take-le, length-replicate}
+use Rattle.std.proofs.lemmas.Result.{on_ok_weaker}
 use Rattle.nb_fields.specs.Bytes.{is_zeros}
 use Rattle.nb_fields.specs.Fresh.{fresh, fresh_count, fresh_page}
 use Rattle.nb_fields.specs.Places.{is_page_size}
@@ -16,7 +17,6 @@ use Rattle.nb_change.specs.Changes.{Changes, Only}
 use Rattle.nb_change.specs.Gave.{GaveNothing}
 use Rattle.nb_change.proofs.MomentLaws.{untouched_fewer}
 use Rattle.nb_change.proofs.NameLaws.{whole-other}
-use Rattle.nb_change.proofs.ResultLaws.{on_ok_then}
 use Rattle.nb_change.proofs.ChangesLaws.{begun, one_more, still_more}
 use Rattle.nb_change.proofs.SettledLaws.{durable_is}
 use Rattle.nb_model.specs.Image.{Image}
@@ -204,7 +204,7 @@ synced_reads tells result old mid new name image reads is = subst (CreateReads o
 -- after the last sync nothing but the new database is left
 pub settled : {T E : Type 0} (tells : Bool) (result : Result T E) (old mid written new : World) (name : List ℕ) (size raw : ℕ) (page : List ℕ) → IsTrue tells → page ≡ fresh_page size raw 0 → KeepsRest old mid name size raw
     → written.files ≡ with_file mid.files name (with_page (mid.files name) (0 * length page) page) → Syncs tells result written new name → OnOk result (IsSettled new name (base_of (fresh size raw)))
-settled tells result old mid written new name size raw page so page_is kept put is = on_ok_then result by (is.durable so)
+settled tells result old mid written new name size raw page so page_is kept put is = on_ok_weaker result by (is.durable so)
   where
     reads : written.files name ≡ with_page kept.file (0 * length page) page
     reads = named mid.files written.files name _ put ∙ ap (λ (x : File). with_page x (0 * length page) page) kept.reads

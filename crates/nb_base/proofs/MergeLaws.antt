@@ -15,9 +15,10 @@ use Rattle.nb_model.proofs.MainLaws.{IsLaid}
 use Rattle.nb_model.proofs.OwnerLaws.{main_here, main_past}
 use Rattle.nb_model.proofs.SoundLaws.{all_at}
 use Rattle.nb_model.proofs.TrimLaws.{trimmed_alike}
+use Rattle.nb_model.proofs.HeadSound.{all_zeros}
 use Rattle.nb_base.specs.Open.{Held, IsMerged}
 use Rattle.nb_base.proofs.OwnedLaws.{Holds, owned-entry, owned-none, entry_at, main-some, base-length, base-page}
-use Rattle.nb_base.proofs.WrittenLaws.{laid_image, zeros_is}
+use Rattle.nb_base.proofs.WrittenLaws.{laid_image}
 
 -- A page of the main file, as its bytes have it.
 module _ (main : Image) (bytes : List ℕ) (l : IsLaid main bytes) where
@@ -37,7 +38,7 @@ module _ (main : Image) (bytes : List ℕ) (l : IsLaid main bytes) where
       let at : page_at (main ++ l.rest) p ≡ page_at l.rest k = get_or-append_right main l.rest (length main) p [] refl past in
       let inside : k < length l.rest = omega (arith, past, low, length-append main l.rest) in
       let size : length (page_at l.rest k) ≡ image_size main = all_at (λ page. length page ≡ image_size main) l.rest (all-right (λ page. length page ≡ image_size main) main l.rest l.sizes) k inside in
-      at ∙ zeros_is (page_at l.rest k) (all_at (λ page. is_zeros page ≡ true) l.rest l.zeros k inside) ∙ ap (λ n. replicate n 0) size
+      at ∙ all_zeros (page_at l.rest k) (all_at (λ page. is_zeros page ≡ true) l.rest l.zeros k inside) ∙ ap (λ n. replicate n 0) size
 
   pub page_in-main : (p : ℕ) → page_in (image_size main) bytes p ≡ main_page (image_size main) main p
   page_in-main p = elim (leb_tells (suc p) (length main)) [

@@ -1,8 +1,7 @@
 -- Entries that are equal in both files stay so, whatever page is written in the merge state.
-use Rattle.std.proofs.Common.{◌≡◌, ◌≢◌, inl, inr, ℕ, zero, suc, ◌+◌, ◌*◌, ◌<◌, ◌≤◌, List, [], ◌∷◌, length, get_or, drop, refl, sym, ap, subst, ◌∙◌, arith}
-use Rattle.std.specs.Prelude.{false, IsTrue, nat_eq, Some, None, slice_index}
-use Rattle.std.specs.List.{AllByRecursion, IsDistinct}
-use Rattle.std.proofs.lemmas.Bool.{true≢false}
+use Rattle.std.proofs.Common.{◌≡◌, ◌≢◌, inl, inr, ℕ, ◌+◌, ◌*◌, ◌<◌, ◌≤◌, List, length, drop, refl, sym, ap, subst, ◌∙◌, arith}
+use Rattle.std.specs.Prelude.{IsTrue, nat_eq, Some, None, slice_index}
+use Rattle.std.specs.List.{IsDistinct}
 use Rattle.std.proofs.lemmas.Bool.Decides.{eqb_tells}
 use Rattle.nb_fields.specs.Places.{is_page_size}
 use Rattle.nb_fields.specs.Table.{page_in}
@@ -22,28 +21,11 @@ use Rattle.nb_model.proofs.OwnerLaws.{main_here, other_page, written_length}
 use Rattle.nb_base.specs.Open.{Held, IsMerged, AreMerged}
 use Rattle.nb_base.specs.Seen.{IsSeen, IsWrite}
 use Rattle.nb_base.proofs.WrittenLaws.{HasMain, MayWrite, main_put, laid_image, written_same}
-use Rattle.nb_base.proofs.OwnedLaws.{Holds, holds, base-state, base-size, later, entry-first, entry-later}
+use Rattle.nb_base.proofs.OwnedLaws.{Holds, holds, base-state, base-size, later, some_same, none_some}
 use Rattle.nb_base.proofs.StepLaws.{may}
 use Rattle.nb_base.proofs.WriteLaws.{delta_apart, main_apart}
+use Rattle.nb_base.proofs.MergingLaws.{entry_named}
 use Rattle.nb_change.proofs.NameLaws.{with_file-same, with_file-other}
-
--- each entry of a table is that of its page
-apart_at : (x : ℕ) (xs : List ℕ) (k : ℕ) → AllByRecursion (λ y. nat_eq x y ≡ false) xs → k < length xs → get_or xs k 0 ≢ x
-apart_at x [] k are inside = absurd (omega (arith, inside))
-apart_at x (y ∷ ys) zero are inside = λ e. elim (eqb_tells x y) [ inl w ↦ absurd (true≢false (sym w.0 ∙ are.0)) | inr w ↦ w.1 (sym e) ]
-apart_at x (y ∷ ys) (suc k) are inside = apart_at x ys k are.1 (omega (arith, inside))
-
-own_entry : (xs : List ℕ) (k : ℕ) → IsDistinct nat_eq xs → k < length xs → entry_for (get_or xs k 0) xs ≡ Some k
-unfolding IsDistinct
-own_entry [] k are inside = absurd (omega (arith, inside))
-own_entry (x ∷ xs) zero are inside = entry-first x x xs refl
-own_entry (x ∷ xs) (suc k) are inside = entry-later (get_or xs k 0) x xs (apart_at x xs k are.0 (omega (arith, inside))) ∙ ap later (own_entry xs k are.1 (omega (arith, inside)))
-
-some_same : {j k : ℕ} → Some j ≡ Some k → j ≡ k
-some_same h = cc
-
-none_some : {k : ℕ} → None ≡ Some k → ⊥
-none_some h = cc
 
 -- the table of a difference file names no page twice
 table_apart : (size : ℕ) (file : File) (table : List ℕ) → IsTrue (is_page_size size) → HasTable size file table → IsDistinct nat_eq table
@@ -115,13 +97,13 @@ module _ (old new : World) (held : Held) (t : Trail) (p : ℕ) (bytes : Page) (i
   pub plain_merged : entry_for p held.entries ≡ None → new.files (delta_name held.name) ≡ old.files (delta_name held.name) → (k : ℕ) → AreMerged old held k → AreMerged new held k
   plain_merged none beside k merged j low inside =
       other_merged held old.files new.files h.main p bytes h.has (may t p bytes is t.base (itself_firm t) (old.files held.name) (old.files (delta_name held.name)) h) size_is put j
-      (λ same. none_some (sym none ∙ ap (λ n. entry_for n held.entries) (sym same) ∙ own_entry held.entries j apart inside))
+      (λ same. none_some (sym none ∙ ap (λ n. entry_for n held.entries) (sym same) ∙ entry_named held.entries j apart inside))
       (ap (λ (f : File). slot_page held.page_size f j) beside) (merged j low inside)
 
   pub both_merged : (i : ℕ) → entry_for p held.entries ≡ Some i → SlotPut held.page_size i bytes (old.files (delta_name held.name)) (new.files (delta_name held.name)) → (k : ℕ) → AreMerged old held k → AreMerged new held k
   both_merged i at slot k merged j low inside = elim (eqb_tells (slice_index held.entries j) p) [
     | inl w ↦
-        let same : j ≡ i = some_same (sym (own_entry held.entries j apart inside) ∙ ap (λ n. entry_for n held.entries) w.1 ∙ at) in
+        let same : j ≡ i = some_same (sym (entry_named held.entries j apart inside) ∙ ap (λ n. entry_for n held.entries) w.1 ∙ at) in
         own_merged held old.files new.files h.main p bytes h.has (may t p bytes is t.base (itself_firm t) (old.files held.name) (old.files (delta_name held.name)) h) size_is put j w.1
         (ap (slot_page held.page_size (new.files (delta_name held.name))) same ∙ slot.slot)
     | inr w ↦

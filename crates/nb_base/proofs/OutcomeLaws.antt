@@ -14,12 +14,9 @@ use Rattle.nb_model.specs.Trail.{Trail, after_stroke, IsFirm}
 use Rattle.nb_base.specs.Firm.{must_sync, StandsFirmOn}
 use Rattle.nb_model.proofs.TrailLaws.{itself_firm, trail_base}
 use Rattle.nb_base.specs.Seen.{IsWrite}
-use Rattle.nb_base.proofs.OwnedLaws.{Holds, holds, shows, main-some, main-long, base-state, base-size, entry_shows, entry-front, entry-behind}
+use Rattle.nb_base.proofs.OwnedLaws.{Holds, holds, shows, main-some, main-long, base-state, base-size, entry_shows, entry-front, entry-behind, some_same}
 use Rattle.nb_base.proofs.LeftLaws.{stroke-image, stroke-frozen, stroke-stalled, noted-new, later_size, later_length, later_front, put_left, stay_left}
 use Rattle.nb_base.proofs.StepLaws.{main-state, main-size, holds_main, left_main, holds_slots, holds_slot, none_left}
-
-some_same : {j k : ℕ} → Some j ≡ Some k → j ≡ k
-some_same h = cc
 
 same_table : (xs ys : List ℕ) (found : Result (List ℕ) ℕ) → found ≡ Ok xs → found ≡ Ok ys → xs ≡ ys
 same_table xs ys found e f = cc

@@ -16,7 +16,7 @@ use Rattle.nb_model.specs.Sound.{IsOfSize}
 use Rattle.nb_model.specs.Causes.{Cause, not_database}
 use Rattle.nb_model.specs.Account.{Base, base_of}
 use Rattle.nb_model.specs.Strokes.{merged_page}
-use Rattle.nb_model.specs.Owner.{entry_for, behind_entries, slot_page, main_page, owned_page, owned_from, owned, diverted_base, owner_with, owner_in, owner}
+use Rattle.nb_model.specs.Owner.{entry_for, behind_entries, slot_page, main_page, owned_page, owned, diverted_base, owner_with, owner_in, owner}
 use Rattle.nb_model.proofs.FormLaws.{formed}
 use Rattle.nb_model.proofs.HeaderLaws.{header-long, header-state, same-header, same-number}
 use Rattle.nb_model.proofs.MainLaws.{laid, laid-front, laid-wide, some_page, owner-none, owner-refused, owner-formed, owner_in-normal, owned-first, owned-front, ok_same}
@@ -25,32 +25,15 @@ use Rattle.nb_model.proofs.SoundLaws.{all_at, with_page_length}
 use Rattle.nb_model.proofs.ImageLaws.{IsTrimmed, all-left}
 use Rattle.nb_model.proofs.StrokeLaws.{with_page_same, with_page_other}
 use Rattle.nb_model.proofs.TrimLaws.{trimmed_length, trimmed_at, trimmed_page}
+use Rattle.nb_model.proofs.OverLaws.{owned_length, owned_at}
 use Rattle.nb_base.proofs.WrittenLaws.{HasMain, laid_formed, laid_image, written_same, written_inner, written_sizes}
 
 -- The image of two files, page by page.
 module _ (size : ℕ) (main : Image) (delta table : List ℕ) where
-  from-length : (count p : ℕ) → length (owned_from size main delta table count p) ≡ count
-  unfolding owned_from
-  from-length zero p = refl
-  from-length (suc count) p = omega (arith, from-length count (p + 1))
-
-  from-page : (count p i : ℕ) → i < count → page_at (owned_from size main delta table count p) i ≡ owned_page size main delta table (p + i)
-  unfolding owned_from
-  from-page zero p i low = absurd (omega (arith, low))
-  from-page (suc count) p zero low = ap (owned_page size main delta table) (let e : p ≡ p + 0 = omega arith in e)
-  from-page (suc count) p (suc i) low = from-page count (p + 1) i (omega (arith, low)) ∙ ap (owned_page size main delta table) (let e : p + 1 + i ≡ p + suc i = omega arith in e)
-
-  pub owned-length : length (owned size main delta table) ≡ max (length main) (behind_entries table)
-  unfolding owned
-  owned-length = from-length (max (length main) (behind_entries table)) 0
-
-  pub owned-page : (p : ℕ) → p < length (owned size main delta table) → page_at (owned size main delta table) p ≡ owned_page size main delta table p
-  unfolding owned
-  owned-page p low = from-page (max (length main) (behind_entries table)) 0 p (omega (arith, low, from-length (max (length main) (behind_entries table)) 0)) ∙ ap (owned_page size main delta table) (let e : 0 + p ≡ p = omega arith in e)
-
   -- an image is theirs where its length and its pages are
   pub is_owned : (image : Image) → length image ≡ max (length main) (behind_entries table) → ((p : ℕ) → p < length image → page_at image p ≡ owned_page size main delta table p) → image ≡ owned size main delta table
-  is_owned image long pages = ext_get_or [] image (owned size main delta table) (long ∙ sym owned-length) (λ p low. pages p low ∙ sym (owned-page p (omega (arith, low, long, owned-length))))
+  is_owned image long pages = ext_get_or [] image (owned size main delta table) (long ∙ sym (owned_length size main delta table))
+      (λ p low. pages p low ∙ sym (owned_at size main delta table p (omega (arith, low, long, owned_length size main delta table))))
 
   -- a page by its entry
   pub owned-entry : (p k : ℕ) → entry_for p table ≡ Some k → owned_page size main delta table p ≡ slot_page size main delta p k
@@ -91,10 +74,10 @@ unfolding entry_for
 owned-alone size main delta = is_owned size main delta [] main (omega arith) (λ p low. sym (main_here size main p low) ∙ sym (owned-none size main delta [] p refl))
 
 -- Entries by their place.
-none_some : {k : ℕ} → None ≡ Some k → ⊥
+pub none_some : {k : ℕ} → None ≡ Some k → ⊥
 none_some h = cc
 
-some_same : {j k : ℕ} → Some j ≡ Some k → j ≡ k
+pub some_same : {j k : ℕ} → Some j ≡ Some k → j ≡ k
 some_same h = cc
 
 -- after the first entry
@@ -229,13 +212,13 @@ module _ (size : ℕ) (main : Image) (delta table : List ℕ) (p : ℕ) (page : 
   pub main_shows : entry_for p table ≡ None → p ≤ length (owned size main delta table) → owned size (written_at size (p, page) main) delta table ≡ with_page p page (owned size main delta table)
   main_shows none low =
       let image : Image = owned size main delta table in
-      let has : length image ≡ max (length main) (behind_entries table) = owned-length size main delta table in
+      let has : length image ≡ max (length main) (behind_entries table) = owned_length size main delta table in
       let all : length (with_page p page image) ≡ max (length image) (p + 1) = with_page_length p page image low in
       sym (is_owned size new delta table (with_page p page image) (omega (arith, has, all, longer))
       (λ q below. elim (eqb_tells q p) [
         | inl w ↦ ap (page_at (with_page p page image)) w.1 ∙ with_page_same p page image low
             ∙ sym (ap (owned_page size new delta table) w.1 ∙ owned-none size new delta table p none ∙ main_here size new p (omega (arith, longer)) ∙ written_same size p page main)
-        | inr w ↦ with_page_other p q page image low w.1 ∙ owned-page size main delta table q (omega (arith, below, all, low, w.1)) ∙ sym (other_stays q w.1)
+        | inr w ↦ with_page_other p q page image low w.1 ∙ owned_at size main delta table q (omega (arith, below, all, low, w.1)) ∙ sym (other_stays q w.1)
       ]))
 
   -- Where one does, the image stays, zeros or not: the main file's image has none at its end.
@@ -243,13 +226,13 @@ module _ (size : ℕ) (main : Image) (delta table : List ℕ) (p : ℕ) (page : 
       → owned size (trimmed (written_at size (p, page) main)) delta table ≡ owned size main delta table
   main_hidden k is sizes whole wide there =
       let image : Image = owned size main delta table in
-      let has : length image ≡ max (length main) (behind_entries table) = owned-length size main delta table in
+      let has : length image ≡ max (length main) (behind_entries table) = owned_length size main delta table in
       let inside : p + 1 ≤ behind_entries table = named p table k is in
       sym (is_owned size (trimmed new) delta table image (elim (leb_tells (length main) (behind_entries table)) [
         | inl w ↦ omega (arith, has, longer, inside, trimmed_length new, w.1)
         | inr w ↦ omega (arith, has, longer, inside, w.1, ap length (written_inner size p page main (omega (arith, inside, w.1)) whole))
       ])
-      (λ q below. owned-page size main delta table q below
+      (λ q below. owned_at size main delta table q below
       ∙ sym (owned_alike size (trimmed new) main delta table q (ap (take 64) (trimmed_at new 0 there) ∙ front_stays)
       (λ none. trimmed_page size new (written_sizes size p page main sizes wide) q ∙ other_page size p page main q (λ same. none_some (sym none ∙ ap (λ n. entry_for n table) same ∙ is))))))
 
@@ -271,8 +254,8 @@ module _ (size : ℕ) (main : Image) (delta new : List ℕ) where
   pub slots_stay : (table : List ℕ) → ((k : ℕ) → k < length table → page_in size new (slot_place size k) ≡ page_in size delta (slot_place size k)) → owned size main new table ≡ owned size main delta table
   slots_stay table same =
       let image : Image = owned size main delta table in
-      sym (is_owned size main new table image (owned-length size main delta table)
-      (λ q below. owned-page size main delta table q below ∙ sym (page_same table q (λ k is. same k (entry_at q table k is).below))))
+      sym (is_owned size main new table image (owned_length size main delta table)
+      (λ q below. owned_at size main delta table q below ∙ sym (page_same table q (λ k is. same k (entry_at q table k is).below))))
 
   module _ (some : 1 ≤ length main) (long : 64 ≤ length (page_at main 0)) where
     -- the page that a slot gives
@@ -290,14 +273,14 @@ module _ (size : ℕ) (main : Image) (delta new : List ℕ) where
     slot_shows table p k page at is others =
         let image : Image = owned size main delta table in
         let put : Page = merged_page p page image in
-        let has : length image ≡ max (length main) (behind_entries table) = owned-length size main delta table in
+        let has : length image ≡ max (length main) (behind_entries table) = owned_length size main delta table in
         let inside : p + 1 ≤ behind_entries table = named p table k at in
         let low : p ≤ length image = omega (arith, has, inside) in
         let all : length (with_page p put image) ≡ max (length image) (p + 1) = with_page_length p put image low in
         sym (is_owned size main new table (with_page p put image) (omega (arith, has, all, inside))
         (λ q below. elim (eqb_tells q p) [
           | inl w ↦ ap (page_at (with_page p put image)) w.1 ∙ with_page_same p put image low ∙ sym (ap (owned_page size main new table) w.1 ∙ owned-entry size main new table p k at ∙ slot_gives table p k page is)
-          | inr w ↦ with_page_other p q put image low w.1 ∙ owned-page size main delta table q (omega (arith, below, all, low, inside, has))
+          | inr w ↦ with_page_other p q put image low w.1 ∙ owned_at size main delta table q (omega (arith, below, all, low, inside, has))
               ∙ sym (page_same table q (λ j f. others j (entry_at q table j f).below (entry_apart p q k j table at f w.1)))
         ]))
 
@@ -308,7 +291,7 @@ module _ (size : ℕ) (main : Image) (delta new : List ℕ) where
     entry_shows table p page none low is others =
         let image : Image = owned size main delta table in
         let put : Page = merged_page p page image in
-        let has : length image ≡ max (length main) (behind_entries table) = owned-length size main delta table in
+        let has : length image ≡ max (length main) (behind_entries table) = owned_length size main delta table in
         let all : length (with_page p put image) ≡ max (length image) (p + 1) = with_page_length p put image low in
         let more : behind_entries (table ++ p ∷ []) ≡ max (behind_entries table) (p + 1) = behind-added p table in
         let at : entry_for p (table ++ p ∷ []) ≡ Some (length table) = entry-added p table none in
@@ -316,7 +299,7 @@ module _ (size : ℕ) (main : Image) (delta new : List ℕ) where
         (λ q below. elim (eqb_tells q p) [
           | inl w ↦ ap (page_at (with_page p put image)) w.1 ∙ with_page_same p put image low
               ∙ sym (ap (owned_page size main new (table ++ p ∷ [])) w.1 ∙ owned-entry size main new (table ++ p ∷ []) p (length table) at ∙ slot_gives table p (length table) page is)
-          | inr w ↦ with_page_other p q put image low w.1 ∙ owned-page size main delta table q (omega (arith, below, all, low, w.1)) ∙ sym (other_entry q w.1)
+          | inr w ↦ with_page_other p q put image low w.1 ∙ owned_at size main delta table q (omega (arith, below, all, low, w.1)) ∙ sym (other_entry q w.1)
         ]))
       where
         other_entry : (q : ℕ) → q ≢ p → owned_page size main new (table ++ p ∷ []) q ≡ owned_page size main delta table q
@@ -531,10 +514,10 @@ module _ (b : Base) (m d : File) (h : Holds b m d) where
   base-size = same-number (first_page b.image) (first_page h.main) base-front 24 4 (omega arith)
 
   pub base-length : length b.image ≡ max (length h.main) (behind_entries b.diverted)
-  base-length = ap length h.image ∙ owned-length (image_size h.main) h.main (bytes_of d) b.diverted
+  base-length = ap length h.image ∙ owned_length (image_size h.main) h.main (bytes_of d) b.diverted
 
   pub base-page : (p : ℕ) → p < length b.image → page_at b.image p ≡ owned_page (image_size h.main) h.main (bytes_of d) b.diverted p
-  base-page p low = ap (λ (x : Image). page_at x p) h.image ∙ owned-page (image_size h.main) h.main (bytes_of d) b.diverted p (omega (arith, low, ap length h.image))
+  base-page p low = ap (λ (x : Image). page_at x p) h.image ∙ owned_at (image_size h.main) h.main (bytes_of d) b.diverted p (omega (arith, low, ap length h.image))
 
   -- each page has the size of a page
   pub base-sizes : (p : ℕ) → p < length b.image → length (page_at b.image p) ≡ image_size b.image

@@ -21,7 +21,8 @@ use Rattle.nb_model.proofs.ImageLaws.{all-right, length-joined, page-joined}
 use Rattle.nb_model.proofs.MainLaws.{laid, laid-front, laid-wide}
 use Rattle.nb_model.proofs.OwnerLaws.{main_here, main_past}
 use Rattle.nb_model.proofs.SoundLaws.{all_at}
-use Rattle.nb_base.proofs.WrittenLaws.{zeros_is, laid_formed, laid_image}
+use Rattle.nb_model.proofs.HeadSound.{all_zeros}
+use Rattle.nb_base.proofs.WrittenLaws.{laid_formed, laid_image}
 use Rattle.nb_base.proofs.OwnedLaws.{Holds, holds, bytes-size, base-page, base-size, base-state, owned-entry, owned-none}
 
 -- A page of a main file of that form.
@@ -55,7 +56,7 @@ module _ (bytes : List ℕ) (formed : not_database bytes ≡ None) (p size : ℕ
             let behind : k < length rest = omega (arith, below, w.1, length-append (image_in bytes) rest) in
             let zeros : is_zeros (page_at rest k) ≡ true = all_at (λ (x : Page). is_zeros x ≡ true) rest (laid bytes formed).zeros k behind in
             let wide_ : length (page_at rest k) ≡ size = all_at (λ (x : Page). length x ≡ image_size (image_in bytes)) rest (all-right (λ (x : Page). length x ≡ image_size (image_in bytes)) (image_in bytes) rest sizes) k behind ∙ size_is in
-            read ∙ get_or-append_right (image_in bytes) rest (length (image_in bytes)) p [] refl (omega (arith, w.1)) ∙ zeros_is (page_at rest k) zeros ∙ ap (λ n. replicate n 0) wide_ ∙ sym (main_past size (image_in bytes) p (omega (arith, w.1)))
+            read ∙ get_or-append_right (image_in bytes) rest (length (image_in bytes)) p [] refl (omega (arith, w.1)) ∙ all_zeros (page_at rest k) zeros ∙ ap (λ n. replicate n 0) wide_ ∙ sym (main_past size (image_in bytes) p (omega (arith, w.1)))
       ]
 
   -- or the file ends before it

@@ -27,15 +27,9 @@ use Rattle.nb_base.specs.Open.{Held, Agrees}
 use Rattle.nb_base.specs.Seen.{IsSeen, IsWrite}
 use Rattle.nb_base.specs.Going.{StandsAs, HasPageIn, MaySlot, IsSlotted, GoesIn}
 use Rattle.nb_base.proofs.LeftLaws.{stroke-stalled, noted-there}
-use Rattle.nb_base.proofs.OwnedLaws.{Holds, holds, shows, base-length, base-state, base-size, entry-front, entry-behind, entry_apart}
+use Rattle.nb_base.proofs.OwnedLaws.{Holds, holds, shows, base-length, base-state, base-size, entry-front, entry-behind, entry_apart, some_same, none_some}
 use Rattle.nb_base.proofs.StepLaws.{holds_slots, holds_slot}
 use Rattle.nb_base.proofs.WriteLaws.{main_apart}
-
-some_same : {j k : ℕ} → Some j ≡ Some k → j ≡ k
-some_same h = cc
-
-none_some : {k : ℕ} → None ≡ Some k → ⊥
-none_some h = cc
 
 -- an entry names a page of the image
 pub entry_inside : (b : Base) (m d : File) (h : Holds b m d) (p k : ℕ) → entry_for p b.diverted ≡ Some k → p < length b.image

@@ -14,9 +14,10 @@ use Rattle.nb_model.specs.Owner.{owned}
 use Rattle.nb_model.proofs.HeaderLaws.{header-long, same-number}
 use Rattle.nb_model.proofs.MainLaws.{some_page}
 use Rattle.nb_model.proofs.TrimLaws.{finish_base}
+use Rattle.nb_model.proofs.ControlLaws.{control_size, control_state}
 use Rattle.nb_base.specs.Control.{next_scn, next_guid, in_state, HasImage}
 use Rattle.nb_base.specs.Open.{Held, Agrees}
-use Rattle.nb_base.proofs.ControlLaws.{controlled-size, controlled-state, with_control-first, with_control-length, owned-control}
+use Rattle.nb_base.proofs.ControlLaws.{with_control-first, with_control-length, owned-control}
 use Rattle.nb_base.proofs.BlockLaws.{to_main}
 use Rattle.nb_base.proofs.OwnedLaws.{Holds, owned-alone, main-some, main-long, base-front, base-header, base-state, base-size}
 use Rattle.nb_base.proofs.WrittenLaws.{HasMain}
@@ -53,10 +54,10 @@ module _ (image : Image) (m : File) (has : HasMain image m) (state : ℕ) (guid 
   first = with_control-first state (next_scn state (image_scn image)) (next_guid guid (image_guid image)) image (some_page image has.laid.header)
 
   pub in_state-state : image_state (in_state state guid image) ≡ state
-  in_state-state = ap state_of first ∙ controlled-state state (next_scn state (image_scn image)) (next_guid guid (image_guid image)) sixteen (first_page image) long low
+  in_state-state = ap state_of first ∙ control_state state (next_scn state (image_scn image)) (next_guid guid (image_guid image)) (first_page image) long sixteen (omega (arith, low))
 
   pub in_state-size : image_size (in_state state guid image) ≡ image_size image
-  in_state-size = ap size_of first ∙ controlled-size state (next_scn state (image_scn image)) (next_guid guid (image_guid image)) sixteen (first_page image) long
+  in_state-size = ap size_of first ∙ control_size state (next_scn state (image_scn image)) (next_guid guid (image_guid image)) (first_page image) long sixteen
 
   pub in_state-length : length (in_state state guid image) ≡ length image
   in_state-length = with_control-length state (next_scn state (image_scn image)) (next_guid guid (image_guid image)) image

@@ -14,11 +14,8 @@ use Rattle.nb_model.specs.Trail.{Trail, IsFirm}
 use Rattle.nb_model.proofs.HeaderLaws.{same-header, same-number}
 use Rattle.nb_base.specs.Seen.{IsWrite}
 use Rattle.nb_base.proofs.WrittenLaws.{HasMain, MayWrite, main_put, main_written}
-use Rattle.nb_base.proofs.OwnedLaws.{Holds, main-some, main-long, base-front, base-state, base-size, front_stays, main_shows, slots_stay, slot_shows, entry-front}
+use Rattle.nb_base.proofs.OwnedLaws.{Holds, main-some, main-long, base-front, base-state, base-size, front_stays, main_shows, slots_stay, slot_shows, entry-front, none_some}
 use Rattle.nb_base.proofs.LeftLaws.{stroke-image, stroke-frozen, stroke-stalled, stroke-other, noted-there, fits_left, state_left, size_left, put_is}
-
-none_some : {k : ℕ} → None ≡ Some k → ⊥
-none_some h = cc
 
 -- Another main file with the same header, in the normal and the merge state.
 pub main_moved : (b new : Base) (m d c : File) (h : Holds b m d) (main : Image) → image_state h.main ≢ stalled_state → HasMain main c → take 64 (first_page main) ≡ take 64 (first_page h.main)

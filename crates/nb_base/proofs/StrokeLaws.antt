@@ -84,6 +84,11 @@ module _ (old mid new : World) (name : List ℕ) (t : Trail) (s : Stroke) (befor
           drafted = none_drafted;
         })
 
+-- What a begin leaves before its control block, also where it failed: the database is as it was, and its main file has that image.
+pub record IsReady (old new : World) (name : List ℕ) (t : Trail) (main : Image) : Type 0 where
+  pub so_far : Changes old new (OfFiles name) (StandsFirm name t)
+  pub image : IsImageOf new name main
+
 -- what is open before
 module _ (old : World) (held : Held) (t : Trail) (is : IsOpen old held t) where
   abbrev m0 : File
@@ -122,18 +127,24 @@ module _ (old : World) (held : Held) (t : Trail) (is : IsOpen old held t) where
         last_firm held.name t files (shows held.name t.base (files held.name) (files (delta_name held.name))
         (holds_whatever t.base (files held.name) d0 (files (delta_name held.name)) (same_main t.base m0 d0 (files held.name) h0 (to_main h0.main (files held.name) was)) zero))
 
-    -- the difference file was made, also where that failed
-    pub begin_made : (mid new : World) → Changes old mid (OfFiles held.name) (StandsFirm held.name t) → IsImageOf mid held.name h0.main → (blank : File → Type 0) → Changes mid new (Only (delta_name held.name)) (Remade mid (delta_name held.name) blank)
+    begin_made : (mid new : World) → Changes old mid (OfFiles held.name) (StandsFirm held.name t) → IsImageOf mid held.name h0.main → (blank : File → Type 0) → Changes mid new (Only (delta_name held.name)) (Remade mid (delta_name held.name) blank)
         → Changes old new (OfFiles held.name) (StandsFirm held.name t)
     begin_made mid new so_far is blank made =
         composed_within old mid new (OfFiles held.name) (Only (delta_name held.name)) (OfFiles held.name) _ _ (StandsFirm held.name t) so_far made (λ m one. one) (λ m is. inr is) (λ files others stands. stands)
         (λ files others remade. stays files (is.left (files held.name) (others held.name (main_apart held.name))))
 
-    pub begin_image : (mid new : World) → IsImageOf mid held.name h0.main → (blank : File → Type 0) → Changes mid new (Only (delta_name held.name)) (Remade mid (delta_name held.name) blank) → IsImageOf new held.name h0.main
+    begin_image : (mid new : World) → IsImageOf mid held.name h0.main → (blank : File → Type 0) → Changes mid new (Only (delta_name held.name)) (Remade mid (delta_name held.name) blank) → IsImageOf new held.name h0.main
     begin_image mid new is blank made = record {
       left = λ m left. is.left m (left_before mid new _ made.others held.name m (main_apart held.name) left);
       reads = subst (λ (x : File). HasImage h0.main x) (sym (made.others_read held.name (main_apart held.name))) is.reads;
     }
+
+    -- the main file was kept for good, and the difference file made
+    pub begin_ready : (mid new : World) → IsTimely old → IsStill old mid → mid.said ≡ old.said → Passes old mid → IsDurable mid held.name (old.files held.name) → (blank : File → Type 0)
+        → Changes mid new (Only (delta_name held.name)) (Remade mid (delta_name held.name) blank) → IsReady old new held.name t h0.main
+    begin_ready mid new timely still silent time durable blank made =
+        let main = durable_main mid durable (ap (λ (f : Files). f held.name) still.files) in
+        record { so_far = begin_made mid new (waits old mid held t is timely still silent time) main blank made; image = begin_image mid new main blank made }
 
     pub begin_room : image_scn t.base.image < 4294967294 → HasRoom 1 (image_scn h0.main)
     begin_room low = record { stalled = λ one. omega (arith, low, main_scn); other = λ some. omega (arith, low, main_scn) }

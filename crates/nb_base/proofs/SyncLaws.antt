@@ -1,31 +1,19 @@
 -- What a crash leaves of two files that are kept for good.
-use Rattle.std.proofs.Common.{◌≡◌, ◌≢◌, ℕ, zero, suc, List, refl, sym, ap, subst, ◌∙◌, arith}
+use Rattle.std.proofs.Common.{◌≡◌, ◌≢◌, ℕ, zero, suc, refl, sym, ap, subst, ◌∙◌, arith}
 use Rattle.std.specs.Prelude.{Ok}
 use Rattle.nb_fields.specs.States.{normal_state}
-use Rattle.nb_host.specs.Files.{File, Files, bytes_of}
+use Rattle.nb_host.specs.Files.{File, Files}
 use Rattle.nb_host.specs.World.{World}
 use Rattle.nb_host.specs.Crash.{IsDurable}
 use Rattle.nb_host.specs.Calls.{IsStill}
 use Rattle.nb_change.proofs.SettledLaws.{durable_is}
-use Rattle.nb_model.specs.Image.{image_size, image_state}
 use Rattle.nb_model.specs.Account.{Base}
-use Rattle.nb_model.specs.Owner.{delta_name, owned, owner}
+use Rattle.nb_model.specs.Owner.{delta_name, owner}
 use Rattle.nb_model.specs.Trail.{settled, ShowsIn}
 use Rattle.nb_base.proofs.FirmLaws.{shows_firm}
 use Rattle.nb_base.specs.Open.{Held, Agrees, IsOpen}
-use Rattle.nb_base.proofs.OwnedLaws.{Holds, holds, shows, base-state, owned-alone}
-
--- in the normal state the difference file isn't looked at
-pub normal_any : (b : Base) (m d c : File) (h : Holds b m d) → image_state h.main ≡ normal_state → Holds b m c
-normal_any b m d c h normal = record {
-  main = h.main;
-  has = h.has;
-  opened = h.opened;
-  entries = record { none = h.entries.none; some = λ some. absurd (omega (arith, some, normal)) };
-  image = h.image ∙ ap (λ (x : List ℕ). owned (image_size h.main) h.main (bytes_of d) x) (h.entries.none normal) ∙ sym (owned-alone (image_size h.main) h.main (bytes_of d))
-      ∙ owned-alone (image_size h.main) h.main (bytes_of c) ∙ ap (λ (x : List ℕ). owned (image_size h.main) h.main (bytes_of c) x) (sym (h.entries.none normal));
-  frozen = h.frozen;
-}
+use Rattle.nb_base.proofs.OpenedLaws.{holds_whatever}
+use Rattle.nb_base.proofs.OwnedLaws.{Holds, holds, shows, base-state}
 
 -- the main file is durable, and the difference file where it is looked at
 pub both_settled : (old new : World) (held : Held) (b : Base) → IsStill old new → Agrees held b → held.drafted ≡ 0 → ShowsIn held.name b old.files → IsDurable new held.name (new.files held.name)
@@ -49,5 +37,5 @@ both_settled old new held b still agrees none_drafted reads main delta = record 
       where
         by : (s : ℕ) → held.state ≡ s → (h : Holds b (new.files held.name) (new.files (delta_name held.name))) → owner held.name (new.files held.name) d ≡ Ok b
         by zero e h =
-            shows held.name b (new.files held.name) d (normal_any b (new.files held.name) (new.files (delta_name held.name)) d h (sym (base-state b (new.files held.name) (new.files (delta_name held.name)) h) ∙ sym agrees.state ∙ e))
+            shows held.name b (new.files held.name) d (holds_whatever b (new.files held.name) (new.files (delta_name held.name)) d h (sym (base-state b (new.files held.name) (new.files (delta_name held.name)) h) ∙ sym agrees.state ∙ e))
         by (suc s) e h = ap (owner held.name (new.files held.name)) (is (λ z. absurd (omega (arith, z, e)))) ∙ shown

@@ -26,7 +26,7 @@ use Rattle.nb_base.specs.Seen.{IsSeen, IsWrite}
 use Rattle.nb_base.specs.Takes.{StrikesFirm, TakesFirm}
 use Rattle.nb_delta.specs.Entries.{place_of}
 use Rattle.nb_model.proofs.TrailLaws.{trail_base}
-use Rattle.nb_base.proofs.OwnedLaws.{Holds, holds, base-state, base-size}
+use Rattle.nb_base.proofs.OwnedLaws.{Holds, holds, base-state, base-size, none_some}
 use Rattle.nb_base.proofs.LeftLaws.{later_state, stroke-other}
 use Rattle.nb_base.proofs.PlaceLaws.{place-entry}
 use Rattle.nb_base.proofs.OutcomeLaws.{stands_stays, stands_main, stands_main_put, shows_main_put, all_entries, stands_slot, stands_slot_put, shows_slot_put, stands_add, stands_added, shows_added}
@@ -45,6 +45,11 @@ no_err T E x h = cc
 pub not_done : {T E : Type 0} (result : Result T E) (X : Type 0) → IsErr result → OnOk result X
 not_done {T} {E} (Ok x) X is = absurd (no_err T E x is)
 not_done (Err e) X is = tt
+
+-- what two facts under Ok give together, of which one has a premise
+pub on_ok_both : {T E F A B C : Type 0} (result : Result T E) → (A → (F → B) → C) → OnOk result A → (F → OnOk result B) → OnOk result C
+on_ok_both (Ok x) give a b = give a b
+on_ok_both (Err e) give a b = tt
 
 -- One of the two files as it reads, and an outcome of the other.
 module _ (w : World) (reads : (n : List ℕ) → Leaves w n (w.files n)) (name : List ℕ) (t : Trail) (seen : IsSeen w name t) where
@@ -249,6 +254,10 @@ takes_passed result passed old mid new name opened other t strokes same takes fa
   done = not_done passed _ failed;
 }
 
+pub takes_from : {T E : Type 0} (result : Result T E) (old mid new : World) (name : List ℕ) (opened : Trail → Type 0) (t : Trail) (strokes : List Stroke)
+    → mid ≡ old → TakesFirm result mid new name opened t strokes → TakesFirm result old new name opened t strokes
+takes_from result old mid new name opened t strokes same takes = subst (λ (w : World). TakesFirm result w new name opened t strokes) same takes
+
 pub takes_done : {T E U F : Type 0} (x : T) (y : U) (old mid new : World) (name : List ℕ) (opened : Trail → Type 0) (t : Trail) (strokes : List Stroke)
     → mid ≡ old → TakesFirm {T = T} {E = E} (Ok x) mid new name opened t strokes → TakesFirm {T = U} {E = F} (Ok y) old new name opened t strokes
 takes_done x y old mid new name opened t strokes same takes = record {
@@ -259,9 +268,6 @@ takes_done x y old mid new name opened t strokes same takes = record {
 entry_none : (p : ℕ) → entry_for p [] ≡ None
 unfolding entry_for
 entry_none p = refl
-
-none_some : {k : ℕ} → None ≡ Some k → ⊥
-none_some e = cc
 
 -- where there are no entries, none names a page
 pub none_at : (p k : ℕ) (entries : List ℕ) → entries ≡ [] → entry_for p entries ≡ Some k → ⊥

@@ -1,7 +1,6 @@
 -- A page written into a main file, in any backup state: what the file holds then, and what a crash leaves of it.
 use Rattle.std.proofs.Common.{◌≡◌, ◌⊎◌, inl, inr, ℕ, zero, suc, ◌+◌, ◌-◌, ◌*◌, ◌<◌, ◌≤◌, List, [], ◌∷◌, ◌++◌, length, take, drop, replicate, refl, sym, ap, subst, ◌∙◌, arith, length-append, append_assoc, add-mul, suc-mul, mul-le-mul_right, le_of_mul-le-mul_right, get_or-set_same}
-use Rattle.std.specs.Prelude.{true, false, ◌==◌, IsTrue, Some}
-use Rattle.std.proofs.lemmas.Bool.{true≢false, and_parts}
+use Rattle.std.specs.Prelude.{true, false, IsTrue, Some}
 use Rattle.std.proofs.lemmas.Bool.Decides.{leb_tells, eqb_tells}
 use Rattle.std.proofs.lemmas.List.{drop_all, get_or_append_left, get_or-append_right, length-take-le, length-drop, length-replicate, replicate-append-replicate}
 use Rattle.nb_fields.specs.Bytes.{is_zeros}
@@ -18,6 +17,7 @@ use Rattle.nb_model.proofs.HeaderLaws.{same-header, same-number}
 use Rattle.nb_model.proofs.ImageLaws.{AreZeros, IsTrimmed, length-joined, trimmed-append_zeros, trimmed-before, trimmed-over, trimmed-drop, all-append, all-left, all-right, all-take, all-drop, all-replicate, trimmed-nothing}
 use Rattle.nb_model.proofs.MainLaws.{IsLaid, IsLaidOut, whole_laid, trimmed_laid, laid-front, laid-wide, image_in-is, some_page}
 use Rattle.nb_model.proofs.PutLaws.{with_page-split, laid_put, laid_grown, put-joined, put-first}
+use Rattle.nb_model.proofs.HeadSound.{all_zeros}
 
 -- a file that is laid so has the form of a database, and holds the image
 pub laid_formed : (image : Image) (bytes : List ℕ) → IsLaid image bytes → not_database bytes ≡ Rattle.std.specs.Prelude.None
@@ -114,16 +114,6 @@ put-padded n at bytes page low =
     ∙ ap (λ (x : List ℕ). take at (bytes ++ replicate (at - length bytes) 0) ++ (page ++ x))
     (drop_all (at + length page) (bytes ++ replicate n 0) (omega (arith, long, low)) ∙ sym (drop_all (at + length page) bytes (omega (arith, low))))
 
--- bytes that are all zeros
-pub zeros_is : (bytes : List ℕ) → is_zeros bytes ≡ true → bytes ≡ replicate (length bytes) 0
-zeros_is [] e = refl
-zeros_is (b ∷ bs) e =
-    let parts = and_parts (b == 0) (is_zeros bs) e in
-    ap (λ (x : ℕ). x ∷ bs) (zero_byte b parts.0) ∙ ap (λ (xs : List ℕ). 0 ∷ xs) (zeros_is bs parts.1)
-  where
-    zero_byte : (b : ℕ) → (b == 0) ≡ true → b ≡ 0
-    zero_byte b e = elim (eqb_tells b 0) [ inl w ↦ w.1 | inr w ↦ absurd (true≢false (sym e ∙ w.0)) ]
-
 -- a front that ends in the second of two lists, and what stands after it
 take-past : (n k : ℕ) (xs ys : Image) → n ≡ length xs + k → take n (xs ++ ys) ≡ xs ++ take k ys
 take-past n k [] ys e = ap (λ i. take i ys) (let is : n ≡ k = omega (arith, e) in is)
@@ -140,7 +130,7 @@ zero_pages : (size n : ℕ) (zs : List Page) → AreZeros zs → IsOfSize size z
 zero_pages size zero zs zeros sizes low = refl
 zero_pages size (suc n) [] zeros sizes low = absurd (omega arith)
 zero_pages size (suc n) (z ∷ zs) zeros sizes low =
-    ap (λ (x : Page). x ∷ take n zs) (zeros_is z zeros.0 ∙ ap (λ k. replicate k 0) sizes.0) ∙ ap (λ (x : List Page). replicate size 0 ∷ x) (zero_pages size n zs zeros.1 sizes.1 (omega arith))
+    ap (λ (x : Page). x ∷ take n zs) (all_zeros z zeros.0 ∙ ap (λ k. replicate k 0) sizes.0) ∙ ap (λ (x : List Page). replicate size 0 ∷ x) (zero_pages size n zs zeros.1 sizes.1 (omega arith))
 
 -- Page p of a main file, which holds an image.
 module _ (image : Image) (bytes : List ℕ) (l : IsLaid image bytes) (p : ℕ) (page : Page) (may : MayLay p page image) where

@@ -138,8 +138,7 @@ impl TwoFiles {
     {
         let number = self.delta.entry(host, k)?;
         read_owned(host, &self.name, &mut self.delta, number, &mut self.page)?;
-        host.write_page(&self.name, number, &self.page)?;
-        Ok(())
+        host.write_page(&self.name, number, &self.page)
     }
 
     /// Ends the merge, once every entry is equal in both files: its state is 0 again, pages of zeros at its end are pages no longer, and the
@@ -156,8 +155,7 @@ impl TwoFiles {
         ensures cause { CountsFault result (H.faults host.old) (H.faults host.new) }
     {
         let count = self.count_filled(host)?;
-        self.finish_with(host, count)?;
-        Ok(())
+        self.finish_with(host, count)
     }
 
     /// Ends the merge, where the database has so many pages without those of zeros at its end.

@@ -210,8 +210,7 @@ impl TwoFiles {
         ensures takes_none { self.old.state ≢ stalled_state → IfErr result (λ error. error ≢ RunError.Memory) }
     {
         if is_diverted(self.state) {
-            write_stalled(host, &mut self.delta, number, page, synced)?;
-            Ok(())
+            write_stalled(host, &mut self.delta, number, page, synced)
         } else {
             write_plain(
                 host,

@@ -29,7 +29,6 @@ impl TwoFiles {
         ensures reads { (H.world host.new).reads ≡ (H.world host.old).reads }
         ensures cause { CountsFault result (H.faults host.old) (H.faults host.new) }
     {
-        host.write_page(&self.name, number, page)?;
-        Ok(())
+        host.write_page(&self.name, number, page)
     }
 }

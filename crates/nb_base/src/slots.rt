@@ -59,10 +59,7 @@ impl TwoFiles {
         ensures cause { CountsFault result (H.faults host.old) (H.faults host.new) }
     {
         match self.delta.slot_of(host, number)? {
-            Some(slot) => {
-                self.delta.rewrite(host, slot, page, false)?;
-                Ok(())
-            }
+            Some(slot) => self.delta.rewrite(host, slot, page, false),
             None => Ok(()),
         }
     }

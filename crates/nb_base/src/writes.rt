@@ -53,10 +53,7 @@ pub fn write_main<H: Host>(
     ensures cause { CountsFault result (H.faults host.old) (H.faults host.new) }
 {
     host.write_page(name, number, page)?;
-    if synced {
-        host.sync(name)?;
-    }
-    Ok(())
+    if synced { host.sync(name) } else { Ok(()) }
 }
 
 /// Writes a page that an entry names into the main file too, in the merge state. It changes no page of the database.
@@ -74,8 +71,7 @@ pub fn write_hidden<H: Host>(
     ensures log { IsSilent (H.world host.old) (H.world host.new) }
     ensures cause { CountsFault result (H.faults host.old) (H.faults host.new) }
 {
-    host.write_page(name, number, page)?;
-    Ok(())
+    host.write_page(name, number, page)
 }
 
 /// Writes a page into the slot of its entry, in the stalled or the merge state.
@@ -97,8 +93,7 @@ pub fn write_slot<H: Host>(
     ensures log { IsSilent (H.world host.old) (H.world host.new) }
     ensures cause { CountsFault result (H.faults host.old) (H.faults host.new) }
 {
-    delta.rewrite(host, slot, page, synced)?;
-    Ok(())
+    delta.rewrite(host, slot, page, synced)
 }
 
 /// Adds an entry for a page that has none, in the stalled state. Where it wants memory nothing has changed.
@@ -151,8 +146,7 @@ pub fn write_both<H: Host>(
     ensures cause { CountsFault result (H.faults host.old) (H.faults host.new) }
 {
     write_slot(host, delta, slot, page, synced)?;
-    write_hidden(host, name, number, page)?;
-    Ok(())
+    write_hidden(host, name, number, page)
 }
 
 /// Writes a page in the stalled state: into the difference file, where it gets an entry unless it has one.
@@ -219,13 +213,11 @@ pub fn write_plain<H: Host>(
     match delta.slot_of(host, number)? {
         Some(slot) => {
             let syncs = syncs_of(MERGE, true, synced);
-            write_both(host, name, delta, slot, number, page, syncs.slot)?;
-            Ok(())
+            write_both(host, name, delta, slot, number, page, syncs.slot)
         }
         None => {
             let syncs = syncs_of(state, false, synced);
-            write_main(host, name, number, page, syncs.main)?;
-            Ok(())
+            write_main(host, name, number, page, syncs.main)
         }
     }
 }

@@ -125,39 +125,25 @@ pub unsound_not : (image : Image) → IsFirstBelow image (covered image) None �
 unsound_not image first = unsound_none image (λ f p below. first f p below)
 
 -- A page has its bit and its entry in inventory pages that stand before it, or less than so many pages after.
+covers : (per : ℕ) (place : ℕ → ℕ) → 0 < per → ((k : ℕ) → k * per ≤ place k + 1) → (p n : ℕ) → place (p / per) < n → p < n + per
+covers per place some near p n below =
+    let whole : p < (p / per) * per + per = lt-div-mul-add {a = p} {b = per} some in
+    let begins : (p / per) * per ≤ place (p / per) + 1 = near (p / per) in
+    omega (arith, whole, begins, below)
+
+inventory_near : (size k : ℕ) → k * bits_in size ≤ inventory_place size k + 1
+inventory_near size zero = omega arith
+inventory_near size (suc k) = (let place : inventory_place size (suc k) ≡ suc k * bits_in size - 1 = refl in omega (arith, place))
+
 inventory_covers : (size p n : ℕ) → IsTrue (is_page_size size) → inventory_place size (p / bits_in size) < n → p < n + bits_in size
-inventory_covers size p n valid below = by (p / bits_in size) refl
-  where
-    least : 7936 ≤ bits_in size
-    least = bits-least size valid
+inventory_covers size p n valid below = covers (bits_in size) (inventory_place size) (let least = bits-least size valid in omega (arith, least)) (inventory_near size) p n below
 
-    whole : p < (p / bits_in size) * bits_in size + bits_in size
-    whole = lt-div-mul-add {a = p} {b = bits_in size} (omega (arith, least))
-
-    by : (k : ℕ) → p / bits_in size ≡ k → p < n + bits_in size
-    by zero e = (let here = whole in let z : (p / bits_in size) * bits_in size ≡ 0 * bits_in size = ap (λ (j : ℕ). j * bits_in size) e in omega (arith, here, z))
-    by (suc k) e =
-        let here = whole in
-        let z : (p / bits_in size) * bits_in size ≡ suc k * bits_in size = ap (λ (j : ℕ). j * bits_in size) e in
-        let place : inventory_place size (p / bits_in size) ≡ suc k * bits_in size - 1 = ap (inventory_place size) e in
-        omega (arith, here, z, place, below)
+entry_near : (size k : ℕ) → k * entries_in size ≤ scn_place size k + 1
+entry_near size zero = omega arith
+entry_near size (suc k) = (let place : scn_place size (suc k) ≡ suc k * entries_in size = refl in omega (arith, place))
 
 entry_covers : (size p n : ℕ) → IsTrue (is_page_size size) → scn_place size (p / entries_in size) < n → p < n + entries_in size
-entry_covers size p n valid below = by (p / entries_in size) refl
-  where
-    least : 248 ≤ entries_in size
-    least = entries-least size valid
-
-    whole : p < (p / entries_in size) * entries_in size + entries_in size
-    whole = lt-div-mul-add {a = p} {b = entries_in size} (omega (arith, least))
-
-    by : (k : ℕ) → p / entries_in size ≡ k → p < n + entries_in size
-    by zero e = (let here = whole in let z : (p / entries_in size) * entries_in size ≡ 0 * entries_in size = ap (λ (j : ℕ). j * entries_in size) e in omega (arith, here, z))
-    by (suc k) e =
-        let here = whole in
-        let z : (p / entries_in size) * entries_in size ≡ suc k * entries_in size = ap (λ (j : ℕ). j * entries_in size) e in
-        let place : scn_place size (p / entries_in size) ≡ suc k * entries_in size = ap (scn_place size) e in
-        omega (arith, here, z, place, below)
+entry_covers size p n valid below = covers (entries_in size) (scn_place size) (let least = entries-least size valid in omega (arith, least)) (entry_near size) p n below
 
 -- a page that breaks a fact has a bit or an entry
 pub breaks_below : (image : Image) → IsTrue (is_page_size (image_size image)) → (f : Fact) (p : ℕ) → breaks image f p ≡ true → p < covered image

@@ -17,8 +17,13 @@ use Rattle.nb_model.proofs.ReadLaws.{eq_no, eq_yes, lt_yes, lt_no, le_no}
 use Rattle.nb_model.specs.declared.fact.Fact.{Fact}
 use Rattle.nb_model.specs.declared.fact.Fact.TheVariants.{BlankPage, SystemPlace, TakenPast, LateStamp, WrongEntry, HeaderStamp}
 use Rattle.nb_model.specs.Facts.{breaks, number_of}
-use Rattle.nb_check.specs.Passes.{IsLowestAt}
+use Rattle.nb_check.specs.Passes.{IsLowestAt, IsOf}
 use Rattle.nb_check.proofs.EntryLaws.{le_yes}
+use Rattle.nb_check.specs.declared.facts.Extent.{Extent}
+
+-- the extent is that of the image, whichever page of its size says so
+pub of_entries : (image : Image) (size other : ℕ) (extent : Extent) → other ≡ size → IsOf image size extent → IsOf image other extent
+of_entries image size other extent same of = record { size = same ∙ of.size; count = of.count; scn = of.scn }
 
 no_higher : (fact : Fact) → 6 < number_of fact → ⊥
 no_higher BlankPage less = omega (arith, less)

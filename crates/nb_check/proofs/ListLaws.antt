@@ -104,7 +104,7 @@ cause_here image c cs r e = cause_first image c cs ∙ ap (λ (o : Cause). or_el
 pub cause_later : (image : Image) (c : Chain) (cs : List Chain) → broken_at (pages_of c image) ≡ None → chains_cause image (c ∷ cs) ≡ chains_cause image cs
 cause_later image c cs e = cause_first image c cs ∙ ap (λ (o : Cause). or_else o (chains_cause image cs)) e
 
-none_some : (r : Refusal) → None ≡ Some r → ⊥
+pub none_some : (r : Refusal) → None ≡ Some r → ⊥
 none_some r e = cc
 
 -- or the first that isn't is among them
@@ -258,9 +258,14 @@ reached_out image before one two after first second third =
     (without_both before (found_pages Catalogue image) one (found_pages History image ++ pages_of_all image (tables image)) after first
     (without_both one (found_pages History image) two (pages_of_all image (tables image)) after second third))
 
-pub reached_long : (image : Image) → length (reached image) ≡ length (found_pages Catalogue image) + length (found_pages History image) + length (pages_of_all image (tables image))
+reached_long : (image : Image) → length (reached image) ≡ length (found_pages Catalogue image) + length (found_pages History image) + length (pages_of_all image (tables image))
 reached_long image =
     let all = ap length (reached_is image) in
     let first = length-append (found_pages Catalogue image) (found_pages History image ++ pages_of_all image (tables image)) in
     let second = length-append (found_pages History image) (pages_of_all image (tables image)) in
     omega (arith, all, first, second)
+
+-- so many reads, of the catalogue, the history, and the tables
+pub reached_few : (image : Image) (old one two now : ℕ) → one ≤ old + length (found_pages Catalogue image) → two ≤ one + length (found_pages History image)
+    → now ≤ two + length (found_pages Catalogue image) + length (pages_of_all image (tables image)) → now ≤ old + length (found_pages Catalogue image) + length (reached image)
+reached_few image old one two now first second third = (let all = reached_long image in omega (arith, first, second, third, all))

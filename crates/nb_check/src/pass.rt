@@ -72,8 +72,7 @@ fn read_there<H: Host>(
     if number >= engine.count() {
         return Ok(());
     }
-    engine.read(host, number, into)?;
-    Ok(())
+    engine.read(host, number, into)
 }
 
 /// Reads the first inventory pages of both kinds, where the database has them.

@@ -155,6 +155,5 @@ pub(crate) fn leave_out_reached<H: Host>(
 {
     leave_out(host, engine, Chain::Tables, page, rest)?;
     leave_out(host, engine, Chain::Backups, page, rest)?;
-    leave_out_tables(host, engine, listed, page, rest)?;
-    Ok(())
+    leave_out_tables(host, engine, listed, page, rest)
 }

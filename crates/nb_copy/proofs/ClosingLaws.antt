@@ -1,6 +1,6 @@
 -- The turns of a backup: the file alone is touched, and then the two files of the database.
 use Rattle.std.proofs.Common.{◌≡◌, ◌≢◌, ◌<◌, ◌⊎◌, inl, inr, ⊎_elim, ℕ, List, [], ◌∷◌, ◌++◌, length, drop, refl, sym, ap, subst, ◌∙◌, arith, length-append, drop_at}
-use Rattle.std.specs.Prelude.{Bool, true, false, not, None, Some, Result, Ok, Err, OnOk}
+use Rattle.std.specs.Prelude.{Bool, true, false, not, None, Some, Result, Ok, Err, OnOk, Option}
 use Rattle.nb_fields.specs.States.{stalled_state}
 use Rattle.nb_host.specs.Files.{File, Files, with_file}
 use Rattle.nb_host.specs.World.{World}
@@ -51,6 +51,7 @@ use Rattle.nb_copy.specs.declared.file_copy.FileCopy.TheVariants.{Pages, Level}
 use Rattle.nb_copy.specs.FileCopying.{file_name, file_count, file_next, file_written, whole_file, whole_count, IsFileCopying, IsSameFile}
 use Rattle.nb_copy.specs.Starting.{Backed, IsBackingUp}
 use Rattle.nb_copy.specs.Closing.{OfBackup, GaveTimeAtMost, CloseLeft, Closes, BackupTurn}
+use Rattle.nb_copy.specs.Reading.{asked_scn, earlier_scn, page_reads}
 
 -- the time that was given is the one that may have been given
 first_time : List ℕ → ℕ
@@ -152,25 +153,25 @@ module _ (old : World) (a : Held) (t : Trail) (is : IsOpen old a t) (name whole 
     }
 
 -- the file of a copier, by its name
-pub file_named : (old mid : World) (f g : FileCopy) (name : List ℕ) (frozen : Image) → f ≡ g → file_name g ≡ name → Changes old mid (Only (file_name f)) (Remade old (file_name f) (IsUnfinishedOr (whole_file f frozen)))
+file_named : (old mid : World) (f g : FileCopy) (name : List ℕ) (frozen : Image) → f ≡ g → file_name g ≡ name → Changes old mid (Only (file_name f)) (Remade old (file_name f) (IsUnfinishedOr (whole_file f frozen)))
     → Changes old mid (Only name) (Remade old name (IsUnfinishedOr (whole_file g frozen)))
 file_named old mid f g name frozen same named changes =
     subst (λ (n : List ℕ). Changes old mid (Only n) (Remade old n (IsUnfinishedOr (whole_file g frozen)))) named
     (subst (λ (x : FileCopy). Changes old mid (Only (file_name x)) (Remade old (file_name x) (IsUnfinishedOr (whole_file x frozen)))) same changes)
 
-pub kept_named : (w : World) (f g : FileCopy) (name : List ℕ) (frozen : Image) → f ≡ g → file_name g ≡ name → IsKept w (file_name f) (whole_file f frozen) → IsKept w name (whole_file g frozen)
+kept_named : (w : World) (f g : FileCopy) (name : List ℕ) (frozen : Image) → f ≡ g → file_name g ≡ name → IsKept w (file_name f) (whole_file f frozen) → IsKept w name (whole_file g frozen)
 kept_named w f g name frozen same named kept =
     subst (λ (n : List ℕ). IsKept w n (whole_file g frozen)) named (subst (λ (x : FileCopy). IsKept w (file_name x) (whole_file x frozen)) same kept)
 
 -- the time is asked for after the turn of the file
-pub asked_behind : (old mid new : World) (time : ℕ) → GaveNothing old mid → GaveTimeAtMost old new time → GaveTimeAtMost mid new time
+asked_behind : (old mid new : World) (time : ℕ) → GaveNothing old mid → GaveTimeAtMost old new time → GaveTimeAtMost mid new time
 asked_behind old mid new time gave given = subst (λ (ts : List ℕ). (new.times ≡ ts) ⊎ (new.times ≡ ts ++ time ∷ [])) (sym gave.times) given
 
 pub asked_before : (old mid new : World) (time : ℕ) → GaveNothing old mid → GaveTimeAtMost mid new time → GaveTimeAtMost old new time
 asked_before old mid new time gave given = subst (λ (ts : List ℕ). (new.times ≡ ts) ⊎ (new.times ≡ ts ++ time ∷ [])) gave.times given
 
 -- where all pages were dealt with, all that the file has were taken
-pub written_all : (w : World) (f : FileCopy) (frozen : Image) → IsFileCopying w f frozen → file_next f ≡ file_count f → file_written f ≡ whole_count f frozen
+written_all : (w : World) (f : FileCopy) (frozen : Image) → IsFileCopying w f frozen → file_next f ≡ file_count f → file_written f ≡ whole_count f frozen
 written_all w (Pages copy) frozen is all = all ∙ sym is.of.long
 written_all w (Level copy) frozen is all =
     let next : copy.next ≡ length frozen = all ∙ sym is.of.long in
@@ -178,7 +179,7 @@ written_all w (Level copy) frozen is all =
     begun.has.counted ∙ ap length (below_all copy frozen is.of copy.next (omega (arith, next)))
 
 -- A backup that goes on.
-pub goes_further : (w : World) (copier later : Backed) (frozen : Image) (before : FileCopy) → before ≡ copier.file → later.backing ≡ copier.backing → IsSameFile before later.file frozen → file_name copier.file ≡ copier.backing.name
+goes_further : (w : World) (copier later : Backed) (frozen : Image) (before : FileCopy) → before ≡ copier.file → later.backing ≡ copier.backing → IsSameFile before later.file frozen → file_name copier.file ≡ copier.backing.name
     → whole_file copier.file frozen ≡ file_of 102 (kept_of copier.backing frozen) → whole_count copier.file frozen ≡ count_in (kept_of copier.backing frozen) copier.backing.ask → IsFileCopying w later.file frozen → IsBackingUp w later frozen
 goes_further w copier later frozen before filed backed same name whole count goes = record {
   name = same.name ∙ ap file_name filed ∙ name ∙ sym (ap (λ (b : Backing). b.name) backed);
@@ -187,11 +188,30 @@ goes_further w copier later frozen before filed backed same name whole count goe
   goes = goes;
 }
 
+-- The file of a copier is the one that the model has.
+pub its_goes : (w : World) (copier : Backed) (f : FileCopy) (frozen : Image) → f ≡ copier.file → IsBackingUp w copier frozen → IsFileCopying w f frozen
+its_goes w copier f frozen filed backing = subst (λ (x : FileCopy). IsFileCopying w x frozen) (sym filed) backing.goes
+
+pub its_reads : (copier : Backed) (f : FileCopy) (frozen : Image) → f ≡ copier.file → earlier_scn f ≡ asked_scn copier.backing.ask → page_reads (earlier_scn f) frozen (file_next f) ≡ page_reads (asked_scn copier.backing.ask) frozen (file_next copier.file)
+its_reads copier f frozen filed asked =
+    ap (λ (e : Option ℕ). page_reads e frozen (file_next f)) asked ∙ ap (λ (x : FileCopy). page_reads (asked_scn copier.backing.ask) frozen (file_next x)) filed
+
+-- no page is left of the same file
+pub its_end : (copier : Backed) (f : FileCopy) → f ≡ copier.file → file_next f ≡ file_count f → file_next copier.file ≡ file_count copier.file
+its_end copier f filed all = subst (λ (x : FileCopy). file_next x ≡ file_count x) filed all
+
 -- A turn, after that of its file.
 module _ (old mid : World) (a b : Held) (copier : Backed) (t : Trail) (is : IsOpen old a t) (stalled : a.files.state ≡ stalled_state) (apart : OfFiles (name_of a) copier.backing.name → ⊥) (reads : Leaves old copier.backing.name (old.files copier.backing.name)) (same : b ≡ a)
-    (file : Changes old mid (Only copier.backing.name) (Remade old copier.backing.name (IsUnfinishedOr (whole_file copier.file t.base.frozen)))) (gave : GaveNothing old mid) where
+    (backing : IsBackingUp old copier t.base.frozen) (f : FileCopy) (filed : f ≡ copier.file)
+    (touched : IsFileCopying old f t.base.frozen → Changes old mid (Only (file_name f)) (Remade old (file_name f) (IsUnfinishedOr (whole_file f t.base.frozen)))) (gave : GaveNothing old mid) where
   abbrev whole : List ℕ
   whole = whole_file copier.file t.base.frozen
+
+  goes : IsFileCopying old f t.base.frozen
+  goes = its_goes old copier f t.base.frozen filed backing
+
+  file : Changes old mid (Only copier.backing.name) (Remade old copier.backing.name (IsUnfinishedOr whole))
+  file = file_named old mid f copier.file copier.backing.name t.base.frozen filed backing.name (touched goes)
 
   pub mid_open : IsOpen mid b t
   mid_open = subst (λ (h : Held). IsOpen mid h t) (sym same) (open_other old a t is copier.backing.name whole apart reads mid file stalled)
@@ -199,37 +219,65 @@ module _ (old mid : World) (a b : Held) (copier : Backed) (t : Trail) (is : IsOp
   pub turn_failed : (later : Backed) (time : ℕ) (xs : List Stroke) → BackupTurn (Err Device) old mid a b copier later t time xs
   turn_failed later time xs = record { left = file_left old a t is copier.backing.name whole apart reads mid file xs; alone = λ some. file; answer = tt; guids = gave.guids; sure = tt }
 
-  pub turn_more : (later : Backed) (time : ℕ) (xs : List Stroke) → IsBackingUp mid later t.base.frozen → BackupTurn (Ok More) old mid a b copier later t time xs
-  turn_more later time xs goes = record {
+  pub turn_more : (later : Backed) (time : ℕ) (xs : List Stroke) → later.backing ≡ copier.backing → IsSameFile f later.file t.base.frozen → (IsFileCopying old f t.base.frozen → IsFileCopying mid later.file t.base.frozen)
+      → BackupTurn (Ok More) old mid a b copier later t time xs
+  turn_more later time xs backed kept onward = record {
     left = file_left old a t is copier.backing.name whole apart reads mid file xs;
     alone = λ some. file;
-    answer = record { left = file; same = same; opened = mid_open; gave = gave; goes = goes };
+    answer = record {
+      left = file;
+      same = same;
+      opened = mid_open;
+      gave = gave;
+      goes = goes_further mid copier later t.base.frozen f filed backed kept backing.name backing.whole backing.count (onward goes);
+    };
     guids = gave.guids;
     sure = tt;
   }
 
-  module _ (new : World) (d : Held) (later : Backed) (time : ℕ) (xs : List Stroke) (kept : IsKept mid copier.backing.name whole) (all : file_next copier.file ≡ file_count copier.file) where
-    pub close_failed : (fault : Fault) → Closes (Err fault) mid new b d t time xs → BackupTurn (Err fault) old new a d copier later t time xs
-    close_failed fault closes = record {
-      left = close_left old a t is copier.backing.name whole apart reads mid file new xs kept (subst (λ (h : Held). Strikes mid new (name_of h) t xs) same closes.left);
-      alone = λ some. absurd (omega (arith, some, all));
+  -- The file is whole, and the backup is closed.
+  module _ (s : Seen) (new : World) (d : Held) (later : Backed) (finished : IsFileCopying old f t.base.frozen → IsKept mid (file_name f) (whole_file f t.base.frozen)) (all : file_next f ≡ file_count f) (its : Backing) (backed : its ≡ copier.backing)
+      (entry : HasItsEntry t.base.image copier.backing.page) (below : copier.backing.page < length t.base.image) (given : GaveTimeAtMost old new (next_time s.given)) where
+    abbrev time : ℕ
+    time = next_time s.given
+
+    abbrev xs : List Stroke
+    xs = (close_backup s copier.backing).strokes
+
+    kept : IsKept mid copier.backing.name whole
+    kept = kept_named mid f copier.file copier.backing.name t.base.frozen filed backing.name (finished goes)
+
+    -- what the close does
+    abbrev pub DoesClose : Result (Unit {0}) Fault → Type 0
+    DoesClose result = IsOpen mid b t → HasItsEntry t.base.image its.page → its.page < length t.base.image → GaveTimeAtMost mid new time → Closes result mid new b d t time (close_backup s its).strokes
+
+    closes : (result : Result (Unit {0}) Fault) → DoesClose result → Closes result mid new b d t time xs
+    closes result does =
+        subst (λ (x : Backing). Closes result mid new b d t time (close_backup s x).strokes) backed
+        (does mid_open (subst (λ (x : Backing). HasItsEntry t.base.image x.page) (sym backed) entry) (subst (λ (x : Backing). x.page < length t.base.image) (sym backed) below) (asked_behind old mid new time gave given))
+
+    struck : (result : Result (Unit {0}) Fault) → DoesClose result → Strikes mid new (name_of a) t xs
+    struck result does = subst (λ (h : Held). Strikes mid new (name_of h) t xs) same (closes result does).left
+
+    pub close_failed : (fault : Fault) → DoesClose (Err fault) → BackupTurn (Err fault) old new a d copier later t time xs
+    close_failed fault does = record {
+      left = close_left old a t is copier.backing.name whole apart reads mid file new xs kept (struck (Err fault) does);
+      alone = λ some. absurd (omega (arith, some, its_end copier f filed all));
       answer = tt;
-      guids = closes.guids ∙ gave.guids;
-      sure = closes.sure;
+      guids = (closes (Err fault) does).guids ∙ gave.guids;
+      sure = (closes (Err fault) does).sure;
     }
 
-    pub close_finished : Closes (Ok tt) mid new b d t time xs → file_written later.file ≡ count_in (kept_of copier.backing t.base.frozen) copier.backing.ask → BackupTurn (Ok Finished) old new a d copier later t time xs
-    close_finished closes written =
-        let struck : Strikes mid new (name_of a) t xs = subst (λ (h : Held). Strikes mid new (name_of h) t xs) same closes.left in
-        record {
-          left = close_left old a t is copier.backing.name whole apart reads mid file new xs kept struck;
-          alone = λ some. absurd (omega (arith, some, all));
-          answer = record {
-            kept = kept_still old a t is copier.backing.name whole apart reads mid file new xs kept struck;
-            opened = closes.opened;
-            times = closes.times ∙ ap (λ (ts : List ℕ). ts ++ time ∷ []) gave.times;
-            written = written;
-          };
-          guids = closes.guids ∙ gave.guids;
-          sure = tt;
-        }
+    pub close_finished : DoesClose (Ok tt) → file_written later.file ≡ file_written f → BackupTurn (Ok Finished) old new a d copier later t time xs
+    close_finished does taken = record {
+      left = close_left old a t is copier.backing.name whole apart reads mid file new xs kept (struck (Ok tt) does);
+      alone = λ some. absurd (omega (arith, some, its_end copier f filed all));
+      answer = record {
+        kept = kept_still old a t is copier.backing.name whole apart reads mid file new xs kept (struck (Ok tt) does);
+        opened = (closes (Ok tt) does).opened;
+        times = (closes (Ok tt) does).times ∙ ap (λ (ts : List ℕ). ts ++ time ∷ []) gave.times;
+        written = taken ∙ written_all old f t.base.frozen goes all ∙ ap (λ (x : FileCopy). whole_count x t.base.frozen) filed ∙ backing.count;
+      };
+      guids = (closes (Ok tt) does).guids ∙ gave.guids;
+      sure = tt;
+    }

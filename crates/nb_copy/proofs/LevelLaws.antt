@@ -5,7 +5,7 @@ use Rattle.std.proofs.lemmas.List.{append-nil, take_all, length-take-le}
 use Rattle.nb_fields.specs.Page.{stamp_of}
 use Rattle.nb_fields.specs.Places.{most_pages}
 use Rattle.nb_model.specs.Image.{Page, Image, Numbered, page_at}
-use Rattle.nb_model.specs.Levels.{AreRising, AreOfSize, taken_from, may_have_changed, changed_from, changed}
+use Rattle.nb_model.specs.Levels.{AreRising, AreOfSize, taken_from, may_have_changed, changed_from, changed, level_bytes}
 use Rattle.nb_model.specs.Sound.{IsOfSize}
 use Rattle.nb_model.proofs.ImageLaws.{all-take}
 use Rattle.nb_host.specs.Files.{Files}
@@ -13,8 +13,12 @@ use Rattle.nb_host.specs.World.{World}
 use Rattle.nb_page.specs.Quiet.{Quiet}
 use Rattle.nb_gather.specs.Gathering.{LevelWriting, HasTaken, MayHave}
 use Rattle.nb_model.specs.Forms.{scn_page_of}
-use Rattle.nb_copy.specs.LevelCopying.{LevelCopying, IsLevelOf, IsLevelCopying, taken_below}
+use Rattle.nb_copy.specs.LevelCopying.{LevelCopying, IsLevelOf, IsLevelCopying, taken_below, whole_level}
 use Rattle.nb_gather.proofs.RunLaws.{tells}
+use Rattle.nb_change.specs.Changes.{Changes, Only, Remade}
+use Rattle.nb_gather.specs.Making.{IsKept, IsUnfinishedOr}
+use Rattle.nb_level.specs.declared.head.LevelHead.{LevelHead}
+use Rattle.nb_level.specs.Heads.{head_of}
 
 weaker : (n : ℕ) (rs : List Numbered) → AreRising (n + 1) rs → AreRising n rs
 weaker n [] is = tt
@@ -89,12 +93,25 @@ module _ (copy : LevelCopying) (frozen : Image) (of : IsLevelOf copy frozen) whe
   }
 
 -- with the page that is dealt with, where it may have changed
-pub next_taken : (copy : LevelCopying) (frozen : Image) → IsLevelOf copy frozen → (k scn : ℕ) (page : Page) → k < length frozen → page ≡ page_at frozen k → scn ≡ copy.file.head.previous_scn
+next_taken : (copy : LevelCopying) (frozen : Image) → IsLevelOf copy frozen → (k scn : ℕ) (page : Page) → k < length frozen → page ≡ page_at frozen k → scn ≡ copy.file.head.previous_scn
     → may_have_changed frozen copy.file.head.previous_scn k ≡ true → taken_below k copy frozen ++ taken_from k scn (page ∷ []) ≡ taken_below (k + 1) copy frozen
 next_taken copy frozen of k scn page low is same may =
     ap (λ (p : Page). taken_below k copy frozen ++ taken_from k scn (p ∷ [])) is ∙ ap (λ n. taken_below k copy frozen ++ taken_from k n (page_at frozen k ∷ [])) same
     ∙ ap (λ (rs : List Numbered). taken_below k copy frozen ++ rs) (sym (changed_one (may_have_changed frozen copy.file.head.previous_scn) k copy.file.head.previous_scn (page_at frozen k) may))
     ∙ sym (below_next copy frozen of k low)
+
+-- What a file has then, and that it may have it.
+module _ (copy : LevelCopying) (frozen : Image) (of : IsLevelOf copy frozen) (head : LevelHead) (headed : head ≡ copy.file.head) (k number : ℕ) (same : number ≡ k) (page : Page) (low : k < length frozen) (is : page ≡ page_at frozen k)
+    (changes : may_have_changed frozen copy.file.head.previous_scn k ≡ true) where
+  pub taken_next : taken_below k copy frozen ++ taken_from number head.previous_scn (page ∷ []) ≡ taken_below (k + 1) copy frozen
+  taken_next =
+      ap (λ n. taken_below k copy frozen ++ taken_from n head.previous_scn (page ∷ [])) same
+      ∙ next_taken copy frozen of k head.previous_scn page low is (ap (λ (h : LevelHead). h.previous_scn) headed) changes
+
+  pub may_next : MayHave head (taken_below k copy frozen ++ taken_from number head.previous_scn (page ∷ []))
+  may_next =
+      subst (λ (h : LevelHead). MayHave h (taken_below k copy frozen ++ taken_from number head.previous_scn (page ∷ []))) (sym headed)
+      (subst (MayHave copy.file.head) (sym taken_next) (may_below copy frozen of (k + 1) (omega (arith, low))))
 
 -- and without it, where it may not
 pub next_passed : (copy : LevelCopying) (frozen : Image) → IsLevelOf copy frozen → (k : ℕ) → k < length frozen → may_have_changed frozen copy.file.head.previous_scn k ≡ false
@@ -127,3 +144,27 @@ level_next w before after frozen of same has entries =
         entries = λ two. entries ∙ ap (λ n. page_at frozen (scn_page_of frozen n)) (let e : before.next ≡ after.next - 1 = omega (arith, next) in e);
       };
     }
+
+-- All pages were dealt with: the file has those that it is to have, and a close makes it whole.
+module _ (w : World) (copy : LevelCopying) (frozen : Image) (copying : IsLevelCopying w copy frozen) (all : copy.next ≡ length frozen) (file : LevelWriting) (filed : file ≡ copy.file) where
+  abbrev taken : List Numbered
+  taken = changed copy.file.head.previous_scn frozen
+
+  its_all : taken_below copy.next copy frozen ≡ taken
+  its_all = below_all copy frozen copying.of copy.next (omega (arith, all))
+
+  has_all : HasTaken w file taken
+  has_all =
+      let begun = copying.begun (let least = copying.of.least in omega (arith, all, least)) in
+      subst (λ (f : LevelWriting). HasTaken w f taken) (sym filed) (subst (λ (rs : List Numbered). HasTaken w copy.file rs) its_all begun.has)
+
+  may_all : MayHave file.head taken
+  may_all = subst (λ (f : LevelWriting). MayHave f.head taken) (sym filed) (subst (MayHave copy.file.head) its_all (may_below copy frozen copying.of copy.next (omega (arith, all))))
+
+  pub level_left : (new : World) → ((rs : List Numbered) → HasTaken w file rs → MayHave file.head rs → Changes w new (Only file.name) (Remade w file.name (IsUnfinishedOr (level_bytes 102 (head_of file.head) rs))))
+      → Changes w new (Only copy.file.name) (Remade w copy.file.name (IsUnfinishedOr (whole_level copy frozen)))
+  level_left new left =
+      subst (λ (f : LevelWriting). Changes w new (Only f.name) (Remade w f.name (IsUnfinishedOr (level_bytes 102 (head_of f.head) taken)))) filed (left taken has_all may_all)
+
+  pub level_kept : (new : World) → ((rs : List Numbered) → HasTaken w file rs → MayHave file.head rs → IsKept new file.name (level_bytes 102 (head_of file.head) rs)) → IsKept new copy.file.name (whole_level copy frozen)
+  level_kept new done = subst (λ (f : LevelWriting). IsKept new f.name (level_bytes 102 (head_of f.head) taken)) filed (done taken has_all may_all)

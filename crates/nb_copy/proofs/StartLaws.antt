@@ -1,6 +1,6 @@
 -- The start of a backup: tests, room in the history, and the begin.
 use Rattle.std.proofs.Common.{◌≡◌, ◌⊎◌, inl, ℕ, zero, suc, List, [], ◌∷◌, ◌++◌, length, replicate, refl, sym, ap, subst, ◌∙◌}
-use Rattle.std.specs.Prelude.{true, Option, Some, None, is_none, Err}
+use Rattle.std.specs.Prelude.{true, Option, Some, None, is_none, Err, IsErr, IsErrAnd, Result}
 use Rattle.nb_fields.specs.States.{normal_state}
 use Rattle.nb_host.specs.World.{World}
 use Rattle.nb_host.specs.declared.faults.Fault.{Fault}
@@ -12,7 +12,7 @@ use Rattle.nb_change.specs.Gave.{GaveNothing}
 use Rattle.nb_base.specs.Takes.{Strikes}
 use Rattle.nb_level.specs.declared.head.LevelHead.{LevelHead}
 use Rattle.nb_model.specs.declared.reply.Reply.TheVariants.{Refused}
-use Rattle.nb_model.specs.Account.{Ask}
+use Rattle.nb_model.specs.Account.{Ask, Base}
 use Rattle.nb_model.specs.Backups.{room_in, starts, backup_turn, since_turn}
 use Rattle.nb_model.specs.Causes.{Cause, first_cause, when, read_only, not_state, not_free, no_scn, no_room, not_of_form, broken_at, short_for}
 use Rattle.nb_model.specs.Chains.{History, Spot, pages_of, spots, free_spot}
@@ -26,11 +26,12 @@ use Rattle.nb_state.specs.Turns.{GaveAtMost}
 use Rattle.nb_state.proofs.TurnLaws.{struck_front}
 use Rattle.nb_engine.specs.Room.{room_cause}
 use Rattle.nb_alloc.proofs.CauseLaws.{told_some, unless_refused, unless_allowed, first_here}
-use Rattle.nb_copy.specs.Starting.{HasNotBegun, StartsBackup, earlier_row, row_cause, earlier_cause, file_cause, ask_in, turn_since}
+use Rattle.nb_copy.specs.Starting.{HasNotBegun, StartsBackup, earlier_row, row_cause, earlier_cause, file_cause, ask_in, turn_since, Backed}
 use Rattle.nb_copy.specs.declared.since.Since.{Since}
 use Rattle.nb_copy.specs.declared.since.Since.TheVariants.{Level, Guid}
 use Rattle.nb_copy.proofs.BesideLaws.{starts_quiet}
 use Rattle.nb_copy.proofs.StartCauses.{after_none}
+use Rattle.nb_change.proofs.ResultLaws.{passed_on}
 
 -- the tests in the order of the calls are those of the turn
 at_once : (a b c d e f g h i : Cause) → first_cause (first_cause (first_cause (a ∷ b ∷ c ∷ []) ∷ first_cause (d ∷ e ∷ []) ∷ []) ∷ first_cause (d ∷ f ∷ g ∷ h ∷ i ∷ []) ∷ []) ≡ first_cause (a ∷ b ∷ c ∷ d ∷ e ∷ f ∷ g ∷ h ∷ i ∷ [])
@@ -207,3 +208,15 @@ given_later old mid new id gave given = subst (λ (gs : List (List ℕ)). (new.g
 
 pub given_before : (old mid new : World) (id : List ℕ) → GaveNothing old mid → GaveAtMost mid new id → GaveAtMost old new id
 given_before old mid new id gave given = subst (λ (gs : List (List ℕ)). (new.guids ≡ gs) ⊎ (new.guids ≡ gs ++ id ∷ [])) gave.guids given
+
+-- The turn is that of what is seen, whose database is that of the trail.
+pub starts_of : (result : Result Backed Fault) (old new : World) (a b : Held) (t : Trail) (s : Seen) (session : ℕ) (since : Since) (name : List ℕ) → t.base ≡ s.base
+    → StartsBackup result old new a b t name (next_guid s.given) (turn_since (record s { base = t.base }) session since name) → StartsBackup result old new a b t name (next_guid s.given) (turn_since s session since name)
+starts_of result old new a b t s session since name same starts = subst (λ (x : Base). StartsBackup result old new a b t name (next_guid s.given) (turn_since (record s { base = x }) session since name)) same starts
+
+-- the same where `?` passes a fault on
+pub starts_passed : (result : Result Backed Fault) (fault : Fault) (old new : World) (a b : Held) (t : Trail) (s : Seen) (session : ℕ) (since : Since) (name : List ℕ) → IsErr result × IsErrAnd result (λ f. f ≡ fault) → t.base ≡ s.base
+    → StartsBackup (Err fault) old new a b t name (next_guid s.given) (turn_since (record s { base = t.base }) session since name) → StartsBackup result old new a b t name (next_guid s.given) (turn_since s session since name)
+starts_passed result fault old new a b t s session since name passed same starts =
+    starts_of result old new a b t s session since name same
+    (subst (λ (r : Result Backed Fault). StartsBackup r old new a b t name (next_guid s.given) (turn_since (record s { base = t.base }) session since name)) (sym (passed_on result fault passed)) starts)

@@ -206,9 +206,10 @@ impl LevelCopy {
         let may_be_changed = self.fetch(host, engine)?;
         self.next = number + 1;
         if may_be_changed {
-            self.file.take(host, number, &self.page)?;
+            self.file.take(host, number, &self.page)
+        } else {
+            Ok(())
         }
-        Ok(())
     }
 
     /// Deals with one page of the frozen image, and answers `More`; or, where all were dealt with before, makes the file whole, keeps

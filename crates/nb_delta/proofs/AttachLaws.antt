@@ -10,15 +10,15 @@ use Rattle.nb_delta.specs.Known.{Known}
 use Rattle.nb_delta.specs.Reading.{Reads}
 use Rattle.nb_delta.specs.Attaching.{Attaches}
 
--- a file that has a length is there
-pub record IsThere (file : File) (size : ℕ) : Type 0 where
+-- a file that has a length has so many bytes
+pub record IsLong (file : File) (size : ℕ) : Type 0 where
   pub bytes : List ℕ
   pub is : file ≡ Some bytes
   pub long : length bytes ≡ size
 
-pub there : (file : File) (size : Option ℕ) (long : ℕ) → size ≡ option_map length file → size ≡ Some long → IsThere file long
-there (Some bytes) size long told is = record { bytes = bytes; is = refl; long = cc }
-there None size long told is = absurd (none_some long (sym told ∙ is))
+pub long_file : (file : File) (size : Option ℕ) (long : ℕ) → size ≡ option_map length file → size ≡ Some long → IsLong file long
+long_file (Some bytes) size long told is = record { bytes = bytes; is = refl; long = cc }
+long_file None size long told is = absurd (none_some long (sym told ∙ is))
   where
     none_some : (n : ℕ) → option_map (length {A = ℕ}) None ≡ Some n → ⊥
     none_some n e = cc

@@ -1,6 +1,5 @@
 -- What one call after another says of the file and of the log.
 use Rattle.std.proofs.Common.{◌≡◌, List, ℕ, refl, sym, subst, ap, ◌∙◌}
-use Rattle.std.specs.Prelude.{Result, Ok, Err, OnOk}
 use Rattle.nb_host.specs.Files.{Files, with_file, with_page}
 use Rattle.nb_host.specs.World.{World}
 use Rattle.nb_host.specs.Crash.{IsDurable}
@@ -18,11 +17,6 @@ silence_joined old mid new first second = record {
   guids = second.guids ∙ first.guids;
   times = second.times ∙ first.times;
 }
-
--- what holds whatever the answer is
-pub on_any : {T E P : Type 0} (result : Result T E) → P → OnOk result P
-on_any (Ok x) p = p
-on_any (Err e) p = tt
 
 -- the file after its page was written
 pub written : (old new : Files) (name page : List ℕ) (at : ℕ) → new ≡ with_file old name (with_page (old name) at page) → new name ≡ with_page (old name) at page

@@ -25,8 +25,7 @@ fn write_group<H: Host>(host: &mut H, name: &Name, group: u32, page: &[u8]) -> R
     ensures log { IsSilent (H.world host.old) (H.world host.new) }
     ensures cause { CountsFault result (H.faults host.old) (H.faults host.new) }
 {
-    host.write_page(name, alloc_page_of(page.len() as u32, group), page)?;
-    Ok(())
+    host.write_page(name, alloc_page_of(page.len() as u32, group), page)
 }
 
 /// Writes pages of zeros in the places of the allocation pages after group `first`, up to that of group `last`.
@@ -74,8 +73,7 @@ fn make_ready<H: Host>(
 {
     page.fill(0);
     empty_groups(host, name, first, last, page)?;
-    sync_if(host, name, true)?;
-    Ok(())
+    sync_if(host, name, true)
 }
 
 /// Fills in and writes the allocation page of a group of these entries.
@@ -96,8 +94,7 @@ fn note_group<H: Host>(
     ensures cause { CountsFault result (H.faults host.old) (H.faults host.new) }
 {
     fill_group(page, entries, group);
-    write_group(host, name, group, page)?;
-    Ok(())
+    write_group(host, name, group, page)
 }
 
 /// Writes the allocation pages of the groups from `first` on and before `end`, in rising order.

@@ -31,8 +31,7 @@ pub fn write_slot<H: Host>(
     ensures log { IsSilent (H.world host.old) (H.world host.new) }
     ensures cause { CountsFault result (H.faults host.old) (H.faults host.new) }
 {
-    host.write_page(name, slot, bytes)?;
-    Ok(())
+    host.write_page(name, slot, bytes)
 }
 
 /// Keeps the file for good, where that is wanted.
@@ -43,10 +42,7 @@ pub fn sync_if<H: Host>(host: &mut H, name: &Name, wanted: bool) -> Result<(), H
     ensures log { IsSilent (H.world host.old) (H.world host.new) }
     ensures cause { CountsFault result (H.faults host.old) (H.faults host.new) }
 {
-    if wanted {
-        host.sync(name)?;
-    }
-    Ok(())
+    if wanted { host.sync(name) } else { Ok(()) }
 }
 
 /// Where the entry after `place` others is the last of its group, empties the next allocation page.
@@ -94,8 +90,7 @@ fn put_slot<H: Host>(
 {
     write_slot(host, name, slot_of(bytes.len() as u32, place), bytes)?;
     make_room(host, name, place, page)?;
-    sync_if(host, name, true)?;
-    Ok(())
+    sync_if(host, name, true)
 }
 
 /// Fills in the allocation page of a group.
@@ -140,8 +135,7 @@ fn note<H: Host>(
     ensures cause { CountsFault result (H.faults host.old) (H.faults host.new) }
 {
     host.write_page(name, alloc_page_of(page.len() as u32, group), page)?;
-    sync_if(host, name, forced)?;
-    Ok(())
+    sync_if(host, name, forced)
 }
 
 /// Adds the last of these entries to the file, with its page. The page is kept for good in its slot before the table
@@ -190,8 +184,7 @@ pub fn rewrite_slot<H: Host>(
     ensures cause { CountsFault result (H.faults host.old) (H.faults host.new) }
 {
     write_slot(host, name, slot, bytes)?;
-    sync_if(host, name, forced)?;
-    Ok(())
+    sync_if(host, name, forced)
 }
 
 /// Makes the file of one page of zeros, and keeps it for good.
@@ -208,8 +201,7 @@ pub fn make_file<H: Host>(host: &mut H, name: &Name, page: &mut [u8]) -> Result<
     host.make(name)?;
     page.fill(0);
     host.write_page(name, 0, page)?;
-    host.sync(name)?;
-    Ok(())
+    host.sync(name)
 }
 
 /// Takes the file away.
@@ -220,6 +212,5 @@ pub fn remove_file<H: Host>(host: &mut H, name: &Name) -> Result<(), HostFault>
     ensures log { IsSilent (H.world host.old) (H.world host.new) }
     ensures cause { CountsFault result (H.faults host.old) (H.faults host.new) }
 {
-    host.remove(name)?;
-    Ok(())
+    host.remove(name)
 }

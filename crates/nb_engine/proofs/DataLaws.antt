@@ -17,6 +17,7 @@ use Rattle.nb_model.specs.Causes.{not_kind}
 use Rattle.nb_model.specs.Sound.{IsSoundImage}
 use Rattle.nb_model.specs.Trail.{Trail}
 use Rattle.nb_model.proofs.PutSound.{IsPlace}
+use Rattle.nb_model.proofs.StepLaws.{kind_parts}
 use Rattle.nb_base.specs.Takes.{IsNoRefusal}
 use Rattle.nb_state.specs.Open.{Held, IsOpen, but_pages}
 use Rattle.nb_state.specs.Does.{Tested}
@@ -27,13 +28,13 @@ use Rattle.nb_alloc.specs.Tries.{Tries}
 use Rattle.nb_alloc.proofs.CauseLaws.{first_next, first_here, one_cause}
 use Rattle.nb_alloc.proofs.DoesLaws.{sure_of, tries_after, tries_these}
 use Rattle.nb_alloc.proofs.MakeLaws.{entry_none, tries_named}
-use Rattle.nb_alloc.proofs.PutLaws.{is_kind-parts, none_of}
-use Rattle.nb_engine.proofs.LinkLaws.{any_strokes}
+use Rattle.nb_alloc.proofs.PutLaws.{none_of}
+use Rattle.nb_alloc.proofs.ReadyLaws.{page_strokes_are}
 use Rattle.nb_engine.proofs.NewTurn.{well_of}
 
 -- a data page is below the length
 pub data_there : (image : Image) (p : ℕ) → not_kind image data_kind p ≡ None → p < length image
-data_there image p kind = (is_kind-parts image data_kind p (none_of (is_kind image data_kind p) (NotDatabase p) kind)).0
+data_there image p kind = (kind_parts image data_kind p (none_of (is_kind image data_kind p) (NotDatabase p) kind)).0
 
 -- why it isn't written
 pub none_there : (image : Image) (p : ℕ) (r : Refusal) → not_kind image data_kind p ≡ Some r → data_cause image p ≡ Some r
@@ -50,7 +51,7 @@ put_tries result old mid new a b c t p bytes is size kind same quiet tries =
     let sized = subst (λ (n : ℕ). IsTrue (is_page_size n)) is.files.agrees.page_size size in
     let strokes = (put_data p bytes image).strokes in
     tries_named result old new a c t (entry_cause image p) (data_cause image p) strokes strokes (by_entry image p kind) refl
-    (tries_these result old new a c t (entry_cause image p) _ strokes (λ none. any_strokes t.base p sized none 5 (drop 16 bytes) (data_there image p kind)) (tries_after result old mid new a b c t _ _ same quiet is tries))
+    (tries_these result old new a c t (entry_cause image p) _ strokes (λ none. page_strokes_are t.base p 5 (drop 16 bytes) sized none) (tries_after result old mid new a b c t _ _ same quiet is tries))
 
 -- in a sound database it isn't refused
 pub data_sure : {T : Type 0} (result : Result T Fault) (w : World) (held : Held) (t : Trail) (p : ℕ) → IsOpen w held t → IsTrue (is_page_size held.files.page_size) → IsSoundImage t.base.image → 0 < p

@@ -14,10 +14,12 @@ use Rattle.nb_model.specs.Causes.{Cause, first_cause, when, not_kind, lowest_bro
 use Rattle.nb_model.specs.Backups.{needs_taken}
 use Rattle.nb_model.proofs.SoundLaws.{inventory_place_some, scn_place_some}
 use Rattle.nb_model.proofs.PutSound.{needs_image}
+use Rattle.nb_model.proofs.StepLaws.{kind_parts}
 use Rattle.nb_engine.specs.Room.{taken_draft}
-use Rattle.nb_alloc.proofs.CauseLaws.{first_none, first_next, first_here}
-use Rattle.nb_alloc.proofs.PutLaws.{none_of, is_kind-parts}
+use Rattle.nb_alloc.proofs.CauseLaws.{first_next, first_here, one_cause}
+use Rattle.nb_alloc.proofs.PutLaws.{none_of}
 use Rattle.nb_alloc.proofs.SearchReads.{inventory_most}
+use Rattle.nb_alloc.proofs.BehindLaws.{page_alone}
 
 -- the inventory page of a page stands before its SCN page
 before_scn : (size p : ℕ) → IsTrue (is_page_size size) → inventory_place size (p / bits_in size) < scn_place size (p / entries_in size)
@@ -54,10 +56,6 @@ scn_most size p two = by (p / entries_in size) refl
     by (suc k) e = omega (arith, div-mul-le_self p (entries_in size), ap (λ (n : ℕ). n * entries_in size) e)
 
 -- the lowest of some pages
-one : (i : ℕ) → lowest_broken (i ∷ []) ≡ Some (NotDatabase i)
-unfolding lowest_broken
-one i = refl
-
 two_of : (p i : ℕ) → i ≤ p → lowest_broken (p ∷ i ∷ []) ≡ Some (NotDatabase i)
 unfolding lowest_broken
 two_of p i low = let same : min p i ≡ i = omega (arith, low) in ap (λ (n : ℕ). Some (NotDatabase n)) same
@@ -156,7 +154,7 @@ module _ (image : Image) (p : ℕ) where
 
         by : (b c : Bool) → lowest_broken (with_page c (with_scn b (i ∷ []))) ≡ Some (NotDatabase i)
         by true true = two_of p i low
-        by true false = one i
+        by true false = page_alone i
         by false true = three_of p s i low (omega (arith, less))
         by false false = two_of s i (omega (arith, less))
 
@@ -168,7 +166,7 @@ module _ (image : Image) (p : ℕ) where
       two =
           let low = inventory_most (image_size image) p some in
           let least = inventory_place_some (image_size image) (p / bits_in (image_size image)) size in
-          let other : i ≢ p = λ e. two_five (sym (is_kind-parts image inventory_kind i is_inventory).1 ∙ ap (λ (n : ℕ). kind_of (page_at image n)) e ∙ kind) in
+          let other : i ≢ p = λ e. two_five (sym (kind_parts image inventory_kind i is_inventory).1 ∙ ap (λ (n : ℕ). kind_of (page_at image n)) e ∙ kind) in
           omega (arith, low, least, other)
         where
           two_five : ◌≡◌ {A = ℕ} 2 5 → ⊥
@@ -182,7 +180,7 @@ module _ (image : Image) (p : ℕ) where
         where
           by : (c : Bool) → lowest_broken (with_page c (s ∷ [])) ≡ Some (NotDatabase s)
           by true = two_of p s (scn_most (image_size image) p two)
-          by false = one s
+          by false = page_alone s
 
       module _ (scn_page : not_kind image scn_kind s ≡ None) where
         is_scn_page : is_kind image scn_kind s ≡ true
@@ -190,14 +188,11 @@ module _ (image : Image) (p : ℕ) where
 
         -- the page itself
         pub free_refused : is_free_page image p ≡ true → cause ≡ Some (NotDatabase p)
-        free_refused e = refused (NotDatabase p) (form_is true true true is_inventory is_scn_page e ∙ one p)
+        free_refused e = refused (NotDatabase p) (form_is true true true is_inventory is_scn_page e ∙ page_alone p)
 
         pub form_none : is_free_page image p ≡ false → not_of_form (taken_draft image p) ≡ None
         form_none e = form_is true true false is_inventory is_scn_page e ∙ none
 
         -- the SCN
-        pub scn_spent : is_free_page image p ≡ false → (r : Refusal) → no_scn image ≡ Some r → cause ≡ Some r
-        scn_spent e r f = first_next (not_of_form (taken_draft image p)) (no_scn image ∷ []) (form_none e) ∙ first_here (no_scn image) [] r f
-
-        pub room_free : is_free_page image p ≡ false → no_scn image ≡ None → cause ≡ None
-        room_free e f = first_next (not_of_form (taken_draft image p)) (no_scn image ∷ []) (form_none e) ∙ first_next (no_scn image) [] f ∙ first_none
+        pub room_cause : is_free_page image p ≡ false → cause ≡ no_scn image
+        room_cause e = first_next (not_of_form (taken_draft image p)) (no_scn image ∷ []) (form_none e) ∙ one_cause (no_scn image)

@@ -21,6 +21,7 @@ use Rattle.nb_model.specs.Outcomes.{Seen, says, unless}
 use Rattle.nb_model.specs.Pages.{write_turn}
 use Rattle.nb_model.specs.Trail.{Trail}
 use Rattle.nb_model.proofs.HeaderLaws.{header-kind}
+use Rattle.nb_model.proofs.PutSound.{no_first, not_when}
 use Rattle.nb_base.specs.Takes.{IsNoRefusal}
 use Rattle.nb_state.specs.Open.{Held, IsOpen}
 use Rattle.nb_state.specs.Does.{Makes, Does}
@@ -32,16 +33,6 @@ use Rattle.nb_alloc.proofs.PageLaws.{then_page}
 use Rattle.nb_alloc.proofs.PutLaws.{put_stroke-after, put_strokes, put_form, put_room, put_refused}
 use Rattle.nb_engine.specs.Replies.{done}
 
--- no cause of a list applies
-no_causes : (c : Cause) (cs : List Cause) → first_cause (c ∷ cs) ≡ None → (c ≡ None) × (first_cause cs ≡ None)
-unfolding first_cause
-no_causes None cs e = (refl, e)
-no_causes (Some r) cs e = cc
-
-not_when : (t : Bool) (r : Refusal) → when t r ≡ None → t ≡ false
-not_when false r e = refl
-not_when true r e = cc
-
 -- what a taken raw page is
 pub record IsRaw (image : Image) (p : ℕ) : Type 0 where
   pub low : p < length image
@@ -52,10 +43,10 @@ pub record IsRaw (image : Image) (p : ℕ) : Type 0 where
 pub is_raw : (image : Image) (p : ℕ) → not_raw image p ≡ None → IsRaw image p
 unfolding not_raw
 is_raw image p none =
-    let first = no_causes (past_end image p) _ none in
-    let second = no_causes _ _ first.1 in
-    let third = no_causes _ _ second.1 in
-    let fourth = no_causes (when (not (kind_of (page_at image p) == raw_kind)) (SystemPage p)) [] third.1 in
+    let first = no_first (past_end image p) _ none in
+    let second = no_first _ _ first.1 in
+    let third = no_first _ _ second.1 in
+    let fourth = no_first (when (not (kind_of (page_at image p) == raw_kind)) (SystemPage p)) [] third.1 in
     record {
       low = below (not_when (nat_le (length image) p) _ first.0);
       form = second.0;

@@ -97,8 +97,7 @@ impl Engine {
             return Err(Fault::Refused(Refusal::Access { found: 1 }));
         }
         let (at, _) = header::Forced::place();
-        put_flag(&mut self.store, host, at, on, &mut self.page)?;
-        Ok(())
+        put_flag(&mut self.store, host, at, on, &mut self.page)
     }
 
     /// Lets no statement change a page from now on, or lets statements change pages again. It is kept for good, and wants no memory.
@@ -119,7 +118,6 @@ impl Engine {
             }));
         }
         let (at, _) = header::Access::place();
-        put_flag(&mut self.store, host, at, closed, &mut self.page)?;
-        Ok(())
+        put_flag(&mut self.store, host, at, closed, &mut self.page)
     }
 }

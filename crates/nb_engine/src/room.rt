@@ -6,11 +6,11 @@ ghost use Rattle.nb_host.specs.Causes.{CountsDevice};
 ghost use Rattle.nb_page.specs.Quiet.{Quiet};
 ghost use Rattle.nb_fields.specs.Page.{kind_of};
 ghost use Rattle.nb_fields.specs.States.{stalled_state};
-ghost use Rattle.nb_fields.specs.Kinds.{inventory_kind, data_kind, scn_kind};
+ghost use Rattle.nb_fields.specs.Kinds.{data_kind, scn_kind};
 ghost use Rattle.nb_model.specs.Image.{Image, image_scn, page_at};
 ghost use Rattle.nb_model.specs.Causes.{first_cause, not_kind, not_of_form, no_scn};
 ghost use Rattle.nb_model.specs.Chains.{History, last_of, put_slot, backup_slot, grown};
-ghost use Rattle.nb_model.specs.Forms.{drafted, is_kind, inventory_of, scn_page_of, is_free_page};
+ghost use Rattle.nb_model.specs.Forms.{drafted, is_kind, scn_page_of};
 ghost use Rattle.nb_model.specs.Trail.{Trail};
 ghost use Rattle.nb_state.specs.Open.{IsOpen, but_pages};
 ghost use Rattle.nb_state.specs.Does.{Tested, Goes};
@@ -23,7 +23,7 @@ ghost use Rattle.nb_alloc.specs.Tries.{Tries};
 use crate::grow::grow_from;
 use crate::rows::{HistoryRow, put_slot};
 use crate::walk::Room;
-use nb_alloc::{InventoryPage, ScnPage, check_rooms, put_page};
+use nb_alloc::{InventoryPage, ScnPage, check_rooms, is_free, put_page};
 use nb_fields::PageKind;
 use nb_fields::layouts::data;
 use nb_host::{Fault, Host, Refusal};
@@ -45,33 +45,6 @@ fn check_scn(scn: u32) -> Result<(), Fault>
         return Err(Fault::Refused(Refusal::ScnExhausted { scn }));
     }
     Ok(())
-}
-
-/// Whether the inventory page of page `number` says that it is free. The refusal is `NotDatabase` of the inventory page.
-fn is_free<H: Host>(
-    store: &mut Store,
-    host: &mut H,
-    number: u32,
-    map: &mut InventoryPage,
-) -> Result<bool, Fault>
-    requires room { length map.old ≡ store.old.files.page_size }
-    requires number { number < most_pages }
-    ensures test { (t : Trail) → IsTrue H.tells → IsOpen (H.world host.old) store.old t → Tested result (not_kind t.base.image inventory_kind (inventory_of t.base.image number)) }
-    ensures value { (t : Trail) → IsTrue H.tells → IsOpen (H.world host.old) store.old t → IfOk result (λ free. free ≡ is_free_page t.base.image number) }
-    ensures room { length map.new ≡ length map.old }
-    ensures open { (t : Trail) → IsTrue H.tells → IsOpen (H.world host.old) store.old t → IsOpen (H.world host.new) store.new t }
-    ensures same { but_pages store.new ≡ but_pages store.old }
-    ensures quiet { Quiet (H.world host.old) (H.world host.new) }
-    ensures cause { CountsDevice result (H.faults host.old) (H.faults host.new) }
-    ensures takes_none { IfErr result (λ fault. fault ≢ Memory) }
-{
-    let page_size = store.page_size();
-    let (k, bit) = nb_pip::covers(page_size, number);
-    map.read(store, host, nb_pip::place_of(page_size, k))?;
-    if map.is_used(bit) {
-        return Ok(false);
-    }
-    Ok(true)
 }
 
 /// Tests the SCN page that has page `number`. The refusal is `NotDatabase` of it.
@@ -128,8 +101,7 @@ pub(crate) fn check_room<H: Host>(
     if free {
         return Err(Fault::Refused(Refusal::NotDatabase { page: number }));
     }
-    check_scn(scn)?;
-    Ok(())
+    check_scn(scn)
 }
 
 /// Makes a new page after `last`, the last page of the history, which is linked to it once it stands. It answers its number.

@@ -28,8 +28,7 @@ pub fn write_head<H: Host>(
     ensures cause { CountsFault result (H.faults host.old) (H.faults host.new) }
 {
     let bytes = head_bytes(head, version);
-    host.append(name, &bytes)?;
-    Ok(())
+    host.append(name, &bytes)
 }
 
 /// Appends a page with its number, as version 101 has it.
@@ -74,8 +73,7 @@ pub fn write_end<H: Host>(host: &mut H, name: &Name, count: u32) -> Result<(), H
     ensures time { Passes (H.world host.old) (H.world host.new) }
     ensures cause { CountsFault result (H.faults host.old) (H.faults host.new) }
 {
-    host.append(name, &two_numbers(END_MARK, count))?;
-    Ok(())
+    host.append(name, &two_numbers(END_MARK, count))
 }
 
 /// The bytes of a number.

@@ -1,6 +1,7 @@
 pub mod UsedLaws
 pub mod OpenLaws
 pub mod RankLaws
+pub mod KeepLaws
 pub mod WaitLaws
 pub mod OutLaws
 pub mod SlotLaws

@@ -1,6 +1,6 @@
 -- What is in memory is what was seen last, after each call.
 use Rattle.std.proofs.Common.{◌≡◌, ◌≢◌, ◌⊎◌, inl, inr, ⊎_elim, ℕ, zero, suc, ◌+◌, ◌-◌, ◌<◌, ◌≤◌, Bool, nat_eq, true, false, List, [], ◌∷◌, length, take, Option, Some, None, refl, sym, ap, subst, ◌∙◌, arith}
-use Rattle.std.specs.Prelude.{is_some, slice_get, MatchOption, Result, Ok, Err, OnErr, if◌then◌else◌}
+use Rattle.std.specs.Prelude.{is_some, slice_get, MatchOption, if◌then◌else◌}
 use Rattle.std.specs.Option.{option_and_then, option_map, option_map_or}
 use Rattle.std.specs.List.{AllByRecursion, IsDistinct}
 use Rattle.std.specs.Map.{keys_of, lookup_entry, remove_entry}
@@ -71,7 +71,7 @@ module _ (pages : Pages) (once : IsDistinct nat_eq (keys_of pages)) where
   pub none_waits_gone : (p : ℕ) → NoneWaits pages → NoneWaits (remove_entry (nat_eq p) pages)
   none_waits_gone p none = All-dropped p pages once (λ e. e.1.rank ≡ None) (λ e. e.1.rank ≡ None) (λ e apart waits. waits) none
 
-  pub none_waits_dropped : NoneWaits pages → NoneWaits (behind_first pages)
+  none_waits_dropped : NoneWaits pages → NoneWaits (behind_first pages)
   none_waits_dropped none = none_waits_gone 0 none
 
 -- Pages of so many numbers below one are held no longer.
@@ -263,6 +263,10 @@ module _ (cache after : Rattle.nb_cache.specs.Held.Held) (before size : ℕ) (va
     pub valid_gone : IsValid after size
     valid_gone = valid_dropped 0 gone
 
+    -- and none waits where none did
+    pub none_gone : NoneWaits cache.pages → NoneWaits after.pages
+    none_gone none = subst (λ (ps : Pages). NoneWaits ps) (sym gone_behind) (none_waits_dropped cache.pages valid.once none)
+
   -- a page is looked for
   module _ (p : ℕ) (looked : after ≡ record cache { pages = promoted (nat_eq p) cache.pages }) where
     pub missed_same : slot_of cache.pages p ≡ None → after ≡ cache
@@ -311,11 +315,6 @@ may_write w held t p bytes is low block = record { low = omega (arith, low, is.a
 pub valid_blank : (cache : Rattle.nb_cache.specs.Held.Held) (pages made size : ℕ) → cache ≡ record { pages = []; cap = pages; page_size = made } → size ≡ made → 0 < pages → IsValid cache size
 unfolding IsDistinct
 valid_blank cache pages made size is same some = subst (λ (h : Rattle.nb_cache.specs.Held.Held). IsValid h size) (sym is) (record { wide = sym same; once = tt; some = some; most = omega arith })
-
--- what holds in any case holds where a call failed
-pub on_err : {T E : Type 0} (result : Result T E) (P : Type 0) → P → OnErr result P
-on_err (Ok value) P is = tt
-on_err (Err e) P is = is
 
 -- a page that is kept with the rank that it had lets none wait where none did
 pub none_waits_kept : (pages : Pages) → IsDistinct nat_eq (keys_of pages) → (cap p : ℕ) (bytes : List ℕ) → NoneWaits pages → NoneWaits (put_first pages cap p (record { bytes = bytes; rank = rank_of pages p }))

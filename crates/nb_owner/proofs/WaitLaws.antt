@@ -135,6 +135,9 @@ forced_none w held t is forced p = by (rank_of held.pages p) refl
 pub still_open : (old new : World) (held : Held) (t : Trail) → IsStill old new → IsOpen old held t → IsOpen new held t
 still_open old new held t still is = open_of new held is.sees t (seen_still old new held.files.name is.sees still is.files) is.agrees is.waits is.pages
 
+pub files_still : (old new : World) (held : Held) (t : Trail) (files : Rattle.nb_base.specs.Open.Held) → files ≡ held.files → IsStill old new → IsOpen old held t → IsOpen new (record held { files = files }) t
+files_still old new held t files same still is = subst (λ (f : Rattle.nb_base.specs.Open.Held). IsOpen new (record held { files = f }) t) (sym same) (still_open old new held t still is)
+
 -- Other pages in memory, of which the same wait.
 wait_same : (es after : Pages) (ps : List ℕ) → ((q : ℕ) → waits es q ≡ true → waits after q ≡ true) → AllByRecursion (λ p. waits es p ≡ true) ps → AllByRecursion (λ p. waits after p ≡ true) ps
 wait_same es after [] same all = tt

@@ -34,8 +34,7 @@ impl Pair {
         ensures cause { CountsFault result (H.faults host.old) (H.faults host.new) }
     {
         self.write_out(host)?;
-        self.end_files(host)?;
-        Ok(())
+        self.end_files(host)
     }
 
     /// Ends the stalled state, where no page waits.

@@ -134,8 +134,7 @@ impl Pair {
         if self.cache.look(number, into) {
             return Ok(());
         }
-        self.fetch(host, number, into)?;
-        Ok(())
+        self.fetch(host, number, into)
     }
 
     /// Fills in page `number`, which isn't in memory, from the file that holds it, and has it in memory then.
@@ -230,8 +229,7 @@ impl Pair {
             return Ok(());
         }
         self.write_out(host)?;
-        self.write_through(host, number, page)?;
-        Ok(())
+        self.write_through(host, number, page)
     }
 
     /// Writes a page into its files, where none waits.
@@ -287,8 +285,7 @@ impl Pair {
         ensures cause { CountsFault result (H.faults host.old) (H.faults host.new) }
     {
         self.write_out(host)?;
-        self.sync_files(host)?;
-        Ok(())
+        self.sync_files(host)
     }
 
     /// Keeps both files for good, where no page waits.
@@ -302,8 +299,7 @@ impl Pair {
         ensures reads { (H.world host.new).reads ≡ (H.world host.old).reads }
         ensures cause { CountsFault result (H.faults host.old) (H.faults host.new) }
     {
-        self.files.sync(host)?;
-        Ok(())
+        self.files.sync(host)
     }
 
     /// Fills in page `number` of the main file as it is frozen, in the stalled state. It goes past the pages in memory.

@@ -30,8 +30,7 @@ impl Pair {
         ensures cause { CountsFault result (H.faults host.old) (H.faults host.new) }
     {
         self.write_out(host)?;
-        self.begin_files(host, guid)?;
-        Ok(())
+        self.begin_files(host, guid)
     }
 
     /// Begins a backup, where no page waits.

@@ -201,8 +201,7 @@ impl Pair {
         match self.next_scn_page() {
             Some(_) => {
                 self.flush_scn_pages(host)?;
-                self.files.sync(host)?;
-                Ok(())
+                self.files.sync(host)
             }
             None => Ok(()),
         }
@@ -223,8 +222,7 @@ impl Pair {
         ensures cause { CountsFault result (H.faults host.old) (H.faults host.new) }
     {
         self.flush_first(host)?;
-        self.flush_pages(host)?;
-        Ok(())
+        self.flush_pages(host)
     }
 
     /// Writes a page that waits into its slot, in the stalled state. It waits no longer then.
@@ -300,8 +298,7 @@ impl Pair {
         ensures cause { CountsFault result (H.faults host.old) (H.faults host.new) }
     {
         self.flush_slots(host)?;
-        self.enter(host)?;
-        Ok(())
+        self.enter(host)
     }
 
     /// Writes all that waits, where something does.
@@ -320,11 +317,9 @@ impl Pair {
         ensures cause { CountsFault result (H.faults host.old) (H.faults host.new) }
     {
         if self.files.state() == STALLED {
-            self.flush_delta(host)?;
-            Ok(())
+            self.flush_delta(host)
         } else {
-            self.flush_main(host)?;
-            Ok(())
+            self.flush_main(host)
         }
     }
 
@@ -347,8 +342,7 @@ impl Pair {
         if self.files.drafted() == 0 {
             Ok(())
         } else {
-            self.enter(host)?;
-            Ok(())
+            self.enter(host)
         }
     }
 
@@ -373,14 +367,8 @@ impl Pair {
         ensures cause { CountsFault result (H.faults host.old) (H.faults host.new) }
     {
         match self.next_page() {
-            Some(_) => {
-                self.flush_all(host)?;
-                Ok(())
-            }
-            None => {
-                self.enter_rest(host)?;
-                Ok(())
-            }
+            Some(_) => self.flush_all(host),
+            None => self.enter_rest(host),
         }
     }
 }

@@ -1,18 +1,11 @@
 -- A page filled from the front.
-use Rattle.std.proofs.Common.{◌≡◌, ℕ, zero, suc, ◌+◌, ◌≤◌, List, ◌++◌, length, take, drop, replicate, sym, ap, ◌∙◌, arith, append_assoc, length-append, add-one, refl}
-use Rattle.std.proofs.lemmas.List.{take_at, length-take-le, append-nil}
+use Rattle.std.proofs.Common.{◌≡◌, ℕ, zero, suc, ◌+◌, ◌≤◌, List, ◌++◌, length, take, replicate, sym, ap, ◌∙◌, arith, append_assoc, add-one, refl}
+use Rattle.std.proofs.lemmas.List.{append-nil}
 use Rattle.nb_fields.specs.Bytes.{bytes_of, with_part}
 use Rattle.nb_fields.specs.Payloads.{same_entries}
 use Rattle.nb_fields.proofs.NumberLaws.{length-bytes_of}
-use Rattle.nb_fields.proofs.PartLaws.{length-with_part}
+use Rattle.nb_fields.proofs.PartLaws.{length-with_part, take-with_part}
 use Rattle.nb_scn.specs.Entries.{entry_place}
-
--- the front of a page up to the end of what was written
-pub take-with_part : (at n : ℕ) (bytes page : List ℕ) → at ≤ length page → n ≡ at + length bytes → take n (with_part at bytes page) ≡ take at page ++ bytes
-take-with_part at n bytes page h e =
-    let rest : List ℕ = drop (at + length bytes) page in
-    ap (take n) (sym (append_assoc (take at page) bytes rest))
-    ∙ take_at (take at page ++ bytes) rest n (length-append (take at page) bytes ∙ omega (arith, length-take-le at page h))
 
 -- one entry more, after the others
 pub same_entries-more : (scn n : ℕ) → same_entries scn (suc n) ≡ same_entries scn n ++ bytes_of 4 scn

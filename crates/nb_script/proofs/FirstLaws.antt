@@ -12,7 +12,7 @@ use Rattle.nb_script.specs.FirstLine.{cache_at, page_size_at, sizes_at, create_a
 use Rattle.nb_script.specs.Spelling.{quoted, cache_text, sizes_text, command_text, line_text}
 use Rattle.nb_script.specs.Fits.{FitsFirst, IsBase}
 use Rattle.nb_script.proofs.WordLaws.{within_again, name_again}
-use Rattle.nb_script.proofs.StatementLaws.{session_again}
+use Rattle.nb_script.proofs.StatementLaws.{again_by, its_by, none_by}
 
 cache_again : (cache : ℕ) → 1 ≤ cache → cache ≤ 4096 → cache_at (cache_text cache) ≡ Some cache
 unfolding cache_at after
@@ -79,19 +79,14 @@ database_again (CreateDb name size raw cache) h = create_again name size raw cac
 database_again (OpenDb name cache) h = open_again name cache h
 database_again other h = absurd h
 
--- a first line that names no session is none
 pub no_first_session : (line : Bytes) → None ≡ session_line line → None ≡ first_at line
 unfolding first_at
-no_first_session line none = ap (λ o. o >>= (λ (x : ℕ × Bytes). database_at x.1 >>= (λ (k : Statement). Some (x.0, k)))) none
+no_first_session line none = none_by database_at line none
 
--- of any other it is what stands after the session
 pub its_first : (line : Bytes) (session : ℕ) (rest : Bytes) (read : Option Statement) → Some (session, rest) ≡ session_line line → read ≡ database_at rest → (read >>= (λ (k : Statement). Some (session, k))) ≡ first_at line
 unfolding first_at
-its_first line session rest read first second =
-    ap (λ o. o >>= (λ (k : Statement). Some (session, k))) second ∙ ap (λ o. o >>= (λ (x : ℕ × Bytes). database_at x.1 >>= (λ (k : Statement). Some (x.0, k)))) first
+its_first line session rest read first second = its_by database_at line session rest read first second
 
 pub first_again : (session : ℕ) (s : Statement) → 1 ≤ session → session ≤ 16 → FitsFirst s → first_at (line_text session s) ≡ Some (session, s)
-unfolding first_at line_text
-first_again session s low high fits =
-    ap (λ o. o >>= (λ (x : ℕ × Bytes). database_at x.1 >>= (λ (k : Statement). Some (x.0, k)))) (session_again session (command_text s) low high)
-    ∙ ap (λ o. o >>= (λ (k : Statement). Some (session, k))) (database_again s fits)
+unfolding first_at
+first_again session s low high fits = again_by database_at session s low high (database_again s fits)

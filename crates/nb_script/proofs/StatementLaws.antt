@@ -81,24 +81,39 @@ command_again (Access false) h = refl
 command_again other h = refl
 
 -- the session of a line, and what stands after it
-pub session_again : (session : ℕ) (rest : Bytes) → 1 ≤ session → session ≤ 16 → session_line (decimal session ++ (codes ": " ++ rest)) ≡ Some (session, rest)
+session_again : (session : ℕ) (rest : Bytes) → 1 ≤ session → session ≤ 16 → session_line (decimal session ++ (codes ": " ++ rest)) ≡ Some (session, rest)
 unfolding session_line after
 session_again session rest low high =
     ap (λ o. o >>= (λ (s : ℕ × Bytes). after (codes ": ") s.1 >>= (λ (r : Bytes). Some (s.0, r)))) (within_again 1 16 session (codes ": " ++ rest) (omega arith) low high refl)
 
--- a line that names no session is none of a statement
+-- A line, whose statement is what stands after its session.
+module _ (read_at : Bytes → Option Statement) where
+  abbrev pub line_by : Bytes → Option (ℕ × Statement)
+  line_by line = session_line line >>= (λ (x : ℕ × Bytes). read_at x.1 >>= (λ (k : Statement). Some (x.0, k)))
+
+  -- it is none where it names no session
+  pub none_by : (line : Bytes) → None ≡ session_line line → None ≡ line_by line
+  none_by line none = ap (λ o. o >>= (λ (x : ℕ × Bytes). read_at x.1 >>= (λ (k : Statement). Some (x.0, k)))) none
+
+  -- of any other it is what stands after the session
+  pub its_by : (line : Bytes) (session : ℕ) (rest : Bytes) (read : Option Statement) → Some (session, rest) ≡ session_line line → read ≡ read_at rest → (read >>= (λ (k : Statement). Some (session, k))) ≡ line_by line
+  its_by line session rest read first second =
+      ap (λ o. o >>= (λ (k : Statement). Some (session, k))) second ∙ ap (λ o. o >>= (λ (x : ℕ × Bytes). read_at x.1 >>= (λ (k : Statement). Some (x.0, k)))) first
+
+  pub again_by : (session : ℕ) (s : Statement) → 1 ≤ session → session ≤ 16 → read_at (command_text s) ≡ Some s → line_by (line_text session s) ≡ Some (session, s)
+  unfolding line_text
+  again_by session s low high again =
+      ap (λ o. o >>= (λ (x : ℕ × Bytes). read_at x.1 >>= (λ (k : Statement). Some (x.0, k)))) (session_again session (command_text s) low high)
+      ∙ ap (λ o. o >>= (λ (k : Statement). Some (session, k))) again
+
 pub no_session : (line : Bytes) → None ≡ session_line line → None ≡ statement_at line
 unfolding statement_at
-no_session line none = ap (λ o. o >>= (λ (x : ℕ × Bytes). command_at x.1 >>= (λ (k : Statement). Some (x.0, k)))) none
+no_session line none = none_by command_at line none
 
--- of any other it is what stands after the session
 pub its_statement : (line : Bytes) (session : ℕ) (rest : Bytes) (read : Option Statement) → Some (session, rest) ≡ session_line line → read ≡ command_at rest → (read >>= (λ (k : Statement). Some (session, k))) ≡ statement_at line
 unfolding statement_at
-its_statement line session rest read first second =
-    ap (λ o. o >>= (λ (k : Statement). Some (session, k))) second ∙ ap (λ o. o >>= (λ (x : ℕ × Bytes). command_at x.1 >>= (λ (k : Statement). Some (x.0, k)))) first
+its_statement line session rest read first second = its_by command_at line session rest read first second
 
 pub statement_again : (session : ℕ) (s : Statement) → 1 ≤ session → session ≤ 16 → Fits s → statement_at (line_text session s) ≡ Some (session, s)
-unfolding statement_at line_text
-statement_again session s low high fits =
-    ap (λ o. o >>= (λ (x : ℕ × Bytes). command_at x.1 >>= (λ (k : Statement). Some (x.0, k)))) (session_again session (command_text s) low high)
-    ∙ ap (λ o. o >>= (λ (k : Statement). Some (session, k))) (command_again s fits)
+unfolding statement_at
+statement_again session s low high fits = again_by command_at session s low high (command_again s fits)

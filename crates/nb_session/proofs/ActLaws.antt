@@ -40,7 +40,7 @@ use Rattle.nb_engine.specs.Turns.{SaysNone, DoesBegin}
 use Rattle.nb_session.specs.Acts.{Says, Grows, shown_by, Touched, TurnLeft, AreKept, Acts, MayAct}
 use Rattle.nb_session.specs.Ready.{IsReady}
 use Rattle.nb_state.specs.Does.{has_only_told}
-use Rattle.nb_session.specs.Replies.{some_said, only_told}
+use Rattle.nb_session.specs.Replies.{Replies, some_said, only_told}
 use Rattle.nb_session.proofs.EventLaws.{strokes_are_steps, told_reply}
 use Rattle.nb_session.proofs.GiftLaws.{given_nothing, grows_none}
 use Rattle.nb_session.proofs.KeepLaws.{begin_gives, begin_refused, begin_running, begin_made}
@@ -145,6 +145,30 @@ does_acts reply result old new a b t now session statement it is plain on none o
         cap = does.makes.goes.cap;
       };
     }
+
+-- What was answered, said of the reply to it.
+may_replied : {T : Type 0} (reply : T → Reply) (answer : Result T Fault) (result : Result Reply Fault) → Replies reply answer result → (old new : World) (a b : Held) (t : Trail) (now : Now) (session : ℕ) (turn : Turn) (files : List MadeFile)
+    → MayAct (some_by reply) answer old new a b t now session turn files → MayAct some_said result old new a b t now session turn files
+may_replied reply (Ok value) (Ok said) is old new a b t now session turn files may = may_value (some_by reply) some_said old new a b t now session turn files value said (ap Some (sym is)) may
+may_replied reply (Ok value) (Err fault) is old new a b t now session turn files may = may_then_memory (some_by reply) some_said old new a b t now session turn files value fault (Err fault) is (refl, refl) may
+may_replied reply (Err fault) (Ok said) is old new a b t now session turn files may = absurd is
+may_replied reply (Err fault) (Err other) is old new a b t now session turn files may = may_passed (some_by reply) some_said old new a b t now session turn files fault (Err other) (refl, is) may
+
+pub does_replied : {T : Type 0} (reply : T → Reply) (answer : Result T Fault) (result : Result Reply Fault) → Replies reply answer result → (old new : World) (a b : Held) (t : Trail) (now : Now) (session : ℕ) (statement it : Statement) → statement ≡ it
+    → is_sync (Begins it) ≡ false → is_on_pages it ≡ true → left_by it now.given ≡ now.given → (o : Outcome) → o ≡ first_turn (seen_now now) session it → IsReady old a t now → Does reply answer old new a b t o
+    → MayAct some_said result old new a b t now session (Begins statement) []
+does_replied reply answer result replied old new a b t now session statement it is plain on none o turn_is ready does =
+    may_replied reply answer result replied old new a b t now session (Begins statement) [] (does_acts reply answer old new a b t now session statement it is plain on none o turn_is ready does)
+
+-- a fault is handed on at the exit of a `?`
+pub replied_err : {T : Type 0} (reply : T → Reply) (fault : Fault) (result : Result Reply Fault) → IsErr result × IsErrAnd result (λ e. e ≡ fault) → Replies reply (Err fault) result
+replied_err reply fault (Ok said) is = absurd is.1
+replied_err reply fault (Err e) is = is.1
+
+-- memory ran out for the reply
+pub replied_memory : {T : Type 0} (reply : T → Reply) (value : T) (fault : Fault) (result : Result Reply Fault) → fault ≡ Memory → IsErr result × IsErrAnd result (λ e. e ≡ fault) → Replies reply (Ok value) result
+replied_memory reply value fault (Ok said) memory is = absurd is.1
+replied_memory reply value fault (Err e) memory is = is.1 ∙ memory
 
 -- `sync`
 module _ (old new : World) (a b : Held) (t : Trail) (now : Now) (session : ℕ) (statement : Statement) (is : statement ≡ Sync) (ready : IsReady old a t now) (same : but_pages b ≡ but_pages a) (struck : Strikes old new (name_of a) t [])

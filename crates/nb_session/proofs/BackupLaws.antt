@@ -1,6 +1,6 @@
 -- The turns of a backup.
 use Rattle.std.proofs.Common.{◌≡◌, ◌⊎◌, inl, inr, ⊎_elim, ℕ, zero, suc, ◌-◌, ◌<◌, List, [], ◌∷◌, ◌++◌, length, replicate, refl, sym, ap, subst, ◌∙◌, arith}
-use Rattle.std.specs.Prelude.{Bool, Result, Ok, Err, IfErr, Some, None, true, false, Contains}
+use Rattle.std.specs.Prelude.{Bool, Result, Ok, Err, IsErr, IfErr, Some, None, true, false, Contains}
 use Rattle.std.specs.List.{slice_index_or}
 use Rattle.std.proofs.lemmas.List.{append-nil}
 use Rattle.nb_fields.specs.Free.{is_free_file}
@@ -11,6 +11,7 @@ use Rattle.nb_host.specs.World.{World}
 use Rattle.nb_host.specs.Crash.{Leaves}
 use Rattle.nb_host.specs.declared.faults.Fault.{Fault}
 use Rattle.nb_host.specs.declared.faults.Fault.TheVariants.{Refused, Device, Memory}
+use Rattle.nb_host.specs.declared.faults.RunError.{RunError}
 use Rattle.nb_host.specs.declared.refusals.Refusal.{Refusal}
 use Rattle.nb_change.specs.Changes.{Changes, Remade}
 use Rattle.nb_change.proofs.ChangesLaws.{weakened}
@@ -24,7 +25,7 @@ use Rattle.nb_model.specs.Backups.{Room, room_in, close_backup}
 use Rattle.nb_model.specs.Causes.{is_free_entry}
 use Rattle.nb_model.specs.Gifts.{Foretells, WasGiven}
 use Rattle.nb_model.specs.Forms.{HasItsEntry}
-use Rattle.nb_model.specs.Going.{IsAt, IsGoing}
+use Rattle.nb_model.specs.Going.{IsAt, IsGoing, IsMaking}
 use Rattle.nb_model.specs.Image.{Image, image_scn}
 use Rattle.nb_model.specs.Levels.{file_of, count_in}
 use Rattle.nb_model.specs.Making.{MadeFile, kept_of, making}
@@ -49,24 +50,29 @@ use Rattle.nb_gather.specs.Making.{IsEmpty, IsUnfinishedOr}
 use Rattle.nb_copy.specs.Starting.{Backed, IsBackingUp, IsStarted, OfStart, StartLeft, StartMakes, StartsBackup, KnowsFree}
 use Rattle.nb_gather.proofs.BlankLaws.{blank_empty, blank_free}
 use Rattle.nb_copy.specs.Closing.{OfBackup, GaveTimeAtMost, CloseLeft, CopiesOn, CloseDone, BackupTurn, BackupCounts}
+use Rattle.nb_session.specs.declared.task.Left.{Left}
+use Rattle.nb_session.specs.declared.task.Left.TheVariants.{Same, Other}
+use Rattle.nb_session.specs.declared.task.Taken.{Taken}
 use Rattle.nb_session.specs.declared.task.Task.TheVariants.{Backup, End}
+use Rattle.nb_session.specs.declared.told.Told.{Told}
 use Rattle.nb_session.specs.Acts.{Says, Grows, shown_by, Touched, TurnLeft, Acts, MayAct}
 use Rattle.nb_script.specs.Fits.{FitsAsked}
-use Rattle.nb_session.specs.Askers.{IsBackup, file_asked, copy_first, copy_rest}
-use Rattle.nb_session.specs.Ready.{IsReady, IsApart}
-use Rattle.nb_session.specs.Steps.{begun_in, left_making, touching, IsBehind}
+use Rattle.nb_session.specs.Askers.{IsBackup, file_asked, copy_first, copy_rest, left_refused, left_task, task_first, task_rest}
+use Rattle.nb_session.specs.Ready.{IsReady, IsApart, TaskGoes}
+use Rattle.nb_session.specs.Says.{EndsEarly}
+use Rattle.nb_session.specs.Steps.{begun_in, left_making, touching, IsBehind, Turns}
 use Rattle.nb_session.proofs.ActLaws.{trail_plain, ended_map, kept_none, says_none, idle_unchanged, first_given, most_given, grows_at_most}
 use Rattle.nb_state.specs.Does.{has_only_told}
 use Rattle.nb_session.specs.Replies.{only_told}
-use Rattle.nb_session.proofs.EventLaws.{unsaid}
-use Rattle.nb_session.proofs.CopyLaws.{apart_one, one_file, file_left, each_one, kept_one, made_by, no_stroke, stalled_now}
+use Rattle.nb_session.proofs.EventLaws.{Marks, marks_made, unsaid}
+use Rattle.nb_session.proofs.CopyLaws.{apart_one, one_file, file_left, each_one, kept_one, made_by, no_stroke, stalled_now, finished_not, more_not}
 use Rattle.nb_session.proofs.GiftLaws.{given_nothing, grows_none}
 use Rattle.nb_session.proofs.MakesLaws.{none_runs}
 use Rattle.nb_session.proofs.NameLaws.{given_plain}
 use Rattle.nb_session.proofs.PlayLaws.{no_file}
 use Rattle.nb_session.proofs.ReadyLaws.{not_own, apart_files}
 use Rattle.nb_session.proofs.TouchingLaws.{asked_either, plain_touch, copy_plain}
-use Rattle.nb_session.proofs.TurnLaws.{seen_now, outcome_is}
+use Rattle.nb_session.proofs.TurnLaws.{seen_now, outcome_is, turns_lost, turns_quiet}
 use Rattle.nb_session.proofs.WayLaws.{copy_turns, BacksUp, backing_at}
 
 -- what a turn sees where this is given
@@ -500,3 +506,66 @@ may_go_on {sound = sound} w held t now session copier more ready going here apar
       below = subst (λ (x : Base). copier.backing.page < length x.image) (sym ready.base) backs.below;
       apart = apart_files held copier.backing.name apart;
     }
+
+-- A further turn, by what its call promises of it.
+module _ (how : Told) (old mid : World) (a b : Held) (t : Trail) (now : Now) (session : ℕ) (copier later : Backed) (more : List Turn) (ready : IsReady old a t now) (makes : IsMaking now)
+    (here : slice_index_or now.todo (session - 1) [] ≡ task_first (Backup copier) ∷ (task_rest (Backup copier) ++ more)) (further : TaskGoes session old a t.base.frozen (Some (Backup copier))) (goes : Goes a b)
+    (reads : Leaves old copier.backing.name (old.files copier.backing.name)) (reads_then : (m : List ℕ) → Leaves mid m (mid.files m)) where
+  abbrev next_one : Turn
+  next_one = task_first (Backup copier)
+
+  abbrev next_ones : List Turn
+  next_ones = task_rest (Backup copier)
+
+  abbrev its_file : List MadeFile
+  its_file = (copier.backing.name, whole_file copier.file t.base.frozen) ∷ []
+
+  its_file_is : its_file ≡ touching session next_one next_ones now
+  its_file_is = backup_files old mid a b t now session copier later ready further.0 further.1 goes
+
+  going_on : MayGoOn a t copier
+  going_on = may_go_on old a t now session copier more ready makes.going here further.1
+
+  -- with each time that may be given
+  abbrev Promised : Result Progress Fault → Type 0
+  Promised result = (given : Given) → MayGoOn a t copier → GaveTimeAtMost old mid (next_time given) → BackupTurn result old mid a b copier later t (next_time given) (close_backup (seen_with now given) copier.backing).strokes
+
+  abbrev Asks : Type 0
+  Asks = MayGoOn a t copier → (time : ℕ) × GaveTimeAtMost old mid time
+
+  module _ (result : Result Progress Fault) (promised : Promised result) (asks : Asks) (counts : BackupCounts result copier later) where
+    its_acts : MayAct (λ progress. None) result old mid a b t now session next_one its_file
+    its_acts = turn_acts old mid a b t now session copier later ready further.0 further.1 goes reads result (λ given. promised given going_on) (asks going_on).0 (asks going_on).1 counts
+
+    its_marks : Acts (λ progress. None) result old mid a b t now session next_one its_file → Marks old mid a its_file
+    its_marks = marks_made (λ progress. None) result old mid a b t now session next_one its_file (apart_one a copier.backing.name _ further.1) reads_then
+
+    its_turn : Foretells now.given (shown_by next_one a) old mid → BackupTurn result old mid a b copier later t (next_time now.given) (close_backup (seen_now now) copier.backing).strokes
+    its_turn = turn_told old mid a b t now session copier later ready further.0 further.1 goes reads result (λ given. promised given going_on) (asks going_on).0 (asks going_on).1
+
+  -- a page was dealt with
+  pub backup_more : (p : Progress) → p ≡ More → Promised (Ok p) → Asks → BackupCounts (Ok p) copier later → later.backing ≡ copier.backing
+      → Turns how left_refused (left_task (Some (Backup later))) (Ok Same) old mid a b t now session next_one next_ones more
+  backup_more Finished is promised asks counts backed = absurd (finished_not is)
+  backup_more More is promised asks counts backed =
+      turns_quiet how (λ (progress : Progress). None) (Ok More) left_refused (left_task (Some (Backup later))) old mid mid a b t now session next_one next_ones more its_file its_file_is makes here
+      (its_acts (Ok More) promised asks counts) (its_marks (Ok More) promised asks counts) Same tt refl ready (λ said none. none)
+      (λ told. more_behind old mid a b t now session copier later ready further.0 further.1 goes further.2 backed counts (its_turn (Ok More) promised asks counts told).answer.goes)
+
+  -- its row was written
+  pub backup_closed : (p : Progress) → p ≡ Finished → Promised (Ok p) → Asks → BackupCounts (Ok p) copier later → later.backing ≡ copier.backing → (reply : Reply) → reply ≡ Level later.backing.ask.level later.backing.scn (file_written later.file) later.backing.guid
+      → (taken : Taken) → taken ≡ record { task = Some (End reply); refused = false } → Turns how left_refused (left_task (Some (Backup later))) (Ok (Other taken)) old mid a b t now session next_one next_ones more
+  backup_closed More is promised asks counts backed reply says taken under = absurd (more_not is)
+  backup_closed Finished is promised asks counts backed reply says taken under =
+      turns_quiet how (λ (progress : Progress). None) (Ok Finished) left_refused (left_task (Some (Backup later))) old mid mid a b t now session next_one next_ones more its_file its_file_is makes here
+      (its_acts (Ok Finished) promised asks counts) (its_marks (Ok Finished) promised asks counts) (Other taken) tt (ap (λ (x : Taken). x.refused) under) ready (λ said none. none)
+      (λ told. subst (λ (x : Taken). IsBehind mid b session next_one next_ones now x.task) (sym under)
+      (close_behind old mid a b t now session copier later ready further.0 further.1 goes further.2 reply says backed counts (its_turn (Ok Finished) promised asks counts told).answer.written))
+
+  -- it isn't refused, and ended early
+  pub backup_lost : (fault : Fault) → Promised (Err fault) → Asks → (new : World) (ended : Result Taken RunError) → EndsEarly session fault ended mid new → (answer : Result Left RunError) → (IsErr ended → IsErr answer)
+      → Turns how left_refused (left_task (Some (Backup later))) answer old new a b t now session next_one next_ones more
+  backup_lost fault promised asks new ended early answer passed =
+      turns_lost how (λ (progress : Progress). None) left_refused (left_task (Some (Backup later))) old mid new a b t now session next_one next_ones more its_file its_file_is makes here fault
+      (turn_sure old mid a b t now session copier later ready further.0 further.1 goes reads (Err fault) (λ given. promised given going_on) (asks going_on).0 (asks going_on).1)
+      (its_acts (Err fault) promised asks tt) (its_marks (Err fault) promised asks tt) ended early answer passed

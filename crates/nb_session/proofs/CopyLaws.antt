@@ -1,6 +1,6 @@
 -- The turns of a copy of the frozen file.
 use Rattle.std.proofs.Common.{◌≡◌, inr, ℕ, zero, suc, ◌-◌, ◌≤◌, List, [], ◌∷◌, ◌++◌, length, replicate, refl, sym, ap, subst, ◌∙◌, arith, true≢false}
-use Rattle.std.specs.Prelude.{Bool, Result, Ok, Err, Option, Some, None, Contains, true, false}
+use Rattle.std.specs.Prelude.{Bool, Result, Ok, Err, IsErr, IfOk, Option, Some, None, Contains, true, false}
 use Rattle.std.specs.List.{slice_index_or}
 use Rattle.std.proofs.lemmas.List.{append-nil}
 use Rattle.nb_fields.specs.States.{stalled_state}
@@ -10,6 +10,8 @@ use Rattle.nb_host.specs.World.{World}
 use Rattle.nb_host.specs.Crash.{Leaves}
 use Rattle.nb_host.specs.declared.faults.Fault.{Fault}
 use Rattle.nb_host.specs.declared.faults.Fault.TheVariants.{Refused, Device}
+use Rattle.nb_host.specs.declared.faults.HostFault.{HostFault}
+use Rattle.nb_host.specs.declared.faults.RunError.{RunError}
 use Rattle.nb_host.specs.declared.refusals.Refusal.{Refusal}
 use Rattle.nb_change.specs.Changes.{Changes, Only, Remade}
 use Rattle.nb_change.specs.Gave.{GaveNothing}
@@ -21,7 +23,7 @@ use Rattle.nb_model.specs.declared.statement.Statement.TheVariants.{CopyTo}
 use Rattle.nb_model.specs.Account.{Base}
 use Rattle.nb_model.specs.Backups.{copy_turn, close_copy}
 use Rattle.nb_model.specs.Causes.{is_free_entry}
-use Rattle.nb_model.specs.Going.{Runs, IsAt, IsGoing}
+use Rattle.nb_model.specs.Going.{Runs, IsAt, IsGoing, IsMaking}
 use Rattle.nb_model.specs.Image.{Image, image_state}
 use Rattle.nb_model.specs.Levels.{joined}
 use Rattle.nb_model.specs.Making.{MadeFile, making}
@@ -32,6 +34,7 @@ use Rattle.nb_model.specs.Steps.{steps_in, after_steps}
 use Rattle.nb_model.specs.Trail.{Trail, StandsIn, after_stroke}
 use Rattle.nb_model.specs.Turns.{first_turn, turn}
 use Rattle.nb_model.proofs.TurnCases.{copy_either}
+use Rattle.nb_base.specs.Open.{OfFiles}
 use Rattle.nb_base.specs.Takes.{after_strokes}
 use Rattle.nb_state.specs.Open.{Held, IsOpen, name_of}
 use Rattle.nb_state.specs.declared.turns.Progress.{Progress}
@@ -39,22 +42,28 @@ use Rattle.nb_state.specs.declared.turns.Progress.TheVariants.{More, Finished}
 use Rattle.nb_state.proofs.MakesLaws.{where_ended, none_yet, gave_none, open_quiet, open_running}
 use Rattle.nb_gather.specs.Making.{IsKept, IsUnfinishedOr}
 use Rattle.nb_copy.specs.Copying.{Copying, IsCopying}
-use Rattle.nb_copy.specs.FileCopies.{IsCopyingTo, StartsCopy, IsCopyStarted, KnowsUnused}
+use Rattle.nb_copy.specs.FileCopies.{CopiesFile, IsCopyingTo, StartsCopy, IsCopyStarted, KnowsUnused}
+use Rattle.nb_copy.specs.Turns.{CopyCounts}
 use Rattle.nb_copy.proofs.ClosingLaws.{stands}
+use Rattle.nb_session.specs.declared.task.Left.{Left}
+use Rattle.nb_session.specs.declared.task.Left.TheVariants.{Same}
 use Rattle.nb_session.specs.declared.task.Task.TheVariants.{Copy}
+use Rattle.nb_session.specs.declared.told.Told.{Told}
 use Rattle.nb_session.specs.Acts.{Says, Touched, TurnLeft, AreKept, MayAct}
-use Rattle.nb_session.specs.Askers.{copy_first, copy_rest}
-use Rattle.nb_session.specs.Ready.{IsReady, IsApart}
-use Rattle.nb_session.specs.Steps.{touching, IsBehind}
+use Rattle.nb_session.specs.Askers.{copy_first, copy_rest, left_refused, left_task, task_first, task_rest}
+use Rattle.nb_session.specs.Ready.{IsReady, IsApart, TaskGoes}
+use Rattle.nb_session.specs.Says.{SaysLine}
+use Rattle.nb_session.specs.Steps.{touching, IsBehind, Turns}
+use Rattle.nb_session.specs.Told.{told_line, told_reply}
 use Rattle.nb_state.specs.Does.{has_only_told}
 use Rattle.nb_session.specs.Replies.{only_told}
 use Rattle.nb_session.proofs.ActLaws.{trail_plain, ended_map, strikes_left, kept_none, says_none}
-use Rattle.nb_session.proofs.EventLaws.{unsaid, told_reply}
+use Rattle.nb_session.proofs.EventLaws.{marks_made, unsaid, told_reply as told_is}
 use Rattle.nb_session.proofs.GiftLaws.{given_nothing, grows_none}
 use Rattle.nb_session.proofs.MakesLaws.{none_runs}
 use Rattle.nb_session.proofs.ReadyLaws.{apart_files, not_own}
 use Rattle.nb_session.proofs.TouchingLaws.{plain_touch, copy_plain}
-use Rattle.nb_session.proofs.TurnLaws.{seen_now, outcome_is}
+use Rattle.nb_session.proofs.TurnLaws.{seen_now, outcome_is, was_last, turns_failed, turns_quiet, turns_told}
 use Rattle.nb_session.proofs.WayLaws.{copy_turns, copying_at}
 
 -- the name that is held
@@ -284,7 +293,7 @@ module _ (old mid : World) (a b : Held) (t : Trail) (now : Now) (session : ℕ) 
   -- no turn of a copy only tells something
   copy_told : (left : ℕ) → only_told (event_of session (copy_first left last) (outcome session (copy_first left last) now)) ≡ true → ⊥
   copy_told zero told =
-      true≢false (sym (ap has_only_told (sym (ap (λ (x : Outcome). x.reply) (close_is session copy.name now) ∙ close_reply (seen_now now) copy.name)) ∙ told_reply (event_of session last (outcome session last now)) told))
+      true≢false (sym (ap has_only_told (sym (ap (λ (x : Outcome). x.reply) (close_is session copy.name now) ∙ close_reply (seen_now now) copy.name)) ∙ told_is (event_of session last (outcome session last now)) told))
   copy_told (suc left) told = unsaid (event_of session Copies (outcome session Copies now)) (ap (λ (x : Outcome). x.reply) (page_is session now)) told
 
   -- the file alone is touched
@@ -373,3 +382,65 @@ pub copying_stalled : {sound : Bool} (w : World) (held : Held) (t : Trail) (now 
     → slice_index_or now.todo (session - 1) [] ≡ copy_first left (ClosesCopy name) ∷ (copy_rest left (ClosesCopy name) ++ more) → held.files.state ≡ stalled_state
 copying_stalled {sound = sound} w held t now session left name more ready going here =
     stalled_now w held t now (session - 1) ready (copying_at now (session - 1) left name more (subst (IsAt sound now (session - 1)) here (going.each (session - 1)))).0
+
+pub finished_not : Finished ≡ More → ⊥
+finished_not e = cc
+
+pub more_not : More ≡ Finished → ⊥
+more_not e = cc
+
+-- A further turn, by what its call promises of it.
+module _ (how : Told) (old mid : World) (a b : Held) (t : Trail) (now : Now) (session : ℕ) (copy later : Copying) (more : List Turn) (ready : IsReady old a t now) (makes : IsMaking now)
+    (here : slice_index_or now.todo (session - 1) [] ≡ task_first (Copy copy) ∷ (task_rest (Copy copy) ++ more)) (further : TaskGoes session old a t.base.frozen (Some (Copy copy)))
+    (reads : Leaves old copy.name (old.files copy.name)) (reads_then : (m : List ℕ) → Leaves mid m (mid.files m)) where
+  abbrev next_one : Turn
+  next_one = task_first (Copy copy)
+
+  abbrev next_ones : List Turn
+  next_ones = task_rest (Copy copy)
+
+  abbrev its_file : List MadeFile
+  its_file = (copy.name, joined t.base.frozen) ∷ []
+
+  abbrev Promised : Result Progress HostFault → Type 0
+  Promised result = a.files.state ≡ stalled_state → (OfFiles (name_of a) copy.name → ⊥) → CopiesFile result old mid a b copy later t
+
+  its_turn : (result : Result Progress HostFault) → Promised result → CopiesFile result old mid a b copy later t
+  its_turn result promised = promised (copying_stalled old a t now session (copy.count - copy.next) copy.name more ready makes.going here) (apart_files a copy.name further.1)
+
+  -- it failed
+  pub copy_failed : (fault : HostFault) → Promised (Err fault) → (answer : Result Left RunError) → IsErr answer → Turns how left_refused (left_task (Some (Copy later))) answer old mid a b t now session next_one next_ones more
+  copy_failed fault promised answer failed =
+      let left : ℕ = copy.count - copy.next in
+      let does = its_turn (Err fault) promised in
+      turns_failed how (copy_said 0) (Err Device) left_refused (left_task (Some (Copy later))) old mid mid a b t now session next_one next_ones more its_file (copy_files old mid a b t now session copy later 0 ready further.1 reads left) makes here
+      (copy_fails old mid a b t now session copy later 0 ready further.1 reads does.left does.gave left does.same)
+      (marks_made (copy_said 0) (Err Device) old mid a b t now session next_one its_file (apart_one a copy.name _ further.1) reads_then) answer failed
+
+  -- a page was copied
+  pub copy_page : (p : Progress) → p ≡ More → Promised (Ok p) → CopyCounts (Ok p) copy later → Turns how left_refused (left_task (Some (Copy later))) (Ok Same) old mid a b t now session next_one next_ones more
+  copy_page Finished is promised counts = absurd (finished_not is)
+  copy_page More is promised counts =
+      let left : ℕ = copy.count - copy.next in
+      let does = its_turn (Ok More) promised in
+      let some : 1 ≤ left = omega (arith, counts.0) in
+      let rest : later.count - later.next ≡ left - 1 = omega (arith, counts.0, ap (λ (x : Copying). x.count) counts.1, ap (λ (x : Copying). x.next) counts.1) in
+      turns_quiet how (copy_said 0) (Ok More) left_refused (left_task (Some (Copy later))) old mid mid a b t now session next_one next_ones more its_file (copy_files old mid a b t now session copy later 0 ready further.1 reads left) makes here
+      (copy_more old mid a b t now session copy later 0 ready further.1 reads does.left does.gave left some does.same does.opened)
+      (marks_made (copy_said 0) (Ok More) old mid a b t now session next_one its_file (apart_one a copy.name _ further.1) reads_then) Same tt refl ready (said_pages 0 More)
+      (λ told. more_behind old mid a b t now session copy later 0 ready further.1 reads left some rest (ap (λ (x : Copying). x.name) counts.1) does.same does.answer further.2)
+
+  -- all were, and it is told how many
+  pub copy_last : (p : Progress) → p ≡ Finished → Promised (Ok p) → CopyCounts (Ok p) copy later → (pages : ℕ) → pages ≡ later.next → (d : Held) → (b.running ≡ Some session → d ≡ record b { running = None })
+      → (new : World) (answer : Result Left RunError) → IfOk answer (λ left. left ≡ was_last) → SaysLine answer mid new (told_line session (told_reply how (Some (Pages pages)))) → Turns how left_refused (left_task (Some (Copy later))) answer old new a d t now session next_one next_ones more
+  copy_last More is promised counts pages written d stops new answer last says = absurd (more_not is)
+  copy_last Finished is promised counts pages written d stops new answer last says =
+      let left : ℕ = copy.count - copy.next in
+      let does = its_turn (Ok Finished) promised in
+      let none : left ≡ 0 = omega (arith, counts.0) in
+      let all : pages ≡ length t.base.frozen = written ∙ ap (λ (x : Copying). x.next) counts.1 ∙ counts.0 ∙ sym further.0.of.long in
+      let stopped : d ≡ record a { running = None } = stopped_is a b d session does.same further.2 stops in
+      turns_told answer last how (copy_said pages) (Ok Finished) (Some (Copy later)) old mid new a d t now session next_one next_ones more its_file (copy_files old mid a d t now session copy later pages ready further.1 reads left) makes here
+      (copy_ends old mid a d t now session copy later pages ready further.1 reads does.left does.gave left none stopped (subst (λ (h : Held). IsOpen mid h t) does.same does.opened) all does.answer)
+      (marks_made (copy_said pages) (Ok Finished) old mid a d t now session next_one its_file (apart_one a copy.name _ further.1) reads_then) tt (Pages pages) (said_pages pages Finished) ready says refl
+      (end_behind old mid a d t now session copy later pages ready further.1 reads new left none)

@@ -1,14 +1,15 @@
 -- The turns of the end of a backup.
 use Rattle.std.proofs.Common.{◌≡◌, inl, inr, ℕ, zero, suc, ◌+◌, ◌-◌, ◌<◌, List, [], ◌∷◌, ◌++◌, length, replicate, refl, sym, ap, subst, ◌∙◌, arith, true≢false}
-use Rattle.std.specs.Prelude.{Result, Ok, Err, Option, Some, None, Bool, true, false, not, ◌==◌}
+use Rattle.std.specs.Prelude.{Result, Ok, Err, IsErr, Option, Some, None, Bool, true, false, not, ◌==◌}
 use Rattle.std.specs.List.{slice_index_or}
 use Rattle.std.proofs.lemmas.Bool.Decides.{eqb_tells}
 use Rattle.std.proofs.lemmas.List.{append-nil}
 use Rattle.nb_fields.specs.States.{normal_state, stalled_state}
 use Rattle.nb_host.specs.World.{World}
 use Rattle.nb_host.specs.declared.faults.Fault.{Fault}
-use Rattle.nb_host.specs.declared.faults.Fault.TheVariants.{Refused, Device}
+use Rattle.nb_host.specs.declared.faults.Fault.TheVariants.{Refused, Device, Memory}
 use Rattle.nb_host.specs.declared.faults.HostFault.{HostFault}
+use Rattle.nb_host.specs.declared.faults.RunError.{RunError}
 use Rattle.nb_host.specs.declared.refusals.Refusal.{Refusal}
 use Rattle.nb_host.specs.declared.refusals.Refusal.TheVariants.{WrongState, BackupRunning}
 use Rattle.nb_model.specs.declared.reply.Reply.{Reply}
@@ -16,7 +17,7 @@ use Rattle.nb_model.specs.declared.reply.Reply.TheVariants.{Refused as RefusedBy
 use Rattle.nb_model.specs.declared.statement.Statement.TheVariants.{EndBackup}
 use Rattle.nb_model.specs.Account.{Base}
 use Rattle.nb_model.specs.Causes.{Cause, first_cause, when, runs_other}
-use Rattle.nb_model.specs.Going.{IsAt, IsGoing}
+use Rattle.nb_model.specs.Going.{IsAt, IsGoing, IsMaking}
 use Rattle.nb_model.specs.Image.{Image, image_state}
 use Rattle.nb_model.specs.Outcomes.{Turn, Begins, Ends, Merges as MergesOne, Finishes, Seen, Outcome, unless, passes}
 use Rattle.nb_model.specs.Pages.{end_turn, ends_by, end_scn, end_strokes}
@@ -25,7 +26,7 @@ use Rattle.nb_model.specs.Strokes.{Stroke, ends, finish, on_base, base_after}
 use Rattle.nb_model.specs.Trail.{Trail}
 use Rattle.nb_model.specs.Turns.{first_turn, turn}
 use Rattle.nb_model.proofs.TurnCases.{end_either}
-use Rattle.nb_base.specs.Takes.{Strikes, after_strokes}
+use Rattle.nb_base.specs.Takes.{Strikes, after_strokes, IsNoRefusal}
 use Rattle.nb_state.specs.Open.{Held, IsOpen, name_of}
 use Rattle.nb_state.specs.Does.{WhereEnded}
 use Rattle.nb_state.specs.Turns.{Merges, GoesOn}
@@ -34,15 +35,21 @@ use Rattle.nb_state.specs.declared.turns.Progress.TheVariants.{More, Finished}
 use Rattle.nb_state.proofs.MakesLaws.{after_base, where_ended}
 use Rattle.nb_engine.specs.Turns.{DoesEnd}
 use Rattle.nb_session.specs.Acts.{Says, Acts, MayAct}
-use Rattle.nb_session.specs.Askers.{IsMerging, merge_first, merge_rest, task_todo}
+use Rattle.nb_session.specs.Askers.{IsMerging, left_refused, merge_first, merge_rest, task_todo}
+use Rattle.nb_session.specs.declared.task.Left.{Left}
+use Rattle.nb_session.specs.declared.task.Taken.{Taken}
+use Rattle.nb_session.specs.declared.task.Task.{Task}
 use Rattle.nb_session.specs.declared.task.Task.TheVariants.{Merge}
+use Rattle.nb_session.specs.declared.told.Told.{Told}
 use Rattle.nb_session.specs.Ready.{IsReady}
-use Rattle.nb_session.specs.Steps.{IsBehind}
+use Rattle.nb_session.specs.Says.{EndsEarly}
+use Rattle.nb_session.specs.Steps.{IsBehind, Turns}
 use Rattle.nb_session.specs.Replies.{only_told}
 use Rattle.nb_session.proofs.ActLaws.{trail_plain, ended_map, strikes_left, kept_none, says_none, idle_unchanged}
-use Rattle.nb_session.proofs.EventLaws.{unsaid}
+use Rattle.nb_session.proofs.EventLaws.{marks_none, unsaid}
 use Rattle.nb_session.proofs.GiftLaws.{given_nothing, grows_none}
-use Rattle.nb_session.proofs.TurnLaws.{seen_now, outcome_is}
+use Rattle.nb_session.proofs.TouchingLaws.{ends_touch}
+use Rattle.nb_session.proofs.TurnLaws.{seen_now, outcome_is, turns_lost}
 use Rattle.nb_session.proofs.WayLaws.{merge_turns, ending_at}
 
 -- The parts of a turn that ends the stalled state.
@@ -246,9 +253,21 @@ pub ends_quiet : {sound : Bool} (w : World) (held : Held) (t : Trail) (now : Now
 ends_quiet {sound = sound} w held t now session ready going reply more here runs =
     end_quiet (seen_now now) session (ending_at now (session - 1) reply more (subst (IsAt sound now (session - 1)) here (going.each (session - 1)))).state (sym ready.running ∙ runs)
 
-pub ends_unrefused : {sound : Bool} (old new : World) (a b : Held) (t : Trail) (now : Now) (session : ℕ) → IsReady old a t now → IsGoing sound now → (reply : Reply) (more : List Turn) → slice_index_or now.todo (session - 1) [] ≡ Ends reply ∷ more
-    → a.running ≡ Some session → (refusal : Refusal) → DoesEnd (Err (Refused refusal)) old new a b t (end_scn t.base.image) (end_turn (seen_now now) session) → ⊥
-ends_unrefused old new a b t now session ready going reply more here runs refusal does = some_none refusal (sym does.says ∙ ends_quiet old a t now session ready going reply more here runs)
+-- so where it ended early, it failed
+pub ends_lost : (how : Told) (task : Left → Option Task) (old mid new : World) (a b : Held) (t : Trail) (now : Now) (session : ℕ) (reply : Reply) (more : List Turn) → IsReady old a t now → IsMaking now → slice_index_or now.todo (session - 1) [] ≡ Ends reply ∷ more
+    → a.running ≡ Some session → b.cap ≡ a.cap → (fault : Fault) → DoesEnd (Err fault) old mid a b t (end_scn t.base.image) (end_turn (seen_now now) session)
+    → (ended : Result Taken RunError) → EndsEarly session fault ended mid new → (answer : Result Left RunError) → (IsErr ended → IsErr answer) → Turns how left_refused task answer old new a b t now session (Ends reply) [] more
+ends_lost how task old mid new a b t now session reply more ready makes here runs cap fault does ended early answer passed =
+    turns_lost how (λ (scn : ℕ). None) left_refused task old mid new a b t now session (Ends reply) [] more [] (ends_touch session reply now) makes here fault (sure fault does)
+    (ends_acts old mid a b t now session ready reply quiet (Err fault) cap does) (λ acts. marks_none old mid a) ended early answer passed
+  where
+    quiet : (end_turn (seen_now now) session).reply ≡ None
+    quiet = ends_quiet old a t now session ready makes.going reply more here runs
+
+    sure : (f : Fault) → DoesEnd (Err f) old mid a b t (end_scn t.base.image) (end_turn (seen_now now) session) → IsNoRefusal f
+    sure (Refused refusal) does = some_none refusal (sym does.says ∙ quiet)
+    sure Device does = tt
+    sure Memory does = tt
 
 finish_is : (session : ℕ) (reply : Reply) (now : Now) → outcome session (Finishes reply) now ≡ record { strokes = finish ∷ []; reply = Some reply; next = []; running = None; made = None; given = now.given }
 unfolding outcome turn

@@ -27,7 +27,7 @@ use Rattle.nb_state.specs.Open.{Held, IsOpen, but_pages, name_of}
 use Rattle.nb_session.specs.declared.told.Told.{Told}
 use Rattle.nb_session.specs.Ready.{IsReady}
 use Rattle.nb_session.specs.Stops.{Plays}
-use Rattle.nb_session.specs.InTurn.{EndsBy}
+use Rattle.nb_session.specs.InTurn.{EndsBy, RunsInTurn}
 use Rattle.nb_session.specs.Todo.{PlaysInTurn}
 use Rattle.nb_session.specs.Told.{told_turns}
 use Rattle.nb_session.proofs.GiftLaws.{given_nothing}
@@ -177,6 +177,19 @@ module _ {H : Type 0} (world : H → World) (old mid new : H) (e0 e1 e2 : Held) 
   abbrev far_now : Now
   far_now = (play first.in_turn.front now).1
 
+  -- the turns one by one, and what is done last
+  runs_on : (result : Result Bool RunError) → (Plays (Ok false) (world first.in_turn.mid) (world mid) first.in_turn.between e1 far_trail far_now ([], far_now) []
+      → EndsBy result told [] (world first.in_turn.mid) (world new) first.in_turn.between e2 far_trail far_now) → RunsInTurn world result old new e0 e2 t told now order
+  runs_on result go = record {
+    front = first.in_turn.front;
+    rest = first.in_turn.rest;
+    is = first.in_turn.is;
+    mid = first.in_turn.mid;
+    between = first.in_turn.between;
+    taken = first.in_turn.taken;
+    last = none_left told first.in_turn.rest (world first.in_turn.mid) (world mid) (world new) first.in_turn.between e1 e2 far_trail far_now a result first.in_turn.last go;
+  }
+
   pub whole_out : ((u : Trail) → IsOpen (world mid) e1 u → Takes {T = Unit {0}} {E = HostFault} (Ok tt) (world mid) (world new) (name_of e1) (IsOpen (world new) e2) u [])
       → ((u : Trail) → IsOpen (world mid) e1 u → u.earlier ≡ [] → (world new).files ≡ (world mid).files) → PlaysInTurn world (Ok a) old new e0 e2 t told now schedule
   whole_out takes still =
@@ -189,16 +202,7 @@ module _ {H : Type 0} (world : H → World) (old mid new : H) (e0 e1 e2 : Held) 
               (out_played (world mid) (world new) e1 e2 (trail_after t played) played.1 ready out.left same gave out.done (still (trail_after t played) ready.opened));
           finished = first.whole.finished;
         };
-        in_turn = record {
-          front = first.in_turn.front;
-          rest = first.in_turn.rest;
-          is = first.in_turn.is;
-          mid = first.in_turn.mid;
-          between = first.in_turn.between;
-          taken = first.in_turn.taken;
-          last = none_left told first.in_turn.rest (world first.in_turn.mid) (world mid) (world new) first.in_turn.between e1 e2 far_trail far_now a (Ok a) first.in_turn.last
-              (λ plays. last_out (world first.in_turn.mid) (world mid) (world new) first.in_turn.between e1 e2 far_trail far_now plays same gave takes still);
-        };
+        in_turn = runs_on (Ok a) (λ plays. last_out (world first.in_turn.mid) (world mid) (world new) first.in_turn.between e1 e2 far_trail far_now plays same gave takes still);
         guids = λ some. gave.guids ∙ first.guids some;
       }
 
@@ -212,15 +216,6 @@ module _ {H : Type 0} (world : H → World) (old mid new : H) (e0 e1 e2 : Held) 
               (out_failed (world mid) (world new) e1 e2 (trail_after t played) played.1 ready (struck (trail_after t played) ready.opened) same gave e);
           finished = first.whole.finished;
         };
-        in_turn = record {
-          front = first.in_turn.front;
-          rest = first.in_turn.rest;
-          is = first.in_turn.is;
-          mid = first.in_turn.mid;
-          between = first.in_turn.between;
-          taken = first.in_turn.taken;
-          last = none_left told first.in_turn.rest (world first.in_turn.mid) (world mid) (world new) first.in_turn.between e1 e2 far_trail far_now a (Err e) first.in_turn.last
-              (λ plays. last_failed (world first.in_turn.mid) (world mid) (world new) first.in_turn.between e1 e2 far_trail far_now plays same gave e struck);
-        };
+        in_turn = runs_on (Err e) (λ plays. last_failed (world first.in_turn.mid) (world mid) (world new) first.in_turn.between e1 e2 far_trail far_now plays same gave e struck);
         guids = tt;
       }

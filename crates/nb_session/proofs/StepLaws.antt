@@ -6,7 +6,9 @@ use Rattle.std.proofs.lemmas.Bool.{cases_lt}
 use Rattle.std.proofs.lemmas.List.{append-nil}
 use Rattle.nb_sched.specs.Turns.{IsDone}
 use Rattle.nb_host.specs.World.{World}
-use Rattle.nb_host.specs.Causes.{CountsRun}
+use Rattle.nb_host.specs.Causes.{CountsDevice, CountsRun}
+use Rattle.nb_host.specs.declared.faults.Fault.{Fault}
+use Rattle.nb_host.specs.declared.faults.Fault.TheVariants.{Refused, Device, Memory}
 use Rattle.nb_host.specs.declared.faults.RunError.{RunError}
 use Rattle.nb_host.specs.declared.faults.RunError.TheVariants.{Device as DeviceError, Memory as MemoryError}
 use Rattle.nb_model.specs.declared.statement.Statement.{Statement}
@@ -116,6 +118,12 @@ module _ {S : Type 0} (error : RunError) where
       by : (f : RunError) → CountsRun {T = T} (Err f) before after → CountsRun {T = S} (Err f) before after
       by DeviceError is = is
       by MemoryError is = is
+
+-- what is said of a call's fault is said of another answer with it
+pub counts_as : (S T : Type 0) (fault : Fault) (before after : ℕ) → CountsDevice {T = S} (Err fault) before after → CountsDevice {T = T} (Err fault) before after
+counts_as S T (Refused refusal) before after is = is
+counts_as S T Device before after is = is
+counts_as S T Memory before after is = is
 
 -- what is under way comes first
 going_on : (asker : Asker) (task : Task) → asker.task ≡ Some task → todo_of asker ≡ task_first task ∷ (task_rest task ++ map Begins asker.statements)

@@ -1,11 +1,11 @@
 -- One turn, by what it made of the database and by its line.
-use Rattle.std.proofs.Common.{◌≡◌, ℕ, ◌-◌, List, [], ◌∷◌, ◌++◌, Bool, false, refl, sym, ap, subst, ◌∙◌}
-use Rattle.std.specs.Prelude.{true, Result, Ok, Err, IsErr, IsErrAnd, IfOk, Option, Some, None, if◌then◌else◌}
+use Rattle.std.proofs.Common.{◌≡◌, ◌<◌, ℕ, ◌-◌, List, [], ◌∷◌, ◌++◌, Bool, false, refl, sym, ap, subst, ◌∙◌}
+use Rattle.std.specs.Prelude.{true, Result, Ok, Err, IsErr, IfOk, Option, Some, None, if◌then◌else◌}
 use Rattle.std.specs.List.{slice_index_or}
 use Rattle.std.proofs.lemmas.List.{append-nil}
 use Rattle.nb_host.specs.World.{World}
 use Rattle.nb_host.specs.declared.faults.Fault.{Fault}
-use Rattle.nb_host.specs.declared.faults.Fault.TheVariants.{Refused}
+use Rattle.nb_host.specs.declared.faults.Fault.TheVariants.{Refused, Device, Memory}
 use Rattle.nb_host.specs.declared.refusals.Refusal.{Refusal}
 use Rattle.nb_host.specs.declared.faults.RunError.{RunError}
 use Rattle.nb_model.specs.declared.reply.Reply.{Reply}
@@ -23,16 +23,18 @@ use Rattle.nb_model.specs.Turns.{first_turn, turn}
 use Rattle.nb_model.proofs.StatusLaws.{status_plain}
 use Rattle.nb_model.proofs.TodoLaws.{IsSingle}
 use Rattle.nb_model.proofs.UsageLaws.{never_usage}
+use Rattle.nb_base.specs.Takes.{IsNoRefusal}
 use Rattle.nb_state.specs.Open.{Held}
-use Rattle.nb_change.proofs.ResultLaws.{passed_on}
 use Rattle.nb_session.specs.declared.task.Left.{Left}
+use Rattle.nb_session.specs.declared.task.Left.TheVariants.{Other}
 use Rattle.nb_session.specs.declared.task.Task.{Task}
 use Rattle.nb_session.specs.declared.task.Taken.{Taken}
 use Rattle.nb_session.specs.declared.told.Told.{Told}
 use Rattle.nb_session.specs.Acts.{Says, Grows, shown_by, Acts, MayAct}
+use Rattle.nb_session.specs.Askers.{TaskFits, left_refused, left_task, task_left}
 use Rattle.nb_session.specs.Ready.{IsReady}
 use Rattle.nb_session.specs.Replies.{HasEnded, is_refusal}
-use Rattle.nb_session.specs.Says.{SaysLine}
+use Rattle.nb_session.specs.Says.{EndsEarly, SaysLine}
 use Rattle.nb_session.specs.Steps.{as_played, touching, GoesFurther, IsBehind, Turns}
 use Rattle.nb_session.specs.Stops.{Plays}
 use Rattle.nb_session.specs.Told.{told_line, told_reply, told_turns}
@@ -118,10 +120,45 @@ module _ {T S : Type 0} (how : Told) (reply : T → Option Reply) (result : Resu
       behind = λ told. behind (before told);
     }
 
--- what doesn't come
-pub turns_never : {S : Type 0} (how : Told) (refused : S → Bool) (task : S → Option Task) (answer : Result S RunError) (old new : World) (a b : Held) (t : Trail) (now : Now) (session : ℕ) (u : Turn) (tail more : List Turn) → ⊥
-    → Turns how refused task answer old new a b t now session u tail more
-turns_never how refused task answer old new a b t now session u tail more never = absurd never
+-- what the last turn of a statement leaves
+abbrev pub was_last : Left
+was_last = Other (record { task = None; refused = false })
+
+-- either it is left, or the turn failed
+last_either : (answer : Result Left RunError) → IfOk answer (λ left. left ≡ was_last) → (P : Result Left RunError → Type 0) → P (Ok was_last) → ((e : RunError) → P (Err e)) → P answer
+last_either (Ok left) is P last failed = subst (λ (x : Left). P (Ok x)) (sym is) last
+last_either (Err e) is P last failed = failed e
+
+module _ (answer : Result Left RunError) (is : IfOk answer (λ left. left ≡ was_last)) where
+  -- its reply is told
+  pub turns_told : {T : Type 0} (how : Told) (reply : T → Option Reply) (result : Result T Fault) (task : Option Task) (old mid new : World) (e0 e1 : Held) (t : Trail) (now : Now) (session : ℕ) (u : Turn) (tail more : List Turn)
+      (files : List MadeFile) → files ≡ touching session u tail now → IsMaking now → slice_index_or now.todo (session - 1) [] ≡ u ∷ (tail ++ more) → MayAct reply result old mid e0 e1 t now session u files
+      → (Acts reply result old mid e0 e1 t now session u files → Marks old mid e0 files) → HasEnded result → (r : Reply) → ((said : Option Reply) → Says reply result said → said ≡ Some r) → IsReady old e0 t now
+      → SaysLine answer mid new (told_line session (told_reply how (Some r))) → status_after r ≡ 0 → IsBehind new e1 session u tail now None → Turns how left_refused (left_task task) answer old new e0 e1 t now session u tail more
+  turns_told how reply result task old mid new e0 e1 t now session u tail more files files_are makes place may mark ended r is_said ready says status behind =
+      last_either answer is (λ (a : Result Left RunError). SaysLine a mid new (told_line session (told_reply how (Some r))) → Turns how left_refused (left_task task) a old new e0 e1 t now session u tail more)
+      (λ line. turns_said how reply result left_refused (left_task task) old mid new e0 e1 t now session u tail more files files_are makes place may mark ended r is_said {V = Left} {E = RunError} (Ok was_last) line ready was_last line.said (λ replied. status) (λ told. behind))
+      (λ e line. turns_unsaid how reply result left_refused (left_task task) old mid new e0 e1 t now session u tail more files files_are makes place may mark ended r is_said {V = Left} {E = RunError} (Err e) line ready (Err e) refl) says
+
+  -- nothing of it is left, and it needs nothing
+  pub last_falls : (now_task : Option Task) (task : Task) → 0 < task_left (Some task) → IfOk answer (λ left. task_left (left_task now_task left) < task_left (Some task))
+  last_falls now_task task some = last_either answer is (λ (a : Result Left RunError). IfOk a (λ left. task_left (left_task now_task left) < task_left (Some task))) some (λ e. tt)
+
+  pub last_fits : (now_task : Option Task) (session : ℕ) (held : Held) → IfOk answer (λ left. TaskFits session (left_task now_task left) held)
+  last_fits now_task session held = last_either answer is (λ (a : Result Left RunError). IfOk a (λ left. TaskFits session (left_task now_task left) held)) tt (λ e. tt)
+
+-- A turn that isn't refused ended early by a fault.
+pub turns_lost : {T S : Type 0} (how : Told) (reply : T → Option Reply) (refused : S → Bool) (task : S → Option Task) (old mid new : World) (e0 e1 : Held) (t : Trail) (now : Now) (session : ℕ) (u : Turn) (tail more : List Turn)
+    (files : List MadeFile) → files ≡ touching session u tail now → IsMaking now → slice_index_or now.todo (session - 1) [] ≡ u ∷ (tail ++ more) → (fault : Fault) → IsNoRefusal fault → MayAct reply (Err fault) old mid e0 e1 t now session u files
+    → (Acts reply (Err fault) old mid e0 e1 t now session u files → Marks old mid e0 files) → (ended : Result Taken RunError) → EndsEarly session fault ended mid new → (answer : Result S RunError) → (IsErr ended → IsErr answer)
+    → Turns how refused task answer old new e0 e1 t now session u tail more
+turns_lost how reply refused task old mid new e0 e1 t now session u tail more files files_are makes place (Refused refusal) none may mark ended early answer passed = absurd none
+turns_lost how reply refused task old mid new e0 e1 t now session u tail more files files_are makes place Device none may mark ended early answer passed =
+    subst (λ (w : World). Turns how refused task answer old w e0 e1 t now session u tail more) (sym early.1)
+    (turns_failed how reply (Err Device) refused task old mid mid e0 e1 t now session u tail more files files_are makes place may mark answer (passed early.0))
+turns_lost how reply refused task old mid new e0 e1 t now session u tail more files files_are makes place Memory none may mark ended early answer passed =
+    subst (λ (w : World). Turns how refused task answer old w e0 e1 t now session u tail more) (sym early.1)
+    (turns_failed how reply (Err Memory) refused task old mid mid e0 e1 t now session u tail more files files_are makes place may mark answer (passed early.0))
 
 -- what is said of the task that is under way
 pub under_is : {under : Option Task} {field task : Task} → under ≡ Some field → field ≡ task → under ≡ Some task
@@ -156,34 +193,29 @@ pub single_behind : (w : World) (held : Held) (session : ℕ) (statement : State
 single_behind w held session statement now single =
     record { next = append-nil (outcome session (Begins statement) now).next ∙ ap (λ o. o.next) (outcome_is session statement now) ∙ single (seen_now now) session; goes = tt }
 
--- A turn that was refused, and whose refusal is said.
-module _ {T : Type 0} (how : Told) (reply : T → Option Reply) (refusal : Refusal) (old mid new : World) (e0 e1 : Held) (t : Trail) (now : Now) (session : ℕ) (u : Turn) (tail more : List Turn)
-    (files : List MadeFile) (files_are : files ≡ touching session u tail now) (makes : IsMaking now) (place : slice_index_or now.todo (session - 1) [] ≡ u ∷ (tail ++ more))
-    (may : MayAct reply (Err (Refused refusal)) old mid e0 e1 t now session u files) (mark : Acts reply (Err (Refused refusal)) old mid e0 e1 t now session u files → Marks old mid e0 files) (ready : IsReady old e0 t now) where
-  pub turns_refused : (answer : Result Taken RunError) → SaysLine answer mid new (line_text session (RefusedBy refusal)) → IfOk answer (λ taken. taken ≡ record { task = None; refused = true })
-      → ((outcome session u now).reply ≡ Some (RefusedBy refusal) → status_after (RefusedBy refusal) ≡ 1) → (Foretells now.given (shown_by u e0) old mid → IsBehind new e1 session u tail now None)
-      → Turns how (λ taken. taken.refused) (λ taken. taken.task) answer old new e0 e1 t now session u tail more
-  turns_refused (Ok taken) says is status behind =
-      turns_said how reply (Err (Refused refusal)) (λ (x : Taken). x.refused) (λ (x : Taken). x.task) old mid new e0 e1 t now session u tail more files files_are makes place may mark tt (RefusedBy refusal) (λ said s. s) (Ok taken)
+-- The first turn of a statement ended early: where it was refused, that is said.
+module _ {T : Type 0} (how : Told) (reply : T → Option Reply) (old mid new : World) (e0 e1 : Held) (t : Trail) (now : Now) (session : ℕ) (it : Statement) (more : List Turn)
+    (files : List MadeFile) (files_are : files ≡ touching session (Begins it) [] now) (makes : IsMaking now) (place : slice_index_or now.todo (session - 1) [] ≡ Begins it ∷ more) (ready : IsReady old e0 t now) where
+  begun_refused : (refusal : Refusal) → MayAct reply (Err (Refused refusal)) old mid e0 e1 t now session (Begins it) files → (Acts reply (Err (Refused refusal)) old mid e0 e1 t now session (Begins it) files → Marks old mid e0 files)
+      → (answer : Result Taken RunError) → SaysLine answer mid new (line_text session (RefusedBy refusal)) → IfOk answer (λ taken. taken ≡ record { task = None; refused = true })
+      → (Foretells now.given (shown_by (Begins it) e0) old mid → IsBehind new e1 session (Begins it) [] now None)
+      → Turns how (λ taken. taken.refused) (λ taken. taken.task) answer old new e0 e1 t now session (Begins it) [] more
+  begun_refused refusal may mark (Ok taken) says is behind =
+      turns_said how reply (Err (Refused refusal)) (λ (x : Taken). x.refused) (λ (x : Taken). x.task) old mid new e0 e1 t now session (Begins it) [] more files files_are makes place may mark tt (RefusedBy refusal) (λ said s. s) (Ok taken)
       (says_other (Ok taken) mid new _ _ (refusal_line how session refusal) says) ready taken (says.said ∙ ap (λ (l : List ℕ). mid.said ++ l) (refusal_line how session refusal))
-      (λ replied. status replied ∙ ap (λ (x : Taken). if x.refused then 1 else 0) (sym is))
-      (λ told. subst (λ (x : Taken). IsBehind new e1 session u tail now x.task) (sym is) (behind told))
-  turns_refused (Err e) says is status behind =
-      turns_unsaid how reply (Err (Refused refusal)) (λ (x : Taken). x.refused) (λ (x : Taken). x.task) old mid new e0 e1 t now session u tail more files files_are makes place may mark tt (RefusedBy refusal) (λ said s. s) (Err e)
+      (λ replied. status_told session it now (RefusedBy refusal) replied ∙ ap (λ (x : Taken). if x.refused then 1 else 0) (sym is))
+      (λ told. subst (λ (x : Taken). IsBehind new e1 session (Begins it) [] now x.task) (sym is) (behind told))
+  begun_refused refusal may mark (Err e) says is behind =
+      turns_unsaid how reply (Err (Refused refusal)) (λ (x : Taken). x.refused) (λ (x : Taken). x.task) old mid new e0 e1 t now session (Begins it) [] more files files_are makes place may mark tt (RefusedBy refusal) (λ said s. s) (Err e)
       (says_other (Err e) mid new _ _ (refusal_line how session refusal) says) ready
       (Err e) refl
 
--- A failure is handed on.
-module _ (error : RunError) (answer : Result Taken RunError) (handed : IsErr answer × IsErrAnd answer (λ e. e ≡ error)) where
-  pub handed_turns : {T : Type 0} (how : Told) (refused : T → Bool) (task : T → Option Task) (old new : World) (a b : Held) (t : Trail) (now : Now) (session : ℕ) (u : Turn) (tail more : List Turn)
-      → Turns how refused task (Err error) old new a b t now session u tail more → Turns how (λ taken. taken.refused) (λ taken. taken.task) answer old new a b t now session u tail more
-  handed_turns how refused task old new a b t now session u tail more turns =
-      subst (λ (r : Result Taken RunError). Turns how (λ taken. taken.refused) (λ taken. taken.task) r old new a b t now session u tail more) (sym (passed_on answer error handed)) (record {
-        grows = turns.grows;
-        plays = turns.plays;
-        unchanged = turns.unchanged;
-        behind = λ told. tt;
-      })
-
-  pub handed_none : (P : Taken → Type 0) → IfOk answer P
-  handed_none P = err_none answer P handed.0
+  pub begun_ended : (fault : Fault) → MayAct reply (Err fault) old mid e0 e1 t now session (Begins it) files → (Acts reply (Err fault) old mid e0 e1 t now session (Begins it) files → Marks old mid e0 files)
+      → (answer : Result Taken RunError) → EndsEarly session fault answer mid new → IfOk answer (λ taken. taken ≡ record { task = None; refused = true })
+      → ((refusal : Refusal) → fault ≡ Refused refusal → Foretells now.given (shown_by (Begins it) e0) old mid → IsBehind new e1 session (Begins it) [] now None)
+      → Turns how (λ taken. taken.refused) (λ taken. taken.task) answer old new e0 e1 t now session (Begins it) [] more
+  begun_ended (Refused refusal) may mark answer early is behind = begun_refused refusal may mark answer early is (behind refusal refl)
+  begun_ended Device may mark answer early is behind =
+      turns_lost how reply (λ (x : Taken). x.refused) (λ (x : Taken). x.task) old mid new e0 e1 t now session (Begins it) [] more files files_are makes place Device tt may mark answer early answer (λ failed. failed)
+  begun_ended Memory may mark answer early is behind =
+      turns_lost how reply (λ (x : Taken). x.refused) (λ (x : Taken). x.task) old mid new e0 e1 t now session (Begins it) [] more files files_are makes place Memory tt may mark answer early answer (λ failed. failed)

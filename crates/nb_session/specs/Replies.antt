@@ -1,5 +1,5 @@
 -- Replies as they are answered.
-use Rattle.std.specs.Prelude.{[], ◌∷◌, length, Option, Some, Result, Ok, Err, Bool, true, false}
+use Rattle.std.specs.Prelude.{◌≡◌, [], ◌∷◌, length, Option, Some, Result, Ok, Err, Bool, true, false}
 use Rattle.nb_host.specs.declared.faults.Fault.{Fault}
 use Rattle.nb_host.specs.declared.faults.Fault.TheVariants.{Refused, Device, Memory}
 use Rattle.nb_model.specs.declared.reply.Reply.{Reply}
@@ -14,6 +14,13 @@ use Rattle.nb_state.specs.Does.{has_only_told}
 -- it is said
 abbrev pub some_said : Reply → Option Reply
 some_said reply = Some reply
+
+-- the reply to what was answered: this of its value, or that memory ran out for it, or the same failure
+abbrev pub Replies : {T : Type 0} → (T → Reply) → Result T Fault → Result Reply Fault → Type 0
+Replies reply (Ok value) (Ok said) = said ≡ reply value
+Replies reply (Ok value) (Err fault) = fault ≡ Memory
+Replies reply (Err fault) (Ok said) = ⊥
+Replies reply (Err fault) (Err other) = other ≡ fault
 
 -- it ended with a value or a refusal
 abbrev pub HasEnded : {T : Type 0} → Result T Fault → Type 0

@@ -1,5 +1,5 @@
 // A statement and the line of its reply.
-ghost use Rattle.std.specs.Prelude.{◌≡◌, ℕ, ◌-◌, List, [], ◌∷◌, None, Some, IsTrue};
+ghost use Rattle.std.specs.Prelude.{◌≡◌, ◌-◌, List, [], ◌∷◌, None, Some, false, IsTrue, IfOk};
 ghost use Rattle.std.specs.List.{slice_index_or};
 ghost use Rattle.nb_host.specs.Causes.{CountsRun};
 ghost use Rattle.nb_change.specs.Gave.{GaveNothing};
@@ -9,7 +9,8 @@ ghost use Rattle.nb_model.specs.Outcomes.{Begins, Turn};
 ghost use Rattle.nb_model.specs.Run.{Now};
 ghost use Rattle.nb_model.specs.Trail.{Trail};
 ghost use Rattle.nb_script.specs.Asked.{IsFurther};
-ghost use Rattle.nb_session.specs.Askers.{IsOneTurn, KeepsOthers};
+ghost use Rattle.nb_session.specs.Askers.{IsOneTurn, KeepsOthers, TaskFits};
+ghost use Rattle.nb_session.specs.declared.task.Left.TheVariants.{Other};
 ghost use Rattle.nb_session.specs.Ready.{IsReady};
 ghost use Rattle.nb_session.specs.Replies.{is_refusal};
 ghost use Rattle.nb_session.specs.Says.{SaysLine};
@@ -17,6 +18,7 @@ ghost use Rattle.nb_session.specs.Steps.{Turns};
 ghost use Rattle.nb_session.specs.Told.{told_line, told_reply};
 
 use crate::statement::{do_statement, reply_to};
+use crate::task::{Left, Taken};
 use crate::told::Told;
 use nb_engine::Engine;
 use nb_host::{Host, RunError};
@@ -44,7 +46,7 @@ pub fn say<H: Host>(
 }
 
 /// Says what is told of a reply, if anything is.
-pub(crate) fn tell<H: Host>(
+fn tell<H: Host>(
     alloc: Global,
     host: &mut H,
     session: u32,
@@ -61,6 +63,25 @@ pub(crate) fn tell<H: Host>(
     }
 }
 
+/// Says what is told of the reply to a statement of many turns, which is done with that.
+pub(crate) fn tell_last<H: Host>(
+    alloc: Global,
+    host: &mut H,
+    session: u32,
+    told: Told,
+    reply: Reply,
+) -> Result<Left, RunError>
+    ensures line { IsTrue H.tells → SaysLine result (H.world host.old) (H.world host.new) (told_line session (told_reply told (Some reply))) }
+    ensures left { IfOk result (λ left. left ≡ Other (record { task = None; refused = false })) }
+    ensures cause { CountsRun result (H.faults host.old) (H.faults host.new) }
+{
+    tell(alloc, host, session, told, reply)?;
+    Ok(Left::Other(Taken {
+        task: None,
+        refused: false,
+    }))
+}
+
 /// Whether the reply is a refusal.
 pub(crate) fn is_refusal(reply: &Reply) -> bool
     ensures { result ≡ is_refusal reply.now }
@@ -71,7 +92,7 @@ pub(crate) fn is_refusal(reply: &Reply) -> bool
     }
 }
 
-/// Does a statement in one turn and says what is told of its reply, and answers whether it was refused.
+/// Does a statement in one turn and says what is told of its reply. Then it is done.
 pub fn answer<H: Host>(
     alloc: Global,
     host: &mut H,
@@ -79,17 +100,21 @@ pub fn answer<H: Host>(
     session: u32,
     told: Told,
     statement: &Statement,
-) -> Result<bool, RunError>
+) -> Result<Taken, RunError>
     requires asked { IsFurther statement.now }
     requires single { IsOneTurn statement.now }
     ensures turn { (now : Now) (t : Trail) (more : List Turn) → IsTrue H.tells → IsReady (H.world host.old) engine.old t now → IsMaking now
         → slice_index_or now.todo (session - 1) [] ≡ Begins statement.now ∷ more
-        → Turns told (λ refused. refused) (λ refused. None) result (H.world host.old) (H.world host.new) engine.old engine.new t now session (Begins statement.now) [] more }
-    ensures others { (number : ℕ) → KeepsOthers number engine.old engine.new }
+        → Turns told (λ taken. taken.refused) (λ taken. taken.task) result (H.world host.old) (H.world host.new) engine.old engine.new t now session (Begins statement.now) [] more }
+    ensures fits { IfOk result (λ taken. TaskFits session taken.task engine.new) }
+    ensures others { KeepsOthers session engine.old engine.new }
     ensures cause { CountsRun result (H.faults host.old) (H.faults host.new) }
 {
     let reply = reply_to(do_statement(alloc, host, engine, statement))?;
     let refused = is_refusal(&reply);
     tell(alloc, host, session, told, reply)?;
-    Ok(refused)
+    Ok(Taken {
+        task: None,
+        refused,
+    })
 }

@@ -1,5 +1,5 @@
 // Backups and copies of the frozen file, which take a turn for each page.
-ghost use Rattle.std.specs.Prelude.{◌≡◌, ◌≢◌, ◌<◌, length, ℕ, ◌-◌, List, [], ◌∷◌, ◌++◌, None, Some, false, IsTrue, IfOk};
+ghost use Rattle.std.specs.Prelude.{◌≡◌, ◌≢◌, ◌<◌, length, ℕ, ◌-◌, List, [], ◌∷◌, None, Some, false, IsTrue, IfOk};
 ghost use Rattle.std.specs.List.{slice_index_or};
 ghost use Rattle.nb_fields.specs.States.{merge_state};
 ghost use Rattle.nb_host.specs.Names.{is_delta};
@@ -15,14 +15,14 @@ ghost use Rattle.nb_script.specs.Asked.{IsFurther};
 ghost use Rattle.nb_state.specs.Open.{IsOpen};
 ghost use Rattle.nb_state.specs.Turns.{GaveAtMost};
 ghost use Rattle.nb_copy.specs.Starting.{KnowsFree, StartsBackup};
-ghost use Rattle.nb_session.specs.Askers.{IsBackup, file_asked, KeepsOthers, TaskFits, left_refused, left_task, task_first, task_rest, task_left};
+ghost use Rattle.nb_session.specs.Askers.{IsBackup, file_asked, KeepsOthers, TaskFits, left_task, task_left};
 ghost use Rattle.nb_session.specs.declared.task.Task.TheVariants.{Backup, Copy};
 ghost use Rattle.nb_session.specs.declared.told.Told.{Told};
-ghost use Rattle.nb_session.specs.Ready.{IsReady, TaskGoes};
-ghost use Rattle.nb_session.specs.Steps.{Turns};
+ghost use Rattle.nb_session.specs.Ready.{IsReady};
+ghost use Rattle.nb_session.specs.Steps.{GoesFurther, Turns};
 
-use crate::answer::tell;
-use crate::merges::say_refused;
+use crate::answer::tell_last;
+use crate::merges::end_early;
 use crate::task::{Left, Taken, Task};
 use crate::told::Told;
 use nb_copy::{Copier, FileCopier};
@@ -105,9 +105,7 @@ pub fn begin_backup<H: Host>(
 {
     match start(alloc, host, engine, session, statement) {
         Ok(copier) => Ok(under_way(Task::Backup(copier))),
-        Err(Fault::Refused(refusal)) => say_refused(alloc, host, session, refusal),
-        Err(Fault::Device) => Err(RunError::Device),
-        Err(Fault::Memory) => Err(RunError::Memory),
+        Err(fault) => end_early(alloc, host, session, fault),
     }
 }
 
@@ -129,9 +127,7 @@ pub fn begin_copy<H: Host>(
 {
     match FileCopier::start(alloc, host, engine, session, name) {
         Ok(copier) => Ok(under_way(Task::Copy(copier))),
-        Err(Fault::Refused(refusal)) => say_refused(alloc, host, session, refusal),
-        Err(Fault::Device) => Err(RunError::Device),
-        Err(Fault::Memory) => Err(RunError::Memory),
+        Err(fault) => end_early(alloc, host, session, fault),
     }
 }
 
@@ -145,8 +141,7 @@ pub fn back_up_on<H: Host>(
 ) -> Result<Left, RunError>
     requires fits { TaskFits session (Some (Backup copier.old)) engine.old }
     ensures turn { (told : Told) (now : Now) (t : Trail) (more : List Turn) → IsTrue H.tells → IsReady (H.world host.old) engine.old t now → IsMaking now
-        → slice_index_or now.todo (session - 1) [] ≡ task_first (Backup copier.old) ∷ (task_rest (Backup copier.old) ++ more) → TaskGoes session (H.world host.old) engine.old t.base.frozen (Some (Backup copier.old))
-        → Turns told left_refused (left_task (Some (Backup copier.new))) result (H.world host.old) (H.world host.new) engine.old engine.new t now session (task_first (Backup copier.old)) (task_rest (Backup copier.old)) more }
+        → GoesFurther told (Some (Backup copier.old)) (Some (Backup copier.new)) result (H.world host.old) (H.world host.new) engine.old engine.new t now session more }
     ensures falls { IfOk result (λ left. task_left (left_task (Some (Backup copier.new)) left) < task_left (Some (Backup copier.old))) }
     ensures fits { IfOk result (λ left. TaskFits session (left_task (Some (Backup copier.new)) left) engine.new) }
     ensures others { KeepsOthers session engine.old engine.new }
@@ -160,12 +155,7 @@ pub fn back_up_on<H: Host>(
             pages: copier.written(),
             guid: copier.guid(),
         })))),
-        Err(Fault::Refused(refusal)) => {
-            stop_running(engine, session);
-            Ok(Left::Other(say_refused(alloc, host, session, refusal)?))
-        }
-        Err(Fault::Device) => Err(RunError::Device),
-        Err(Fault::Memory) => Err(RunError::Memory),
+        Err(fault) => Ok(Left::Other(end_early(alloc, host, session, fault)?)),
     }
 }
 
@@ -180,8 +170,7 @@ pub fn copy_on<H: Host>(
 ) -> Result<Left, RunError>
     requires fits { TaskFits session (Some (Copy copier.old)) engine.old }
     ensures turn { (now : Now) (t : Trail) (more : List Turn) → IsTrue H.tells → IsReady (H.world host.old) engine.old t now → IsMaking now
-        → slice_index_or now.todo (session - 1) [] ≡ task_first (Copy copier.old) ∷ (task_rest (Copy copier.old) ++ more) → TaskGoes session (H.world host.old) engine.old t.base.frozen (Some (Copy copier.old))
-        → Turns told left_refused (left_task (Some (Copy copier.new))) result (H.world host.old) (H.world host.new) engine.old engine.new t now session (task_first (Copy copier.old)) (task_rest (Copy copier.old)) more }
+        → GoesFurther told (Some (Copy copier.old)) (Some (Copy copier.new)) result (H.world host.old) (H.world host.new) engine.old engine.new t now session more }
     ensures falls { IfOk result (λ left. task_left (left_task (Some (Copy copier.new)) left) < task_left (Some (Copy copier.old))) }
     ensures fits { IfOk result (λ left. TaskFits session (left_task (Some (Copy copier.new)) left) engine.new) }
     ensures others { KeepsOthers session engine.old engine.new }
@@ -191,19 +180,8 @@ pub fn copy_on<H: Host>(
         Progress::More => Ok(Left::Same),
         Progress::Finished => {
             stop_running(engine, session);
-            tell(
-                alloc,
-                host,
-                session,
-                told,
-                Reply::Pages {
-                    pages: copier.written(),
-                },
-            )?;
-            Ok(Left::Other(Taken {
-                task: None,
-                refused: false,
-            }))
+            let pages = copier.written();
+            tell_last(alloc, host, session, told, Reply::Pages { pages })
         }
     }
 }

@@ -7,9 +7,9 @@
 #![tactic(auto)]
 
 mod answer;
-mod checks;
 mod copies;
 mod merges;
+mod replies;
 mod session;
 mod sessions;
 mod statement;

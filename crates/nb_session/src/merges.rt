@@ -1,7 +1,7 @@
 // The end of a backup, which takes many turns: one that ends the stalled state, one for each page that is merged, and a last one.
-ghost use Rattle.std.specs.Prelude.{◌≡◌, ◌<◌, ◌-◌, List, [], ◌∷◌, ◌++◌, length, None, Some, true, false, IsTrue, IfOk};
+ghost use Rattle.std.specs.Prelude.{◌≡◌, ◌<◌, ◌-◌, ℕ, List, [], ◌∷◌, length, None, Some, Err, true, false, IsTrue, IfOk};
 ghost use Rattle.std.specs.List.{slice_index_or};
-ghost use Rattle.nb_host.specs.Causes.{CountsRun};
+ghost use Rattle.nb_host.specs.Causes.{CountsDevice, CountsRun};
 ghost use Rattle.nb_change.specs.Gave.{GaveNothing};
 ghost use Rattle.nb_model.specs.declared.reply.Reply.TheVariants.{Refused as RefusedReply};
 ghost use Rattle.nb_model.specs.declared.statement.Statement.TheVariants.{EndBackup};
@@ -10,14 +10,15 @@ ghost use Rattle.nb_model.specs.Lines.{line_text};
 ghost use Rattle.nb_model.specs.Outcomes.{Begins, Turn};
 ghost use Rattle.nb_model.specs.Run.{Now};
 ghost use Rattle.nb_model.specs.Trail.{Trail};
-ghost use Rattle.nb_session.specs.Askers.{KeepsOthers, TaskFits, left_refused, left_task, task_first, task_rest, task_left};
+ghost use Rattle.nb_session.specs.Askers.{KeepsOthers, TaskFits, left_task, task_left};
+ghost use Rattle.nb_session.specs.declared.task.Taken.{Taken};
 ghost use Rattle.nb_session.specs.declared.task.Task.TheVariants.{End, Merge};
 ghost use Rattle.nb_session.specs.declared.told.Told.{Told};
-ghost use Rattle.nb_session.specs.Ready.{IsReady, TaskGoes};
-ghost use Rattle.nb_session.specs.Says.{SaysLine};
-ghost use Rattle.nb_session.specs.Steps.{Turns};
+ghost use Rattle.nb_session.specs.Ready.{IsReady};
+ghost use Rattle.nb_session.specs.Says.{EndsEarly, SaysLine};
+ghost use Rattle.nb_session.specs.Steps.{GoesFurther, Turns};
 
-use crate::answer::{say, tell};
+use crate::answer::{say, tell_last};
 use crate::task::{Left, Merging, Taken, Task};
 use crate::told::Told;
 use nb_engine::Engine;
@@ -41,7 +42,7 @@ fn merge_of(engine: &Engine, reply: Reply) -> Taken
 }
 
 /// Says a refusal, with which a statement is done.
-pub fn say_refused<H: Host>(
+fn say_refused<H: Host>(
     alloc: Global,
     host: &mut H,
     session: u32,
@@ -57,6 +58,24 @@ pub fn say_refused<H: Host>(
         task: None,
         refused: true,
     })
+}
+
+/// Ends a statement early: a refusal is said, with which it is done, and a failure is handed on.
+pub fn end_early<H: Host>(
+    alloc: Global,
+    host: &mut H,
+    session: u32,
+    fault: Fault,
+) -> Result<Taken, RunError>
+    ensures ended { IsTrue H.tells → EndsEarly session fault result (H.world host.old) (H.world host.new) }
+    ensures taken { IfOk result (λ taken. taken ≡ record { task = None; refused = true }) }
+    ensures cause { (before : ℕ) → CountsDevice {T = Taken} (Err fault) before (H.faults host.old) → CountsRun result before (H.faults host.new) }
+{
+    match fault {
+        Fault::Refused(refusal) => say_refused(alloc, host, session, refusal),
+        Fault::Device => Err(RunError::Device),
+        Fault::Memory => Err(RunError::Memory),
+    }
 }
 
 /// The first turn of `alter database end backup`. Where it is refused the refusal is said, and it is done.
@@ -75,9 +94,7 @@ pub fn begin_merge<H: Host>(
 {
     match engine.end(host, session) {
         Ok(scn) => Ok(merge_of(engine, Reply::Scn { scn })),
-        Err(Fault::Refused(refusal)) => say_refused(alloc, host, session, refusal),
-        Err(Fault::Device) => Err(RunError::Device),
-        Err(Fault::Memory) => Err(RunError::Memory),
+        Err(fault) => end_early(alloc, host, session, fault),
     }
 }
 
@@ -91,8 +108,7 @@ pub fn end_backup<H: Host>(
 ) -> Result<Left, RunError>
     requires fits { TaskFits session (Some (End reply.old)) engine.old }
     ensures turn { (told : Told) (now : Now) (t : Trail) (more : List Turn) → IsTrue H.tells → IsReady (H.world host.old) engine.old t now → IsMaking now
-        → slice_index_or now.todo (session - 1) [] ≡ task_first (End reply.old) ∷ (task_rest (End reply.old) ++ more) → TaskGoes session (H.world host.old) engine.old t.base.frozen (Some (End reply.old))
-        → Turns told left_refused (left_task (Some (End reply.new))) result (H.world host.old) (H.world host.new) engine.old engine.new t now session (task_first (End reply.old)) (task_rest (End reply.old)) more }
+        → GoesFurther told (Some (End reply.old)) (Some (End reply.new)) result (H.world host.old) (H.world host.new) engine.old engine.new t now session more }
     ensures falls { IfOk result (λ left. task_left (left_task (Some (End reply.new)) left) < task_left (Some (End reply.old))) }
     ensures fits { IfOk result (λ left. TaskFits session (left_task (Some (End reply.new)) left) engine.new) }
     ensures others { KeepsOthers session engine.old engine.new }
@@ -103,11 +119,7 @@ pub fn end_backup<H: Host>(
             let reply = mem::replace(reply, Reply::Done);
             Ok(Left::Other(merge_of(engine, reply)))
         }
-        Err(Fault::Refused(refusal)) => {
-            Ok(Left::Other(say_refused(alloc, host, session, refusal)?))
-        }
-        Err(Fault::Device) => Err(RunError::Device),
-        Err(Fault::Memory) => Err(RunError::Memory),
+        Err(fault) => Ok(Left::Other(end_early(alloc, host, session, fault)?)),
     }
 }
 
@@ -122,8 +134,7 @@ pub fn merge_on<H: Host>(
 ) -> Result<Left, RunError>
     requires fits { TaskFits session (Some (Merge merging.old)) engine.old }
     ensures turn { (now : Now) (t : Trail) (more : List Turn) → IsTrue H.tells → IsReady (H.world host.old) engine.old t now → IsMaking now
-        → slice_index_or now.todo (session - 1) [] ≡ task_first (Merge merging.old) ∷ (task_rest (Merge merging.old) ++ more)
-        → Turns told left_refused (left_task (Some (Merge merging.new))) result (H.world host.old) (H.world host.new) engine.old engine.new t now session (task_first (Merge merging.old)) (task_rest (Merge merging.old)) more }
+        → GoesFurther told (Some (Merge merging.old)) (Some (Merge merging.new)) result (H.world host.old) (H.world host.new) engine.old engine.new t now session more }
     ensures falls { IfOk result (λ left. task_left (left_task (Some (Merge merging.new)) left) < task_left (Some (Merge merging.old))) }
     ensures fits { IfOk result (λ left. TaskFits session (left_task (Some (Merge merging.new)) left) engine.new) }
     ensures others { KeepsOthers session engine.old engine.new }
@@ -136,11 +147,7 @@ pub fn merge_on<H: Host>(
         }
         Progress::Finished => {
             let reply = mem::replace(&mut merging.reply, Reply::Done);
-            tell(alloc, host, session, told, reply)?;
-            Ok(Left::Other(Taken {
-                task: None,
-                refused: false,
-            }))
+            tell_last(alloc, host, session, told, reply)
         }
     }
 }

@@ -70,13 +70,7 @@ fn begin_statement<H: Host>(
             begin_backup(alloc, host, engine, session, statement)
         }
         Statement::CopyTo { name } => begin_copy(alloc, host, engine, session, name),
-        _ => {
-            let refused = answer(alloc, host, engine, session, told, statement)?;
-            Ok(Taken {
-                task: None,
-                refused,
-            })
-        }
+        _ => answer(alloc, host, engine, session, told, statement),
     }
 }
 

@@ -16,8 +16,8 @@ ghost use Rattle.nb_session.specs.Askers.{IsOneTurn, KeepsOthers};
 ghost use Rattle.nb_session.specs.Ready.{IsReady};
 ghost use Rattle.nb_session.specs.Replies.{some_said, HasEnded, header_of};
 
-use crate::checks::do_checks;
-use crate::tables::do_on_tables;
+use crate::replies::done;
+use crate::tables::{do_checks, do_on_tables};
 use nb_engine::Engine;
 use nb_host::{Fault, Host, RunError};
 use nb_model::{Reply, Statement, Text};
@@ -73,10 +73,7 @@ pub fn do_statement<H: Host>(
     ensures cause { CountsDevice result (H.faults host.old) (H.faults host.new) }
 {
     match statement {
-        Statement::Write { page, text } => {
-            engine.page_write(host, *page, text.as_slice())?;
-            Ok(Reply::Done)
-        }
+        Statement::Write { page, text } => done(engine.page_write(host, *page, text.as_slice())),
         Statement::Read { page } => {
             let text = engine.page_read(host, *page)?;
             Ok(Reply::Value {
@@ -87,22 +84,13 @@ pub fn do_statement<H: Host>(
             let page = engine.page_new(host)?;
             Ok(Reply::PageMade { page })
         }
-        Statement::Free { page } => {
-            engine.page_free(host, *page)?;
-            Ok(Reply::Done)
-        }
+        Statement::Free { page } => done(engine.page_free(host, *page)),
         Statement::BeginBackup => {
             let scn = engine.begin(host)?;
             Ok(Reply::Scn { scn })
         }
-        Statement::Forced { on } => {
-            engine.set_forced(host, *on)?;
-            Ok(Reply::Done)
-        }
-        Statement::Access { read_only } => {
-            engine.set_access(host, *read_only)?;
-            Ok(Reply::Done)
-        }
+        Statement::Forced { on } => done(engine.set_forced(host, *on)),
+        Statement::Access { read_only } => done(engine.set_access(host, *read_only)),
         Statement::Sync => {
             engine.sync(host)?;
             Ok(Reply::Done)

@@ -1,4 +1,4 @@
-// A statement on tables, which is done in one turn.
+// A statement on tables, or one that checks the database or gives its leaked pages back, which is done in one turn.
 ghost use Rattle.std.specs.Prelude.{ℕ, [], IsTrue};
 ghost use Rattle.nb_host.specs.Causes.{CountsDevice};
 ghost use Rattle.nb_model.specs.Outcomes.{Begins};
@@ -6,10 +6,12 @@ ghost use Rattle.nb_model.specs.Run.{Now};
 ghost use Rattle.nb_model.specs.Trail.{Trail};
 ghost use Rattle.nb_script.specs.Asked.{IsFurther};
 ghost use Rattle.nb_session.specs.Acts.{MayAct};
-ghost use Rattle.nb_session.specs.Askers.{IsOnTables, KeepsOthers};
+ghost use Rattle.nb_session.specs.Askers.{IsCheck, IsOnTables, KeepsOthers};
 ghost use Rattle.nb_session.specs.Ready.{IsReady};
 ghost use Rattle.nb_session.specs.Replies.{some_said};
 
+use crate::replies::done;
+use nb_check::{check, reclaim};
 use nb_engine::Engine;
 use nb_host::{Fault, Host};
 use nb_model::{Reply, Statement, Text};
@@ -31,26 +33,17 @@ pub(crate) fn do_on_tables<H: Host>(
     ensures cause { CountsDevice result (H.faults host.old) (H.faults host.new) }
 {
     match statement {
-        Statement::CreateTable { table } => {
-            create(host, engine, table)?;
-            Ok(Reply::Done)
-        }
-        Statement::DropTable { table } => {
-            drop_table(host, engine, table)?;
-            Ok(Reply::Done)
-        }
+        Statement::CreateTable { table } => done(create(host, engine, table)),
+        Statement::DropTable { table } => done(drop_table(host, engine, table)),
         Statement::Insert { table, key, text } => {
-            insert(host, engine, table, *key, text.as_slice())?;
-            Ok(Reply::Done)
+            let text = text.as_slice();
+            done(insert(host, engine, table, *key, text))
         }
         Statement::Update { table, key, text } => {
-            update(host, engine, table, *key, text.as_slice())?;
-            Ok(Reply::Done)
+            let text = text.as_slice();
+            done(update(host, engine, table, *key, text))
         }
-        Statement::Delete { table, key } => {
-            delete(host, engine, table, *key)?;
-            Ok(Reply::Done)
-        }
+        Statement::Delete { table, key } => done(delete(host, engine, table, *key)),
         Statement::Get { table, key } => {
             let text = get(host, engine, table, *key)?;
             Ok(Reply::Value {
@@ -60,6 +53,33 @@ pub(crate) fn do_on_tables<H: Host>(
         Statement::Scan { table } => {
             let rows = scan(alloc, host, engine, table)?;
             Ok(Reply::Rows { rows })
+        }
+        _ => unreachable!(),
+    }
+}
+
+/// Does one statement on checks, in one turn.
+pub(crate) fn do_checks<H: Host>(
+    alloc: Global,
+    host: &mut H,
+    engine: &mut Engine,
+    statement: &Statement,
+) -> Result<Reply, Fault>
+    requires { IsCheck statement.now }
+    ensures turn { (now : Now) (t : Trail) (session : ℕ) → IsTrue H.tells → IsReady (H.world host.old) engine.old t now
+        → MayAct some_said result (H.world host.old) (H.world host.new) engine.old engine.new t now session (Begins statement.now) [] }
+    ensures others { (session : ℕ) → KeepsOthers session engine.old engine.new }
+    ensures cause { CountsDevice result (H.faults host.old) (H.faults host.new) }
+{
+    match statement {
+        Statement::Check => {
+            let report = check(alloc, host, engine)?;
+            let pages = report.pages(alloc)?;
+            Ok(Reply::Leaked { pages })
+        }
+        Statement::Reclaim => {
+            let pages = reclaim(alloc, host, engine)?;
+            Ok(Reply::Freed { pages })
         }
         _ => unreachable!(),
     }

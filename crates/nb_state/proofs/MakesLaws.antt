@@ -1,7 +1,7 @@
 -- How runs of calls that make strokes go on.
 use Rattle.std.proofs.Common.{◌≡◌, ℕ, List, [], ◌∷◌, ◌++◌, refl, sym, ◌∙◌, subst, ap, arith}
 use Rattle.std.proofs.lemmas.List.{append-nil}
-use Rattle.std.specs.Prelude.{Bool, true, false, Option, Result, Ok, Err}
+use Rattle.std.specs.Prelude.{Option, Result, Ok, Err}
 use Rattle.nb_host.specs.Files.{Files}
 use Rattle.nb_host.specs.Calls.{IsStill}
 use Rattle.nb_host.specs.World.{World}
@@ -17,8 +17,9 @@ use Rattle.nb_change.proofs.ReachedLaws.{after_all-joined, reached_first, reache
 use Rattle.nb_change.proofs.ChangesLaws.{weaker_has}
 use Rattle.nb_change.proofs.GaveLaws.{nothing_joined}
 use Rattle.nb_model.specs.Account.{Base}
-use Rattle.nb_model.specs.Strokes.{Stroke, on_base, base_after}
-use Rattle.nb_model.specs.Trail.{Trail, StandsIn, settles_at, after_stroke, settled, bases_of}
+use Rattle.nb_model.specs.Strokes.{Stroke, base_after}
+use Rattle.nb_model.specs.Trail.{Trail, StandsIn, after_stroke}
+use Rattle.nb_model.proofs.TrailLaws.{trail_base}
 use Rattle.nb_base.specs.Open.{OfFiles, IsMerged}
 use Rattle.nb_base.specs.Takes.{Strikes, after_strokes, IsNoRefusal}
 use Rattle.nb_owner.proofs.WaitLaws.{still_open as pair_still}
@@ -41,20 +42,11 @@ open_quiet old new held t quiet is = still_open old new held t quiet.still is
 pub open_still : (old new : World) (a b : Held) (t : Trail) → b ≡ a → Quiet old new → IsOpen old a t → IsOpen new b t
 open_still old new a b t same quiet is = subst (λ (h : Held). IsOpen new h t) (sym same) (open_quiet old new a t quiet is)
 
--- the database after one stroke, as it is seen
-after_base_one : (t : Trail) (x : Stroke) → (after_stroke x t).base ≡ on_base x t.base
-unfolding after_stroke
-after_base_one t x = by (settles_at t x)
-  where
-    by : (s : Bool) → (elim s as (λ z. Trail) [ true ↦ settled (on_base x t.base) | false ↦ record { base = on_base x t.base; earlier = bases_of t } ]).base ≡ on_base x t.base
-    by true = refl
-    by false = refl
-
--- and after strokes
+-- the database after strokes, as it is seen
 pub after_base : (t : Trail) (xs : List Stroke) → (after_strokes t xs).base ≡ base_after t.base xs
 unfolding base_after
 after_base t [] = refl
-after_base t (x ∷ xs) = after_base (after_stroke x t) xs ∙ ap (λ (b : Base). base_after b xs) (after_base_one t x)
+after_base t (x ∷ xs) = after_base (after_stroke x t) xs ∙ ap (λ (b : Base). base_after b xs) (trail_base x t)
 
 -- what holds in any case holds where a call ended
 pub where_ended : {T : Type 0} (result : Result T Fault) (P : Type 0) → P → WhereEnded result P

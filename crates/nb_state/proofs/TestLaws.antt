@@ -1,13 +1,13 @@
 -- Why a backup doesn't begin, and why a merge doesn't.
-use Rattle.std.proofs.Common.{◌≡◌, ◌≢◌, inl, inr, ℕ, suc, ◌≤◌, ◌<◌, [], ◌∷◌, refl, ap, ◌∙◌, arith}
-use Rattle.std.specs.Prelude.{Bool, true, false, Option, Some, None, not, nat_lt}
+use Rattle.std.proofs.Common.{◌≡◌, ◌≢◌, ℕ, ◌≤◌, ◌<◌, [], ◌∷◌, refl, ap, ◌∙◌}
+use Rattle.std.specs.Prelude.{Bool, Option, Some, None, not}
 use Rattle.std.proofs.lemmas.Bool.{eq-eqb, ne_eqb}
-use Rattle.std.proofs.lemmas.Bool.Decides.{leb_tells}
 use Rattle.nb_fields.specs.States.{normal_state}
 use Rattle.nb_host.specs.declared.refusals.Refusal.{Refusal}
 use Rattle.nb_host.specs.declared.refusals.Refusal.TheVariants.{ScnExhausted, BackupRunning}
 use Rattle.nb_model.specs.Image.{Image, image_scn}
 use Rattle.nb_model.specs.Causes.{Cause, first_cause, when, not_state, no_scn, runs_other}
+use Rattle.nb_model.proofs.ReadLaws.{lt_no, lt_yes}
 use Rattle.nb_cases.specs.Events.{none_to_end}
 use Rattle.nb_state.specs.Turns.{begin_cause, end_cause}
 
@@ -24,21 +24,15 @@ second_decides c d none = ap (λ (x : Cause). first_cause (x ∷ d ∷ [])) none
     last None = refl
     last (Some r) = refl
 
-lt_is : (a b : ℕ) → a < b → nat_lt a b ≡ true
-lt_is a b low = elim (leb_tells (suc a) b) [ inl w ↦ w.0 | inr w ↦ absurd (omega (arith, w.1, low)) ]
-
-le_is : (a b : ℕ) → b ≤ a → nat_lt a b ≡ false
-le_is a b high = elim (leb_tells (suc a) b) [ inl w ↦ absurd (omega (arith, w.1, high)) | inr w ↦ w.0 ]
-
 module _ (image : Image) where
   pub other_state : (r : Refusal) → not_state normal_state image ≡ Some r → begin_cause image ≡ Some r
   other_state = first_applies (not_state normal_state image) (no_scn image)
 
   pub last_scn : not_state normal_state image ≡ None → 4294967293 < image_scn image → begin_cause image ≡ Some (ScnExhausted (image_scn image))
-  last_scn normal high = second_decides (not_state normal_state image) (no_scn image) normal ∙ ap (λ (b : Bool). when b (ScnExhausted (image_scn image))) (lt_is 4294967293 (image_scn image) high)
+  last_scn normal high = second_decides (not_state normal_state image) (no_scn image) normal ∙ ap (λ (b : Bool). when b (ScnExhausted (image_scn image))) (lt_yes 4294967293 (image_scn image) high)
 
   pub may_begin : not_state normal_state image ≡ None → image_scn image ≤ 4294967293 → begin_cause image ≡ None
-  may_begin normal low = second_decides (not_state normal_state image) (no_scn image) normal ∙ ap (λ (b : Bool). when b (ScnExhausted (image_scn image))) (le_is 4294967293 (image_scn image) low)
+  may_begin normal low = second_decides (not_state normal_state image) (no_scn image) normal ∙ ap (λ (b : Bool). when b (ScnExhausted (image_scn image))) (lt_no 4294967293 (image_scn image) low)
 
   module _ (running : Option ℕ) (session : ℕ) where
     pub no_backup : (r : Refusal) → none_to_end image ≡ Some r → end_cause image running session ≡ Some r

@@ -234,8 +234,7 @@ impl Store {
         ensures reads { (H.world host.new).reads ≡ (H.world host.old).reads }
         ensures cause { CountsFault result (H.faults host.old) (H.faults host.new) }
     {
-        self.pair.sync(host)?;
-        Ok(())
+        self.pair.sync(host)
     }
 
     /// Writes out what waits. It changes no page. Where nothing waits it makes no call, and at a settled point nothing does.
@@ -251,7 +250,6 @@ impl Store {
         ensures reads { (H.world host.new).reads ≡ (H.world host.old).reads }
         ensures cause { CountsFault result (H.faults host.old) (H.faults host.new) }
     {
-        self.pair.write_out(host)?;
-        Ok(())
+        self.pair.write_out(host)
     }
 }

@@ -1,6 +1,6 @@
 -- A table that is made: its first page, and then its slot in the catalogue.
 use Rattle.std.proofs.Common.{◌≡◌, inl, inr, ℕ, suc, ◌+◌, ◌*◌, ◌≤◌, List, [], ◌∷◌, ◌++◌, length, drop, refl, sym, ap, subst, ◌∙◌, arith}
-use Rattle.std.specs.Prelude.{Bool, true, not, Some, None, Result, Ok, Err, IfErr}
+use Rattle.std.specs.Prelude.{Bool, true, not, Some, None, Result, Ok, Err}
 use Rattle.std.proofs.lemmas.Bool.Decides.{leb_tells}
 use Rattle.nb_fields.specs.Bytes.{with_part}
 use Rattle.nb_fields.specs.Payloads.{data_payload}
@@ -19,8 +19,8 @@ use Rattle.nb_model.proofs.DraftLaws.{IsOf, drafted_is, drafts_are, new_keeps}
 use Rattle.nb_model.proofs.PlaceTurns.{join_at}
 use Rattle.nb_model.proofs.PutSound.{no_first}
 use Rattle.nb_model.proofs.SearchLaws.{draft_cause}
-use Rattle.nb_base.specs.Takes.{after_strokes, IsNoRefusal}
-use Rattle.nb_state.specs.Open.{Held}
+use Rattle.nb_base.specs.Takes.{after_strokes}
+use Rattle.nb_state.specs.Open.{Held, IsOpen}
 use Rattle.nb_state.specs.Does.{Makes}
 use Rattle.nb_engine.specs.Behind.{behind_cause}
 use Rattle.nb_engine.specs.Data.{second_data, unmade, unmade_behind}
@@ -29,7 +29,7 @@ use Rattle.nb_engine.specs.Search.{IsShort}
 use Rattle.nb_engine.specs.Tries.{Tries}
 use Rattle.nb_alloc.proofs.CauseLaws.{first_next, one_cause}
 use Rattle.nb_alloc.proofs.ContentLaws.{data_short}
-use Rattle.nb_alloc.proofs.DoesLaws.{unless_none, tries_front, tries_then, sure_of, makes_as, makes_valued}
+use Rattle.nb_alloc.proofs.DoesLaws.{unless_none, tries_front, tries_then, sure_of, tries_opened}
 use Rattle.nb_engine.proofs.GrowLaws.{new_longer}
 use Rattle.nb_alloc.proofs.MakeLaws.{tries_named}
 use Rattle.nb_alloc.proofs.NewLaws.{image_is}
@@ -38,6 +38,8 @@ use Rattle.nb_alloc.proofs.TestLaws.{rests}
 use Rattle.nb_model.proofs.ReadLaws.{lt_no}
 use Rattle.nb_table.specs.declared.look.Place.{Place}
 use Rattle.nb_table.specs.Creates.{first_made, created_in, created_behind}
+use Rattle.nb_model.proofs.TableTurns.{table_length}
+use Rattle.nb_table.proofs.PlaceLaws.{unnumbered, unnumbered_tries}
 
 -- what the first page holds
 abbrev pub first : ℕ → List ℕ
@@ -102,8 +104,15 @@ module _ (image : Image) where
     pub behind_strokes : (created_behind image table).strokes ≡ made.0.strokes ++ grows.strokes
     behind_strokes = ap (λ (d : Draft). d.strokes) behind_joined
 
-    pub behind_named : unmade image (created_behind image table) ≡ unmade_behind image (second_data first second image).0 (last_of pages)
+    pub second_short : length table ≤ 240 → IsShort second
+    second_short name = λ p. data_short 0 slots (omega (arith, table_length table made.1 name))
+
+    behind_named : unmade image (created_behind image table) ≡ unmade_behind image (second_data first second image).0 (last_of pages)
     behind_named = grown_named image Catalogue pages slots made.0
+
+    -- what is tested of it, with the last page of the catalogue
+    pub behind_by : (last : ℕ) → last ≡ last_of pages → unmade image (created_behind image table) ≡ unmade_behind image (second_data first second image).0 last
+    behind_by last is = behind_named ∙ ap (unmade_behind image (second_data first second image).0) (sym is)
 
     -- where both pages can be made, the first one can, and the second after it
     pub both_made : unmade image (created_behind image table) ≡ None → (draft_cause made.0 ≡ None) × (draft_cause grows ≡ None)
@@ -134,8 +143,11 @@ module _ (t : Trail) (table : List ℕ) where
 
   -- at a place
   module _ (place : Place) (none : unmade_behind x new_first.0 place.page ≡ None) where
+    abbrev ys_with : Slot → List Stroke
+    ys_with bytes = (put_slot place.page place.slot bytes (drafted u.base.image)).strokes
+
     abbrev ys : (first : ℕ) → List Stroke
-    ys n = (put_slot place.page place.slot (table_slot table n) (drafted u.base.image)).strokes
+    ys n = ys_with (table_slot table n)
 
     clear : IsClearBehind x new_first.0 place.page
     clear = clear_behind x new_first.0 place.page none
@@ -158,9 +170,12 @@ module _ (t : Trail) (table : List ℕ) where
         tries_named {T = Unit {0}} (Err fault) old new a b t (unmade x new_first.0) (unmade x (created_in x table place)) (xs ++ (slot_put x table place).strokes) (created_in x table place).strokes (first_none ∙ sym in_none)
         (sym (in_strokes x table place)) (tries_front ℕ (Unit {0}) fault old new a b t (unmade x new_first.0) xs (slot_put x table place).strokes tries)
 
-    pub in_then : (n : ℕ) (result : Result (Unit {0}) Fault) (old mid new : World) (a b c : Held) → Tries (Ok n) old mid a b t (unmade x new_first.0) xs → n ≡ new_first.1 → Tries result mid new b c u (entry_cause u.base.image place.page) (ys n)
-        → Tries result old new a c t (unmade x (created_in x table place)) (created_in x table place).strokes
-    in_then n result old mid new a b c one same two =
+    -- The slot is written, whatever that answers.
+    pub in_then : (n : ℕ) (result : Result (Unit {0}) Fault) (old mid new : World) (a b c : Held) → Tries (Ok n) old mid a b t (unmade x new_first.0) xs → n ≡ new_first.1 → (bytes : Slot) → bytes ≡ table_slot table n
+        → (IsOpen mid b u → Tries result mid new b c u (entry_cause u.base.image place.page) (ys_with bytes)) → Tries result old new a c t (unmade x (created_in x table place)) (created_in x table place).strokes
+    in_then n result old mid new a b c one same bytes are call =
+        let two : Tries result mid new b c u (entry_cause u.base.image place.page) (ys n) =
+        subst (λ (bs : Slot). Tries result mid new b c u (entry_cause u.base.image place.page) (ys_with bs)) are (call (tries_opened n old mid a b t (unmade x new_first.0) xs one)) in
         let put_is : xs ++ ys n ≡ (created_in x table place).strokes =
         ap (λ (k : ℕ). xs ++ ys k) same ∙ ap (λ (z : Image). xs ++ (put_slot place.page place.slot (table_slot table new_first.1) (drafted z)).strokes) image_then ∙ sym (in_strokes x table place) in
         let makes : Makes result mid new b c u (ys n) = subst (λ (ss : List Stroke). Makes result mid new b c u ss) (unless_none (entry_cause u.base.image place.page) (ys n) entry_then) two.makes in
@@ -169,8 +184,11 @@ module _ (t : Trail) (table : List ℕ) where
 
   -- in a new page
   module _ (none : unmade x (created_behind x table) ≡ None) where
+    abbrev grows_with : Slot → Draft
+    grows_with bytes = (grown Catalogue (found_pages Catalogue x) bytes (drafted u.base.image)).0
+
     abbrev grows_by : (first : ℕ) → Draft
-    grows_by n = (grown Catalogue (found_pages Catalogue x) (table_slot table n) (drafted u.base.image)).0
+    grows_by n = grows_with (table_slot table n)
 
     both : (draft_cause new_first.0 ≡ None) × (draft_cause (grows x table) ≡ None)
     both = both_made x table none
@@ -192,13 +210,6 @@ module _ (t : Trail) (table : List ℕ) where
     grows_are n same =
         ap grows_by same ∙ ap (λ (z : Image). (grown Catalogue (found_pages Catalogue x) (table_slot table new_first.1) (drafted z)).0) image_then
 
-    behind_then : (n : ℕ) (result : Result (Unit {0}) Fault) (old mid new : World) (a b c : Held) → Tries (Ok n) old mid a b t (unmade x new_first.0) xs → n ≡ new_first.1 → IfErr result IsNoRefusal
-        → Makes result mid new b c u (grows_by n).strokes → Tries result old new a c t (unmade x (created_behind x table)) (created_behind x table).strokes
-    behind_then n result old mid new a b c one same never makes =
-        tries_named result old new a c t (unmade x new_first.0) (unmade x (created_behind x table)) (xs ++ (grows_by n).strokes) (created_behind x table).strokes (front_none ∙ sym none)
-        (ap (λ (d : Draft). xs ++ d.strokes) (grows_are n same) ∙ sym (behind_strokes x table))
-        (tries_then n result old mid new a b c t (unmade x new_first.0) xs (grows_by n).strokes one never makes)
-
     five : 5 ≤ length x
     five = elim (leb_tells (suc (length x)) 5) [
       | inl w ↦ absurd (some_none (sym (ap (λ (t : Bool). when t (NotDatabase (length x))) w.0) ∙ long))
@@ -214,16 +225,15 @@ module _ (t : Trail) (table : List ℕ) where
     free : (n : ℕ) → n ≡ new_first.1 → unmade u.base.image (grows_by n) ≡ None
     free n same = clear_made u.base.image (grows_by n) long_then (ap draft_cause (grows_are n same) ∙ both.1)
 
-    pub behind_failed : (n : ℕ) (fault : Fault) (old mid new : World) (a b c : Held) → Tries (Ok n) old mid a b t (unmade x new_first.0) xs → n ≡ new_first.1
-        → Tries {T = ℕ} (Err fault) mid new b c u (unmade u.base.image (grows_by n)) (grows_by n).strokes → Tries {T = Unit {0}} (Err fault) old new a c t (unmade x (created_behind x table)) (created_behind x table).strokes
-    behind_failed n fault old mid new a b c one same tries =
-        behind_then n (Err fault) old mid new a b c one same (sure_of {T = ℕ} (Err fault) (unmade u.base.image (grows_by n)) (free n same) tries.test)
-        (makes_as ℕ (Unit {0}) fault mid new b c u (grows_by n).strokes
-        (subst (λ (ss : List Stroke). Makes {T = ℕ} (Err fault) mid new b c u ss) (unless_none (unmade u.base.image (grows_by n)) (grows_by n).strokes (free n same)) tries.makes))
-
-    pub behind_done : (n m : ℕ) (old mid new : World) (a b c : Held) → Tries (Ok n) old mid a b t (unmade x new_first.0) xs → n ≡ new_first.1
-        → Tries (Ok m) mid new b c u (unmade u.base.image (grows_by n)) (grows_by n).strokes → Tries {T = Unit {0}} (Ok tt) old new a c t (unmade x (created_behind x table)) (created_behind x table).strokes
-    behind_done n m old mid new a b c one same tries =
-        behind_then n (Ok tt) old mid new a b c one same tt
-        (makes_valued m tt mid new b c u (grows_by n).strokes
-        (subst (λ (ss : List Stroke). Makes (Ok m) mid new b c u ss) (unless_none (unmade u.base.image (grows_by n)) (grows_by n).strokes (free n same)) tries.makes))
+    -- The second page is made, whatever that answers.
+    pub behind_then : (n : ℕ) (result : Result ℕ Fault) (old mid new : World) (a b c : Held) → Tries (Ok n) old mid a b t (unmade x new_first.0) xs → n ≡ new_first.1 → (bytes : Slot) → bytes ≡ table_slot table n
+        → (IsOpen mid b u → Tries result mid new b c u (unmade u.base.image (grows_with bytes)) (grows_with bytes).strokes) → Tries (unnumbered result) old new a c t (unmade x (created_behind x table)) (created_behind x table).strokes
+    behind_then n result old mid new a b c one same bytes are call =
+        let tries : Tries result mid new b c u (unmade u.base.image (grows_by n)) (grows_by n).strokes =
+        subst (λ (bs : Slot). Tries result mid new b c u (unmade u.base.image (grows_with bs)) (grows_with bs).strokes) are (call (tries_opened n old mid a b t (unmade x new_first.0) xs one)) in
+        let two = unnumbered_tries result mid new b c u (unmade u.base.image (grows_by n)) (grows_by n).strokes tries in
+        let makes : Makes (unnumbered result) mid new b c u (grows_by n).strokes =
+        subst (λ (ss : List Stroke). Makes (unnumbered result) mid new b c u ss) (unless_none (unmade u.base.image (grows_by n)) (grows_by n).strokes (free n same)) two.makes in
+        tries_named (unnumbered result) old new a c t (unmade x new_first.0) (unmade x (created_behind x table)) (xs ++ (grows_by n).strokes) (created_behind x table).strokes (front_none ∙ sym none)
+        (ap (λ (d : Draft). xs ++ d.strokes) (grows_are n same) ∙ sym (behind_strokes x table))
+        (tries_then n (unnumbered result) old mid new a b c t (unmade x new_first.0) xs (grows_by n).strokes one (sure_of (unnumbered result) (unmade u.base.image (grows_by n)) (free n same) two.test) makes)

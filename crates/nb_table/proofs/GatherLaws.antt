@@ -1,9 +1,9 @@
 -- What a walk has come by, and one slot more.
-use Rattle.std.proofs.Common.{◌≡◌, ◌≢◌, ℕ, ◌+◌, List, [], ◌∷◌, ◌++◌, length, refl, ap, ◌∙◌, arith}
+use Rattle.std.proofs.Common.{◌≡◌, ◌≢◌, ℕ, ◌+◌, List, [], ◌∷◌, ◌++◌, length, refl, ap, ◌∙◌, arith, ◌*◌, ◌<◌}
 use Rattle.std.specs.Prelude.{Bool, true, false, ◌&&◌, nat_eq, min, Option, Some, None, slice_index, is_some}
 use Rattle.std.proofs.lemmas.Bool.{eqb-true}
 use Rattle.nb_model.specs.Chains.{Slot, Spot, is_used, first_such, free_spot, spots_of}
-use Rattle.nb_model.specs.Image.{Image}
+use Rattle.nb_model.specs.Image.{Image, Page}
 use Rattle.nb_model.specs.Rows.{used}
 use Rattle.nb_model.proofs.ReadLaws.{eq_no, eq_yes}
 use Rattle.nb_walk.proofs.FirstLaws.{stays, misses, hits}
@@ -13,6 +13,8 @@ use Rattle.nb_table.specs.declared.look.Place.{Place}
 use Rattle.nb_table.specs.declared.look.Found.{Found}
 use Rattle.nb_table.specs.declared.look.Walked.{Walked}
 use Rattle.nb_table.specs.Walks.{has, is_sought, place_of, found_of, place_at, found_at, gathered}
+use Rattle.nb_walk.proofs.SpotLaws.{Comes, comes_next}
+use Rattle.nb_fields.specs.Bytes.{part}
 
 sought_is : (sought : Sought) (slot : Slot) → is_sought sought slot ≡ (is_used slot && has sought slot)
 sought_is (Table name) slot = refl
@@ -114,6 +116,14 @@ module _ (sought : Sought) (ss : List Spot) (s : Spot) (old : Walked) (is : old 
 
     pub used_more_of : (n : ℕ) → UsedMore n → is_some old.found ≡ true → walked_of old.found old.room n ≡ gathered sought more
     used_more_of n count some = three _ _ _ _ _ _ (stays found_at wanted ss s old.found its_found refl (λ x. refl) some) room_same count
+
+-- one slot more of a page
+pub gathered_next : (sought : Sought) (old new : Walked) (ss : List Spot) (page : Page) (number count slot : ℕ) → slot < count → (bytes : Slot) → bytes ≡ part (32 + 256 * slot) 256 page
+    → ((front : List Spot) → old ≡ gathered sought front → new ≡ gathered sought (front ++ record { page = number; slot = slot; bytes = bytes } ∷ []))
+    → Comes (λ xs. old ≡ gathered sought xs) ss page number count slot → Comes (λ xs. new ≡ gathered sought xs) ss page number count (slot + 1)
+gathered_next sought old new ss page number count slot low bytes are one comes =
+    comes_next (λ xs. old ≡ gathered sought xs) (λ xs. new ≡ gathered sought xs) ss page number count slot low comes
+    (λ front was. one front was ∙ ap (λ (b : Slot). gathered sought (front ++ record { page = number; slot = slot; bytes = b } ∷ [])) are)
 
 -- a walk has come by the slots of these pages
 abbrev pub Gathers : Sought → Image → Walked → List ℕ → Type 0

@@ -1,6 +1,6 @@
 -- A statement on a table, test by test: before the table is looked for, that it is there, after that, and that its chain is of the form.
 use Rattle.std.proofs.Common.{◌≡◌, ℕ, List, [], ◌∷◌, refl, sym, ap, subst, ◌∙◌}
-use Rattle.std.specs.Prelude.{Option, Some, None, is_none, Result, Err, IsErr, IsErrAnd}
+use Rattle.std.specs.Prelude.{Option, Some, None, is_none, Result}
 use Rattle.nb_host.specs.World.{World}
 use Rattle.nb_host.specs.declared.faults.Fault.{Fault}
 use Rattle.nb_host.specs.declared.refusals.Refusal.{Refusal}
@@ -20,7 +20,7 @@ use Rattle.nb_state.specs.Open.{Held, IsOpen, but_pages}
 use Rattle.nb_state.specs.Does.{Does}
 use Rattle.nb_state.proofs.MakesLaws.{makes_after}
 use Rattle.nb_alloc.proofs.CauseLaws.{unless_refused, unless_allowed, first_none, first_next, first_here, one_cause}
-use Rattle.nb_alloc.proofs.DoesLaws.{seeing, tries_passed}
+use Rattle.nb_alloc.proofs.DoesLaws.{seeing}
 use Rattle.nb_table.specs.Rows.{chain_cause, rows_cause}
 
 -- The chain of the rows that a slot of the catalogue leads to.
@@ -30,6 +30,10 @@ chain_at spot = RowsFrom (first_in spot.bytes)
 -- why a table isn't found
 abbrev pub find_cause : Image → (table : List ℕ) → Cause
 find_cause image table = first_cause (broken_at (pages_of Catalogue image) ∷ when (is_none (table_spot table image)) NoTable ∷ [])
+
+-- a cause isn't none
+pub none_some : (r : Refusal) → None ≡ Some r → ⊥
+none_some r e = cc
 
 some_same : (x y : Spot) → Some x ≡ Some y → x ≡ y
 some_same x y e = cc
@@ -146,22 +150,13 @@ module _ (s : Seen) (before : Cause) (table : List ℕ) (behind : Cause) (go : S
   pub table_goes_from : rows_cause image before table behind ≡ None → (spot : Spot) → table_spot table image ≡ Some spot → (first : ℕ) → first ≡ first_in spot.bytes → in_table s before table behind go ≡ go spot (RowsFrom first)
   table_goes_from none spot at first e = table_goes none spot at ∙ ap (λ (n : ℕ). go spot (RowsFrom n)) (sym e)
 
--- calls that change nothing before one that does a turn
-pub does_after : {T : Type 0} (reply : T → Reply) (result : Result T Fault) (old mid new : World) (a b c : Held) (t : Trail) (turn : Outcome) → but_pages b ≡ but_pages a → Quiet old mid → IsOpen old a t → Does reply result mid new b c t turn
-    → Does reply result old new a c t turn
-does_after {T} reply result old mid new a b c t turn same quiet is does = record {
-  answer = does.answer;
-  makes = makes_after result old mid new a b c t turn.strokes same quiet is does.makes;
-  idle = λ told. quiet_joined old mid new quiet (does.idle told);
-}
-
--- What was found of a table holds also where its database is seen by a turn. So a turn that goes on with it is done by a call that does the rest.
-pub table_does : {T : Type 0} (reply : T → Reply) (result : Result T Fault) (old new : World) (a b : Held) (t : Trail) (s : Seen) (turn : Seen → Outcome) → t.base ≡ s.base → (rest : Outcome) → turn (seeing s t.base) ≡ rest
-    → Does reply result old new a b t rest → Does reply result old new a b t (turn s)
-table_does reply result old new a b t s turn same rest e does =
-    subst (λ (x : Base). Does reply result old new a b t (turn (seeing s x))) same (subst (λ (o : Outcome). Does reply result old new a b t o) (sym e) does)
-
--- the same where `?` passes a fault on
-pub does_passed : {T : Type 0} (reply : T → Reply) (result : Result T Fault) (fault : Fault) (old new : World) (a b : Held) (t : Trail) (turn : Outcome) → IsErr result × IsErrAnd result (λ f. f ≡ fault) → Does reply (Err fault) old new a b t turn
-    → Does reply result old new a b t turn
-does_passed reply result fault old new a b t turn passed does = tries_passed result fault (λ r. Does reply r old new a b t turn) passed does
+-- What was found of a table holds also where its database is seen by a turn. So a turn that goes on with it is done by calls that change nothing
+-- and one that does the rest.
+pub table_does : {T : Type 0} (reply : T → Reply) (result : Result T Fault) (old mid new : World) (a b c : Held) (t : Trail) (s : Seen) (turn : Seen → Outcome) → t.base ≡ s.base → but_pages b ≡ but_pages a → Quiet old mid → IsOpen old a t
+    → (rest : Outcome) → turn (seeing s t.base) ≡ rest → Does reply result mid new b c t rest → Does reply result old new a c t (turn s)
+table_does {T} reply result old mid new a b c t s turn same still quiet is rest e does =
+    subst (λ (x : Base). Does reply result old new a c t (turn (seeing s x))) same (subst (λ (o : Outcome). Does reply result old new a c t o) (sym e) (record {
+      answer = does.answer;
+      makes = makes_after result old mid new a b c t rest.strokes still quiet is does.makes;
+      idle = λ told. quiet_joined old mid new quiet (does.idle told);
+    }))

@@ -1,6 +1,6 @@
 -- A slot of a chain is written, or its chain grows: what that does of a turn.
 use Rattle.std.proofs.Common.{◌≡◌, ℕ, ◌+◌, ◌*◌, List, [], ◌∷◌, ◌++◌, refl, sym, ap, ◌∙◌}
-use Rattle.std.specs.Prelude.{Bool, true, false, Option, Some, None, Result, is_some}
+use Rattle.std.specs.Prelude.{Bool, true, false, Option, Some, None, Result, is_some, Err, Ok}
 use Rattle.nb_fields.specs.Bytes.{with_part}
 use Rattle.nb_fields.specs.Kinds.{data_kind}
 use Rattle.nb_host.specs.World.{World}
@@ -9,8 +9,8 @@ use Rattle.nb_host.specs.declared.refusals.Refusal.TheVariants.{NotDatabase}
 use Rattle.nb_model.specs.Image.{Image, page_at}
 use Rattle.nb_model.specs.Trail.{Trail}
 use Rattle.nb_model.specs.Forms.{Draft, drafted, is_kind, other_kind, wants}
-use Rattle.nb_model.specs.Causes.{first_cause, not_kind, not_of_form, no_room, broken_at, too_short, short_for}
-use Rattle.nb_model.specs.Chains.{Chain, Slot, Spot, pages_of, found_pages, spots, free_spot, put_slot, grown, place_slot}
+use Rattle.nb_model.specs.Causes.{first_cause, not_kind, not_of_form, no_room, broken_at, too_short, short_for, Cause}
+use Rattle.nb_model.specs.Chains.{Chain, Slot, Spot, pages_of, found_pages, spots, free_spot, put_slot, grown, place_slot, last_of}
 use Rattle.nb_model.proofs.SearchLaws.{draft_cause}
 use Rattle.nb_state.specs.Open.{Held}
 use Rattle.nb_engine.specs.Data.{data_cause, put_data, unmade}
@@ -25,7 +25,9 @@ use Rattle.nb_table.specs.declared.look.Place.{Place}
 use Rattle.nb_table.specs.declared.look.Found.{Found}
 use Rattle.nb_table.specs.Rows.{place_cause}
 use Rattle.nb_table.specs.Walks.{place_of, found_of, place_at, found_at}
-use Rattle.nb_walk.proofs.SpotPages.{free_kind}
+use Rattle.nb_walk.proofs.SpotPages.{free_kind, last_kind}
+use Rattle.nb_model.specs.Strokes.{Stroke}
+use Rattle.nb_alloc.proofs.DoesLaws.{tries_other, tries_valued}
 
 -- nothing is noted of it
 pub wants_met : (image : Image) (kind p : ℕ) (d : Draft) → not_kind image kind p ≡ None → wants image kind p d ≡ d
@@ -39,6 +41,21 @@ pub slot_tries : {T : Type 0} (result : Result T Fault) (old new : World) (a b :
 unfolding put_slot
 slot_tries result old new a b t p slot bytes kind tries =
     tries_named result old new a b t (data_cause t.base.image p) (entry_cause t.base.image p) _ _ (sym (by_entry t.base.image p kind)) refl tries
+
+-- the last page of a chain that is of the form is a data page
+pub last_is_data : (chain : Chain) (image : Image) → broken_at (pages_of chain image) ≡ None → (last : ℕ) → last ≡ last_of (found_pages chain image) → is_kind image data_kind last ≡ true
+last_is_data chain image formed last is =
+    let end : ℕ = last_of (found_pages chain image) in
+    ap (is_kind image data_kind) is ∙ none_of (is_kind image data_kind end) (NotDatabase end) (last_kind chain image formed)
+
+-- what a call answers that makes a page, without the page's number
+abbrev pub unnumbered : Result ℕ Fault → Result (Unit {0}) Fault
+unnumbered (Ok number) = Ok tt
+unnumbered (Err fault) = Err fault
+
+pub unnumbered_tries : (result : Result ℕ Fault) (old new : World) (a b : Held) (t : Trail) (cause : Cause) (xs : List Stroke) → Tries result old new a b t cause xs → Tries (unnumbered result) old new a b t cause xs
+unnumbered_tries (Ok number) old new a b t cause xs tries = tries_valued number tt old new a b t cause xs tries
+unnumbered_tries (Err fault) old new a b t cause xs tries = tries_other ℕ (Unit {0}) fault old new a b t cause xs tries
 
 -- A slot is written at its place in a chain.
 module _ (chain : Chain) (image : Image) (bytes : Slot) where
@@ -135,5 +152,6 @@ module _ (z : Image) (chain : Chain) (formed : broken_at (pages_of chain z) ≡ 
         ap (λ (d : Draft). first_cause (too_short z ∷ not_of_form d ∷ no_room d ∷ [])) behind_is
         ∙ ap (λ (o : Option Spot). first_cause (short_for o z ∷ not_of_form into ∷ no_room into ∷ [])) (sym no_spot)
 
-    pub behind_tries : {T : Type 0} (result : Result T Fault) (old new : World) (a e : Held) (t : Trail) → Tries result old new a e t (unmade z grows) grows.strokes → Tries result old new a e t (place_cause chain z bytes) into.strokes
-    behind_tries result old new a e t tries = tries_named result old new a e t (unmade z grows) (place_cause chain z bytes) _ _ behind_by (ap (λ (d : Draft). d.strokes) behind_is) tries
+    pub behind_tries : (result : Result ℕ Fault) (old new : World) (a e : Held) (t : Trail) → Tries result old new a e t (unmade z grows) grows.strokes → Tries (unnumbered result) old new a e t (place_cause chain z bytes) into.strokes
+    behind_tries result old new a e t tries =
+        tries_named (unnumbered result) old new a e t (unmade z grows) (place_cause chain z bytes) _ _ behind_by (ap (λ (d : Draft). d.strokes) behind_is) (unnumbered_tries result old new a e t (unmade z grows) grows.strokes tries)

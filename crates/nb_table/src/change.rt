@@ -11,7 +11,6 @@ ghost use Rattle.nb_state.specs.Open.{IsOpen};
 ghost use Rattle.nb_state.specs.Does.{Does, Goes};
 ghost use Rattle.nb_table.specs.Walks.{found_at, IsPlaced};
 
-use crate::LARGEST_PAGE;
 use crate::look::{Found, SLOT};
 use crate::put::{add_slot, put_slot};
 use crate::rows::find_rows;
@@ -41,8 +40,7 @@ fn put_found<H: Host>(
     let Some(row) = found else {
         return Err(Fault::Refused(Refusal::NoKey { key }));
     };
-    put_slot(host, engine, row.place, bytes)?;
-    Ok(())
+    put_slot(host, engine, row.place, bytes)
 }
 
 /// Puts a row with that key and a text of at most 200 bytes into the table. It goes into the first free slot in the order of the chain;
@@ -63,9 +61,7 @@ pub fn insert<H: Host>(
     ensures goes { Goes engine.old engine.new }
     ensures cause { CountsDevice result (H.faults host.old) (H.faults host.new) }
 {
-    let mut buffer = [0; LARGEST_PAGE];
-    let page = &mut buffer[..engine.page_size() as usize];
-    let rows = find_rows(host, engine, table, key, text, page)?;
+    let rows = find_rows(host, engine, table, key, text)?;
     if rows.walked.found.is_some() {
         return Err(Fault::Refused(Refusal::KeyExists { key }));
     }
@@ -77,8 +73,7 @@ pub fn insert<H: Host>(
         rows.walked.room,
         rows.last,
         &bytes,
-    )?;
-    Ok(())
+    )
 }
 
 /// Gives the row with that key a text of at most 200 bytes.
@@ -97,12 +92,9 @@ pub fn update<H: Host>(
     ensures goes { Goes engine.old engine.new }
     ensures cause { CountsDevice result (H.faults host.old) (H.faults host.new) }
 {
-    let mut buffer = [0; LARGEST_PAGE];
-    let page = &mut buffer[..engine.page_size() as usize];
-    let rows = find_rows(host, engine, table, key, text, page)?;
+    let rows = find_rows(host, engine, table, key, text)?;
     let bytes = row_bytes(key, text);
-    put_found(host, engine, &rows.walked.found, key, &bytes)?;
-    Ok(())
+    put_found(host, engine, &rows.walked.found, key, &bytes)
 }
 
 /// Takes the row with that key out of the table: its slot is free again. The chain keeps its pages.
@@ -120,9 +112,6 @@ pub fn delete<H: Host>(
     ensures goes { Goes engine.old engine.new }
     ensures cause { CountsDevice result (H.faults host.old) (H.faults host.new) }
 {
-    let mut buffer = [0; LARGEST_PAGE];
-    let page = &mut buffer[..engine.page_size() as usize];
-    let rows = find_rows(host, engine, table, key, &[], page)?;
-    put_found(host, engine, &rows.walked.found, key, &FREE)?;
-    Ok(())
+    let rows = find_rows(host, engine, table, key, &[])?;
+    put_found(host, engine, &rows.walked.found, key, &FREE)
 }

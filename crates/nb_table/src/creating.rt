@@ -79,8 +79,7 @@ fn create_in<H: Host>(
     // Nothing is made where the slot isn't to be written after it.
     engine.room_for(host, 1, place.page)?;
     let first = engine.data_new(host, None, &[])?;
-    put_slot(host, engine, place, &table_bytes(table, first))?;
-    Ok(())
+    put_slot(host, engine, place, &table_bytes(table, first))
 }
 
 /// Makes the first page of a table, and then one after the last of the catalogue, in which its slot stands. All is tested before the first
@@ -127,13 +126,7 @@ pub fn create<H: Host>(host: &mut H, engine: &mut Engine, table: &TableName) -> 
     let page = &mut buffer[..engine.page_size() as usize];
     let (free, last) = check_table(host, engine, table, page)?;
     match free {
-        Some(place) => {
-            create_in(host, engine, table, place)?;
-            Ok(())
-        }
-        None => {
-            create_behind(host, engine, table, last)?;
-            Ok(())
-        }
+        Some(place) => create_in(host, engine, table, place),
+        None => create_behind(host, engine, table, last),
     }
 }

@@ -214,8 +214,7 @@ fn drop_rows<H: Host>(
 {
     check_drop(host, engine, rows, page)?;
     put_slot(host, engine, rows.table.place, &FREE)?;
-    give_all_back(host, engine, rows.first, page)?;
-    Ok(())
+    give_all_back(host, engine, rows.first, page)
 }
 
 /// Takes a table out of the catalogue, which is the moment at which it is gone, and then gives its pages back, in the order of the chain.
@@ -232,10 +231,9 @@ pub fn drop_table<H: Host>(
     ensures goes { Goes engine.old engine.new }
     ensures cause { CountsDevice result (H.faults host.old) (H.faults host.new) }
 {
+    // Each page of its chain is tested, whatever key is looked for.
+    let rows = find_rows(host, engine, table, 0, &[])?;
     let mut buffer = [0; LARGEST_PAGE];
     let page = &mut buffer[..engine.page_size() as usize];
-    // Each page of its chain is tested, whatever key is looked for.
-    let rows = find_rows(host, engine, table, 0, &[], page)?;
-    drop_rows(host, engine, &rows, page)?;
-    Ok(())
+    drop_rows(host, engine, &rows, page)
 }

@@ -60,10 +60,7 @@ pub(crate) fn add_slot<H: Host>(
     ensures cause { CountsDevice result (H.faults host.old) (H.faults host.new) }
 {
     match room {
-        Some(place) => {
-            put_slot(host, engine, place, bytes)?;
-            Ok(())
-        }
+        Some(place) => put_slot(host, engine, place, bytes),
         None => {
             engine.data_grow(host, last, owner, bytes)?;
             Ok(())

@@ -13,6 +13,7 @@ ghost use Rattle.nb_table.specs.declared.look.Sought.TheVariants.{Row};
 ghost use Rattle.nb_table.specs.Rows.{rows_cause};
 ghost use Rattle.nb_table.specs.Walks.{spot_of, gathered, IsPlaced};
 
+use crate::LARGEST_PAGE;
 use crate::look::{Found, Sought, Walked};
 use crate::table::find_table;
 use crate::walk::walk;
@@ -69,9 +70,7 @@ pub(crate) fn find_rows<H: Host>(
     table: &TableName,
     key: u64,
     text: &[u8],
-    page: &mut [u8],
 ) -> Result<Rows, Fault>
-    requires size { length page.old ≡ engine.old.files.page_size }
     ensures test { (t : Trail) → IsTrue H.tells → IsOpen (H.world host.old) engine.old t → Tested result (rows_cause t.base.image (read_only t.base.image) table.now (too_long text.now)) }
     ensures table { (t : Trail) → IsTrue H.tells → IsOpen (H.world host.old) engine.old t → IfOk result (λ rows. table_spot table.now t.base.image ≡ Some (spot_of rows.table)) }
     ensures first { IfOk result (λ rows. rows.first ≡ first_in rows.table.bytes) }
@@ -89,6 +88,8 @@ pub(crate) fn find_rows<H: Host>(
     ensures cause { CountsDevice result (H.faults host.old) (H.faults host.new) }
 {
     check_access(engine.store().is_read_only())?;
+    let mut buffer = [0; LARGEST_PAGE];
+    let page = &mut buffer[..engine.page_size() as usize];
     let found = find_table(host, engine, table, page)?;
     check_text(text)?;
     let first = first_page(&found.bytes);

@@ -31,7 +31,7 @@ use Rattle.nb_session.specs.Ready.{IsReady}
 use Rattle.nb_session.specs.Says.{SaysLine}
 use Rattle.nb_top.specs.declared.status.Status.{Status}
 use Rattle.nb_top.specs.declared.status.Status.TheVariants.{Refused as RefusedStatus}
-use Rattle.nb_top.specs.Numbers.{number_of}
+use Rattle.nb_top.specs.Numbers.{EndsAs, number_of}
 use Rattle.nb_top.specs.ByTurns.{ScriptByTurns, TurnsFrom}
 use Rattle.nb_top.specs.Performed.{RunsTo, HasSmallScn, PlaysOpened, first_event, opened_reply, pages_first, refused_at, told_first, told_later}
 use Rattle.nb_top.specs.declared.telling.Telling.{Telling}
@@ -139,6 +139,14 @@ module _ (old : World) (account : Account) (given : Given) (plan : Plan) (tellin
     unfolding script_now
     script_ends new timely reads after refused status number none plays =
         begun_runs old account given plan telling askable is.first mid new is.alone is.read is.silent is.gave is.opens is.stops held after is.named is.small timely reads refused status number none (says_it new after plays)
+
+    -- they were taken, to the end or to what stopped them
+    pub script_ran : (new : World) → IsTimely new → ((m : List ℕ) → Leaves new m (new.files m)) → (after : Held) (played : Result Bool RunError) (status : Result Status RunError) → EndsAs played status → IfOk played (λ refused. NoPageWaits after)
+        → PlaysOpened played mid new held after (start old account given plan telling askable is.first) said_first telling held.files.count script_now plan → RunsTo status old new (Ok (ToRun plan telling)) account given
+    script_ran new timely reads after (Ok refused) (Ok status) ends none plays = script_ends new timely reads after refused status ends none plays
+    script_ran new timely reads after (Ok refused) (Err error) ends none plays = absurd ends
+    script_ran new timely reads after (Err error) (Ok status) ends none plays = absurd ends
+    script_ran new timely reads after (Err error) (Err same) ends none plays = script_ends_early new timely reads after same plays
 
 -- Turn by turn.
 module _ {H : Type 0} (world : H → World) (old mid : H) (account : Account) (given : Given) (plan : Plan) (telling : Telling) (askable : IsAskable plan) (beside : OpensBeside (world old) (world mid) account given plan) (held : Held)

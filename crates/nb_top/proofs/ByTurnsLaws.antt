@@ -32,6 +32,7 @@ use Rattle.nb_top.specs.declared.status.Status.{Status}
 use Rattle.nb_top.specs.declared.telling.Telling.{Telling}
 use Rattle.nb_top.specs.declared.telling.Telling.TheVariants.{Sparingly}
 use Rattle.nb_top.specs.ByTurns.{EndsEarly, ReadByTurns, RunByTurns, ScriptByTurns, TakesTold, TurnsFrom, WrittenByTurns}
+use Rattle.nb_top.specs.Numbers.{EndsAs}
 use Rattle.nb_top.specs.Performed.{pages_first, told_later}
 use Rattle.nb_top.specs.Requests.{Request, ToRun, ToGenerate}
 
@@ -46,6 +47,12 @@ early_err (Err e) is = tt
 -- a value is no early end
 pub never_err : {T : Type 0} (value : T) (P : Type 0) → IsErr {T = T} {E = RunError} (Ok value) → P
 never_err value P is = absurd (cc is)
+
+-- a run ends early where its turns did
+pub ended_early : (played : Result Bool RunError) (status : Result Status RunError) → EndsAs played status → IsErr played → EndsEarly status
+ended_early (Ok refused) status ends is = never_err refused (EndsEarly status) is
+ended_early (Err error) (Ok status) ends is = absurd ends
+ended_early (Err error) (Err same) ends is = tt
 
 -- Turns that are told as others, event by event, are told so.
 module _ {H : Type 0} (world : H → World) (f g : List Event → List Event) (same : (events : List Event) → f events ≡ g events) where

@@ -26,7 +26,8 @@ use Rattle.nb_fold.specs.Verdict.{chained, fold_turn, made_turn}
 use Rattle.nb_top.specs.OneTurn.{OneTurn, HoldsSpan, TakesFiles, folding, leaves_all}
 use Rattle.nb_top.specs.Standing.{HoldsKept, StandsFor}
 use Rattle.nb_top.proofs.FoldRecords.{IsOfLine, folded_span, is_span, of_line, span_ask}
-use Rattle.nb_top.proofs.FoldTurns.{FoldTurn, refuses, folds, made_account, turn_is}
+use Rattle.nb_top.proofs.FoldTurns.{FoldTurn, made_account, turn_is}
+use Rattle.nb_top.proofs.TargetTurns.{refuses, makes}
 use Rattle.nb_top.proofs.TurnsStand.{IsSoundJob, IsWellDone, sound_named}
 
 same_files : (answer : Result (List Contents) Refusal) (a b : List Contents) → answer ≡ Ok a → answer ≡ Ok b → a ≡ b
@@ -125,7 +126,7 @@ module _ (old : World) (account : Account) (out : List ℕ) (names : List (List 
     where
       by : FoldTurn old.files account out names → leaves_all (fold_turn old.files account out names) ≡ false → IsWellDone old account sound_job out
       by (refuses refusal why same) is = absurd (true≢false (sym (ap leaves_all same) ∙ is))
-      by (folds cs free accepted same) is = well_done cs free accepted same
+      by (makes cs free accepted same) is = well_done cs free accepted same
 
 pub fold_sound : (old : World) (account : Account) (out : List ℕ) (names : List (List ℕ)) → StandsFor old account → is_delta out ≡ false → AllByRecursion (λ (name : List ℕ). is_delta name ≡ false) names → 2 ≤ length names
     → (leaves_all (fold_turn old.files account out names) ≡ false → (cs : List Contents) → chained old.files names ≡ Ok cs → TakesFiles account.kept cs) → IsSoundJob old account (folding old.files out names)

@@ -1,5 +1,5 @@
 -- The one turn of a fold: what it must be, and what stands after it.
-use Rattle.std.proofs.Common.{◌≡◌, ◌≢◌, ◌⊎◌, inl, inr, ℕ, List, true, false, refl, sym, ap, ◌∙◌}
+use Rattle.std.proofs.Common.{◌≡◌, ◌≢◌, inl, inr, ℕ, List, true, false, refl, sym, ap, ◌∙◌}
 use Rattle.std.specs.Prelude.{Bool, None, Result, Ok, Err}
 use Rattle.nb_host.specs.Files.{Files}
 use Rattle.nb_host.specs.declared.refusals.Refusal.{Refusal}
@@ -13,17 +13,15 @@ use Rattle.nb_model.specs.Run.{with_made}
 use Rattle.nb_fold.specs.Folding.{bytes_for, folded}
 use Rattle.nb_fold.specs.Verdict.{chained, fold_turn, fold_verdict, made_turn}
 use Rattle.nb_top.proofs.ChainRefusals.{refused_files}
+use Rattle.nb_top.proofs.TargetTurns.{IsRefused, TargetTurn, target_refused, target_turn, never_usage}
 
 -- why a fold is refused: the name of its file isn't free, or the files don't go on from one another
 abbrev pub WhyRefused : Files → Account → (out : List ℕ) (names : List (List ℕ)) → Refusal → Type 0
-WhyRefused files account out names refusal =
-    ((is_free_entry (account.entry out) ≡ false) × (refusal ≡ FileExists out))
-    ⊎ ((is_free_entry (account.entry out) ≡ true) × (chained files names ≡ Err refusal))
+WhyRefused files account out names refusal = IsRefused account out (chained files names) refusal
 
 -- The turn is refused, or it makes the file that the files are folded into.
-pub data FoldTurn (files : Files) (account : Account) (out : List ℕ) (names : List (List ℕ)) : Type 0 where
-  refuses : (refusal : Refusal) → WhyRefused files account out names refusal → fold_turn files account out names ≡ only_refusal refusal → FoldTurn files account out names
-  folds : (cs : List Contents) → is_free_entry (account.entry out) ≡ true → chained files names ≡ Ok cs → fold_turn files account out names ≡ made_turn out (folded cs) → FoldTurn files account out names
+abbrev pub FoldTurn : Files → Account → (out : List ℕ) (names : List (List ℕ)) → Type 0
+FoldTurn files account out names = TargetTurn (List Contents) account out (chained files names) (fold_turn files account out names) (λ cs. made_turn out (folded cs))
 
 module _ (files : Files) (account : Account) (out : List ℕ) (names : List (List ℕ)) where
   taken_turn : is_free_entry (account.entry out) ≡ false → fold_turn files account out names ≡ only_refusal (FileExists out)
@@ -36,8 +34,7 @@ module _ (files : Files) (account : Account) (out : List ℕ) (names : List (Lis
 
   -- it is refused
   pub refused_turn : (refusal : Refusal) → WhyRefused files account out names refusal → fold_turn files account out names ≡ only_refusal refusal
-  refused_turn refusal (inl taken) = taken_turn taken.0 ∙ ap only_refusal (sym taken.1)
-  refused_turn refusal (inr broken) = broken_turn refusal broken.0 broken.1
+  refused_turn = target_refused account out (chained files names) (fold_turn files account out names) (λ cs. made_turn out (folded cs)) taken_turn broken_turn
 
   -- it makes the file
   pub done_turn : (cs : List Contents) → is_free_entry (account.entry out) ≡ true → chained files names ≡ Ok cs → fold_turn files account out names ≡ made_turn out (folded cs)
@@ -46,15 +43,7 @@ module _ (files : Files) (account : Account) (out : List ℕ) (names : List (Lis
 
   -- There is nothing else that it may be.
   pub turn_is : FoldTurn files account out names
-  turn_is = by (is_free_entry (account.entry out)) refl
-    where
-      by : (free : Bool) → is_free_entry (account.entry out) ≡ free → FoldTurn files account out names
-      by false is = let why : WhyRefused files account out names (FileExists out) = inl (is, refl) in refuses (FileExists out) why (refused_turn (FileExists out) why)
-      by true is = of_files (chained files names) refl
-        where
-          of_files : (answer : Result (List Contents) Refusal) → chained files names ≡ answer → FoldTurn files account out names
-          of_files (Ok cs) accepted = folds cs is accepted (done_turn cs is accepted)
-          of_files (Err refusal) broken = let why : WhyRefused files account out names refusal = inr (is, broken) in refuses refusal why (refused_turn refusal why)
+  turn_is = target_turn account out (chained files names) (fold_turn files account out names) (λ cs. made_turn out (folded cs)) taken_turn broken_turn done_turn
 
   pub made_account : (c : Contents) → account_behind out (made_turn out c) account ≡ with_entry out (Plain (bytes_for c) None) account
   unfolding account_behind with_made
@@ -62,11 +51,7 @@ module _ (files : Files) (account : Account) (out : List ℕ) (names : List (Lis
 
   -- as words are that name no job it never is
   pub refused_fold : (refusal : Refusal) → WhyRefused files account out names refusal → refusal ≢ Usage
-  refused_fold refusal (inl taken) e = exists_usage (sym taken.1 ∙ e)
-    where
-      exists_usage : FileExists out ≡ Usage → ⊥
-      exists_usage h = cc
-  refused_fold refusal (inr broken) e = refused_files files names refusal broken.1 e
+  refused_fold refusal why = never_usage account out (chained files names) (λ r. refused_files files names r) refusal why
 
   -- The verdict of the files, where the account knows whether the name is free.
   module _ (knows : is_free_name files out ≡ is_free_entry (account.entry out)) where

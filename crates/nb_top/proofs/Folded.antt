@@ -26,7 +26,8 @@ use Rattle.nb_fold.proofs.SameLaws.{next_files}
 use Rattle.nb_level.proofs.ToldLaws.{level_told}
 use Rattle.nb_top.specs.OneTurn.{OneTurn, folding, leaves_all}
 use Rattle.nb_top.specs.Served.{ServedAs, Serves}
-use Rattle.nb_top.proofs.FoldTurns.{FoldTurn, WhyRefused, refuses, folds, accepted_is, done_turn, refused_fold, refused_turn, turn_is, verdict_refused, why_refused}
+use Rattle.nb_top.proofs.FoldTurns.{FoldTurn, WhyRefused, accepted_is, done_turn, refused_fold, refused_turn, turn_is, verdict_refused, why_refused}
+use Rattle.nb_top.proofs.TargetTurns.{refuses, makes}
 use Rattle.nb_top.proofs.Turns.{served_as}
 
 -- the reply for a file that was made, with its level as it is said
@@ -70,7 +71,7 @@ module _ (old mid : World) (account : Account) (out : List ℕ) (names : List (L
     where
       by : FoldTurn old.files account out names → Quiet old mid
       by (refuses refusal why same) = does.refused refusal (verdict_refused old.files account out names knows refusal why)
-      by (folds cs free accepted same) = absurd (true≢false (sym is ∙ ap leaves_all same))
+      by (makes cs free accepted same) = absurd (true≢false (sym is ∙ ap leaves_all same))
 
   -- the reply is that of the turn
   same_reply : (made : Folded) (c : Contents) (pages : ℕ) → (made.head.level ≤ 9 → level ≡ made.head.level) → head_of made.head ≡ c.head → c.head.level ≤ 9 → made.pages ≡ pages → Level c.head.level c.head.scn pages c.head.guid ≡ level_said level made

@@ -26,7 +26,7 @@ use Rattle.nb_top.specs.ByTurns.{AskedByTurns, EndsEarly}
 use Rattle.nb_top.specs.Goes.{Goes, IsDone, IsRun}
 use Rattle.nb_top.specs.Numbers.{number_of}
 use Rattle.nb_top.specs.OneTurn.{OneTurn, one_turn}
-use Rattle.nb_top.specs.Performed.{GoesTo, KnowsAsked}
+use Rattle.nb_top.specs.Performed.{GoesTo, KnowsAsked, MayBeGiven, Performs}
 use Rattle.nb_top.specs.Requests.{Request, Asked, Runs, Does}
 use Rattle.nb_top.specs.Served.{Serves, TurnsTo, reply_told, status_told}
 use Rattle.nb_top.proofs.ByTurnsLaws.{early_err, run_quietly, run_undone}
@@ -156,35 +156,23 @@ goes_turn_quietly world tells old mid new deed result quiet goes = record {
 -- What a run does that ends so.
 module _ {H : Type 0} (world : H → World) (tells : Bool) (old new : H) (asked : Asked) (can : CanBeMet asked) (before : IsTrue tells → (name : List ℕ) → Leaves (world old) name ((world old).files name)) (timely : IsTimely (world new))
     (reads : IsTrue tells → (name : List ℕ) → Leaves (world new) name ((world new).files name)) where
-  pub run_ended : (status : Status) → Goes world tells (Ok status) old new asked → IsRun world tells status old new asked
-  run_ended status goes = record {
+  run_as : (result : Result Status RunError) (status : Status) → ((account : Account) (given : Given) → MayBeGiven given → IsTrue tells → GoesTo result (world old) (world new) asked account given → Performs status (world old) (world new) asked account given)
+      → ((account : Account) (given : Given) → AskedByTurns world (EndsEarly result) old new asked account given → AskedByTurns world (EndsEarly (Ok status)) old new asked account given) → Goes world tells result old new asked → IsRun world tells status old new asked
+  run_as result status performs turns goes = record {
     does = λ told. (
       (goes.does told).0,
       λ account given knows may foretold.
           let done = (goes.does told).1 account given knows may foretold in
-          record { whole = performs_ended (world old) (world new) account given may (before told) timely (reads told) asked can status done.whole; turns = done.turns },
+          record { whole = performs account given may told done.whole; turns = turns account given done.turns },
     );
     grows = goes.grows;
   }
+
+  pub run_ended : (status : Status) → Goes world tells (Ok status) old new asked → IsRun world tells status old new asked
+  run_ended status = run_as (Ok status) status (λ account given may told. performs_ended (world old) (world new) account given may (before told) timely (reads told) asked can status) (λ account given turns. turns)
 
   pub run_device : (stop : RunError) → Goes world tells (Err stop) old new asked → IsRun world tells Device old new asked
-  run_device stop goes = record {
-    does = λ told. (
-      (goes.does told).0,
-      λ account given knows may foretold.
-          let done = (goes.does told).1 account given knows may foretold in
-          record { whole = performs_device (world old) (world new) account given may (before told) timely (reads told) asked can stop done.whole; turns = done.turns },
-    );
-    grows = goes.grows;
-  }
+  run_device stop = run_as (Err stop) Device (λ account given may told. performs_device (world old) (world new) account given may (before told) timely (reads told) asked can stop) (λ account given turns. turns)
 
   pub run_memory : (stop : RunError) → Goes world tells (Err stop) old new asked → IsRun world tells Memory old new asked
-  run_memory stop goes = record {
-    does = λ told. (
-      (goes.does told).0,
-      λ account given knows may foretold.
-          let done = (goes.does told).1 account given knows may foretold in
-          record { whole = performs_memory (world old) (world new) account given may (before told) timely (reads told) asked can stop done.whole; turns = done.turns },
-    );
-    grows = goes.grows;
-  }
+  run_memory stop = run_as (Err stop) Memory (λ account given may told. performs_memory (world old) (world new) account given may (before told) timely (reads told) asked can stop) (λ account given turns. turns)

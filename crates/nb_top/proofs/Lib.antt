@@ -40,6 +40,7 @@ pub mod CountedGuids
 pub mod JobLaws
 pub mod ToldLaws
 pub mod ChainRefusals
+pub mod TargetTurns
 pub mod RestoreTurns
 pub mod SureTargets
 pub mod FixTurns
@@ -53,6 +54,7 @@ pub mod Fixed
 pub mod MergeTurns
 pub mod Merged
 pub mod GoesLaws
+pub mod GeneratedGoes
 pub mod ShownLaws
 pub mod FoldTurns
 pub mod Folded

@@ -1,6 +1,6 @@
 -- A list of names is read, and its files are planned for.
-use Rattle.std.proofs.Common.{◌≡◌, ◌≢◌, ℕ, zero, suc, ◌+◌, List, [], ◌∷◌, ◌++◌, length, refl, sym, ap, subst, ◌∙◌}
-use Rattle.std.specs.Prelude.{Bool, true, false, Option, Some, None, Result, Ok, Err, IfOk, nat_lt, if◌then◌else◌}
+use Rattle.std.proofs.Common.{◌≡◌, ◌≢◌, ℕ, zero, suc, ◌+◌, List, [], ◌∷◌, ◌++◌, length, sym, ap, subst, ◌∙◌}
+use Rattle.std.specs.Prelude.{Bool, true, false, Some, None, Result, Ok, Err, IfOk, nat_lt, if◌then◌else◌}
 use Rattle.nb_host.specs.Files.{File}
 use Rattle.nb_host.specs.World.{World}
 use Rattle.nb_host.specs.declared.refusals.Refusal.{Refusal}
@@ -9,10 +9,7 @@ use Rattle.nb_host.specs.declared.faults.RunError.{RunError}
 use Rattle.nb_page.specs.Quiet.{Quiet}
 use Rattle.nb_model.specs.declared.reply.Reply.TheVariants.{Refused as RefusedReply}
 use Rattle.nb_model.specs.Output.{status_after}
-use Rattle.nb_model.specs.declared.statement.Statement.{Statement}
-use Rattle.nb_script.specs.FirstLine.{first_at}
-use Rattle.nb_script.specs.Statements.{statement_at}
-use Rattle.nb_script.specs.Scripts.{Plan, Numbered, started, with_statement, or_bad, with_lines, order_in, with_order, of_lines, script_of}
+use Rattle.nb_script.specs.Scripts.{Plan, Numbered, of_lines, script_of}
 use Rattle.nb_script.specs.Lines.{left, lines_of}
 use Rattle.nb_catalog.specs.Answers.{with_first}
 use Rattle.nb_catalog.specs.NameLists.{is_next, list_of, names_on, some_names_on}
@@ -23,6 +20,7 @@ use Rattle.nb_top.specs.Goes.{Goes}
 use Rattle.nb_top.specs.Numbers.{number_of}
 use Rattle.nb_top.specs.Requests.{script_in, to_plan}
 use Rattle.nb_top.proofs.GoesLaws.{goes_quietly, goes_turn_quietly}
+use Rattle.nb_top.proofs.ScriptRead.{IsBroken, all_broken}
 use Rattle.nb_model.proofs.StatusLaws.{status_refused}
 
 -- a plan that begins with calls that change nothing
@@ -84,25 +82,6 @@ list_number list file refusal is (Ok status) ended = ap number_of ended ∙ sym 
 list_number list file refusal is (Err e) ended = tt
 
 -- ---- a file that can't be read, as a script or as a list
-
--- a script is broken at a line, or spelled
-abbrev IsBroken : Result Plan Refusal → Type 0
-IsBroken (Ok plan) = Unit {0}
-IsBroken (Err refusal) = (line : ℕ) × (refusal ≡ BadScript line)
-
-read_broken : (line : Numbered) (o : Option (ℕ × Statement)) (next : ℕ × Statement → Result Plan Refusal) → ((read : ℕ × Statement) → IsBroken (next read)) → IsBroken (or_bad line o next)
-read_broken line None next all = (line.0, refl)
-read_broken line (Some read) next all = all read
-
-lines_broken : (taken : ℕ) (plan : Plan) (lines : List Numbered) → IsBroken (with_lines taken plan lines)
-unfolding with_lines
-lines_broken taken plan [] = tt
-lines_broken taken plan (line ∷ lines) = read_broken line (if nat_lt taken 10000 then statement_at line.1 else None) _ (λ read. lines_broken (taken + 1) (with_statement plan read) lines)
-
-all_broken : (count : ℕ) (lines : List Numbered) → IsBroken (of_lines count lines)
-unfolding of_lines with_order
-all_broken count [] = (count + 1, refl)
-all_broken count (line ∷ lines) = read_broken line (first_at line.1) _ (λ first. lines_broken 1 (started first.0 first.1 (order_in lines).0) (order_in lines).1)
 
 -- what isn't refused for a line is refused for both alike
 pub unread_list : (name : List ℕ) (file : File) (refusal : Refusal) → ((line : ℕ) → refusal ≢ BadScript line) → script_in name file ≡ Err refusal → names_in name file ≡ Err refusal

@@ -2,7 +2,6 @@
 use Rattle.std.proofs.Common.{◌≡◌, ◌≢◌, inl, inr, ℕ, List, [], ◌∷◌, ◌++◌, max, refl, sym, ap, subst, ◌∙◌, append_assoc}
 use Rattle.std.specs.Prelude.{Bool, true, false, IsTrue, Option, None, Some, Result, Ok, Err, Contains}
 use Rattle.std.proofs.lemmas.Bool.{true≢false}
-use Rattle.std.proofs.lemmas.List.{append-nil}
 use Rattle.nb_host.specs.Files.{File, Files, with_file}
 use Rattle.nb_host.specs.World.{World}
 use Rattle.nb_host.specs.Crash.{Leaves, LeavesAll}
@@ -30,6 +29,7 @@ use Rattle.nb_model.specs.Strokes.{Stroke}
 use Rattle.nb_script.specs.Scripts.{Plan, script_of}
 use Rattle.nb_session.specs.MadeNames.{ScriptMakes}
 use Rattle.nb_session.specs.Others.{OthersLeft}
+use Rattle.nb_session.proofs.GiftLaws.{foretold_itself}
 use Rattle.nb_session.proofs.NameLaws.{begun_asked, made_named}
 use Rattle.nb_top.specs.declared.status.Status.{Status}
 use Rattle.nb_top.specs.declared.status.Status.TheVariants.{Refused as RefusedStatus, Usage as UsageStatus, Device, Memory}
@@ -238,16 +238,5 @@ others_stay world tells told status old new timely beside words run =
     let grows = run.grows account told knows in
     let does = run.does told in
     let given : Given = record { guids = grows.ids; times = grows.clock; holds = does.0 } in
-    let foretold : Foretells given does.0 (world old) (world new) = record {
-      ids = grows.ids;
-      later_ids = [];
-      clock = grows.clock;
-      later_clock = [];
-      later_shown = [];
-      guids = grows.gave.guids;
-      guids_first = sym (append-nil grows.ids);
-      times = grows.gave.times;
-      times_first = sym (append-nil grows.clock);
-      holds_first = sym (append-nil does.0);
-    } in
+    let foretold : Foretells given does.0 (world old) (world new) = foretold_itself (world old) (world new) does.0 grows in
     performs_touches (world old) (world new) timely beside status account given (request_asked (world old).files words) (does.1 account given knows grows.sixteen foretold).whole

@@ -1,6 +1,6 @@
 -- The one turn of a restore: what it must be, and what stands after it.
-use Rattle.std.proofs.Common.{◌≡◌, ◌≢◌, ◌⊎◌, inl, inr, ℕ, List, [], ◌∷◌, length, true, false, refl, sym, ap, ◌∙◌}
-use Rattle.std.specs.Prelude.{Bool, None, Result, Ok, Err}
+use Rattle.std.proofs.Common.{◌≡◌, ◌≢◌, ℕ, List, [], ◌∷◌, length, true, false, refl}
+use Rattle.std.specs.Prelude.{None, Ok, Err}
 use Rattle.nb_host.specs.Files.{Files}
 use Rattle.nb_host.specs.declared.refusals.Refusal.{Refusal}
 use Rattle.nb_host.specs.declared.refusals.Refusal.TheVariants.{FileExists, Usage}
@@ -12,6 +12,7 @@ use Rattle.nb_model.specs.Restoring.{Link, verdict, applied}
 use Rattle.nb_model.specs.Run.{Event, account_after, with_made}
 use Rattle.nb_model.specs.Strokes.{make, fixed}
 use Rattle.nb_top.proofs.ChainRefusals.{refused_chain}
+use Rattle.nb_top.proofs.TargetTurns.{IsRefused, TargetTurn, target_refused, target_turn, never_usage}
 
 -- the turn that makes the database which these files give
 abbrev pub made_turn : List Link → Event
@@ -19,14 +20,11 @@ made_turn links = only_turn (Pages (length (applied links))) (make (fixed (appli
 
 -- why a restore is refused: the name of its target isn't free, or the files are no chain
 abbrev pub WhyRefused : Files → Account → (db : List ℕ) (names : List (List ℕ)) → Refusal → Type 0
-WhyRefused files account db names refusal =
-    ((is_free_entry (account.entry db) ≡ false) × (refusal ≡ FileExists db))
-    ⊎ ((is_free_entry (account.entry db) ≡ true) × (verdict files names ≡ Err refusal))
+WhyRefused files account db names refusal = IsRefused account db (verdict files names) refusal
 
 -- The turn is refused, or it makes the database that the files give.
-pub data RestoreTurn (files : Files) (account : Account) (db : List ℕ) (names : List (List ℕ)) : Type 0 where
-  refuses : (refusal : Refusal) → WhyRefused files account db names refusal → restore_turn files account db names ≡ only_refusal refusal → RestoreTurn files account db names
-  restores : (links : List Link) → is_free_entry (account.entry db) ≡ true → verdict files names ≡ Ok links → restore_turn files account db names ≡ made_turn links → RestoreTurn files account db names
+abbrev pub RestoreTurn : Files → Account → (db : List ℕ) (names : List (List ℕ)) → Type 0
+RestoreTurn files account db names = TargetTurn (List Link) account db (verdict files names) (restore_turn files account db names) made_turn
 
 module _ (files : Files) (account : Account) (db : List ℕ) (names : List (List ℕ)) where
   taken_turn : is_free_entry (account.entry db) ≡ false → restore_turn files account db names ≡ only_refusal (FileExists db)
@@ -39,8 +37,7 @@ module _ (files : Files) (account : Account) (db : List ℕ) (names : List (List
 
   -- it is refused
   pub refused_turn : (refusal : Refusal) → WhyRefused files account db names refusal → restore_turn files account db names ≡ only_refusal refusal
-  refused_turn refusal (inl taken) = taken_turn taken.0 ∙ ap only_refusal (sym taken.1)
-  refused_turn refusal (inr broken) = broken_turn refusal broken.0 broken.1
+  refused_turn = target_refused account db (verdict files names) (restore_turn files account db names) made_turn taken_turn broken_turn
 
   -- it makes the database
   pub done_turn : (links : List Link) → is_free_entry (account.entry db) ≡ true → verdict files names ≡ Ok links → restore_turn files account db names ≡ made_turn links
@@ -49,15 +46,7 @@ module _ (files : Files) (account : Account) (db : List ℕ) (names : List (List
 
   -- There is nothing else that it may be.
   pub turn_is : RestoreTurn files account db names
-  turn_is = by (is_free_entry (account.entry db)) refl
-    where
-      by : (free : Bool) → is_free_entry (account.entry db) ≡ free → RestoreTurn files account db names
-      by false is = let why : WhyRefused files account db names (FileExists db) = inl (is, refl) in refuses (FileExists db) why (refused_turn (FileExists db) why)
-      by true is = of_verdict (verdict files names) refl
-        where
-          of_verdict : (answer : Result (List Link) Refusal) → verdict files names ≡ answer → RestoreTurn files account db names
-          of_verdict (Ok links) accepted = restores links is accepted (done_turn links is accepted)
-          of_verdict (Err refusal) broken = let why : WhyRefused files account db names refusal = inr (is, broken) in refuses refusal why (refused_turn refusal why)
+  turn_is = target_turn account db (verdict files names) (restore_turn files account db names) made_turn taken_turn broken_turn done_turn
 
   pub made_account : (links : List Link) → account_behind db (made_turn links) account ≡ account_after db (make (fixed (applied links)) ∷ []) None account
   unfolding account_behind with_made
@@ -65,8 +54,4 @@ module _ (files : Files) (account : Account) (db : List ℕ) (names : List (List
 
   -- as words are that name no job it never is
   pub refused_restore : (refusal : Refusal) → WhyRefused files account db names refusal → refusal ≢ Usage
-  refused_restore refusal (inl taken) e = exists_usage (sym taken.1 ∙ e)
-    where
-      exists_usage : FileExists db ≡ Usage → ⊥
-      exists_usage h = cc
-  refused_restore refusal (inr broken) e = refused_chain files names refusal broken.1 e
+  refused_restore refusal why = never_usage account db (verdict files names) (λ r. refused_chain files names r) refusal why

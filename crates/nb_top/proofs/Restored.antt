@@ -38,7 +38,8 @@ use Rattle.nb_restore.proofs.KeptLaws.{chain_kept, restored_well}
 use Rattle.nb_top.specs.OneTurn.{OneTurn, leaves_all, restoring}
 use Rattle.nb_top.specs.Served.{ServedAs, Serves}
 use Rattle.nb_top.specs.Standing.{HoldsKept, StandsFor}
-use Rattle.nb_top.proofs.RestoreTurns.{RestoreTurn, WhyRefused, refuses, restores, made_turn, made_account, turn_is, refused_turn, done_turn, refused_restore}
+use Rattle.nb_top.proofs.RestoreTurns.{RestoreTurn, WhyRefused, made_turn, made_account, turn_is, refused_turn, done_turn, refused_restore}
+use Rattle.nb_top.proofs.TargetTurns.{refuses, makes}
 use Rattle.nb_top.proofs.Turns.{served_as}
 use Rattle.nb_top.proofs.TurnsStand.{IsSoundJob, IsWellBased, sound_on}
 
@@ -69,7 +70,7 @@ module _ (old mid : World) (account : Account) (db : List ℕ) (names : List (Li
     where
       by : RestoreTurn old.files account db names → Quiet old mid
       by (refuses refusal why turn_same) = quiet_refused refusal why
-      by (restores links free accepted turn_same) = absurd (true≢false (sym is ∙ ap leaves_all turn_same))
+      by (makes links free accepted turn_same) = absurd (true≢false (sym is ∙ ap leaves_all turn_same))
 
   answers : (r : Result ℕ Fault) → RestoreAnswers r old mid db names → ServedAs (pages_said r) old mid job turn
   answers (Ok count) answer =
@@ -172,7 +173,7 @@ module _ (old : World) (account : Account) (db : List ℕ) (names : List (List �
     where
       by : RestoreTurn old.files account db names → leaves_all (restore_turn old.files account db names) ≡ false → IsWellBased old account sound_job db
       by (refuses refusal why same) is = absurd (true≢false (sym (ap leaves_all same) ∙ is))
-      by (restores links free accepted same) is = well_done links free accepted same
+      by (makes links free accepted same) is = well_done links free accepted same
 
 pub restore_sound : (old : World) (account : Account) (db : List ℕ) (names : List (List ℕ)) → StandsFor old account → is_delta db ≡ false → AllByRecursion (λ (name : List ℕ). is_delta name ≡ false) names → 1 ≤ length names
     → (leaves_all (restore_turn old.files account db names) ≡ false → (links : List Link) → verdict old.files names ≡ Ok links → AreKept account.kept links) → IsSoundJob old account (restoring old.files db names)

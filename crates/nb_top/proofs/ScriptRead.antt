@@ -14,27 +14,36 @@ use Rattle.nb_script.specs.Statements.{statement_at}
 use Rattle.nb_script.specs.Scripts.{Plan, Numbered, started, with_statement, or_bad, with_lines, order_in, with_order, of_lines, script_of}
 use Rattle.nb_top.specs.Requests.{script_in}
 
--- not for words
-abbrev pub IsForScript : Result Plan Refusal → Type 0
+-- a script is broken at a line, or spelled
+abbrev pub IsBroken : Result Plan Refusal → Type 0
+IsBroken (Ok plan) = Unit {0}
+IsBroken (Err refusal) = (line : ℕ) × (refusal ≡ BadScript line)
+
+read_broken : (line : Numbered) (o : Option (ℕ × Statement)) (next : ℕ × Statement → Result Plan Refusal) → ((read : ℕ × Statement) → IsBroken (next read)) → IsBroken (or_bad line o next)
+read_broken line None next all = (line.0, refl)
+read_broken line (Some read) next all = all read
+
+lines_broken : (taken : ℕ) (plan : Plan) (lines : List Numbered) → IsBroken (with_lines taken plan lines)
+unfolding with_lines
+lines_broken taken plan [] = tt
+lines_broken taken plan (line ∷ lines) = read_broken line (if nat_lt taken 10000 then statement_at line.1 else None) _ (λ read. lines_broken (taken + 1) (with_statement plan read) lines)
+
+pub all_broken : (count : ℕ) (lines : List Numbered) → IsBroken (of_lines count lines)
+unfolding of_lines with_order
+all_broken count [] = (count + 1, refl)
+all_broken count (line ∷ lines) = read_broken line (first_at line.1) _ (λ first. lines_broken 1 (started first.0 first.1 (order_in lines).0) (order_in lines).1)
+
+-- a refusal isn't for words
+abbrev IsForScript : Result Plan Refusal → Type 0
 IsForScript (Ok plan) = Unit {0}
 IsForScript (Err refusal) = refusal ≢ Usage
 
 bad_line : (line : ℕ) → BadScript line ≢ Usage
 bad_line line h = cc
 
-read_or_bad : (line : Numbered) (o : Option (ℕ × Statement)) (next : ℕ × Statement → Result Plan Refusal) → ((read : ℕ × Statement) → IsForScript (next read)) → IsForScript (or_bad line o next)
-read_or_bad line None next all = bad_line line.0
-read_or_bad line (Some read) next all = all read
-
-lines_read : (taken : ℕ) (plan : Plan) (lines : List Numbered) → IsForScript (with_lines taken plan lines)
-unfolding with_lines
-lines_read taken plan [] = tt
-lines_read taken plan (line ∷ lines) = read_or_bad line (if nat_lt taken 10000 then statement_at line.1 else None) _ (λ read. lines_read (taken + 1) (with_statement plan read) lines)
-
-all_read : (count : ℕ) (lines : List Numbered) → IsForScript (of_lines count lines)
-unfolding of_lines with_order
-all_read count [] = bad_line (count + 1)
-all_read count (line ∷ lines) = read_or_bad line (first_at line.1) _ (λ first. lines_read 1 (started first.0 first.1 (order_in lines).0) (order_in lines).1)
+broken_for : (r : Result Plan Refusal) → IsBroken r → IsForScript r
+broken_for (Ok plan) is = tt
+broken_for (Err refusal) is e = bad_line is.0 (sym is.1 ∙ e)
 
 script_read : (bytes : Bytes) → IsForScript (script_of bytes)
 unfolding script_of
@@ -45,7 +54,7 @@ script_read bytes = by (nat_lt 1048576 (length bytes))
 
     by : (b : Bool) → IsForScript (if b then Err (ScriptLong (length bytes)) else of_lines (length (lines_of bytes)) (left 0 bytes))
     by true = long (length bytes)
-    by false = all_read (length (lines_of bytes)) (left 0 bytes)
+    by false = broken_for (of_lines (length (lines_of bytes)) (left 0 bytes)) (all_broken (length (lines_of bytes)) (left 0 bytes))
 
 pub file_read : (name : List ℕ) (file : File) → IsForScript (script_in name file)
 file_read name None = missing

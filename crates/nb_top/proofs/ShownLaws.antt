@@ -1,13 +1,17 @@
 -- The line that is shown of a script which breaks its form.
 use Rattle.std.proofs.Common.{◌≡◌, ◌≢◌, ℕ, List, sym, ap, subst}
-use Rattle.std.specs.Prelude.{Option, Some, None, Result, Ok, Err, IsErr}
+use Rattle.std.specs.Prelude.{Bool, Option, Some, None, Result, Ok, Err, IsErr}
 use Rattle.nb_host.specs.declared.refusals.Refusal.{Refusal}
 use Rattle.nb_host.specs.declared.refusals.Refusal.TheVariants.{BadScript, Usage}
 use Rattle.nb_host.specs.declared.faults.RunError.{RunError}
+use Rattle.nb_host.specs.Files.{Files}
+use Rattle.nb_host.specs.World.{World}
 use Rattle.nb_model.specs.declared.job.Deed.{Deed}
+use Rattle.nb_model.specs.declared.job.Job.{Job}
 use Rattle.nb_top.specs.declared.broken.Broken.{Broken}
 use Rattle.nb_top.specs.declared.status.Status.{Status}
-use Rattle.nb_top.specs.Requests.{Request, Asked, Runs, Does, to_plan}
+use Rattle.nb_top.specs.Goes.{Goes}
+use Rattle.nb_top.specs.Requests.{Request, Asked, Runs, Does, request_of, to_plan}
 use Rattle.nb_top.specs.Shown.{Names, BreaksAt, IfShown, IsShownOf}
 
 -- it isn't refused for a line
@@ -47,3 +51,11 @@ shown_by (Ok status) (Some b) refusal names = ap (λ (r : Refusal). Runs (Err r)
 shown_by (Ok status) None refusal names = λ line h. names line (same_refusal refusal (BadScript line) h)
 shown_by (Err e) (Some b) refusal names = ap (λ (r : Refusal). Runs (Err r)) names
 shown_by (Err e) None refusal names = tt
+
+-- what is done, and shown, of the job that it is
+module _ (result : Result Status RunError) (files : Files) (job it : Job) (is : job ≡ it) where
+  pub goes_as : {H : Type 0} (world : H → World) (tells : Bool) (old new : H) → Goes world tells result old new (request_of files it) → Goes world tells result old new (request_of files job)
+  goes_as world tells old new goes = subst (λ (x : Job). Goes world tells result old new (request_of files x)) (sym is) goes
+
+  pub shown_as : (broken : Option Broken) → IsShownOf result broken (request_of files it) → IsShownOf result broken (request_of files job)
+  shown_as broken shown = subst (λ (x : Job). IsShownOf result broken (request_of files x)) (sym is) shown

@@ -24,7 +24,7 @@ ghost use Rattle.nb_session.specs.Says.{SaysLine};
 ghost use Rattle.nb_session.specs.Told.{told_events};
 ghost use Rattle.nb_top.specs.ByTurns.{RunsOpened, TakesTold};
 ghost use Rattle.nb_top.specs.Performed.{cache_asked, first_event, is_all, opened_reply, told_first, told_later};
-ghost use Rattle.nb_top.specs.Numbers.{number_of};
+ghost use Rattle.nb_top.specs.Numbers.{EndsAs, number_of};
 ghost use Rattle.nb_top.specs.Goes.{Goes};
 ghost use Rattle.nb_top.specs.Requests.{Runs, ToRun};
 
@@ -190,6 +190,18 @@ fn ended(refused: bool) -> Status
     }
 }
 
+/// How a run ends whose turns ended so.
+fn ended_as(refused: Result<bool, RunError>) -> Result<Status, RunError>
+    ensures ended { EndsAs refused result }
+    ensures done { IfOk result (λ status. (status ≡ Status.Done) ⊎ (status ≡ Status.Refused)) }
+    ensures cause { (before after : ℕ) → CountsRun refused before after → CountsRun result before after }
+{
+    match refused {
+        Ok(refused) => Ok(ended(refused)),
+        Err(error) => Err(error),
+    }
+}
+
 /// Runs a script: its first statement, and then the turns of its sessions to their end, and tells so much of it. A first statement that is
 /// refused ends it.
 pub fn run_script<H: Host>(
@@ -204,10 +216,7 @@ pub fn run_script<H: Host>(
     ensures cause { CountsRun result (H.faults host.old) (H.faults host.new) }
 {
     match settled(open(alloc, host, script.first()))? {
-        Ok(mut engine) => {
-            let refused = run_opened(alloc, host, &mut engine, script, telling)?;
-            Ok(ended(refused))
-        }
+        Ok(mut engine) => ended_as(run_opened(alloc, host, &mut engine, script, telling)),
         Err(refusal) => refuse(alloc, host, script.first_session(), refusal),
     }
 }

@@ -4,10 +4,10 @@ use Rattle.nb_fields.specs.Page.{kind_of}
 use Rattle.nb_model.specs.Image.{page_at}
 use Rattle.nb_model.proofs.ReadLaws.{lt_no}
 use Rattle.nb_state.specs.Open.{Held}
-use Rattle.nb_alloc.proofs.TestLaws.{kind_read}
-use Rattle.nb_alloc.proofs.MakeLaws.{old_below, kind_below, kind_past_end}
+use Rattle.nb_alloc.proofs.TestLaws.{kind_past_end, kind_below, kind_read}
 use Rattle.std.proofs.lemmas.Bool.{true≢false}
 use Rattle.nb_alloc.proofs.make.has_page.Goals as goal
+use Rattle.nb_alloc.proofs.PutLaws.{old_below}
 
 pub returns-then-number-count-clause-value : goal.returns-then-number-count-clause-value
 returns-then-number-count-clause-value g c t tells is =

@@ -1,6 +1,7 @@
 use Rattle.std.proofs.Common.{◌<◌, ◌≤◌, length, replicate, sym, ap, ◌∙◌, arith}
-use Rattle.nb_alloc.proofs.MakeLaws.{old_below, old_past}
+use Rattle.nb_alloc.proofs.MakeLaws.{old_past}
 use Rattle.nb_alloc.proofs.make.take_old.Goals as goal
+use Rattle.nb_alloc.proofs.PutLaws.{old_below}
 
 pub returns-in_ok-read-clause-page : goal.returns-in_ok-read-clause-page
 returns-in_ok-read-clause-page g c t tells is =

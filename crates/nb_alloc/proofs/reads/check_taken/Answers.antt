@@ -1,33 +1,18 @@
-use Rattle.std.proofs.Common.{◌≡◌, ℕ, length, sym, ap, ◌∙◌, refl, arith}
-use Rattle.nb_fields.specs.Kinds.{inventory_kind}
-use Rattle.nb_model.specs.Forms.{inventory_of}
-use Rattle.nb_model.specs.Causes.{not_kind}
+use Rattle.std.proofs.Common.{sym, ◌∙◌}
+use Rattle.std.specs.Prelude.{Bool}
 use Rattle.nb_alloc.proofs.DoesLaws.{tested_on}
-use Rattle.nb_alloc.proofs.TestLaws.{not_false, inventory_place_is, reads_bit, taken_other, taken_free, taken_is}
+use Rattle.nb_alloc.proofs.TestLaws.{taken_other, taken_free, taken_is}
 use Rattle.nb_alloc.proofs.reads.check_taken.Goals as goal
 
-pub returns-in_err-read-clause-test : goal.returns-in_err-read-clause-test
-returns-in_err-read-clause-test g c t tells is =
-    let image = t.base.image in
-    let at : c.place_of.result ≡ inventory_of image c.args.number = inventory_place_is image _ c.args.number _ _ c.place_of.ensures c.covers-k.ensures.number (c.page_size-page_size.ensures.value ∙ is.files.agrees.page_size) in
-    tested_on (Unit {0}) (Unit {0}) _ _ _ _ c.from_residual.ensures (λ r e. taken_other image c.args.number r (ap (λ (q : ℕ). not_kind image inventory_kind q) (sym at) ∙ e)) (c.in_err-read.ensures.reads t tells is).test
+pub returns-in_err-free-clause-test : goal.returns-in_err-free-clause-test
+returns-in_err-free-clause-test g c t tells is = tested_on Bool (Unit {0}) _ _ _ _ c.from_residual.ensures (taken_other t.base.image c.args.number) (c.in_err-free.ensures.test t tells is)
 
-pub returns-then-not-is_used-clause-test : goal.returns-then-not-is_used-clause-test
-returns-then-not-is_used-clause-test g c t tells is =
-    let image = t.base.image in
-    let size = c.page_size-page_size.ensures.value ∙ is.files.agrees.page_size in
-    let at = inventory_place_is image _ c.args.number _ _ c.place_of.ensures c.covers-k.ensures.number size in
-    let read = c.in_ok-read.ensures.reads t tells is in
-    let long : length c.read.new.self ≡ c.page_size-page_size.result = omega (arith, c.in_ok-read.ensures.room, c.requires.room, c.page_size-page_size.ensures.value) in
-    let bit = reads_bit image _ c.args.number _ c.read.new.self _ at size long read.test read.page c.covers-k.ensures.index c.covers-k.ensures.inside in
-    taken_free image c.args.number c.read.new.self _ bit (λ e. not_false (c.if-not-is_used.ensures.1 e))
+pub returns-then-free-clause-test : goal.returns-then-free-clause-test
+returns-then-free-clause-test g c t tells is =
+    let free = c.in_ok-free.ensures in
+    taken_free t.base.image c.args.number (free.test t tells is) (sym (free.value t tells is) ∙ c.if-free.true)
 
 pub returns-clause-test : goal.returns-clause-test
 returns-clause-test g c t tells is =
-    let image = t.base.image in
-    let size = c.page_size-page_size.ensures.value ∙ is.files.agrees.page_size in
-    let at = inventory_place_is image _ c.args.number _ _ c.place_of.ensures c.covers-k.ensures.number size in
-    let read = c.in_ok-read.ensures.reads t tells is in
-    let long : length c.read.new.self ≡ c.page_size-page_size.result = omega (arith, c.in_ok-read.ensures.room, c.requires.room, c.page_size-page_size.ensures.value) in
-    let bit = reads_bit image _ c.args.number _ c.read.new.self _ at size long read.test read.page c.covers-k.ensures.index c.covers-k.ensures.inside in
-    taken_is image c.args.number c.read.new.self _ bit (c.if-not-is_used.ensures.0 refl)
+    let free = c.in_ok-free.ensures in
+    taken_is t.base.image c.args.number (free.test t tells is) (sym (free.value t tells is) ∙ c.if-free.false)

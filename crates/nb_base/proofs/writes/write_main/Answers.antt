@@ -1,5 +1,7 @@
 use Rattle.std.proofs.Common.{sym, ◌∙◌}
+use Rattle.std.proofs.lemmas.Result.{on_ok_weaker}
 use Rattle.nb_change.proofs.ChangesLaws.{still_more}
+use Rattle.nb_change.proofs.ResultLaws.{on_ok}
 use Rattle.nb_base.proofs.TouchLaws.{page_touched, still_touched}
 use Rattle.nb_base.proofs.WriteLaws.{not_done, struck_main, main_shown, main_synced, stays_seen}
 use Rattle.nb_base.proofs.writes.write_main.Goals as goal
@@ -12,17 +14,8 @@ returns-in_err-write_page-clause-takes g c t tells seen is other none must =
       done = not_done c.from_residual.result _ c.from_residual.ensures.0;
     }
 
-pub returns-in_err-sync-clause-takes : goal.returns-in_err-sync-clause-takes
-returns-in_err-sync-clause-takes g c t tells seen is other none must =
-    let left = struck_main c.args.name.now t c.args.number c.args.page.now is (g.H.Host.world c.args.host.now) (g.met.H.Host.timely c.args.host.now) (g.met.H.Host.reads_left c.args.host.now tells) seen
-    (g.H.Host.world c.write_page.new.self) other none g.H.Host.tells c.write_page.result tells c.write_page.ensures.files c.write_page.ensures.log.said c.write_page.ensures.time in
-    record {
-      left = still_more _ _ (g.H.Host.world c.sync.new.self) _ _ left c.sync.ensures.time c.sync.ensures.files.still c.sync.ensures.log.said;
-      done = not_done c.from_residual-in_err-sync.result _ c.from_residual-in_err-sync.ensures.0;
-    }
-
-pub returns-in_ok-sync-clause-takes : goal.returns-in_ok-sync-clause-takes
-returns-in_ok-sync-clause-takes g c t tells seen is other none must =
+pub returns-then-synced-clause-takes : goal.returns-then-synced-clause-takes
+returns-then-synced-clause-takes g c t tells seen is other none must =
     let old = g.H.Host.world c.args.host.now in
     let mid = g.H.Host.world c.write_page.new.self in
     let timely = g.met.H.Host.timely c.args.host.now in
@@ -31,8 +24,9 @@ returns-in_ok-sync-clause-takes g c t tells seen is other none must =
     mid other none g.H.Host.tells c.write_page.result tells c.write_page.ensures.files c.write_page.ensures.log.said c.write_page.ensures.time in
     record {
       left = still_more _ _ (g.H.Host.world c.sync.new.self) _ _ left c.sync.ensures.time c.sync.ensures.files.still c.sync.ensures.log.said;
-      done = main_synced c.args.name.now t c.args.number c.args.page.now is old timely reads seen mid other none (c.in_ok-write_page.ensures.files.files tells)
-          (g.H.Host.world c.sync.new.self) c.write_page.ensures.files.left.others c.sync.ensures.files.still (c.in_ok-sync.ensures.files.durable tells);
+      done = on_ok_weaker c.sync.result
+          (main_synced c.args.name.now t c.args.number c.args.page.now is old timely reads seen mid other none (c.in_ok-write_page.ensures.files.files tells) (g.H.Host.world c.sync.new.self) c.write_page.ensures.files.left.others c.sync.ensures.files.still)
+          (c.sync.ensures.files.durable tells);
     }
 
 pub returns-else-synced-clause-takes : goal.returns-else-synced-clause-takes
@@ -57,14 +51,11 @@ pub returns-else-synced-clause-touches : goal.returns-else-synced-clause-touches
 returns-else-synced-clause-touches g c tells =
     page_touched g.H.Host.tells c.write_page.result (g.H.Host.world c.args.host.now) (g.H.Host.world c.write_page.new.self) c.args.name.now _ c.args.page.now tells (g.met.H.Host.timely c.args.host.now) c.write_page.ensures.files c.write_page.ensures.log.said c.write_page.ensures.time
 
-pub returns-in_err-sync-clause-touches : goal.returns-in_err-sync-clause-touches
-returns-in_err-sync-clause-touches g c tells =
+pub returns-then-synced-clause-touches : goal.returns-then-synced-clause-touches
+returns-then-synced-clause-touches g c tells =
     still_touched _ _ (g.H.Host.world c.sync.new.self) _
     (page_touched g.H.Host.tells c.write_page.result (g.H.Host.world c.args.host.now) (g.H.Host.world c.write_page.new.self) c.args.name.now _ c.args.page.now tells (g.met.H.Host.timely c.args.host.now) c.write_page.ensures.files c.write_page.ensures.log.said c.write_page.ensures.time)
     c.sync.ensures.time c.sync.ensures.files.still c.sync.ensures.log.said
 
-pub returns-in_ok-sync-clause-touches : goal.returns-in_ok-sync-clause-touches
-returns-in_ok-sync-clause-touches g c tells =
-    still_touched _ _ (g.H.Host.world c.sync.new.self) _
-    (page_touched g.H.Host.tells c.write_page.result (g.H.Host.world c.args.host.now) (g.H.Host.world c.write_page.new.self) c.args.name.now _ c.args.page.now tells (g.met.H.Host.timely c.args.host.now) c.write_page.ensures.files c.write_page.ensures.log.said c.write_page.ensures.time)
-    c.sync.ensures.time c.sync.ensures.files.still c.sync.ensures.log.said
+pub returns-then-synced-clause-put : goal.returns-then-synced-clause-put
+returns-then-synced-clause-put g c tells = on_ok c.sync.result (c.sync.ensures.files.still.files ∙ c.in_ok-write_page.ensures.files.files tells)

@@ -31,18 +31,6 @@ returns-in_err-leave_out_reached-clause-turn g c s t tells same is =
     tested_does (Unit {0}) (List ℕ) Leaked _ _ _ _ _ _ t s check_turn (chains_cause t.base.image (chains t.base.image)) c.from_residual-in_err-leave_out_reached.ensures same (left.same ∙ found.same) (quiet_joined _ _ _ found.quiet left.quiet) is (left.open t tells still)
     (left.test t tells still) (λ r e. check_refused (seeing s t.base) r (chain_fails t.base.image (found.test t tells is) r e))
 
-pub returns-clause-turn : goal.returns-clause-turn
-returns-clause-turn g c s t tells same is =
-    let found = c.in_ok-rest.ensures in
-    let left = c.in_ok-leave_out_reached.ensures in
-    let still = found.open t tells is in
-    let free = check_free t.base.image (found.test t tells is) (left.test t tells still) in
-    let pages : c.of.result ≡ leaked t.base.image =
-    c.of.ensures
-    ∙ leaked_pages t.base.image c.in_ok-rest.rest c.leave_out_reached.new.rest (found.taken t tells is (check_long t.base.image free)) (left.rest t tells still) (omega (arith, found.set_room, left.room, is.files.agrees.count)) in
-    valued_does Leaked _ _ _ _ _ t s check_turn same (left.same ∙ found.same) (quiet_joined _ _ _ found.quiet left.quiet) is (left.open t tells still)
-    (check_says (seeing s t.base) free ∙ ap (λ (ps : List ℕ). says (seeing s t.base) (Leaked ps) []) (sym pages))
-
 pub returns-in_err-rest-clause-test : goal.returns-in_err-rest-clause-test
 returns-in_err-rest-clause-test g c t tells is =
     tested_on (List ℕ) (List ℕ) _ _ (unsound_by (unsound t.base.image)) (check_cause t.base.image) c.from_residual.ensures (unsound_fails t.base.image) (c.in_err-rest.ensures.test t tells is)
@@ -62,17 +50,23 @@ pub returns-clause-leaked : goal.returns-clause-leaked
 returns-clause-leaked g c t tells is =
     let found = c.in_ok-rest.ensures in
     let left = c.in_ok-leave_out_reached.ensures in
-    let still = found.open t tells is in
-    let free = check_free t.base.image (found.test t tells is) (left.test t tells still) in
     c.of.ensures
-    ∙ leaked_pages t.base.image c.in_ok-rest.rest c.leave_out_reached.new.rest (found.taken t tells is (check_long t.base.image free)) (left.rest t tells still) (omega (arith, found.set_room, left.room, is.files.agrees.count))
+    ∙ leaked_pages t.base.image c.in_ok-rest.rest c.leave_out_reached.new.rest (found.taken t tells is (check_long t.base.image (returns-clause-test g c t tells is))) (left.rest t tells (found.open t tells is))
+    (omega (arith, found.set_room, left.room, is.files.agrees.count))
+
+pub returns-clause-turn : goal.returns-clause-turn
+returns-clause-turn g c s t tells same is =
+    let found = c.in_ok-rest.ensures in
+    let left = c.in_ok-leave_out_reached.ensures in
+    let pages : c.of.result ≡ leaked t.base.image = returns-clause-leaked g c t tells is in
+    valued_does Leaked _ _ _ _ _ t s check_turn same (left.same ∙ found.same) (quiet_joined _ _ _ found.quiet left.quiet) is (left.open t tells (found.open t tells is))
+    (check_says (seeing s t.base) (returns-clause-test g c t tells is) ∙ ap (λ (ps : List ℕ). says (seeing s t.base) (Leaked ps) []) (sym pages))
 
 pub returns-clause-sound : goal.returns-clause-sound
 returns-clause-sound g c t tells is =
     let image = t.base.image in
-    let found = c.in_ok-rest.ensures in
-    let free = check_free image (found.test t tells is) (c.in_ok-leave_out_reached.ensures.test t tells (found.open t tells is)) in
-    sound_whole image (subst (λ (s : ℕ). IsTrue (is_page_size s)) (c.page_size-size.ensures.value ∙ is.files.agrees.page_size) c.page_size-size.ensures.one_of) free (all_from (λ (page : Page). length page ≡ image_size image) image (found.sizes t tells is))
+    let valid = subst (λ (s : ℕ). IsTrue (is_page_size s)) (c.page_size-size.ensures.value ∙ is.files.agrees.page_size) c.page_size-size.ensures.one_of in
+    sound_whole image valid (returns-clause-test g c t tells is) (all_from (λ (page : Page). length page ≡ image_size image) image (c.in_ok-rest.ensures.sizes t tells is))
     (omega (arith, c.count-count.ensures.value, c.count-count.ensures.most, is.files.agrees.count))
 
 pub returns-clause-once : goal.returns-clause-once

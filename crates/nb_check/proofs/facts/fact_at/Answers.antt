@@ -10,9 +10,7 @@ use Rattle.nb_model.specs.Image.{Page, Image, page_at, image_size, image_scn}
 use Rattle.nb_model.specs.Facts.{breaks}
 use Rattle.nb_model.specs.declared.fact.Fact.TheVariants.{WrongEntry}
 use Rattle.nb_model.proofs.ReadLaws.{eq_no, eq_yes, lt_yes, lt_no}
-use Rattle.nb_check.specs.declared.facts.Extent.{Extent}
-use Rattle.nb_check.specs.Passes.{IsOf}
-use Rattle.nb_check.proofs.FactLaws.{kind_in, stamp_in, lowest_blank, lowest_place, lowest_late, lowest_entry, lowest_header, lowest_none, header_only, header_test}
+use Rattle.nb_check.proofs.FactLaws.{of_entries, kind_in, stamp_in, lowest_blank, lowest_place, lowest_late, lowest_entry, lowest_header, lowest_none, header_only, header_test}
 use Rattle.nb_check.proofs.facts.fact_at.Goals as goal
 
 -- what the tests of the page say of the page of the image
@@ -29,9 +27,6 @@ place_is image n size page head t same at is e =
     let kind : head.kind ≡ kind_of (page_at image n) = ap (λ (h : PageHead). h.kind) is ∙ kind_in page ∙ ap kind_of at in
     sym (e ∙ ap (λ (s : ℕ). (is_inventory_place s n && not (head.kind == 2)) || (is_scn_place s n && not (head.kind == 10))) same
     ∙ ap (λ (k : ℕ). (is_inventory_place (image_size image) n && not (k == 2)) || (is_scn_place (image_size image) n && not (k == 10))) kind)
-
-of_entries : (image : Image) (size other : ℕ) (extent : Extent) → other ≡ size → IsOf image size extent → IsOf image other extent
-of_entries image size other extent same of = record { size = same ∙ of.size; count = of.count; scn = of.scn }
 
 pub returns-then-are_zeros : goal.returns-then-are_zeros
 returns-then-are_zeros c image of at page =

@@ -3,18 +3,12 @@ use Rattle.std.specs.Prelude.{IsTrue, true, false, not}
 use Rattle.std.proofs.Math.Nat.{mod-lt}
 use Rattle.nb_fields.specs.Places.{is_page_size, bits_in}
 use Rattle.nb_fields.proofs.PlaceLaws.{bits-least}
-use Rattle.nb_model.specs.Image.{Image}
 use Rattle.nb_model.specs.Facts.{breaks}
 use Rattle.nb_model.specs.Forms.{is_free_page}
 use Rattle.nb_model.specs.declared.fact.Fact.TheVariants.{WrongEntry}
-use Rattle.nb_check.specs.declared.facts.Extent.{Extent}
-use Rattle.nb_check.specs.Passes.{IsOf}
 use Rattle.nb_check.proofs.CoverLaws.{near_of}
-use Rattle.nb_check.proofs.FactLaws.{used_is, lowest_taken, lowest_entry_past, lowest_none_past}
+use Rattle.nb_check.proofs.FactLaws.{of_entries, used_is, lowest_taken, lowest_entry_past, lowest_none_past}
 use Rattle.nb_check.proofs.facts.fact_past.Goals as goal
-
-of_entries : (image : Image) (size other : ℕ) (extent : Extent) → other ≡ size → IsOf image size extent → IsOf image other extent
-of_entries image size other extent same of = record { size = same ∙ of.size; count = of.count; scn = of.scn }
 
 bit_inside : (size p : ℕ) → IsTrue (is_page_size size) → p % bits_in size < bits_in size
 bit_inside size p valid = mod-lt p {m = bits_in size} (let some = bits-least size valid in omega (arith, some))

@@ -1,11 +1,12 @@
-use Rattle.std.proofs.Common.{ap, ◌∙◌, arith}
+use Rattle.std.proofs.Common.{ap, arith}
 use Rattle.nb_model.specs.Causes.{broken_at}
 use Rattle.nb_model.specs.Chains.{Catalogue, History, pages_of}
 use Rattle.nb_model.specs.Checks.{chains_cause}
 use Rattle.nb_model.specs.Rows.{chains}
 use Rattle.nb_state.specs.Open.{Held}
-use Rattle.nb_alloc.proofs.DoesLaws.{tested_on}
-use Rattle.nb_check.proofs.ListLaws.{tables, first_broken, second_broken, rest_cause, reached_out, reached_long}
+use Rattle.nb_alloc.proofs.DoesLaws.{tested_on, tested_by_name}
+use Rattle.nb_check.proofs.ListLaws.{tables, first_broken, second_broken, rest_cause, reached_out, reached_few}
+use Rattle.nb_change.proofs.ResultLaws.{on_ok_then}
 use Rattle.nb_check.proofs.walk.leave_out_reached.Goals as goal
 
 pub returns-in_err-leave_out-clause-test : goal.returns-in_err-leave_out-clause-test
@@ -20,16 +21,6 @@ returns-in_err-leave_out-2-clause-test g c t tells is =
     tested_on (Unit {0}) (Unit {0}) _ _ (broken_at (pages_of History image)) (chains_cause image (chains image)) c.from_residual-in_err-leave_out-2.ensures
     (λ r e. second_broken image r (first.test t tells is) e) (c.in_err-leave_out-2.ensures.test t tells (first.open t tells is))
 
-pub returns-in_err-leave_out_tables-clause-test : goal.returns-in_err-leave_out_tables-clause-test
-returns-in_err-leave_out_tables-clause-test g c t tells is =
-    let image = t.base.image in
-    let first = c.in_ok-leave_out.ensures in
-    let second = c.in_ok-leave_out-2.ensures in
-    let one = first.open t tells is in
-    let two = second.open t tells one in
-    tested_on (Unit {0}) (Unit {0}) _ _ (chains_cause image (tables image)) (chains_cause image (chains image)) c.from_residual-in_err-leave_out_tables.ensures
-    (λ r e. rest_cause image (first.test t tells is) (second.test t tells one) ∙ e) (c.in_err-leave_out_tables.ensures.test t tells two (first.test t tells is))
-
 pub leave_out-requires-2 : goal.leave_out-requires-2
 leave_out-requires-2 g c = omega (arith, c.in_ok-leave_out.ensures.sized, c.requires.size, ap (λ (h : Held). h.files.page_size) c.in_ok-leave_out.ensures.same)
 
@@ -42,26 +33,26 @@ leave_out_tables-requires-clause-listed g c = omega (arith, c.in_ok-leave_out.en
 
 pub returns-clause-test : goal.returns-clause-test
 returns-clause-test g c t tells is =
+    let image = t.base.image in
     let first = c.in_ok-leave_out.ensures in
     let second = c.in_ok-leave_out-2.ensures in
     let one = first.open t tells is in
-    rest_cause t.base.image (first.test t tells is) (second.test t tells one) ∙ c.in_ok-leave_out_tables.ensures.test t tells (second.open t tells one) (first.test t tells is)
+    tested_by_name c.leave_out_tables.result (chains_cause image (tables image)) (chains_cause image (chains image)) (rest_cause image (first.test t tells is) (second.test t tells one))
+    (c.leave_out_tables.ensures.test t tells (second.open t tells one) (first.test t tells is))
 
 pub returns-clause-rest : goal.returns-clause-rest
 returns-clause-rest g c t tells is =
     let first = c.in_ok-leave_out.ensures in
     let second = c.in_ok-leave_out-2.ensures in
     let one = first.open t tells is in
-    reached_out t.base.image c.args.rest.now c.leave_out.new.rest c.leave_out-2.new.rest c.leave_out_tables.new.rest (first.rest t tells is) (second.rest t tells one)
-    (c.in_ok-leave_out_tables.ensures.rest t tells (second.open t tells one) (first.test t tells is))
+    on_ok_then c.leave_out_tables.result (reached_out t.base.image c.args.rest.now c.leave_out.new.rest c.leave_out-2.new.rest c.leave_out_tables.new.rest (first.rest t tells is) (second.rest t tells one))
+    (c.leave_out_tables.ensures.rest t tells (second.open t tells one) (first.test t tells is))
 
 pub returns-clause-once : goal.returns-clause-once
 returns-clause-once g c t tells is =
     let first = c.in_ok-leave_out.ensures in
     let second = c.in_ok-leave_out-2.ensures in
     let one = first.open t tells is in
-    let reads = first.once t tells is in
-    let more = second.once t tells one in
-    let rest = c.in_ok-leave_out_tables.ensures.once t tells (second.open t tells one) (first.test t tells is) in
-    let all = reached_long t.base.image in
-    omega (arith, reads, more, rest, all)
+    on_ok_then c.leave_out_tables.result
+    (reached_few t.base.image (g.H.Host.world c.args.host.now).reads (g.H.Host.world c.leave_out.new.host).reads (g.H.Host.world c.leave_out-2.new.host).reads (g.H.Host.world c.leave_out_tables.new.host).reads (first.once t tells is) (second.once t tells one))
+    (c.leave_out_tables.ensures.once t tells (second.open t tells one) (first.test t tells is))

@@ -1,24 +1,60 @@
-use Rattle.std.proofs.Common.{◌≡◌, ℕ, List, ◌+◌, length, refl, sym, ap, subst, ◌∙◌, arith}
-use Rattle.std.specs.Prelude.{None, Some}
-use Rattle.nb_host.specs.declared.refusals.Refusal.{Refusal}
+use Rattle.std.proofs.Common.{◌≡◌, ℕ, List, ◌+◌, length, refl, sym, ap, subst, ◌∙◌, arith, ◌++◌, ◌≢◌, ◌-◌, ◌∷◌}
+use Rattle.std.specs.Prelude.{None, IsTrue}
 use Rattle.nb_page.proofs.QuietLaws.{quiet_begun, quiet_joined}
-use Rattle.nb_model.specs.Image.{Image}
-use Rattle.nb_model.specs.Chains.{Catalogue, Chain, next_in, found_pages}
+use Rattle.nb_model.specs.Image.{Image, page_at}
+use Rattle.nb_model.specs.Chains.{Catalogue, Chain, next_in, found_pages, pages_of}
 use Rattle.nb_model.specs.Checks.{chains_cause}
-use Rattle.nb_state.specs.Open.{Held}
+use Rattle.nb_state.specs.Open.{Held, IsOpen}
 use Rattle.nb_alloc.proofs.DoesLaws.{tested_on}
 use Rattle.nb_walk.specs.Walks.{not_linked}
 use Rattle.nb_check.specs.Walks.{chains_on}
-use Rattle.nb_check.proofs.ListLaws.{AreOut, chains_of_pages, tables, tables_begun, tables_more, tables_are, tables_broken}
-use Rattle.nb_walk.proofs.WalkLaws.{so, walks_first, walks_broken, walks_split, walks_next, walks_all, walks_over}
+use Rattle.nb_check.proofs.ListLaws.{AreOut, chains_of_pages, tables, tables_begun, tables_more, tables_are, tables_broken, none_some}
+use Rattle.nb_walk.proofs.WalkLaws.{so, walks_first, walks_broken, walks_split, walks_next, walks_all, walks_over, Walks}
+use Rattle.nb_model.specs.Trail.{Trail}
+use Rattle.nb_model.specs.Causes.{broken_at}
 use Rattle.nb_check.proofs.walk.leave_out_tables.Goals as goal
-
-none_some : (r : Refusal) → None ≡ Some r → ⊥
-none_some r e = cc
+use Rattle.nb_check.proofs.walk.leave_out_tables.Goals.{In_ok-leave_out_listed}
 
 -- what came of the pages of the catalogue so far
 abbrev Out : Image → (before after : List ℕ) (old now : ℕ) → List ℕ → Type 0
 Out image before after old now ps = AreOut image (chains_of_pages image ps) before after (old + length ps) now
+
+-- The chains that one more page of the catalogue names are out of the set.
+module _ (g : _) (c : goal.In_ok-leave_out_listed g) (t : Trail) (tells : IsTrue g.H.Host.tells) (is : IsOpen (g.H.Host.world c.args.host.now) c.args.engine.now t) (formed : broken_at (pages_of Catalogue t.base.image) ≡ None) where
+  abbrev reads : ℕ
+  reads = (g.H.Host.world c.args.host.now).reads
+
+  abbrev OutBefore : List ℕ → Type 0
+  OutBefore ps = Out t.base.image c.args.rest.now c.loop-left.rest reads (g.H.Host.world c.loop-left.host).reads ps
+
+  abbrev OutAfter : List ℕ → Type 0
+  OutAfter ps = Out t.base.image c.args.rest.now c.leave_out_listed.new.rest reads (g.H.Host.world c.leave_out_listed.new.host).reads ps
+
+  still : IsOpen (g.H.Host.world c.loop-left.host) c.loop-left.engine t
+  still = c.loop-left.invariant.opened t tells is
+
+  read : c.chain_read.new.page ≡ page_at t.base.image c.loop-left.number
+  read = c.in_ok-next.ensures.page t tells still
+
+  one : (ps : List ℕ) → OutBefore ps → OutAfter (ps ++ c.loop-left.number ∷ [])
+  one ps was =
+      let listed = c.in_ok-leave_out_listed.ensures in
+      let on = c.in_ok-next.ensures.open t tells still in
+      tables_more t.base.image ps c.loop-left.number c.chain_read.new.page c.args.rest.now c.loop-left.rest c.leave_out_listed.new.rest reads
+      (g.H.Host.world c.loop-left.host).reads (g.H.Host.world c.chain_read.new.host).reads (g.H.Host.world c.leave_out_listed.new.host).reads read was (c.in_ok-next.ensures.once tells) (listed.test t tells on) (listed.rest t tells on) (listed.once t tells on)
+
+  -- it leads on
+  onward : c.in_ok-next.next ≢ 0 → Walks Catalogue t.base.image (λ ps. OutAfter ps) (c.loop-left.left - 1) c.in_ok-next.next
+  onward leads =
+      walks_next Catalogue t.base.image (λ ps. OutBefore ps) c.loop-left.left c.loop-left.number c.loop-left-test.true (c.loop-left.invariant.walks t tells is formed) (c.in_ok-next.ensures.test t tells still)
+      (λ ps. OutAfter ps) one c.in_ok-next.next (c.in_ok-next.ensures.next ∙ ap next_in read) leads
+
+  -- or is the last
+  all : c.in_ok-next.next ≡ 0 → AreOut t.base.image (tables t.base.image) c.args.rest.now c.leave_out_listed.new.rest (reads + length (found_pages Catalogue t.base.image)) (g.H.Host.world c.leave_out_listed.new.host).reads
+  all end =
+      subst (λ (cs : List Chain). AreOut t.base.image cs c.args.rest.now c.leave_out_listed.new.rest (reads + length (found_pages Catalogue t.base.image)) (g.H.Host.world c.leave_out_listed.new.host).reads) (tables_are t.base.image)
+      (walks_all Catalogue t.base.image (λ ps. OutBefore ps) c.loop-left.left c.loop-left.number c.loop-left-test.true (c.loop-left.invariant.walks t tells is formed) (c.in_ok-next.ensures.test t tells still)
+      (λ ps. OutAfter ps) one c.in_ok-next.next (c.in_ok-next.ensures.next ∙ ap next_in read) end)
 
 pub loop-left-init : goal.loop-left-init
 loop-left-init g c = record {
@@ -73,18 +109,7 @@ loop-left-preserved g c =
     let next = c.in_ok-next.ensures in
     let listed = c.in_ok-leave_out_listed.ensures in
     record {
-      walks = λ t tells is formed.
-          let image = t.base.image in
-          let reads : ℕ = (g.H.Host.world c.args.host.now).reads in
-          let still = l.invariant.opened t tells is in
-          let on = next.open t tells still in
-          let at = next.page t tells still in
-          walks_next Catalogue image (Out image c.args.rest.now l.rest reads (g.H.Host.world l.host).reads) l.left l.number c.loop-left-test.true (l.invariant.walks t tells is formed) (next.test t tells still)
-          (Out image c.args.rest.now c.leave_out_listed.new.rest reads (g.H.Host.world c.leave_out_listed.new.host).reads)
-          (λ ps was.
-          tables_more image ps l.number c.chain_read.new.page c.args.rest.now l.rest c.leave_out_listed.new.rest reads (g.H.Host.world l.host).reads (g.H.Host.world c.chain_read.new.host).reads (g.H.Host.world c.leave_out_listed.new.host).reads at was (next.once tells)
-          (listed.test t tells on) (listed.rest t tells on) (listed.once t tells on))
-          c.in_ok-next.next (next.next ∙ ap next_in at) c.if-next-eq0.false;
+      walks = λ t tells is formed. onward g (goal.at.loop-left-preserved g c).In_ok-leave_out_listed t tells is formed c.if-next-eq0.false;
       kept = listed.room ∙ l.invariant.kept;
       sized = listed.sized ∙ l.invariant.sized;
       listed_sized = next.sized ∙ l.invariant.listed_sized;
@@ -95,61 +120,13 @@ loop-left-preserved g c =
     }
 
 pub returns-then-next-eq0-clause-test : goal.returns-then-next-eq0-clause-test
-returns-then-next-eq0-clause-test g c t tells is formed =
-    let l = c.loop-left in
-    let next = c.in_ok-next.ensures in
-    let listed = c.in_ok-leave_out_listed.ensures in
-    let image = t.base.image in
-    let reads : ℕ = (g.H.Host.world c.args.host.now).reads in
-    let still = l.invariant.opened t tells is in
-    let on = next.open t tells still in
-    let at = next.page t tells still in
-    let all : Out image c.args.rest.now c.leave_out_listed.new.rest reads (g.H.Host.world c.leave_out_listed.new.host).reads (found_pages Catalogue image) =
-    walks_all Catalogue image (Out image c.args.rest.now l.rest reads (g.H.Host.world l.host).reads) l.left l.number c.loop-left-test.true (l.invariant.walks t tells is formed) (next.test t tells still)
-    (Out image c.args.rest.now c.leave_out_listed.new.rest reads (g.H.Host.world c.leave_out_listed.new.host).reads)
-    (λ ps was.
-    tables_more image ps l.number c.chain_read.new.page c.args.rest.now l.rest c.leave_out_listed.new.rest reads (g.H.Host.world l.host).reads (g.H.Host.world c.chain_read.new.host).reads (g.H.Host.world c.leave_out_listed.new.host).reads at was (next.once tells)
-    (listed.test t tells on) (listed.rest t tells on) (listed.once t tells on))
-    c.in_ok-next.next (next.next ∙ ap next_in at) c.if-next-eq0.true in
-    ap (chains_cause image) (sym (tables_are image)) ∙ all.formed
+returns-then-next-eq0-clause-test g c t tells is formed = (all g (goal.at.returns-then-next-eq0-clause-test g c).In_ok-leave_out_listed t tells is formed c.if-next-eq0.true).formed
 
 pub returns-then-next-eq0-clause-rest : goal.returns-then-next-eq0-clause-rest
-returns-then-next-eq0-clause-rest g c t tells is formed =
-    let l = c.loop-left in
-    let next = c.in_ok-next.ensures in
-    let listed = c.in_ok-leave_out_listed.ensures in
-    let image = t.base.image in
-    let reads : ℕ = (g.H.Host.world c.args.host.now).reads in
-    let still = l.invariant.opened t tells is in
-    let on = next.open t tells still in
-    let at = next.page t tells still in
-    let all : AreOut image (chains_of_pages image (found_pages Catalogue image)) c.args.rest.now c.leave_out_listed.new.rest (reads + length (found_pages Catalogue image)) (g.H.Host.world c.leave_out_listed.new.host).reads =
-    walks_all Catalogue image (Out image c.args.rest.now l.rest reads (g.H.Host.world l.host).reads) l.left l.number c.loop-left-test.true (l.invariant.walks t tells is formed) (next.test t tells still)
-    (Out image c.args.rest.now c.leave_out_listed.new.rest reads (g.H.Host.world c.leave_out_listed.new.host).reads)
-    (λ ps was.
-    tables_more image ps l.number c.chain_read.new.page c.args.rest.now l.rest c.leave_out_listed.new.rest reads (g.H.Host.world l.host).reads (g.H.Host.world c.chain_read.new.host).reads (g.H.Host.world c.leave_out_listed.new.host).reads at was (next.once tells)
-    (listed.test t tells on) (listed.rest t tells on) (listed.once t tells on))
-    c.in_ok-next.next (next.next ∙ ap next_in at) c.if-next-eq0.true in
-    (subst (λ (cs : List Chain). AreOut image cs c.args.rest.now c.leave_out_listed.new.rest (reads + length (found_pages Catalogue image)) (g.H.Host.world c.leave_out_listed.new.host).reads) (tables_are image) all).out
+returns-then-next-eq0-clause-rest g c t tells is formed = (all g (goal.at.returns-then-next-eq0-clause-rest g c).In_ok-leave_out_listed t tells is formed c.if-next-eq0.true).out
 
 pub returns-then-next-eq0-clause-once : goal.returns-then-next-eq0-clause-once
-returns-then-next-eq0-clause-once g c t tells is formed =
-    let l = c.loop-left in
-    let next = c.in_ok-next.ensures in
-    let listed = c.in_ok-leave_out_listed.ensures in
-    let image = t.base.image in
-    let reads : ℕ = (g.H.Host.world c.args.host.now).reads in
-    let still = l.invariant.opened t tells is in
-    let on = next.open t tells still in
-    let at = next.page t tells still in
-    let all : AreOut image (chains_of_pages image (found_pages Catalogue image)) c.args.rest.now c.leave_out_listed.new.rest (reads + length (found_pages Catalogue image)) (g.H.Host.world c.leave_out_listed.new.host).reads =
-    walks_all Catalogue image (Out image c.args.rest.now l.rest reads (g.H.Host.world l.host).reads) l.left l.number c.loop-left-test.true (l.invariant.walks t tells is formed) (next.test t tells still)
-    (Out image c.args.rest.now c.leave_out_listed.new.rest reads (g.H.Host.world c.leave_out_listed.new.host).reads)
-    (λ ps was.
-    tables_more image ps l.number c.chain_read.new.page c.args.rest.now l.rest c.leave_out_listed.new.rest reads (g.H.Host.world l.host).reads (g.H.Host.world c.chain_read.new.host).reads (g.H.Host.world c.leave_out_listed.new.host).reads at was (next.once tells)
-    (listed.test t tells on) (listed.rest t tells on) (listed.once t tells on))
-    c.in_ok-next.next (next.next ∙ ap next_in at) c.if-next-eq0.true in
-    (subst (λ (cs : List Chain). AreOut image cs c.args.rest.now c.leave_out_listed.new.rest (reads + length (found_pages Catalogue image)) (g.H.Host.world c.leave_out_listed.new.host).reads) (tables_are image) all).few
+returns-then-next-eq0-clause-once g c t tells is formed = (all g (goal.at.returns-then-next-eq0-clause-once g c).In_ok-leave_out_listed t tells is formed c.if-next-eq0.true).few
 
 pub returns-clause-test : goal.returns-clause-test
 returns-clause-test g c t tells is formed =

@@ -19,7 +19,7 @@ use Rattle.nb_alloc.proofs.DoesLaws.{tries_after}
 use Rattle.nb_model.specs.Backups.{room_in}
 use Rattle.nb_copy.specs.Starting.{ask_in, ask_by}
 use Rattle.nb_state.proofs.TurnLaws.{given_guid}
-use Rattle.nb_copy.proofs.StartLaws.{start_failed, given_later, given_before}
+use Rattle.nb_copy.proofs.StartLaws.{start_failed, given_later, given_before, starts_of, starts_passed}
 use Rattle.nb_gather.specs.Making.{IsEmpty}
 use Rattle.nb_copy.proofs.InUseLaws.{free_apart}
 use Rattle.nb_gather.proofs.QuietLaws.{is_made}
@@ -37,18 +37,16 @@ returns-in_err-head-clause-turn g c s t tells same runs is free plain given =
     let mid = g.H.Host.world c.check_start.new.host in
     let seen : Seen = record s { base = t.base } in
     let fault = c.in_err-head.field-0.0 in
-    subst (λ (x : Base). StartsBackup c.from_residual.result old mid c.args.engine.now c.check_start.new.engine t c.args.name.now (next_guid s.given) (turn_since (record s { base = x }) c.args.session c.args.since c.args.name.now)) same
-    (subst (λ (r : Result Backed Fault). StartsBackup r old mid c.args.engine.now c.check_start.new.engine t c.args.name.now (next_guid s.given) (turn_since seen c.args.session c.args.since c.args.name.now)) (sym (passed_on c.from_residual.result fault c.from_residual.ensures))
-    (start_failed old mid c.args.engine.now c.check_start.new.engine t seen c.args.session c.args.since c.args.name.now refl runs is c.check_start.ensures.same c.check_start.ensures.quiet (c.check_start.ensures.open t tells is) fault (c.in_err-head.ensures.test seen t tells refl is (λ zero. free (sym (ap (λ (b : Base). image_state b.image) same) ∙ zero)))))
+    starts_passed c.from_residual.result fault _ _ _ _ t s c.args.session c.args.since c.args.name.now c.from_residual.ensures same
+    (start_failed old mid c.args.engine.now c.check_start.new.engine t seen c.args.session c.args.since c.args.name.now refl runs is c.check_start.ensures.same c.check_start.ensures.quiet (c.check_start.ensures.open t tells is) fault (c.in_err-head.ensures.test seen t tells refl is (λ zero. free (sym (ap (λ (b : Base). image_state b.image) same) ∙ zero))))
 
 pub returns-in_err-file-clause-turn : goal.returns-in_err-file-clause-turn
 returns-in_err-file-clause-turn g c s t tells same runs is free plain given =
     let old = g.H.Host.world c.args.host.now in
     let mid = g.H.Host.world c.check_start.new.host in
     let seen : Seen = record s { base = t.base } in
-    subst (λ (x : Base). StartsBackup c.from_residual-in_err-file.result old mid c.args.engine.now c.check_start.new.engine t c.args.name.now (next_guid s.given) (turn_since (record s { base = x }) c.args.session c.args.since c.args.name.now)) same
-    (subst (λ (r : Result Backed Fault). StartsBackup r old mid c.args.engine.now c.check_start.new.engine t c.args.name.now (next_guid s.given) (turn_since seen c.args.session c.args.since c.args.name.now)) (sym (passed_on c.from_residual-in_err-file.result Memory c.from_residual-in_err-file.ensures))
-    (start_failed old mid c.args.engine.now c.check_start.new.engine t seen c.args.session c.args.since c.args.name.now refl runs is c.check_start.ensures.same c.check_start.ensures.quiet (c.check_start.ensures.open t tells is) Memory tt))
+    starts_passed c.from_residual-in_err-file.result Memory _ _ _ _ t s c.args.session c.args.since c.args.name.now c.from_residual-in_err-file.ensures same
+    (start_failed old mid c.args.engine.now c.check_start.new.engine t seen c.args.session c.args.since c.args.name.now refl runs is c.check_start.ensures.same c.check_start.ensures.quiet (c.check_start.ensures.open t tells is) Memory tt)
 
 pub returns-in_err-head-clause-asks : goal.returns-in_err-head-clause-asks
 returns-in_err-head-clause-asks g c t tells is = (replicate 16 0, refl, inl c.check_start.ensures.quiet.guids)
@@ -69,9 +67,8 @@ returns-in_err-room-clause-turn g c s t tells same runs is free plain given =
     let none = c.in_ok-head.ensures.test seen t tells refl is (λ zero. free (sym (ap (λ (b : Base). image_state b.image) same) ∙ zero)) in
     let here = c.check_start.ensures.open t tells is in
     let tries = tries_after {T = Room} (Err fault) old mid new a c.check_start.new.engine d t (room_cause t.base.image) (room_in t.base.image).draft.strokes c.check_start.ensures.same c.check_start.ensures.quiet is (c.in_err-room.ensures.makes t tells here) in
-    subst (λ (x : Base). StartsBackup c.from_residual-in_err-room.result old new a d t name (next_guid s.given) (turn_since (record s { base = x }) c.args.session c.args.since name)) same
-    (subst (λ (r : Result Backed Fault). StartsBackup r old new a d t name (next_guid s.given) (turn_since seen c.args.session c.args.since name)) (sym (passed_on c.from_residual-in_err-room.result fault c.from_residual-in_err-room.ensures))
-    (start_roomless old new a d t seen c.args.session c.args.since name runs refl is (free_apart old a t name is (c.in_ok-head.ensures.free tells) plain) none Room fault tries))
+    starts_passed c.from_residual-in_err-room.result fault _ _ _ _ t s c.args.session c.args.since name c.from_residual-in_err-room.ensures same
+    (start_roomless old new a d t seen c.args.session c.args.since name runs refl is (free_apart old a t name is (c.in_ok-head.ensures.free tells) plain) none Room fault tries)
 
 pub returns-in_err-room-clause-asks : goal.returns-in_err-room-clause-asks
 returns-in_err-room-clause-asks g c t tells is =
@@ -95,10 +92,9 @@ returns-in_err-make-clause-turn g c s t tells same runs is free plain given =
     let here = c.check_start.ensures.open t tells is in
     let tries = tries_after {T = Room} (Ok c.in_ok-room.room) old mid there a c.check_start.new.engine b t (room_cause t.base.image) (room_in t.base.image).draft.strokes c.check_start.ensures.same c.check_start.ensures.quiet is (c.in_ok-room.ensures.makes t tells here) in
     let file = remade_alone _ _ there made name _ IsEmpty tells (g.met.H.Host.timely _) make.files make.log.said make.time refl in
-    subst (λ (x : Base). StartsBackup c.from_residual-in_err-make.result old made a b t name (next_guid s.given) (turn_since (record s { base = x }) c.args.session c.args.since name)) same
-    (subst (λ (r : Result Backed Fault). StartsBackup r old made a b t name (next_guid s.given) (turn_since seen c.args.session c.args.since name)) (sym (passed_on c.from_residual-in_err-make.result Device c.from_residual-in_err-make.ensures))
+    starts_passed c.from_residual-in_err-make.result Device _ _ _ _ t s c.args.session c.args.since name c.from_residual-in_err-make.ensures same
     (start_unmade old there a b t seen c.args.session c.args.since name runs refl is (free_apart old a t name is (c.in_ok-head.ensures.free tells) plain) none Room c.in_ok-room.room tries made
-    (λ m. g.met.H.Host.reads_left _ tells m) file (record { guids = make.log.guids; times = make.log.times })))
+    (λ m. g.met.H.Host.reads_left _ tells m) file (record { guids = make.log.guids; times = make.log.times }))
 
 pub returns-in_err-make-clause-asks : goal.returns-in_err-make-clause-asks
 returns-in_err-make-clause-asks g c t tells is =
@@ -131,10 +127,9 @@ returns-in_err-head-2-clause-turn g c s t tells same runs is free plain given =
     let gave : GaveNothing there made = record { guids = make.log.guids; times = make.log.times } in
     let opened = made_open old there a b t seen c.args.session c.args.since name runs refl is apart none Room room tries made reads file gave in
     let late = given_later old made new guid (nothing_joined old there made tries.makes.gave gave) given in
-    subst (λ (x : Base). StartsBackup c.from_residual-in_err-head-2.result old new a d t name guid (turn_since (record s { base = x }) c.args.session c.args.since name)) same
-    (subst (λ (r : Result Backed Fault). StartsBackup r old new a d t name guid (turn_since seen c.args.session c.args.since name)) (sym (passed_on c.from_residual-in_err-head-2.result fault c.from_residual-in_err-head-2.ensures))
+    starts_passed c.from_residual-in_err-head-2.result fault _ _ _ _ t s c.args.session c.args.since name c.from_residual-in_err-head-2.ensures same
     (start_unbegun old there a b t seen c.args.session c.args.since name runs refl is apart none Room room tries made reads file gave new d (is_made _ _ _ _ name tells make.files) (λ m. g.met.H.Host.reads_left _ tells m) c.in_ok-head.head fault c.in_err-head-2.ensures.takes_none
-    (c.in_err-head-2.ensures.begins (after_strokes t xs) guid (Some (ask_in c.args.since t.base.image)) tells opened late)))
+    (c.in_err-head-2.ensures.begins (after_strokes t xs) guid (Some (ask_in c.args.since t.base.image)) tells opened late))
 
 pub returns-in_err-head-2-clause-asks : goal.returns-in_err-head-2-clause-asks
 returns-in_err-head-2-clause-asks g c t tells is =
@@ -196,7 +191,7 @@ returns-clause-turn g c s t tells same runs is free plain given =
     let started = started_is old there a b t seen c.args.session c.args.since name runs refl is apart none Room room tries made reads file gave new d empty left bare begun begins room c.in_ok-file.file c.start.new.self c.count.result sixteen (c.in_ok-head.ensures.head t tells is)
     (c.in_ok-room.ensures.room t tells here) (c.in_ok-room.ensures.below t tells here) c.in_ok-file.ensures c.start.ensures c.count.ensures.value nine c.in_ok-head.ensures.previous c.in_ok-head.ensures.sized c.in_ok-head.ensures.size in
     let copier : List ℕ → Backed = λ n. record { backing = record { name = n; ask = ask_by begun; scn = begun.scn; guid = begun.guid; page = room.page; slot = room.slot }; page_size = begun.page_size; file = c.start.new.self } in
-    subst (λ (x : Base). StartsBackup (Ok (copier c.copied.result)) old new a d t name guid (turn_since (record s { base = x }) c.args.session c.args.since name)) same
+    starts_of (Ok (copier c.copied.result)) _ _ _ _ t s c.args.session c.args.since name same
     (subst (λ (n : List ℕ). StartsBackup (Ok (copier n)) old new a d t name guid (turn_since seen c.args.session c.args.since name)) (sym c.copied.ensures)
     (start_done old there a b t seen c.args.session c.args.since name runs refl is apart none Room room tries made reads file gave new d empty left bare begun begins (copier name) started))
 

@@ -2,8 +2,8 @@ use Rattle.std.proofs.Common.{length, sym, subst}
 use Rattle.nb_host.specs.Files.{Files}
 use Rattle.nb_change.specs.Changes.{Only, Moved}
 use Rattle.nb_change.proofs.ChangesLaws.{kept_on}
+use Rattle.nb_change.proofs.ResultLaws.{on_ok}
 use Rattle.nb_delta.specs.Groups.{NotesSome, NotesAll}
-use Rattle.nb_delta.proofs.MoveLaws.{on_any}
 use Rattle.nb_delta.proofs.waiting.note_all.Goals as goal
 
 pub returns-clause-changes : goal.returns-clause-changes
@@ -13,6 +13,6 @@ returns-clause-changes g c tells =
 
 pub returns-clause-noted : goal.returns-clause-noted
 returns-clause-noted g c tells =
-    on_any c.sync_if.result
+    on_ok c.sync_if.result
     (subst (λ (f : Files). NotesAll (length c.args.page.now) c.args.entries.now c.args.first c.args.end ((g.H.Host.world c.args.host.now).files c.args.name.now) (f c.args.name.now)) (sym c.sync_if.ensures.still.files)
     (c.in_ok-note_groups.ensures.noted tells))

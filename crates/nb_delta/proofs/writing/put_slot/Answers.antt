@@ -3,6 +3,7 @@ use Rattle.nb_host.specs.Files.{File, Files}
 use Rattle.nb_change.specs.Changes.{Only, Moved}
 use Rattle.nb_change.proofs.ChangesLaws.{kept_on}
 use Rattle.nb_change.proofs.MovedLaws.{moved_weaker}
+use Rattle.nb_change.proofs.ResultLaws.{on_ok}
 use Rattle.nb_delta.specs.Slots.{Keeps, SlotStep}
 use Rattle.nb_delta.specs.Noting.{MakesRoom, Prepared}
 use Rattle.nb_delta.proofs.StepLaws.{keeps_slot, prepared}
@@ -22,14 +23,6 @@ returns-in_err-make_room-clause-changes g c tells =
     slot_then_room (g.H.Host.world c.args.host.now) (g.H.Host.world c.write_slot.new.host) (g.H.Host.world c.make_room.new.host) c.args.name.now (length bytes) c.requires.size c.args.place (length c.args.page.now) bytes c.requires.room
     (c.write_slot.ensures.changes tells c.args.place c.slot_of.ensures.value) (c.make_room.ensures.changes tells)
 
-pub returns-in_err-sync_if-clause-changes : goal.returns-in_err-sync_if-clause-changes
-returns-in_err-sync_if-clause-changes g c tells =
-    let bytes : List ℕ = c.args.bytes.now in
-    kept_on (g.H.Host.world c.args.host.now) (g.H.Host.world c.make_room.new.host) (g.H.Host.world c.sync_if.new.host) (Only c.args.name.now) (Moved (g.H.Host.world c.args.host.now) c.args.name.now (Keeps (length bytes) c.args.place))
-    (slot_then_room (g.H.Host.world c.args.host.now) (g.H.Host.world c.write_slot.new.host) (g.H.Host.world c.make_room.new.host) c.args.name.now (length bytes) c.requires.size c.args.place (length c.args.page.now) bytes c.requires.room
-    (c.write_slot.ensures.changes tells c.args.place c.slot_of.ensures.value) (c.make_room.ensures.changes tells))
-    c.sync_if.ensures.changes
-
 pub returns-clause-changes : goal.returns-clause-changes
 returns-clause-changes g c tells =
     let bytes : List ℕ = c.args.bytes.now in
@@ -45,6 +38,7 @@ returns-clause-prepared g c tells =
     let old : File = (g.H.Host.world c.args.host.now).files name in
     let first : File = (g.H.Host.world c.write_slot.new.host).files name in
     let second : File = (g.H.Host.world c.make_room.new.host).files name in
-    subst (λ (f : Files). Prepared (length bytes) c.args.place bytes old (f name)) (sym c.sync_if.ensures.still.files)
+    on_ok c.sync_if.result
+    (subst (λ (f : Files). Prepared (length bytes) c.args.place bytes old (f name)) (sym c.sync_if.ensures.still.files)
     (prepared (length bytes) c.requires.size c.args.place bytes old first second (c.in_ok-write_slot.ensures.put tells c.args.place c.slot_of.ensures.value)
-    (subst (λ (n : ℕ). MakesRoom n c.args.place first second) c.requires.room (c.in_ok-make_room.ensures.room tells)))
+    (subst (λ (n : ℕ). MakesRoom n c.args.place first second) c.requires.room (c.in_ok-make_room.ensures.room tells))))

@@ -1,26 +1,23 @@
 use Rattle.std.proofs.Common.{ℕ, ◌*◌, List, length, refl, ap, ◌∙◌, subst}
+use Rattle.std.proofs.lemmas.Result.{on_ok_weaker}
 use Rattle.nb_host.specs.Files.{Files, with_page}
 use Rattle.nb_host.specs.Crash.{PageLeft}
 use Rattle.nb_delta.specs.Slots.{SlotStep}
 use Rattle.nb_change.proofs.CallLaws.{page_alone}
+use Rattle.nb_change.proofs.ResultLaws.{whole_on_ok}
 use Rattle.nb_delta.proofs.MoveLaws.{written}
 use Rattle.nb_delta.proofs.StepLaws.{slot_left, slot_put}
 use Rattle.nb_delta.proofs.writing.write_slot.Goals as goal
-
-pub returns-in_err-write_page-clause-changes : goal.returns-in_err-write_page-clause-changes
-returns-in_err-write_page-clause-changes g c tells k at =
-    let bytes : List ℕ = c.args.bytes.now in
-    page_alone g.H.Host.tells c.write_page.result (g.H.Host.world c.args.host.now) (g.H.Host.world c.write_page.new.self) c.args.name.now (c.args.slot * length bytes) bytes (SlotStep (length bytes) k bytes)
-    tells (g.met.H.Host.timely c.args.host.now) c.write_page.ensures.files c.write_page.ensures.log.said c.write_page.ensures.time
-    (λ b x was left. slot_left (length bytes) c.requires k bytes refl b x (subst (λ (n : ℕ). PageLeft (n * length bytes) bytes b x) at left))
 
 pub returns-clause-put : goal.returns-clause-put
 returns-clause-put g c tells k at =
     let bytes : List ℕ = c.args.bytes.now in
     let old : Files = (g.H.Host.world c.args.host.now).files in
     let new : Files = (g.H.Host.world c.write_page.new.self).files in
-    slot_put (length bytes) c.requires k bytes refl (old c.args.name.now) (new c.args.name.now)
-    (written old new c.args.name.now bytes (c.args.slot * length bytes) (c.in_ok-write_page.ensures.files.files tells) ∙ ap (λ (n : ℕ). with_page (old c.args.name.now) (n * length bytes) bytes) at)
+    on_ok_weaker c.write_page.result
+    (λ put. slot_put (length bytes) c.requires k bytes refl (old c.args.name.now) (new c.args.name.now)
+    (written old new c.args.name.now bytes (c.args.slot * length bytes) put ∙ ap (λ (n : ℕ). with_page (old c.args.name.now) (n * length bytes) bytes) at))
+    (whole_on_ok c.write_page.result _ _ _ (c.write_page.ensures.files.files tells))
 
 pub returns-clause-changes : goal.returns-clause-changes
 returns-clause-changes g c tells k at =

@@ -11,8 +11,8 @@ use Rattle.nb_alloc.specs.Data.{data_cause}
 use Rattle.nb_state.specs.Open.{Held}
 use Rattle.nb_engine.proofs.DataLaws.{data_there, none_there, put_tries}
 use Rattle.nb_alloc.proofs.DoesLaws.{tries_early}
+use Rattle.nb_alloc.proofs.PutLaws.{old_below}
 use Rattle.nb_engine.proofs.LinkLaws.{written_payload, payload_inside}
-use Rattle.nb_alloc.proofs.MakeLaws.{old_below}
 use Rattle.nb_engine.proofs.data.change_data.Goals as goal
 
 pub put_bytes-requires : goal.put_bytes-requires

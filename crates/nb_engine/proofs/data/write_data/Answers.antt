@@ -11,7 +11,7 @@ use Rattle.nb_alloc.specs.Data.{data_cause}
 use Rattle.nb_state.specs.Open.{Held}
 use Rattle.nb_engine.proofs.DataLaws.{data_there, none_there, behind_payload, put_tries}
 use Rattle.nb_alloc.proofs.DoesLaws.{tries_early}
-use Rattle.nb_alloc.proofs.MakeLaws.{old_below}
+use Rattle.nb_alloc.proofs.PutLaws.{old_below}
 use Rattle.nb_engine.proofs.data.write_data.Goals as goal
 
 pub put_behind-requires-clause-head : goal.put_behind-requires-clause-head

@@ -7,7 +7,8 @@ use Rattle.nb_model.specs.Image.{Page, page_at}
 use Rattle.nb_model.specs.Forms.{old_page}
 use Rattle.nb_engine.specs.Room.{linked_payload, write_cause}
 use Rattle.nb_alloc.proofs.DoesLaws.{tries_failed, tries_after}
-use Rattle.nb_alloc.proofs.MakeLaws.{tries_fault, tries_named, old_below}
+use Rattle.nb_alloc.proofs.MakeLaws.{tries_fault, tries_named}
+use Rattle.nb_alloc.proofs.PutLaws.{old_below}
 use Rattle.nb_state.specs.Open.{Held}
 use Rattle.nb_engine.proofs.LinkLaws.{written_payload, payload_inside, write_low, write_past}
 use Rattle.nb_engine.proofs.grow.link.Goals as goal

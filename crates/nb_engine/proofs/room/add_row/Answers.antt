@@ -8,7 +8,8 @@ use Rattle.nb_model.specs.Forms.{old_page}
 use Rattle.nb_model.specs.Chains.{Slot, backup_slot}
 use Rattle.nb_alloc.specs.Put.{entry_cause}
 use Rattle.nb_alloc.proofs.DoesLaws.{tries_after, tries_these}
-use Rattle.nb_alloc.proofs.MakeLaws.{tries_fault, old_below}
+use Rattle.nb_alloc.proofs.MakeLaws.{tries_fault}
+use Rattle.nb_alloc.proofs.PutLaws.{old_below}
 use Rattle.nb_state.specs.Open.{Held}
 use Rattle.nb_engine.proofs.LinkLaws.{written_payload, payload_inside, slot_strokes}
 use Rattle.nb_engine.proofs.room.add_row.Goals as goal
@@ -34,7 +35,7 @@ returns-clause-tries g c t tells is =
     let filled : c.put_slot.new.page ≡ with_payload (old_page p image) payload = now ∙ written_payload at bytes (page_at image p) (omega arith) inside long ∙ ap (λ (x : Page). with_payload x payload) (sym here) in
     let room : 16 + length payload ≤ length (old_page p image) = omega (arith, payload_inside at bytes (page_at image p) (omega arith) inside long, ap length here) in
     let size : IsTrue (is_page_size (image_size image)) = subst (λ (n : ℕ). IsTrue (is_page_size n)) (c.requires.page_room ∙ is.files.agrees.page_size) c.requires.size in
-    tries_these c.put_page.result _ _ _ _ t _ _ _ (λ none. slot_strokes t.base p c.args.room.now.slot bytes size low none)
+    tries_these c.put_page.result _ _ _ _ t _ _ _ (λ none. slot_strokes t.base p c.args.room.now.slot bytes size none)
     (tries_after c.put_page.result _ (g.H.Host.world c.read.new.host) _ _ c.read.new.self _ t _ _ old.same old.quiet is
     (c.put_page.ensures.tries t payload tells (old.open t tells is) room filled))
 

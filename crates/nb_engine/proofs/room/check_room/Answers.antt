@@ -6,8 +6,8 @@ use Rattle.nb_model.specs.Image.{image_size}
 use Rattle.nb_model.specs.Forms.{inventory_of, scn_page_of}
 use Rattle.nb_model.specs.Causes.{first_cause, not_kind, not_of_form, no_scn}
 use Rattle.nb_engine.specs.Room.{taken_draft}
-use Rattle.nb_alloc.proofs.DoesLaws.{tested_on}
-use Rattle.nb_engine.proofs.RoomLaws.{inventory_refused, scn_refused, free_refused, scn_spent, room_free}
+use Rattle.nb_alloc.proofs.DoesLaws.{tested_on, tested_by_name}
+use Rattle.nb_engine.proofs.RoomLaws.{inventory_refused, scn_refused, free_refused, room_cause}
 use Rattle.nb_engine.proofs.room.check_room.Goals as goal
 
 pub returns-in_err-free-clause-test : goal.returns-in_err-free-clause-test
@@ -36,16 +36,6 @@ returns-then-free-clause-test g c t tells is kind =
     let here = free.open t tells is in
     free_refused image p size c.requires.low kind (free.test t tells is) (c.in_ok-check_scn_page.ensures.test t tells here) (sym (free.value t tells is) ∙ c.if-free.true)
 
-pub returns-in_err-check_scn-clause-test : goal.returns-in_err-check_scn-clause-test
-returns-in_err-check_scn-clause-test g c t tells is kind =
-    let image = t.base.image in
-    let p : ℕ = c.args.number in
-    let size : IsTrue (is_page_size (image_size image)) = subst (λ (n : ℕ). IsTrue (is_page_size n)) is.files.agrees.page_size c.requires.size in
-    let free = c.in_ok-free.ensures in
-    let here = free.open t tells is in
-    tested_on (Unit {0}) (Unit {0}) _ _ (no_scn image) (first_cause (not_of_form (taken_draft image p) ∷ no_scn image ∷ [])) c.from_residual-in_err-check_scn.ensures
-    (scn_spent image p size c.requires.low kind (free.test t tells is) (c.in_ok-check_scn_page.ensures.test t tells here) (sym (free.value t tells is) ∙ c.if-free.false)) (c.in_err-check_scn.ensures.test image (c.scn-scn.ensures ∙ is.agrees.scn))
-
 pub returns-clause-test : goal.returns-clause-test
 returns-clause-test g c t tells is kind =
     let image = t.base.image in
@@ -53,4 +43,5 @@ returns-clause-test g c t tells is kind =
     let size : IsTrue (is_page_size (image_size image)) = subst (λ (n : ℕ). IsTrue (is_page_size n)) is.files.agrees.page_size c.requires.size in
     let free = c.in_ok-free.ensures in
     let here = free.open t tells is in
-    room_free image p size c.requires.low kind (free.test t tells is) (c.in_ok-check_scn_page.ensures.test t tells here) (sym (free.value t tells is) ∙ c.if-free.false) (c.in_ok-check_scn.ensures.test image (c.scn-scn.ensures ∙ is.agrees.scn))
+    tested_by_name c.check_scn.result _ _ (room_cause image p size c.requires.low kind (free.test t tells is) (c.in_ok-check_scn_page.ensures.test t tells here) (sym (free.value t tells is) ∙ c.if-free.false))
+    (c.check_scn.ensures.test image (c.scn-scn.ensures ∙ is.agrees.scn))

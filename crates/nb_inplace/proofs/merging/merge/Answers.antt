@@ -1,13 +1,16 @@
 use Rattle.std.proofs.Common.{◌≡◌, ℕ, List, [], ◌∷◌, length, refl, ap, ◌∙◌}
-use Rattle.std.specs.Prelude.{replicate}
+use Rattle.std.specs.Prelude.{replicate, IsTrue}
 use Rattle.nb_fields.specs.Bytes.{bytes_of, with_part}
-use Rattle.nb_model.specs.Image.{Page}
+use Rattle.nb_model.specs.Image.{Page, Numbered}
 use Rattle.nb_model.specs.Strokes.{standby_page}
 use Rattle.nb_fixup.proofs.AnswerLaws.{passed}
 use Rattle.nb_inplace.specs.Merging.{IsDoneBy, KeepsMerged}
-use Rattle.nb_inplace.proofs.MergeLaws.{begun_on, records_on, level_there, counted_on, written, part_left, ended_on, ended_kept}
+use Rattle.nb_inplace.proofs.MergeLaws.{begun_on, records_on, level_there, counted_on, written, part_left, ended_on, ended_kept, IsWritten}
 use Rattle.nb_inplace.proofs.RecordLaws.{fails_so}
 use Rattle.nb_inplace.proofs.merging.merge.Goals as goal
+use Rattle.nb_inplace.proofs.merging.merge.Goals.{After-put-3}
+use Rattle.nb_host.specs.Crash.{IsDurable}
+use Rattle.nb_inplace.specs.Plan.{IsPlan}
 
 pub returns-in_err-begin-clause-left : goal.returns-in_err-begin-clause-left
 returns-in_err-begin-clause-left g c tells guid ps records plan durable =
@@ -53,50 +56,41 @@ last_page : (noted one two last : Page) → one ≡ with_part 65 (bytes_of 1 1) 
 last_page noted one two last is_one is_two is_last =
     is_last ∙ ap (with_part 22 (bytes_of 2 0)) (is_two ∙ ap (with_part 48 (replicate 16 0)) (is_one ∙ ap (λ (b : List ℕ). with_part 65 b noted) one_byte))
 
+-- All but page 0 is written.
+module _ (g : _) (c : goal.After-put-3 g) (tells : IsTrue g.H.Host.tells) (guid : List ℕ) (ps : List Page) (records : List Numbered)
+    (plan : IsPlan (g.H.Host.world c.args.host.now).files c.args.standby.now (length c.args.page.now) c.args.found.now.pages c.args.found.now.is_begun c.args.reader.now c.args.first.now guid ps records)
+    (durable : IsDurable (g.H.Host.world c.args.host.now) c.args.standby.now ((g.H.Host.world c.args.host.now).files c.args.standby.now)) where
+  so_far : IsWritten (g.H.Host.world c.args.host.now) c.args.standby.now (length c.args.page.now) c.args.found.now.pages c.args.found.now.is_begun c.args.reader.now c.args.first.now guid ps records c.requires.size plan
+      (g.H.Host.world c.count_pages.new.host) c.write_records.new.first c.in_ok-count.count
+  so_far =
+      let old = g.H.Host.world c.args.host.now in
+      let was = g.met.H.Host.reads_left c.args.host.now tells c.args.standby.now in
+      let first = begun_on old _ _ _ _ _ _ _ _ _ c.requires.size plan _ was (c.in_ok-begin.ensures.left tells durable) in
+      let kept = c.in_ok-begin.ensures.done tells durable in
+      let there = level_there old _ _ _ _ _ _ _ _ _ c.requires.size plan _ first kept in
+      let pages = c.in_ok-pages.ensures in
+      let count = c.in_ok-count.ensures in
+      let over = pages.pages tells records plan.level.apart there in
+      written old _ _ _ _ _ _ _ _ _ c.requires.size plan _ _ (g.H.Host.world c.count_pages.new.host) first kept (pages.left tells records plan.level.apart there) (g.met.H.Host.reads_left c.write_records.new.host tells) _ over.1 count.quiet
+      _ c.in_ok-count.count (length c.write_records.new.page) over.0 c.write_records.auto.page (count.answer tells)
+
 pub returns-in_err-write_first-clause-left : goal.returns-in_err-write_first-clause-left
 returns-in_err-write_first-clause-left g c tells guid ps records plan durable =
-    let old = g.H.Host.world c.args.host.now in
-    let size = c.requires.size in
-    let was = g.met.H.Host.reads_left c.args.host.now tells c.args.standby.now in
-    let first = begun_on old _ _ _ _ _ _ _ _ _ size plan _ was (c.in_ok-begin.ensures.left tells durable) in
-    let kept = c.in_ok-begin.ensures.done tells durable in
-    let there = level_there old _ _ _ _ _ _ _ _ _ size plan _ first kept in
-    let pages = c.in_ok-pages.ensures in
-    let count = c.in_ok-count.ensures in
-    let over = pages.pages tells records plan.level.apart there in
-    let all = written old _ _ _ _ _ _ _ _ _ size plan _ _ (g.H.Host.world c.count_pages.new.host) first kept (pages.left tells records plan.level.apart there) (g.met.H.Host.reads_left c.write_records.new.host tells) _ over.1 count.quiet
-    _ c.in_ok-count.count (length c.write_records.new.page) over.0 c.write_records.auto.page (count.answer tells) in
+    let all = so_far g (goal.at.returns-in_err-write_first-clause-left g c).After-put-3 tells guid ps records plan durable in
+    let left = g.met.H.Host.reads_left c.count_pages.new.host tells c.args.standby.now in
     let last = last_page _ _ _ _ c.put.ensures.written c.put-2.ensures.written c.put-3.ensures.written in
-    ended_on old _ _ _ _ _ _ _ _ _ size plan _ all.left all.reads (g.met.H.Host.reads_left c.count_pages.new.host tells c.args.standby.now) _ all.holds _ last _ (c.in_err-write_first.ensures.left tells)
+    ended_on (g.H.Host.world c.args.host.now) _ _ _ _ _ _ _ _ _ c.requires.size plan _ all.left all.reads left _ all.holds _ last _ (c.in_err-write_first.ensures.left tells)
 
 pub returns-clause-left : goal.returns-clause-left
 returns-clause-left g c tells guid ps records plan durable =
-    let old = g.H.Host.world c.args.host.now in
-    let size = c.requires.size in
-    let was = g.met.H.Host.reads_left c.args.host.now tells c.args.standby.now in
-    let first = begun_on old _ _ _ _ _ _ _ _ _ size plan _ was (c.in_ok-begin.ensures.left tells durable) in
-    let kept = c.in_ok-begin.ensures.done tells durable in
-    let there = level_there old _ _ _ _ _ _ _ _ _ size plan _ first kept in
-    let pages = c.in_ok-pages.ensures in
-    let count = c.in_ok-count.ensures in
-    let over = pages.pages tells records plan.level.apart there in
-    let all = written old _ _ _ _ _ _ _ _ _ size plan _ _ (g.H.Host.world c.count_pages.new.host) first kept (pages.left tells records plan.level.apart there) (g.met.H.Host.reads_left c.write_records.new.host tells) _ over.1 count.quiet
-    _ c.in_ok-count.count (length c.write_records.new.page) over.0 c.write_records.auto.page (count.answer tells) in
+    let all = so_far g (goal.at.returns-clause-left g c).After-put-3 tells guid ps records plan durable in
+    let left = g.met.H.Host.reads_left c.count_pages.new.host tells c.args.standby.now in
     let last = last_page _ _ _ _ c.put.ensures.written c.put-2.ensures.written c.put-3.ensures.written in
-    ended_on old _ _ _ _ _ _ _ _ _ size plan _ all.left all.reads (g.met.H.Host.reads_left c.count_pages.new.host tells c.args.standby.now) _ all.holds _ last _ (c.in_ok-write_first.ensures.left tells)
+    ended_on (g.H.Host.world c.args.host.now) _ _ _ _ _ _ _ _ _ c.requires.size plan _ all.left all.reads left _ all.holds _ last _ (c.in_ok-write_first.ensures.left tells)
 
 pub returns-clause-done : goal.returns-clause-done
 returns-clause-done g c tells guid ps records plan durable =
-    let old = g.H.Host.world c.args.host.now in
-    let size = c.requires.size in
-    let was = g.met.H.Host.reads_left c.args.host.now tells c.args.standby.now in
-    let first = begun_on old _ _ _ _ _ _ _ _ _ size plan _ was (c.in_ok-begin.ensures.left tells durable) in
-    let kept = c.in_ok-begin.ensures.done tells durable in
-    let there = level_there old _ _ _ _ _ _ _ _ _ size plan _ first kept in
-    let pages = c.in_ok-pages.ensures in
-    let count = c.in_ok-count.ensures in
-    let over = pages.pages tells records plan.level.apart there in
-    let all = written old _ _ _ _ _ _ _ _ _ size plan _ _ (g.H.Host.world c.count_pages.new.host) first kept (pages.left tells records plan.level.apart there) (g.met.H.Host.reads_left c.write_records.new.host tells) _ over.1 count.quiet
-    _ c.in_ok-count.count (length c.write_records.new.page) over.0 c.write_records.auto.page (count.answer tells) in
+    let all = so_far g (goal.at.returns-clause-done g c).After-put-3 tells guid ps records plan durable in
+    let left = g.met.H.Host.reads_left c.count_pages.new.host tells c.args.standby.now in
     let last = last_page _ _ _ _ c.put.ensures.written c.put-2.ensures.written c.put-3.ensures.written in
-    ended_kept old _ _ _ _ _ _ _ _ _ size plan _ all.left all.reads (g.met.H.Host.reads_left c.count_pages.new.host tells c.args.standby.now) _ all.holds _ last _ _ all.counted (c.in_ok-write_first.ensures.done tells)
+    ended_kept (g.H.Host.world c.args.host.now) _ _ _ _ _ _ _ _ _ c.requires.size plan _ all.left all.reads left _ all.holds _ last _ _ all.counted (c.in_ok-write_first.ensures.done tells)

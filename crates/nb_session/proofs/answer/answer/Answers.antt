@@ -1,6 +1,7 @@
 use Rattle.std.proofs.Common.{◌≡◌, [], sym, subst}
 use Rattle.std.specs.Prelude.{if◌then◌else◌, Bool, None}
 use Rattle.nb_model.specs.Output.{status_after}
+use Rattle.nb_session.specs.declared.task.Taken.{Taken}
 use Rattle.nb_session.specs.Replies.{some_said}
 use Rattle.nb_session.proofs.EventLaws.{marks_none}
 use Rattle.nb_session.proofs.KeepLaws.{one_single}
@@ -12,14 +13,14 @@ pub returns-in_err-reply-clause-turn : goal.returns-in_err-reply-clause-turn
 returns-in_err-reply-clause-turn g c now t more tells ready makes here =
     let old = g.H.Host.world c.args.host.now in
     let mid = g.H.Host.world c.do_statement.new.host in
-    turns_failed c.args.told some_said _ (λ (refused : Bool). refused) (λ (refused : Bool). None) old mid mid _ _ t now c.args.session _ [] more [] (begins_touch c.args.session c.args.statement.now now (one_turn_plain c.args.statement.now c.requires.single)) makes here
+    turns_failed c.args.told some_said _ (λ (x : Taken). x.refused) (λ (x : Taken). x.task) old mid mid _ _ t now c.args.session _ [] more [] (begins_touch c.args.session c.args.statement.now now (one_turn_plain c.args.statement.now c.requires.single)) makes here
     (c.do_statement.ensures.turn now t c.args.session tells ready) (λ acts. marks_none old mid _) c.from_residual.result c.from_residual.ensures.0
 
 pub returns-in_err-tell-clause-turn : goal.returns-in_err-tell-clause-turn
 returns-in_err-tell-clause-turn g c now t more tells ready makes here =
     let old = g.H.Host.world c.args.host.now in
     let mid = g.H.Host.world c.do_statement.new.host in
-    turns_unsaid c.args.told some_said _ (λ (refused : Bool). refused) (λ (refused : Bool). None) old mid (g.H.Host.world c.tell.new.host) _ _ t now c.args.session _ [] more [] (begins_touch c.args.session c.args.statement.now now (one_turn_plain c.args.statement.now c.requires.single)) makes here
+    turns_unsaid c.args.told some_said _ (λ (x : Taken). x.refused) (λ (x : Taken). x.task) old mid (g.H.Host.world c.tell.new.host) _ _ t now c.args.session _ [] more [] (begins_touch c.args.session c.args.statement.now now (one_turn_plain c.args.statement.now c.requires.single)) makes here
     (c.do_statement.ensures.turn now t c.args.session tells ready) (λ acts. marks_none old mid _)
     c.in_ok-reply.ensures.ended c.in_ok-reply.reply c.in_ok-reply.ensures.said c.tell.result (c.tell.ensures.line tells) ready
     c.from_residual-in_err-tell.result c.from_residual-in_err-tell.ensures.0
@@ -29,9 +30,9 @@ returns-clause-turn g c now t more tells ready makes here =
     let old = g.H.Host.world c.args.host.now in
     let mid = g.H.Host.world c.do_statement.new.host in
     let new = g.H.Host.world c.tell.new.host in
-    turns_said c.args.told some_said _ (λ (refused : Bool). refused) (λ (refused : Bool). None) old mid new _ _ t now c.args.session _ [] more [] (begins_touch c.args.session c.args.statement.now now (one_turn_plain c.args.statement.now c.requires.single)) makes here
+    turns_said c.args.told some_said _ (λ (x : Taken). x.refused) (λ (x : Taken). x.task) old mid new _ _ t now c.args.session _ [] more [] (begins_touch c.args.session c.args.statement.now now (one_turn_plain c.args.statement.now c.requires.single)) makes here
     (c.do_statement.ensures.turn now t c.args.session tells ready) (λ acts. marks_none old mid _)
     c.in_ok-reply.ensures.ended c.in_ok-reply.reply c.in_ok-reply.ensures.said c.tell.result (c.tell.ensures.line tells) ready
-    c.is_refusal-refused.result (c.in_ok-tell.ensures.line tells).said
+    (record { task = None; refused = c.is_refusal-refused.result }) (c.in_ok-tell.ensures.line tells).said
     (λ is. subst (λ (b : Bool). status_after c.in_ok-reply.reply ≡ (if b then 1 else 0)) (sym c.is_refusal-refused.ensures) (status_told c.args.session c.args.statement.now now c.in_ok-reply.reply is))
     (λ told. single_behind new _ c.args.session c.args.statement.now now (one_single c.args.statement.now c.requires.single))

@@ -1,9 +1,6 @@
-use Rattle.std.proofs.Common.{[], refl, sym, ap, subst}
+use Rattle.std.proofs.Common.{[], sym, ap, subst}
 use Rattle.std.specs.Prelude.{Ok, Err, None}
 use Rattle.nb_host.specs.declared.faults.Fault.{Fault}
-use Rattle.nb_host.specs.declared.faults.Fault.TheVariants.{Refused, Device, Memory}
-use Rattle.nb_host.specs.declared.faults.RunError.TheVariants.{Device as DeviceError, Memory as MemoryError}
-use Rattle.nb_model.specs.declared.reply.Reply.TheVariants.{Refused as RefusedBy}
 use Rattle.nb_model.specs.Outcomes.{Begins, Given, next_guid}
 use Rattle.nb_model.specs.Turns.{first_turn}
 use Rattle.nb_state.specs.Turns.{GaveAtMost}
@@ -13,8 +10,9 @@ use Rattle.nb_session.specs.Askers.{file_asked}
 use Rattle.nb_session.specs.Steps.{begun_in, IsBehind}
 use Rattle.nb_session.proofs.BackupLaws.{file_plain, no_delta, seen_with, knows_free, starts_told, start_acts, start_apart, start_behind, start_refused}
 use Rattle.nb_session.proofs.EventLaws.{marks_made}
+use Rattle.nb_session.proofs.StepLaws.{counts_as}
 use Rattle.nb_session.proofs.TouchingLaws.{start_touch}
-use Rattle.nb_session.proofs.TurnLaws.{turns_failed, turns_quiet, turns_refused, status_told}
+use Rattle.nb_session.proofs.TurnLaws.{seen_now, turns_quiet, begun_ended}
 use Rattle.nb_session.proofs.copies.begin_backup.Goals as goal
 
 pub returns-in-Ok-clause-turn : goal.returns-in-Ok-clause-turn
@@ -35,57 +33,26 @@ returns-in-Ok-clause-turn g c how now t more tells ready makes here =
     (λ told. subst (λ (x : Taken). IsBehind mid b session (Begins it) [] now x.task) (sym c.under_way.ensures)
     (start_behind old mid a b t now session it asks ready c.in-Ok.copier (next_guid now.given) plain (starts_told old mid a b t now session it asks ready (Ok c.in-Ok.copier) starts asked.0 asked.2 told)))
 
-pub returns-in-Err-Refused-clause-turn : goal.returns-in-Err-Refused-clause-turn
-returns-in-Err-Refused-clause-turn g c how now t more tells ready makes here =
+pub returns-in-Err-clause-turn : goal.returns-in-Err-clause-turn
+returns-in-Err-clause-turn g c how now t more tells ready makes here =
     let old = g.H.Host.world c.args.host.now in
     let mid = g.H.Host.world c.start.new.host in
-    let new = g.H.Host.world c.say_refused.new.host in
+    let new = g.H.Host.world c.end_early.new.host in
     let a = c.args.engine.now in
     let b = c.start.new.engine in
     let session = c.args.session in
     let it = c.args.statement.now in
     let asks = c.requires.backup in
     let plain = file_plain it asks c.requires.asked.fits in
-    let refusal = c.in-Err-Refused.refusal in
-    let asked = c.in-Err-Refused.ensures.asks t tells ready.opened in
-    let starts = λ (given : Given) (most : GaveAtMost old mid (next_guid given)).
-    subst (λ (f : Fault). StartsBackup (Err f) old mid a b t (file_asked it) (next_guid given) (first_turn (seen_with now given) session it)) c.in-Err-Refused.field-0-is
-    (c.in-Err-Refused.ensures.turn (seen_with now given) t tells ready.base ready.running ready.opened (knows_free old a t now (file_asked it) ready makes.going plain) (no_delta a (file_asked it) plain) most) in
-    turns_refused how (λ copier. None) refusal old mid new a b t now session (Begins it) [] more (begun_in session (Begins it) now) (start_touch session it now) makes here
-    (start_acts old mid a b t now session it asks ready (Err (Refused refusal)) starts asked.0 asked.2 asked.1 c.start.ensures.cap) (marks_made (λ (copier : Backed). None) (Err (Refused refusal)) old mid a b t now session (Begins it) (begun_in session (Begins it) now) (start_apart old mid a b t now session it asks ready plain) (λ m. g.met.H.Host.reads_left c.start.new.host tells m)) ready c.say_refused.result (c.say_refused.ensures.line tells) c.say_refused.ensures.taken
-    (λ is. status_told session it now (RefusedBy refusal) is)
-    (λ told. start_refused old mid a b t now session it asks ready refusal (next_guid now.given) (starts_told old mid a b t now session it asks ready (Err (Refused refusal)) starts asked.0 asked.2 told) new)
+    let fault = c.in-Err.fault in
+    let asked = c.in-Err.ensures.asks t tells ready.opened in
+    let starts = λ (given : Given) (most : GaveAtMost old mid (next_guid given)). c.in-Err.ensures.turn (seen_with now given) t tells ready.base ready.running ready.opened (knows_free old a t now (file_asked it) ready makes.going plain) (no_delta a (file_asked it) plain) most in
+    begun_ended how (λ copier. None) old mid new a b t now session it more (begun_in session (Begins it) now) (start_touch session it now) makes here ready fault
+    (start_acts old mid a b t now session it asks ready (Err fault) starts asked.0 asked.2 asked.1 c.start.ensures.cap)
+    (marks_made (λ (copier : Backed). None) (Err fault) old mid a b t now session (Begins it) (begun_in session (Begins it) now) (start_apart old mid a b t now session it asks ready plain) (λ m. g.met.H.Host.reads_left c.start.new.host tells m))
+    c.end_early.result (c.end_early.ensures.ended tells) c.end_early.ensures.taken
+    (λ refusal is told. start_refused old mid a b t now session it asks ready refusal (next_guid now.given)
+    (subst (λ (f : Fault). StartsBackup (Err f) old mid a b t (file_asked it) (next_guid now.given) (first_turn (seen_now now) session it)) is (starts_told old mid a b t now session it asks ready (Err fault) starts asked.0 asked.2 told)) new)
 
-pub returns-in-Err-Device-clause-turn : goal.returns-in-Err-Device-clause-turn
-returns-in-Err-Device-clause-turn g c how now t more tells ready makes here =
-    let old = g.H.Host.world c.args.host.now in
-    let mid = g.H.Host.world c.start.new.host in
-    let a = c.args.engine.now in
-    let b = c.start.new.engine in
-    let session = c.args.session in
-    let it = c.args.statement.now in
-    let asks = c.requires.backup in
-    let plain = file_plain it asks c.requires.asked.fits in
-    let asked = c.in-Err-Device.ensures.asks t tells ready.opened in
-    let starts = λ (given : Given) (most : GaveAtMost old mid (next_guid given)).
-    subst (λ (f : Fault). StartsBackup (Err f) old mid a b t (file_asked it) (next_guid given) (first_turn (seen_with now given) session it)) c.in-Err-Device.field-0-is
-    (c.in-Err-Device.ensures.turn (seen_with now given) t tells ready.base ready.running ready.opened (knows_free old a t now (file_asked it) ready makes.going plain) (no_delta a (file_asked it) plain) most) in
-    turns_failed how (λ copier. None) (Err Device) (λ (taken : Taken). taken.refused) (λ (taken : Taken). taken.task) old mid mid a b t now session (Begins it) [] more (begun_in session (Begins it) now) (start_touch session it now) makes here
-    (start_acts old mid a b t now session it asks ready (Err Device) starts asked.0 asked.2 asked.1 c.start.ensures.cap) (marks_made (λ (copier : Backed). None) (Err Device) old mid a b t now session (Begins it) (begun_in session (Begins it) now) (start_apart old mid a b t now session it asks ready plain) (λ m. g.met.H.Host.reads_left c.start.new.host tells m)) (Err DeviceError) refl
-
-pub returns-in-Err-Memory-clause-turn : goal.returns-in-Err-Memory-clause-turn
-returns-in-Err-Memory-clause-turn g c how now t more tells ready makes here =
-    let old = g.H.Host.world c.args.host.now in
-    let mid = g.H.Host.world c.start.new.host in
-    let a = c.args.engine.now in
-    let b = c.start.new.engine in
-    let session = c.args.session in
-    let it = c.args.statement.now in
-    let asks = c.requires.backup in
-    let plain = file_plain it asks c.requires.asked.fits in
-    let asked = c.in-Err-Memory.ensures.asks t tells ready.opened in
-    let starts = λ (given : Given) (most : GaveAtMost old mid (next_guid given)).
-    subst (λ (f : Fault). StartsBackup (Err f) old mid a b t (file_asked it) (next_guid given) (first_turn (seen_with now given) session it)) c.in-Err-Memory.field-0-is
-    (c.in-Err-Memory.ensures.turn (seen_with now given) t tells ready.base ready.running ready.opened (knows_free old a t now (file_asked it) ready makes.going plain) (no_delta a (file_asked it) plain) most) in
-    turns_failed how (λ copier. None) (Err Memory) (λ (taken : Taken). taken.refused) (λ (taken : Taken). taken.task) old mid mid a b t now session (Begins it) [] more (begun_in session (Begins it) now) (start_touch session it now) makes here
-    (start_acts old mid a b t now session it asks ready (Err Memory) starts asked.0 asked.2 asked.1 c.start.ensures.cap) (marks_made (λ (copier : Backed). None) (Err Memory) old mid a b t now session (Begins it) (begun_in session (Begins it) now) (start_apart old mid a b t now session it asks ready plain) (λ m. g.met.H.Host.reads_left c.start.new.host tells m)) (Err MemoryError) refl
+pub returns-in-Err-clause-cause : goal.returns-in-Err-clause-cause
+returns-in-Err-clause-cause g c = c.end_early.ensures.cause _ (counts_as Backed Taken c.in-Err.fault _ _ c.in-Err.ensures.cause)

@@ -1,4 +1,4 @@
-use Rattle.std.proofs.Common.{[], ◌++◌, refl, ap, subst, ◌∙◌}
+use Rattle.std.proofs.Common.{[], refl, subst, arith}
 use Rattle.std.specs.Prelude.{Ok, Err, Some}
 use Rattle.nb_host.specs.declared.faults.Fault.TheVariants.{Device}
 use Rattle.nb_model.specs.declared.reply.Reply.{Reply}
@@ -9,14 +9,15 @@ use Rattle.nb_state.specs.declared.turns.Progress.{Progress}
 use Rattle.nb_state.specs.declared.turns.Progress.TheVariants.{More, Finished}
 use Rattle.nb_session.specs.Askers.{left_refused, left_task}
 use Rattle.nb_session.specs.declared.task.Left.TheVariants.{Same}
+use Rattle.nb_session.specs.declared.task.Task.TheVariants.{Merge}
 use Rattle.nb_session.proofs.EventLaws.{marks_none}
 use Rattle.nb_session.proofs.TouchingLaws.{merges_touch}
 use Rattle.nb_session.proofs.MergeLaws.{merge_said, merge_acts, more_behind, finished_behind}
-use Rattle.nb_session.proofs.TurnLaws.{turns_failed, turns_quiet, turns_unsaid, turns_said, status_none}
+use Rattle.nb_session.proofs.TurnLaws.{turns_failed, turns_quiet, turns_told, last_falls, last_fits, status_none}
 use Rattle.nb_session.proofs.merges.merge_on.Goals as goal
 
 pub returns-in_err-merge_turn-clause-turn : goal.returns-in_err-merge_turn-clause-turn
-returns-in_err-merge_turn-clause-turn g c now t more tells ready makes here =
+returns-in_err-merge_turn-clause-turn g c now t more tells ready makes here goes_on =
     let old = g.H.Host.world c.args.host.now in
     let mid = g.H.Host.world c.merge_turn.new.host in
     let a = c.args.engine.now in
@@ -27,7 +28,7 @@ returns-in_err-merge_turn-clause-turn g c now t more tells ready makes here =
     c.from_residual.result c.from_residual.ensures.0
 
 pub returns-in-More-clause-turn : goal.returns-in-More-clause-turn
-returns-in-More-clause-turn g c now t more tells ready makes here =
+returns-in-More-clause-turn g c now t more tells ready makes here goes_on =
     let old = g.H.Host.world c.args.host.now in
     let mid = g.H.Host.world c.merge_turn.new.host in
     let a = c.args.engine.now in
@@ -39,29 +40,23 @@ returns-in-More-clause-turn g c now t more tells ready makes here =
     (merge_acts old mid a b t now c.args.session m.reply ready c.merge_turn.ensures.cap (Ok More) m.left c.requires.fits.0 merges) (λ acts. marks_none old mid a)
     Same tt refl ready (λ said is. is) (λ told. more_behind c.args.session m.reply a b mid now m.left c.requires.fits.0 goes)
 
-pub returns-in_err-tell-in-Finished-clause-turn : goal.returns-in_err-tell-in-Finished-clause-turn
-returns-in_err-tell-in-Finished-clause-turn g c now t more tells ready makes here =
+pub returns-in-Finished-clause-turn : goal.returns-in-Finished-clause-turn
+returns-in-Finished-clause-turn g c now t more tells ready makes here goes_on =
     let old = g.H.Host.world c.args.host.now in
     let mid = g.H.Host.world c.merge_turn.new.host in
-    let a = c.args.engine.now in
-    let b = c.merge_turn.new.self in
-    let m = c.args.merging.now in
-    let merges = subst (λ (p : Progress). Merges (Ok p) old mid a b t) c.in-Finished.is (c.in_ok-merge_turn.ensures.merges t tells ready.opened) in
-    turns_unsaid c.args.told (merge_said m.reply) (Ok Finished) left_refused (left_task _) old mid (g.H.Host.world c.tell.new.host) a b t now c.args.session _ _ more [] (merges_touch c.args.session m.left m.reply now) makes here
-    (merge_acts old mid a b t now c.args.session m.reply ready c.merge_turn.ensures.cap (Ok Finished) m.left c.requires.fits.0 merges) (λ acts. marks_none old mid a)
-    tt m.reply (λ said is. is) c.tell.result (subst (λ (r : Reply). SaysLine c.tell.result mid (g.H.Host.world c.tell.new.host) (told_line c.args.session (told_reply c.args.told (Some r)))) c.replace-reply.ensures.value (c.tell.ensures.line tells)) ready c.from_residual-in_err-tell-in-Finished.result c.from_residual-in_err-tell-in-Finished.ensures.0
-
-pub returns-in_ok-tell-in-Finished-clause-turn : goal.returns-in_ok-tell-in-Finished-clause-turn
-returns-in_ok-tell-in-Finished-clause-turn g c now t more tells ready makes here =
-    let old = g.H.Host.world c.args.host.now in
-    let mid = g.H.Host.world c.merge_turn.new.host in
-    let new = g.H.Host.world c.tell.new.host in
+    let new = g.H.Host.world c.tell_last.new.host in
     let a = c.args.engine.now in
     let b = c.merge_turn.new.self in
     let m = c.args.merging.now in
     let merges = subst (λ (p : Progress). Merges (Ok p) old mid a b t) c.in-Finished.is (c.in_ok-merge_turn.ensures.merges t tells ready.opened) in
     let goes = subst (λ (p : Progress). GoesOn p a b) c.in-Finished.is c.in_ok-merge_turn.ensures.goes in
-    turns_said c.args.told (merge_said m.reply) (Ok Finished) left_refused (left_task _) old mid new a b t now c.args.session _ _ more [] (merges_touch c.args.session m.left m.reply now) makes here
+    let says = subst (λ (r : Reply). SaysLine c.tell_last.result mid new (told_line c.args.session (told_reply c.args.told (Some r)))) c.replace-reply.ensures.value (c.tell_last.ensures.line tells) in
+    turns_told c.tell_last.result c.tell_last.ensures.left c.args.told (merge_said m.reply) (Ok Finished) _ old mid new a b t now c.args.session _ _ more [] (merges_touch c.args.session m.left m.reply now) makes here
     (merge_acts old mid a b t now c.args.session m.reply ready c.merge_turn.ensures.cap (Ok Finished) m.left c.requires.fits.0 merges) (λ acts. marks_none old mid a)
-    tt m.reply (λ said is. is) c.tell.result (subst (λ (r : Reply). SaysLine c.tell.result mid (g.H.Host.world c.tell.new.host) (told_line c.args.session (told_reply c.args.told (Some r)))) c.replace-reply.ensures.value (c.tell.ensures.line tells)) ready _ ((c.in_ok-tell-in-Finished.ensures.line tells).said ∙ ap (λ (r : Reply). mid.said ++ told_line c.args.session (told_reply c.args.told (Some r))) c.replace-reply.ensures.value) (λ is. status_none m.reply c.requires.fits.1)
-    (λ told. finished_behind c.args.session m.reply a b new now m.left c.requires.fits.0 goes)
+    tt m.reply (λ said is. is) ready says (status_none m.reply c.requires.fits.1) (finished_behind c.args.session m.reply a b new now m.left c.requires.fits.0 goes)
+
+pub returns-in-Finished-clause-falls : goal.returns-in-Finished-clause-falls
+returns-in-Finished-clause-falls g c = last_falls c.tell_last.result c.tell_last.ensures.left _ (Merge c.args.merging.now) (omega arith)
+
+pub returns-in-Finished-clause-fits : goal.returns-in-Finished-clause-fits
+returns-in-Finished-clause-fits g c = last_fits c.tell_last.result c.tell_last.ensures.left _ c.args.session c.merge_turn.new.self

@@ -1,5 +1,5 @@
 use Rattle.std.proofs.Common.{◌≡◌, ℕ, ◌-◌, List, [], ◌∷◌, sym, subst}
-use Rattle.std.specs.Prelude.{Result, Bool, None}
+use Rattle.std.specs.Prelude.{Result}
 use Rattle.std.specs.List.{slice_index_or}
 use Rattle.nb_host.specs.World.{World}
 use Rattle.nb_host.specs.declared.faults.RunError.{RunError}
@@ -10,10 +10,7 @@ use Rattle.nb_model.specs.Trail.{Trail}
 use Rattle.nb_state.specs.Open.{Held}
 use Rattle.nb_session.specs.declared.task.Taken.{Taken}
 use Rattle.nb_session.specs.declared.told.Told.{Told}
-use Rattle.nb_session.specs.Askers.{TaskFits}
 use Rattle.nb_session.specs.Steps.{Turns}
-use Rattle.nb_session.proofs.StepLaws.{counts_handed}
-use Rattle.nb_session.proofs.TurnLaws.{handed_turns, handed_none}
 use Rattle.nb_session.proofs.session.begin_statement.Goals as goal
 
 -- the first turn of a statement
@@ -32,26 +29,5 @@ pub returns-in-CopyTo-clause-turn : goal.returns-in-CopyTo-clause-turn
 returns-in-CopyTo-clause-turn g c now t more tells ready makes =
     subst (Begun c.args.told c.begin_copy.result (g.H.Host.world c.args.host.now) (g.H.Host.world c.begin_copy.new.host) c.args.engine.now c.begin_copy.new.engine t now c.args.session more) (sym c.in-CopyTo.is) (c.begin_copy.ensures.turn c.args.told now t more tells ready makes)
 
-pub returns-in_err-refused-in_default : goal.returns-in_err-refused-in_default
-returns-in_err-refused-in_default g c =
-    let error = c.in_err-refused-in_default.field-0.0 in
-    let answer = c.from_residual.result in
-    let handed = c.from_residual.ensures in
-    record {
-      turn = λ now t more tells ready makes here.
-          handed_turns error answer handed c.args.told (λ (refused : Bool). refused) (λ (refused : Bool). None) (g.H.Host.world c.args.host.now) (g.H.Host.world c.answer.new.host) c.args.engine.now c.answer.new.engine t now c.args.session (Begins c.args.statement.now) [] more
-          (c.in_err-refused-in_default.ensures.turn now t more tells ready makes here);
-      fits = handed_none error answer handed (λ (taken : Taken). TaskFits c.args.session taken.task c.answer.new.engine);
-      others = c.answer.ensures.others c.args.session;
-      cause = counts_handed error Bool answer _ _ handed c.in_err-refused-in_default.ensures.cause;
-    }
-
-pub returns-in_ok-refused-in_default : goal.returns-in_ok-refused-in_default
-returns-in_ok-refused-in_default g c = record {
-  turn = λ now t more tells ready makes here.
-      let turns = c.in_ok-refused-in_default.ensures.turn now t more tells ready makes here in
-      record { grows = turns.grows; plays = turns.plays; unchanged = turns.unchanged; behind = turns.behind };
-  fits = tt;
-  others = c.answer.ensures.others c.args.session;
-  cause = c.in_ok-refused-in_default.ensures.cause;
-}
+pub returns-in_default-clause-turn : goal.returns-in_default-clause-turn
+returns-in_default-clause-turn g c now t more tells ready makes here = c.answer.ensures.turn now t more tells ready makes here

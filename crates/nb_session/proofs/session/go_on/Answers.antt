@@ -11,4 +11,4 @@ pub returns-in-Some-End-clause-turn : goal.returns-in-Some-End-clause-turn
 returns-in-Some-End-clause-turn g c now t more tells ready makes = further (under_is c.in-Some-End.is c.in-Some-End.field-0-is) (c.end_backup.ensures.turn c.args.told now t more tells ready makes)
 
 pub returns-in-Some-Merge-clause-turn : goal.returns-in-Some-Merge-clause-turn
-returns-in-Some-Merge-clause-turn g c now t more tells ready makes = further (under_is c.in-Some-Merge.is c.in-Some-Merge.field-0-is) (λ here goes. c.merge_on.ensures.turn now t more tells ready makes here)
+returns-in-Some-Merge-clause-turn g c now t more tells ready makes = further (under_is c.in-Some-Merge.is c.in-Some-Merge.field-0-is) (c.merge_on.ensures.turn now t more tells ready makes)

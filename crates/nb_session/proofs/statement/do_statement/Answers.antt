@@ -1,5 +1,5 @@
-use Rattle.std.proofs.Common.{ℕ, [], refl, ap, sym, ◌∙◌}
-use Rattle.std.specs.Prelude.{Ok, Some}
+use Rattle.std.proofs.Common.{ℕ, [], refl, ap, ◌∙◌}
+use Rattle.std.specs.Prelude.{Ok, Err, Some}
 use Rattle.nb_host.specs.declared.faults.Fault.TheVariants.{Device}
 use Rattle.nb_model.specs.declared.reply.Reply.TheVariants.{Done, PageMade, Value, Scn, ImageShown, CacheShown}
 use Rattle.nb_model.specs.Pages.{write_turn, header_turn}
@@ -8,107 +8,61 @@ use Rattle.nb_engine.specs.Replies.{done, page_made, valued, scn_is}
 use Rattle.nb_shown.specs.Replies.{pages_shown, image_shown}
 use Rattle.nb_state.specs.Open.{Held}
 use Rattle.nb_session.specs.Replies.{some_said}
-use Rattle.nb_session.proofs.ActLaws.{some_by, does_acts, may_passed, may_then_memory, may_value, sync_acts, sync_failed, begin_acts, cache_acts}
+use Rattle.nb_session.proofs.ActLaws.{some_by, does_acts, does_replied, replied_err, replied_memory, may_passed, may_value, sync_acts, sync_failed, begin_acts, cache_acts}
 use Rattle.nb_session.proofs.HeaderLaws.{header_does}
 use Rattle.nb_session.proofs.TurnLaws.{seen_now}
 use Rattle.nb_state.proofs.TurnLaws.{no_call}
 use Rattle.nb_session.proofs.statement.do_statement.Goals as goal
 
-pub returns-in_err-page_write-in-Write-clause-turn : goal.returns-in_err-page_write-in-Write-clause-turn
+pub returns-in-Write-clause-turn : goal.returns-in-Write-clause-turn
 unfolding first_turn
-returns-in_err-page_write-in-Write-clause-turn g c now t session tells ready =
-    let s = seen_now now in
-    may_passed (some_by done) some_said _ _ _ _ t now session _ [] _ c.from_residual.result c.from_residual.ensures
-    (does_acts done _ _ _ _ _ t now session c.args.statement.now _ c.in-Write.is refl refl refl _ (ap (λ text. write_turn s c.in-Write.page text) c.as_slice.ensures) ready
-    (c.in_err-page_write-in-Write.ensures.turn s t tells ready.base ready.opened))
-
-pub returns-in_ok-page_write-in-Write-clause-turn : goal.returns-in_ok-page_write-in-Write-clause-turn
-unfolding first_turn
-returns-in_ok-page_write-in-Write-clause-turn g c now t session tells ready =
-    let s = seen_now now in
-    may_value (some_by done) some_said _ _ _ _ t now session _ [] c.in_ok-page_write-in-Write.field-0 Done refl
-    (does_acts done _ _ _ _ _ t now session c.args.statement.now _ c.in-Write.is refl refl refl _ (ap (λ text. write_turn s c.in-Write.page text) c.as_slice.ensures) ready
-    (c.in_ok-page_write-in-Write.ensures.turn s t tells ready.base ready.opened))
+returns-in-Write-clause-turn g c now t session tells ready =
+    does_replied done c.page_write.result c.done.result c.done.ensures.reply _ _ _ _ t now session c.args.statement.now _ c.in-Write.is refl refl refl _ (ap (λ text. write_turn (seen_now now) c.in-Write.page text) c.as_slice.ensures) ready (c.page_write.ensures.turn (seen_now now) t tells ready.base ready.opened)
 
 pub returns-in_err-text-in-Read-clause-turn : goal.returns-in_err-text-in-Read-clause-turn
 unfolding first_turn
 returns-in_err-text-in-Read-clause-turn g c now t session tells ready =
-    let s = seen_now now in
-    may_passed (some_by valued) some_said _ _ _ _ t now session _ [] _ c.from_residual-in_err-text-in-Read.result c.from_residual-in_err-text-in-Read.ensures
-    (does_acts valued _ _ _ _ _ t now session c.args.statement.now _ c.in-Read.is refl refl refl _ refl ready (c.in_err-text-in-Read.ensures.turn s t tells ready.base ready.opened))
+    does_replied valued (Err c.in_err-text-in-Read.field-0.0) c.from_residual.result (replied_err valued _ c.from_residual.result c.from_residual.ensures) _ _ _ _ t now session c.args.statement.now _ c.in-Read.is refl refl refl _ refl ready
+    (c.in_err-text-in-Read.ensures.turn (seen_now now) t tells ready.base ready.opened)
 
 pub returns-in_err-new-in-Read-clause-turn : goal.returns-in_err-new-in-Read-clause-turn
 unfolding first_turn
 returns-in_err-new-in-Read-clause-turn g c now t session tells ready =
-    let s = seen_now now in
-    may_then_memory (some_by valued) some_said _ _ _ _ t now session _ [] _ _ c.from_residual-in_err-new-in-Read.result c.in_err-new-in-Read.ensures.only_memory c.from_residual-in_err-new-in-Read.ensures
-    (does_acts valued _ _ _ _ _ t now session c.args.statement.now _ c.in-Read.is refl refl refl _ refl ready (c.in_ok-text-in-Read.ensures.turn s t tells ready.base ready.opened))
+    does_replied valued (Ok c.in_ok-text-in-Read.text) c.from_residual-in_err-new-in-Read.result (replied_memory valued _ _ c.from_residual-in_err-new-in-Read.result c.in_err-new-in-Read.ensures.only_memory c.from_residual-in_err-new-in-Read.ensures) _ _ _ _ t now session c.args.statement.now _ c.in-Read.is refl refl refl _ refl ready
+    (c.in_ok-text-in-Read.ensures.turn (seen_now now) t tells ready.base ready.opened)
 
 pub returns-in_ok-new-in-Read-clause-turn : goal.returns-in_ok-new-in-Read-clause-turn
 unfolding first_turn
 returns-in_ok-new-in-Read-clause-turn g c now t session tells ready =
-    let s = seen_now now in
-    may_value (some_by valued) some_said _ _ _ _ t now session _ [] c.in_ok-text-in-Read.text (Value c.in_ok-new-in-Read.field-0)
-    (ap (λ text. Some (Value text)) (sym (c.in_ok-new-in-Read.ensures.ok ∙ c.as_slice-in-Read.ensures.value)))
-    (does_acts valued _ _ _ _ _ t now session c.args.statement.now _ c.in-Read.is refl refl refl _ refl ready (c.in_ok-text-in-Read.ensures.turn s t tells ready.base ready.opened))
+    does_replied valued (Ok c.in_ok-text-in-Read.text) (Ok (Value c.in_ok-new-in-Read.field-0)) (ap Value (c.in_ok-new-in-Read.ensures.ok ∙ c.as_slice-in-Read.ensures.value)) _ _ _ _ t now session c.args.statement.now _ c.in-Read.is refl refl refl _ refl ready
+    (c.in_ok-text-in-Read.ensures.turn (seen_now now) t tells ready.base ready.opened)
 
 pub returns-in_err-page-in-PageNew-clause-turn : goal.returns-in_err-page-in-PageNew-clause-turn
 unfolding first_turn
 returns-in_err-page-in-PageNew-clause-turn g c now t session tells ready =
-    let s = seen_now now in
-    may_passed (some_by page_made) some_said _ _ _ _ t now session _ [] _ c.from_residual-in_err-page-in-PageNew.result c.from_residual-in_err-page-in-PageNew.ensures
-    (does_acts page_made _ _ _ _ _ t now session c.args.statement.now _ c.in-PageNew.is refl refl refl _ refl ready
-    (c.in_err-page-in-PageNew.ensures.turn s t tells ready.base ready.opened))
+    does_replied page_made (Err c.in_err-page-in-PageNew.field-0.0) c.from_residual-in_err-page-in-PageNew.result (replied_err page_made _ c.from_residual-in_err-page-in-PageNew.result c.from_residual-in_err-page-in-PageNew.ensures) _ _ _ _ t now session c.args.statement.now _ c.in-PageNew.is refl refl refl _ refl ready
+    (c.in_err-page-in-PageNew.ensures.turn (seen_now now) t tells ready.base ready.opened)
 
 pub returns-in_ok-page-in-PageNew-clause-turn : goal.returns-in_ok-page-in-PageNew-clause-turn
 unfolding first_turn
 returns-in_ok-page-in-PageNew-clause-turn g c now t session tells ready =
-    let s = seen_now now in
-    may_value (some_by page_made) some_said _ _ _ _ t now session _ [] c.in_ok-page-in-PageNew.page (PageMade c.in_ok-page-in-PageNew.page) refl
-    (does_acts page_made _ _ _ _ _ t now session c.args.statement.now _ c.in-PageNew.is refl refl refl _ refl ready
-    (c.in_ok-page-in-PageNew.ensures.turn s t tells ready.base ready.opened))
+    does_replied page_made (Ok c.in_ok-page-in-PageNew.page) (Ok (PageMade c.in_ok-page-in-PageNew.page)) refl _ _ _ _ t now session c.args.statement.now _ c.in-PageNew.is refl refl refl _ refl ready
+    (c.in_ok-page-in-PageNew.ensures.turn (seen_now now) t tells ready.base ready.opened)
 
-pub returns-in_err-page_free-in-Free-clause-turn : goal.returns-in_err-page_free-in-Free-clause-turn
+pub returns-in-Free-clause-turn : goal.returns-in-Free-clause-turn
 unfolding first_turn
-returns-in_err-page_free-in-Free-clause-turn g c now t session tells ready =
-    let s = seen_now now in
-    may_passed (some_by done) some_said _ _ _ _ t now session _ [] _ c.from_residual-in_err-page_free-in-Free.result c.from_residual-in_err-page_free-in-Free.ensures
-    (does_acts done _ _ _ _ _ t now session c.args.statement.now _ c.in-Free.is refl refl refl _ refl ready (c.in_err-page_free-in-Free.ensures.turn s t tells ready.base ready.opened))
+returns-in-Free-clause-turn g c now t session tells ready =
+    does_replied done c.page_free.result c.done-in-Free.result c.done-in-Free.ensures.reply _ _ _ _ t now session c.args.statement.now _ c.in-Free.is refl refl refl _ refl ready (c.page_free.ensures.turn (seen_now now) t tells ready.base ready.opened)
 
-pub returns-in_ok-page_free-in-Free-clause-turn : goal.returns-in_ok-page_free-in-Free-clause-turn
+pub returns-in-Forced-clause-turn : goal.returns-in-Forced-clause-turn
 unfolding first_turn
-returns-in_ok-page_free-in-Free-clause-turn g c now t session tells ready =
-    let s = seen_now now in
-    may_value (some_by done) some_said _ _ _ _ t now session _ [] c.in_ok-page_free-in-Free.field-0 Done refl
-    (does_acts done _ _ _ _ _ t now session c.args.statement.now _ c.in-Free.is refl refl refl _ refl ready (c.in_ok-page_free-in-Free.ensures.turn s t tells ready.base ready.opened))
+returns-in-Forced-clause-turn g c now t session tells ready =
+    does_replied done c.set_forced.result c.done-in-Forced.result c.done-in-Forced.ensures.reply _ _ _ _ t now session c.args.statement.now _ c.in-Forced.is refl refl refl _ refl ready (c.set_forced.ensures.turn (seen_now now) t tells ready.base ready.opened)
 
-pub returns-in_err-set_forced-in-Forced-clause-turn : goal.returns-in_err-set_forced-in-Forced-clause-turn
+pub returns-in-Access-clause-turn : goal.returns-in-Access-clause-turn
 unfolding first_turn
-returns-in_err-set_forced-in-Forced-clause-turn g c now t session tells ready =
-    let s = seen_now now in
-    may_passed (some_by done) some_said _ _ _ _ t now session _ [] _ c.from_residual-in_err-set_forced-in-Forced.result c.from_residual-in_err-set_forced-in-Forced.ensures
-    (does_acts done _ _ _ _ _ t now session c.args.statement.now _ c.in-Forced.is refl refl refl _ refl ready (c.in_err-set_forced-in-Forced.ensures.turn s t tells ready.base ready.opened))
-
-pub returns-in_ok-set_forced-in-Forced-clause-turn : goal.returns-in_ok-set_forced-in-Forced-clause-turn
-unfolding first_turn
-returns-in_ok-set_forced-in-Forced-clause-turn g c now t session tells ready =
-    let s = seen_now now in
-    may_value (some_by done) some_said _ _ _ _ t now session _ [] c.in_ok-set_forced-in-Forced.field-0 Done refl
-    (does_acts done _ _ _ _ _ t now session c.args.statement.now _ c.in-Forced.is refl refl refl _ refl ready (c.in_ok-set_forced-in-Forced.ensures.turn s t tells ready.base ready.opened))
-
-pub returns-in_err-set_access-in-Access-clause-turn : goal.returns-in_err-set_access-in-Access-clause-turn
-unfolding first_turn
-returns-in_err-set_access-in-Access-clause-turn g c now t session tells ready =
-    let s = seen_now now in
-    may_passed (some_by done) some_said _ _ _ _ t now session _ [] _ c.from_residual-in_err-set_access-in-Access.result c.from_residual-in_err-set_access-in-Access.ensures
-    (does_acts done _ _ _ _ _ t now session c.args.statement.now _ c.in-Access.is refl refl refl _ refl ready (c.in_err-set_access-in-Access.ensures.turn s t tells ready.base ready.opened))
-
-pub returns-in_ok-set_access-in-Access-clause-turn : goal.returns-in_ok-set_access-in-Access-clause-turn
-unfolding first_turn
-returns-in_ok-set_access-in-Access-clause-turn g c now t session tells ready =
-    let s = seen_now now in
-    may_value (some_by done) some_said _ _ _ _ t now session _ [] c.in_ok-set_access-in-Access.field-0 Done refl
-    (does_acts done _ _ _ _ _ t now session c.args.statement.now _ c.in-Access.is refl refl refl _ refl ready (c.in_ok-set_access-in-Access.ensures.turn s t tells ready.base ready.opened))
+returns-in-Access-clause-turn g c now t session tells ready =
+    does_replied done c.set_access.result c.done-in-Access.result c.done-in-Access.ensures.reply _ _ _ _ t now session c.args.statement.now _ c.in-Access.is refl refl refl _ refl ready (c.set_access.ensures.turn (seen_now now) t tells ready.base ready.opened)
 
 pub returns-in_err-scn-in-BeginBackup-clause-turn : goal.returns-in_err-scn-in-BeginBackup-clause-turn
 returns-in_err-scn-in-BeginBackup-clause-turn g c now t session tells ready =
@@ -152,30 +106,25 @@ returns-in-ShowCache-clause-turn g c now t session tells ready =
 pub returns-in_err-counts-in-ShowPages-clause-turn : goal.returns-in_err-counts-in-ShowPages-clause-turn
 unfolding first_turn
 returns-in_err-counts-in-ShowPages-clause-turn g c now t session tells ready =
-    let s = seen_now now in
-    may_passed (some_by pages_shown) some_said _ _ _ _ t now session _ [] _ c.from_residual-in_err-counts-in-ShowPages.result c.from_residual-in_err-counts-in-ShowPages.ensures
-    (does_acts pages_shown _ _ _ _ _ t now session c.args.statement.now _ c.in-ShowPages.is refl refl refl _ refl ready (c.in_err-counts-in-ShowPages.ensures.turn s t tells ready.base ready.opened))
+    does_replied pages_shown (Err c.in_err-counts-in-ShowPages.field-0.0) c.from_residual-in_err-counts-in-ShowPages.result (replied_err pages_shown _ c.from_residual-in_err-counts-in-ShowPages.result c.from_residual-in_err-counts-in-ShowPages.ensures) _ _ _ _ t now session c.args.statement.now _ c.in-ShowPages.is refl refl refl _ refl ready
+    (c.in_err-counts-in-ShowPages.ensures.turn (seen_now now) t tells ready.base ready.opened)
 
 pub returns-in_ok-counts-in-ShowPages-clause-turn : goal.returns-in_ok-counts-in-ShowPages-clause-turn
 unfolding first_turn
 returns-in_ok-counts-in-ShowPages-clause-turn g c now t session tells ready =
-    let s = seen_now now in
-    may_value (some_by pages_shown) some_said _ _ _ _ t now session _ [] c.in_ok-counts-in-ShowPages.counts c.pages_shown.result (ap Some (sym c.pages_shown.ensures))
-    (does_acts pages_shown _ _ _ _ _ t now session c.args.statement.now _ c.in-ShowPages.is refl refl refl _ refl ready (c.in_ok-counts-in-ShowPages.ensures.turn s t tells ready.base ready.opened))
+    does_replied pages_shown (Ok c.in_ok-counts-in-ShowPages.counts) (Ok c.pages_shown.result) c.pages_shown.ensures _ _ _ _ t now session c.args.statement.now _ c.in-ShowPages.is refl refl refl _ refl ready
+    (c.in_ok-counts-in-ShowPages.ensures.turn (seen_now now) t tells ready.base ready.opened)
 
 pub returns-in_err-sha256-in-ShowImage-clause-turn : goal.returns-in_err-sha256-in-ShowImage-clause-turn
 unfolding first_turn
 returns-in_err-sha256-in-ShowImage-clause-turn g c now t session tells ready =
-    let s = seen_now now in
-    may_passed (some_by (image_shown c.args.engine.now.files.count)) some_said _ _ _ _ t now session _ [] _ c.from_residual-in_err-sha256-in-ShowImage.result c.from_residual-in_err-sha256-in-ShowImage.ensures
-    (does_acts (image_shown c.args.engine.now.files.count) _ _ _ _ _ t now session c.args.statement.now _ c.in-ShowImage.is refl refl refl _ refl ready (c.in_err-sha256-in-ShowImage.ensures.turn s t tells ready.base ready.opened))
+    does_replied (image_shown c.args.engine.now.files.count) (Err c.in_err-sha256-in-ShowImage.field-0.0) c.from_residual-in_err-sha256-in-ShowImage.result (replied_err (image_shown c.args.engine.now.files.count) _ c.from_residual-in_err-sha256-in-ShowImage.result c.from_residual-in_err-sha256-in-ShowImage.ensures) _ _ _ _ t now session c.args.statement.now _ c.in-ShowImage.is refl refl refl _ refl ready
+    (c.in_err-sha256-in-ShowImage.ensures.turn (seen_now now) t tells ready.base ready.opened)
 
 pub returns-in_ok-sha256-in-ShowImage-clause-turn : goal.returns-in_ok-sha256-in-ShowImage-clause-turn
 unfolding first_turn
 returns-in_ok-sha256-in-ShowImage-clause-turn g c now t session tells ready =
-    let s = seen_now now in
     let shown = c.in_ok-sha256-in-ShowImage.ensures in
     let pages = c.count.ensures.value ∙ ap (λ (h : Held). h.files.count) shown.same in
-    may_value (some_by (image_shown c.args.engine.now.files.count)) some_said _ _ _ _ t now session _ [] c.in_ok-sha256-in-ShowImage.sha256 (ImageShown c.count.result c.in_ok-sha256-in-ShowImage.sha256)
-    (ap (λ (n : ℕ). Some (ImageShown n c.in_ok-sha256-in-ShowImage.sha256)) (sym pages))
-    (does_acts (image_shown c.args.engine.now.files.count) _ _ _ _ _ t now session c.args.statement.now _ c.in-ShowImage.is refl refl refl _ refl ready (shown.turn s t tells ready.base ready.opened))
+    does_replied (image_shown c.args.engine.now.files.count) (Ok c.in_ok-sha256-in-ShowImage.sha256) (Ok (ImageShown c.count.result c.in_ok-sha256-in-ShowImage.sha256)) (ap (λ (n : ℕ). ImageShown n c.in_ok-sha256-in-ShowImage.sha256) pages) _ _ _ _ t now session c.args.statement.now _ c.in-ShowImage.is refl refl refl _ refl ready
+    (shown.turn (seen_now now) t tells ready.base ready.opened)

@@ -1,5 +1,5 @@
 use Rattle.std.proofs.Common.{◌≡◌, ℕ, List, refl, sym, ◌∙◌}
-use Rattle.std.specs.Prelude.{true, false, Ok, Err, is_some}
+use Rattle.std.specs.Prelude.{true, false, is_some}
 use Rattle.nb_host.specs.declared.refusals.Refusal.TheVariants.{KeyExists}
 use Rattle.nb_model.specs.declared.reply.Reply.TheVariants.{Done}
 use Rattle.nb_model.specs.Causes.{read_only, too_long}
@@ -8,8 +8,7 @@ use Rattle.nb_model.specs.Forms.{drafted}
 use Rattle.nb_model.specs.Outcomes.{Seen}
 use Rattle.nb_model.specs.Tables.{insert_turn}
 use Rattle.nb_engine.specs.Replies.{done}
-use Rattle.nb_engine.specs.Tries.{Tries}
-use Rattle.nb_alloc.proofs.DoesLaws.{seeing, refused_does, tested_does, tries_does, tries_passed, tries_after}
+use Rattle.nb_alloc.proofs.DoesLaws.{seeing, refused_does, tested_does, tries_does, tries_after}
 use Rattle.nb_table.specs.declared.rows.Rows.{Rows}
 use Rattle.nb_table.specs.Rows.{rows_cause, place_cause}
 use Rattle.nb_table.specs.Walks.{spot_of}
@@ -40,34 +39,6 @@ returns-then-is_some-clause-turn g c s t tells same is =
     refused_does done (KeyExists key) _ _ _ _ t s (λ (x : Seen). insert_turn x table key text) same found.same found.quiet is (found.open t tells is)
     (insert_goes (seeing s t.base) table key text (found.test t tells is) (spot_of rows.table) (found.table t tells is) rows.first found.first bytes refl ∙ key_known (seeing s t.base) (RowsFrom rows.first) key bytes known)
 
-pub returns-in_err-add_slot-clause-turn : goal.returns-in_err-add_slot-clause-turn
-returns-in_err-add_slot-clause-turn g c s t tells same is =
-    let image = t.base.image in
-    let table : List ℕ = c.args.table.now in
-    let text : List ℕ = c.args.text.now in
-    let key : ℕ = c.args.key in
-    let found = c.in_ok-rows.ensures in
-    let rows = c.in_ok-rows.rows in
-    let w = g.H.Host.world c.args.host.now in
-    let ss = spots (RowsFrom rows.first) image in
-    let are = found.walked t tells is in
-    let none = found.test t tells is in
-    let at = found.table t tells is in
-    let bytes : Slot = c.row_bytes-bytes.result in
-    let formed = chain_formed_from image (read_only image) table (too_long text) none (spot_of rows.table) at rows.first found.first in
-    let new : is_some (row_spot key ss) ≡ false = sym (walked_key rows.first key ss rows.walked are) ∙ sym c.is_some.ensures ∙ c.if-is_some.false in
-    let room = walked_room rows.first key ss rows.walked are in
-    let last = found.last t tells is in
-    let turn = insert_goes (seeing s t.base) table key text none (spot_of rows.table) at rows.first found.first bytes c.row_bytes-bytes.ensures ∙ key_new (seeing s t.base) (RowsFrom rows.first) key bytes new in
-    let into = place_slot (RowsFrom rows.first) (found_pages (RowsFrom rows.first) image) bytes (drafted image) in
-    let after = g.H.Host.world c.add_slot.new.host in
-    let fault = c.in_err-add_slot.field-0.0 in
-    let result = c.from_residual-in_err-add_slot.result in
-    tries_does done result w after c.args.engine.now c.add_slot.new.engine t s (λ (x : Seen). insert_turn x table key text) (place_cause (RowsFrom rows.first) image bytes) Done refl into.strokes same turn (said result)
-    (tries_passed result fault (λ r. Tries r w after c.args.engine.now c.add_slot.new.engine t (place_cause (RowsFrom rows.first) image bytes) into.strokes) c.from_residual-in_err-add_slot.ensures
-    (tries_after {T = Unit {0}} (Err fault) w _ after c.args.engine.now _ c.add_slot.new.engine t (place_cause (RowsFrom rows.first) image bytes) into.strokes found.same found.quiet is
-    (c.in_err-add_slot.ensures.tries t (RowsFrom rows.first) tells (found.open t tells is) refl formed room last)))
-
 pub returns-clause-turn : goal.returns-clause-turn
 returns-clause-turn g c s t tells same is =
     let image = t.base.image in
@@ -76,19 +47,15 @@ returns-clause-turn g c s t tells same is =
     let key : ℕ = c.args.key in
     let found = c.in_ok-rows.ensures in
     let rows = c.in_ok-rows.rows in
-    let w = g.H.Host.world c.args.host.now in
-    let ss = spots (RowsFrom rows.first) image in
+    let chain = RowsFrom rows.first in
     let are = found.walked t tells is in
     let none = found.test t tells is in
     let at = found.table t tells is in
     let bytes : Slot = c.row_bytes-bytes.result in
     let formed = chain_formed_from image (read_only image) table (too_long text) none (spot_of rows.table) at rows.first found.first in
-    let new : is_some (row_spot key ss) ≡ false = sym (walked_key rows.first key ss rows.walked are) ∙ sym c.is_some.ensures ∙ c.if-is_some.false in
-    let room = walked_room rows.first key ss rows.walked are in
-    let last = found.last t tells is in
-    let turn = insert_goes (seeing s t.base) table key text none (spot_of rows.table) at rows.first found.first bytes c.row_bytes-bytes.ensures ∙ key_new (seeing s t.base) (RowsFrom rows.first) key bytes new in
-    let into = place_slot (RowsFrom rows.first) (found_pages (RowsFrom rows.first) image) bytes (drafted image) in
-    let after = g.H.Host.world c.add_slot.new.host in
-    tries_does done (Ok tt) w after c.args.engine.now c.add_slot.new.engine t s (λ (x : Seen). insert_turn x table key text) (place_cause (RowsFrom rows.first) image bytes) Done refl into.strokes same turn (said (Ok tt))
-    (tries_after {T = Unit {0}} (Ok tt) w _ after c.args.engine.now _ c.add_slot.new.engine t (place_cause (RowsFrom rows.first) image bytes) into.strokes found.same found.quiet is
-    (c.in_ok-add_slot.ensures.tries t (RowsFrom rows.first) tells (found.open t tells is) refl formed room last))
+    let new : is_some (row_spot key (spots chain image)) ≡ false = sym (walked_key rows.first key (spots chain image) rows.walked are) ∙ sym c.is_some.ensures ∙ c.if-is_some.false in
+    let room = walked_room rows.first key (spots chain image) rows.walked are in
+    let turn = insert_goes (seeing s t.base) table key text none (spot_of rows.table) at rows.first found.first bytes c.row_bytes-bytes.ensures ∙ key_new (seeing s t.base) chain key bytes new in
+    let into = place_slot chain (found_pages chain image) bytes (drafted image) in
+    tries_does done c.add_slot.result _ _ _ _ t s (λ (x : Seen). insert_turn x table key text) (place_cause chain image bytes) Done refl into.strokes same turn (said c.add_slot.result)
+    (tries_after c.add_slot.result _ _ _ _ _ _ t (place_cause chain image bytes) into.strokes found.same found.quiet is (c.add_slot.ensures.tries t chain tells (found.open t tells is) refl formed room (found.last t tells is)))

@@ -1,5 +1,4 @@
 use Rattle.std.proofs.Common.{refl, sym, ◌∙◌}
-use Rattle.std.specs.Prelude.{Ok, Err}
 use Rattle.nb_host.specs.declared.refusals.Refusal.TheVariants.{NoKey}
 use Rattle.nb_page.proofs.QuietLaws.{quiet_begun}
 use Rattle.nb_model.specs.Outcomes.{Seen}
@@ -7,7 +6,6 @@ use Rattle.nb_model.specs.Chains.{row_spot, spots}
 use Rattle.nb_model.specs.Tables.{in_row}
 use Rattle.nb_engine.specs.Replies.{done}
 use Rattle.nb_alloc.proofs.DoesLaws.{seeing, refused_does}
-use Rattle.nb_table.proofs.InTableLaws.{does_passed}
 use Rattle.nb_table.proofs.PlaceLaws.{found_none}
 use Rattle.nb_table.proofs.ChangeLaws.{row_missing, row_does, found_kind}
 use Rattle.nb_table.proofs.change.put_found.Goals as goal
@@ -18,18 +16,8 @@ returns-in_default-clause-turn g c s t chain tells same is formed found =
     refused_does done (NoKey c.args.key) w w c.args.engine.now c.args.engine.now t s (λ (x : Seen). in_row x chain c.args.key c.args.bytes.now) same refl (quiet_begun w (g.met.H.Host.timely c.args.host.now)) is is
     (row_missing (seeing s t.base) chain c.args.key c.args.bytes.now (found_none (row_spot c.args.key (spots chain t.base.image)) (sym c.in_default.is ∙ found)))
 
-pub returns-in_err-put_slot-clause-turn : goal.returns-in_err-put_slot-clause-turn
-returns-in_err-put_slot-clause-turn g c s t chain tells same is formed found =
-    let w = g.H.Host.world c.args.host.now in
-    let row = c.in-Some.row in
-    let there = sym c.in-Some.is ∙ found in
-    does_passed done _ c.in_err-put_slot.field-0.0 w _ _ _ t (in_row s chain c.args.key c.args.bytes.now) c.from_residual.ensures
-    (row_does (Err c.in_err-put_slot.field-0.0) w _ _ _ t s chain c.args.key c.args.bytes.now row same there
-    (c.in_err-put_slot.ensures.tries t tells is (found_kind t.base.image chain formed c.args.key row there)))
-
 pub returns-clause-turn : goal.returns-clause-turn
 returns-clause-turn g c s t chain tells same is formed found =
-    let w = g.H.Host.world c.args.host.now in
     let row = c.in-Some.row in
     let there = sym c.in-Some.is ∙ found in
-    row_does (Ok tt) w _ _ _ t s chain c.args.key c.args.bytes.now row same there (c.in_ok-put_slot.ensures.tries t tells is (found_kind t.base.image chain formed c.args.key row there))
+    row_does c.put_slot.result _ _ _ _ t s chain c.args.key c.args.bytes.now row same there (c.put_slot.ensures.tries t tells is (found_kind t.base.image chain formed c.args.key row there))

@@ -1,7 +1,6 @@
 use Rattle.std.proofs.Common.{ℕ, List, refl}
-use Rattle.std.specs.Prelude.{Ok, Err}
 use Rattle.nb_model.specs.Causes.{read_only, too_long}
-use Rattle.nb_model.specs.Chains.{RowsFrom, Slot, spots}
+use Rattle.nb_model.specs.Chains.{RowsFrom, spots}
 use Rattle.nb_model.specs.Outcomes.{Seen}
 use Rattle.nb_model.specs.Tables.{in_row, update_turn}
 use Rattle.nb_engine.specs.Replies.{done}
@@ -9,7 +8,7 @@ use Rattle.nb_alloc.proofs.DoesLaws.{seeing, tested_does}
 use Rattle.nb_table.specs.declared.rows.Rows.{Rows}
 use Rattle.nb_table.specs.Rows.{rows_cause}
 use Rattle.nb_table.specs.Walks.{spot_of}
-use Rattle.nb_table.proofs.InTableLaws.{chain_formed_from, does_after, does_passed, table_does}
+use Rattle.nb_table.proofs.InTableLaws.{chain_formed_from, table_does}
 use Rattle.nb_table.proofs.ChangeLaws.{walked_found, update_refused, update_goes}
 use Rattle.nb_table.proofs.change.update.Goals as goal
 
@@ -21,47 +20,19 @@ returns-in_err-rows-clause-turn g c s t tells same is =
     tested_does Rows (Unit {0}) done _ _ _ _ _ _ t s (λ (x : Seen). update_turn x table c.args.key c.args.text.now) (rows_cause image (read_only image) table (too_long c.args.text.now)) c.from_residual.ensures same found.same found.quiet is (found.open t tells is)
     (found.test t tells is) (update_refused (seeing s t.base) table c.args.key c.args.text.now)
 
-pub returns-in_err-put_found-clause-turn : goal.returns-in_err-put_found-clause-turn
-returns-in_err-put_found-clause-turn g c s t tells same is =
-    let image = t.base.image in
-    let table : List ℕ = c.args.table.now in
-    let key : ℕ = c.args.key in
-    let found = c.in_ok-rows.ensures in
-    let rows = c.in_ok-rows.rows in
-    let w = g.H.Host.world c.args.host.now in
-    let none = found.test t tells is in
-    let at = found.table t tells is in
-    let bytes : Slot = c.row_bytes-bytes.result in
-    let chain = RowsFrom rows.first in
-    let formed = chain_formed_from image (read_only image) table (too_long c.args.text.now) none (spot_of rows.table) at rows.first found.first in
-    let row = walked_found rows.first key (spots chain image) rows.walked (found.walked t tells is) in
-    let goes = update_goes (seeing s t.base) table key c.args.text.now none (spot_of rows.table) at rows.first found.first bytes c.row_bytes-bytes.ensures in
-    let rest = in_row (seeing s t.base) chain key bytes in
-    let after = g.H.Host.world c.put_found.new.host in
-    let end = c.put_found.new.engine in
-    let fault = c.in_err-put_found.field-0.0 in
-    let result = c.from_residual-in_err-put_found.result in
-    table_does done result w after c.args.engine.now end t s (λ (x : Seen). update_turn x table key c.args.text.now) same rest goes
-    (does_passed done result fault w after c.args.engine.now end t rest c.from_residual-in_err-put_found.ensures
-    (does_after done (Err fault) w _ after c.args.engine.now _ end t rest found.same found.quiet is (c.in_err-put_found.ensures.turn (seeing s t.base) t chain tells refl (found.open t tells is) formed row)))
-
 pub returns-clause-turn : goal.returns-clause-turn
 returns-clause-turn g c s t tells same is =
     let image = t.base.image in
     let table : List ℕ = c.args.table.now in
     let key : ℕ = c.args.key in
+    let text : List ℕ = c.args.text.now in
     let found = c.in_ok-rows.ensures in
     let rows = c.in_ok-rows.rows in
-    let w = g.H.Host.world c.args.host.now in
+    let chain = RowsFrom rows.first in
     let none = found.test t tells is in
     let at = found.table t tells is in
-    let bytes : Slot = c.row_bytes-bytes.result in
-    let chain = RowsFrom rows.first in
-    let formed = chain_formed_from image (read_only image) table (too_long c.args.text.now) none (spot_of rows.table) at rows.first found.first in
+    let formed = chain_formed_from image (read_only image) table (too_long text) none (spot_of rows.table) at rows.first found.first in
     let row = walked_found rows.first key (spots chain image) rows.walked (found.walked t tells is) in
-    let goes = update_goes (seeing s t.base) table key c.args.text.now none (spot_of rows.table) at rows.first found.first bytes c.row_bytes-bytes.ensures in
-    let rest = in_row (seeing s t.base) chain key bytes in
-    let after = g.H.Host.world c.put_found.new.host in
-    let end = c.put_found.new.engine in
-    table_does done (Ok tt) w after c.args.engine.now end t s (λ (x : Seen). update_turn x table key c.args.text.now) same rest goes
-    (does_after done (Ok tt) w _ after c.args.engine.now _ end t rest found.same found.quiet is (c.in_ok-put_found.ensures.turn (seeing s t.base) t chain tells refl (found.open t tells is) formed row))
+    let now = seeing s t.base in
+    table_does done c.put_found.result _ _ _ _ _ _ t s (λ (x : Seen). update_turn x table key text) same found.same found.quiet is (in_row now chain key c.row_bytes-bytes.result)
+    (update_goes now table key text none (spot_of rows.table) at rows.first found.first c.row_bytes-bytes.result c.row_bytes-bytes.ensures) (c.put_found.ensures.turn now t chain tells refl (found.open t tells is) formed row)

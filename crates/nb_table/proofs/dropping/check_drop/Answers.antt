@@ -1,14 +1,11 @@
-use Rattle.std.proofs.Common.{◌≡◌, ℕ, List}
-use Rattle.std.specs.Prelude.{Option, Some, None}
-use Rattle.nb_host.specs.declared.refusals.Refusal.{Refusal}
+use Rattle.std.proofs.Common.{ℕ, List}
+use Rattle.std.specs.Prelude.{Option, None}
 use Rattle.nb_model.specs.Causes.{lowest_broken}
 use Rattle.nb_engine.specs.Behind.{entry_broken}
 use Rattle.nb_alloc.proofs.DoesLaws.{tested_on}
 use Rattle.nb_table.specs.Drops.{drop_broken}
+use Rattle.nb_table.proofs.InTableLaws.{none_some}
 use Rattle.nb_table.proofs.dropping.check_drop.Goals as goal
-
-none_some : (r : Refusal) → None ≡ Some r → ⊥
-none_some r e = cc
 
 pub returns-in_err-lacking-clause-test : goal.returns-in_err-lacking-clause-test
 returns-in_err-lacking-clause-test g c t pages tells is found =

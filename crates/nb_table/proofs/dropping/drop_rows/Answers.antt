@@ -1,5 +1,5 @@
 use Rattle.std.proofs.Common.{◌<◌, ℕ, List, subst, ◌∙◌, arith}
-use Rattle.std.specs.Prelude.{IsTrue, Ok, Err}
+use Rattle.std.specs.Prelude.{IsTrue, Err}
 use Rattle.nb_fields.specs.Places.{is_page_size}
 use Rattle.nb_model.specs.Causes.{lowest_broken, not_of_form}
 use Rattle.nb_model.specs.Chains.{RowsFrom, first_in, found_pages}
@@ -47,31 +47,6 @@ returns-in_err-put_slot-clause-tries g c t table tells is has =
     (tries_after {T = Unit {0}} (Err fault) w mid new c.args.engine.now c.check_drop.new.engine c.put_slot.new.engine t (not_of_form (dropped image spot)) (dropped image spot).strokes check.same check.quiet is
     (drop_front t header shaped table spot has none fault mid new c.check_drop.new.engine c.put_slot.new.engine (c.in_err-put_slot.ensures.tries t tells still (its_kind t header shaped table spot has))))
 
-pub returns-in_err-give_all_back-clause-tries : goal.returns-in_err-give_all_back-clause-tries
-returns-in_err-give_all_back-clause-tries g c t table tells is has =
-    let image = t.base.image in
-    let spot = spot_of c.args.rows.now.table in
-    let first : ℕ = c.args.rows.now.first in
-    let pages : List ℕ = found_pages (RowsFrom (first_in spot.bytes)) image in
-    let w = g.H.Host.world c.args.host.now in
-    let mid = g.H.Host.world c.check_drop.new.host in
-    let then = g.H.Host.world c.put_slot.new.host in
-    let new = g.H.Host.world c.give_all_back.new.host in
-    let fault = c.in_err-give_all_back.field-0.0 in
-    let scn : image_scn image < 4294967296 = omega (arith, is.agrees.scn, is.agrees.four) in
-    let header = header_of _ _ t is scn in
-    let size : IsTrue (is_page_size c.args.engine.now.files.page_size) = subst (λ (n : ℕ). IsTrue (is_page_size n)) c.requires.room c.requires.size in
-    let shaped = shaped_of _ _ t is size (table_least image table spot has) in
-    let check = c.in_ok-check_drop.ensures in
-    let none = check.test t pages tells is (its_chain t header shaped table spot has first c.requires.first) in
-    let still = check.open t tells is in
-    let one = c.in_ok-put_slot.ensures.tries t tells still (its_kind t header shaped table spot has) in
-    tries_passed c.from_residual-in_err-give_all_back.result fault (λ r. Tries r w new c.args.engine.now c.give_all_back.new.engine t (not_of_form (dropped image spot)) (dropped image spot).strokes) c.from_residual-in_err-give_all_back.ensures
-    (tries_after {T = Unit {0}} (Err fault) w mid new c.args.engine.now c.check_drop.new.engine c.give_all_back.new.engine t (not_of_form (dropped image spot)) (dropped image spot).strokes check.same check.quiet is
-    (drop_then t header shaped table spot has none (Err fault) mid then new c.check_drop.new.engine c.put_slot.new.engine c.give_all_back.new.engine one
-    (c.in_err-give_all_back.ensures.tries _ pages tells (drop_opened t header shaped table spot has none mid then c.check_drop.new.engine c.put_slot.new.engine one)
-    (drop_shaped t header shaped table spot has none) (drop_chain t header shaped table spot has none first c.requires.first) (drop_givable t header shaped table spot has none))))
-
 pub returns-clause-tries : goal.returns-clause-tries
 returns-clause-tries g c t table tells is has =
     let image = t.base.image in
@@ -90,7 +65,7 @@ returns-clause-tries g c t table tells is has =
     let none = check.test t pages tells is (its_chain t header shaped table spot has first c.requires.first) in
     let still = check.open t tells is in
     let one = c.in_ok-put_slot.ensures.tries t tells still (its_kind t header shaped table spot has) in
-    tries_after {T = Unit {0}} (Ok tt) w mid new c.args.engine.now c.check_drop.new.engine c.give_all_back.new.engine t (not_of_form (dropped image spot)) (dropped image spot).strokes check.same check.quiet is
-    (drop_then t header shaped table spot has none (Ok tt) mid then new c.check_drop.new.engine c.put_slot.new.engine c.give_all_back.new.engine one
-    (c.in_ok-give_all_back.ensures.tries _ pages tells (drop_opened t header shaped table spot has none mid then c.check_drop.new.engine c.put_slot.new.engine one)
+    tries_after c.give_all_back.result w mid new c.args.engine.now c.check_drop.new.engine c.give_all_back.new.engine t (not_of_form (dropped image spot)) (dropped image spot).strokes check.same check.quiet is
+    (drop_then t header shaped table spot has none c.give_all_back.result mid then new c.check_drop.new.engine c.put_slot.new.engine c.give_all_back.new.engine one
+    (c.give_all_back.ensures.tries _ pages tells (drop_opened t header shaped table spot has none mid then c.check_drop.new.engine c.put_slot.new.engine one)
     (drop_shaped t header shaped table spot has none) (drop_chain t header shaped table spot has none first c.requires.first) (drop_givable t header shaped table spot has none)))

@@ -1,17 +1,16 @@
 use Rattle.std.proofs.Common.{ℕ, List, [], refl}
-use Rattle.std.specs.Prelude.{Ok, Err}
 use Rattle.nb_model.specs.declared.reply.Reply.TheVariants.{Done}
 use Rattle.nb_model.specs.Causes.{read_only, too_long, not_of_form}
 use Rattle.nb_model.specs.Outcomes.{Seen}
 use Rattle.nb_model.specs.Tables.{drop_turn}
 use Rattle.nb_engine.specs.Replies.{done}
-use Rattle.nb_alloc.proofs.DoesLaws.{seeing, tested_does, tries_passed, tries_after, tries_does}
-use Rattle.nb_state.specs.Does.{Does}
+use Rattle.nb_alloc.proofs.DoesLaws.{seeing, tested_does, tries_after, tries_does}
 use Rattle.nb_table.specs.declared.rows.Rows.{Rows}
 use Rattle.nb_table.specs.Drops.{dropped}
 use Rattle.nb_table.specs.Rows.{rows_cause}
 use Rattle.nb_table.specs.Walks.{spot_of}
 use Rattle.nb_table.proofs.DropTurnLaws.{drop_refused, whole_table, drop_says}
+use Rattle.nb_table.proofs.ChangeLaws.{said}
 use Rattle.nb_table.proofs.dropping.drop_table.Goals as goal
 
 pub returns-in_err-rows-clause-turn : goal.returns-in_err-rows-clause-turn
@@ -21,26 +20,6 @@ returns-in_err-rows-clause-turn g c s t tells same is =
     let found = c.in_err-rows.ensures in
     tested_does Rows (Unit {0}) done _ _ _ _ _ _ t s (λ (x : Seen). drop_turn x table) (rows_cause image (read_only image) table (too_long [])) c.from_residual.ensures same found.same found.quiet is (found.open t tells is)
     (found.test t tells is) (drop_refused (seeing s t.base) table)
-
-pub returns-in_err-drop_rows-clause-turn : goal.returns-in_err-drop_rows-clause-turn
-returns-in_err-drop_rows-clause-turn g c s t tells same is =
-    let image = t.base.image in
-    let table : List ℕ = c.args.table.now in
-    let found = c.in_ok-rows.ensures in
-    let spot = spot_of c.in_ok-rows.rows.table in
-    let w = g.H.Host.world c.args.host.now in
-    let mid = g.H.Host.world c.find_rows.new.host in
-    let new = g.H.Host.world c.drop_rows.new.host in
-    let fault = c.in_err-drop_rows.field-0.0 in
-    let now = seeing s t.base in
-    let none = found.test t tells is in
-    let has = whole_table now table none spot (found.table t tells is) in
-    let whole = dropped image spot in
-    tries_passed c.from_residual-in_err-drop_rows.result fault (λ r. Does done r w new c.args.engine.now c.drop_rows.new.engine t (drop_turn s table)) c.from_residual-in_err-drop_rows.ensures
-    (tries_does {T = Unit {0}} done (Err fault) w new c.args.engine.now c.drop_rows.new.engine t s (λ (x : Seen). drop_turn x table) (not_of_form whole) Done refl whole.strokes same
-    (drop_says now table none spot has) tt
-    (tries_after {T = Unit {0}} (Err fault) w mid new c.args.engine.now c.find_rows.new.engine c.drop_rows.new.engine t (not_of_form whole) whole.strokes found.same found.quiet is
-    (c.in_err-drop_rows.ensures.tries t table tells (found.open t tells is) has)))
 
 pub returns-clause-turn : goal.returns-clause-turn
 returns-clause-turn g c s t tells same is =
@@ -55,7 +34,7 @@ returns-clause-turn g c s t tells same is =
     let none = found.test t tells is in
     let has = whole_table now table none spot (found.table t tells is) in
     let whole = dropped image spot in
-    tries_does {T = Unit {0}} done (Ok tt) w new c.args.engine.now c.drop_rows.new.engine t s (λ (x : Seen). drop_turn x table) (not_of_form whole) Done refl whole.strokes same
-    (drop_says now table none spot has) refl
-    (tries_after {T = Unit {0}} (Ok tt) w mid new c.args.engine.now c.find_rows.new.engine c.drop_rows.new.engine t (not_of_form whole) whole.strokes found.same found.quiet is
-    (c.in_ok-drop_rows.ensures.tries t table tells (found.open t tells is) has))
+    tries_does done c.drop_rows.result w new c.args.engine.now c.drop_rows.new.engine t s (λ (x : Seen). drop_turn x table) (not_of_form whole) Done refl whole.strokes same
+    (drop_says now table none spot has) (said c.drop_rows.result)
+    (tries_after c.drop_rows.result w mid new c.args.engine.now c.find_rows.new.engine c.drop_rows.new.engine t (not_of_form whole) whole.strokes found.same found.quiet is
+    (c.drop_rows.ensures.tries t table tells (found.open t tells is) has))

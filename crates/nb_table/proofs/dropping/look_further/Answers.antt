@@ -1,14 +1,11 @@
-use Rattle.std.proofs.Common.{◌≡◌, ℕ, ap, ◌∙◌}
-use Rattle.std.specs.Prelude.{Option, Some, None}
-use Rattle.nb_host.specs.declared.refusals.Refusal.{Refusal}
+use Rattle.std.proofs.Common.{ℕ, ap, ◌∙◌}
+use Rattle.std.specs.Prelude.{Option, None}
 use Rattle.nb_model.specs.Chains.{next_in}
 use Rattle.nb_engine.specs.Behind.{give_broken}
 use Rattle.nb_engine.specs.Data.{not_data}
 use Rattle.nb_alloc.proofs.DoesLaws.{tested_on}
+use Rattle.nb_table.proofs.InTableLaws.{none_some}
 use Rattle.nb_table.proofs.dropping.look_further.Goals as goal
-
-none_some : (r : Refusal) → None ≡ Some r → ⊥
-none_some r e = cc
 
 pub returns-in_err-data_read-clause-test : goal.returns-in_err-data_read-clause-test
 returns-in_err-data_read-clause-test g c t tells is =

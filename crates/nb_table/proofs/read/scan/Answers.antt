@@ -1,8 +1,7 @@
 use Rattle.std.proofs.Common.{◌≡◌, ℕ, List, [], ap, sym, subst, ◌∙◌}
-use Rattle.std.specs.Prelude.{Some, None, Err}
+use Rattle.std.specs.Prelude.{None, Err}
 use Rattle.std.specs.BTreeMap.{BTreeMap}
 use Rattle.nb_host.specs.declared.faults.Fault.{Fault}
-use Rattle.nb_host.specs.declared.refusals.Refusal.{Refusal}
 use Rattle.nb_page.proofs.QuietLaws.{quiet_joined}
 use Rattle.nb_model.specs.declared.reply.Reply.TheVariants.{Rows}
 use Rattle.nb_model.specs.Causes.{broken_at}
@@ -15,6 +14,7 @@ use Rattle.nb_alloc.proofs.DoesLaws.{seeing, valued_does, tested_does}
 use Rattle.nb_table.specs.declared.look.Found.{Found}
 use Rattle.nb_table.specs.Walks.{spot_of}
 use Rattle.nb_table.proofs.ReadTurns.{scan_missing, scan_broken, scan_says}
+use Rattle.nb_table.proofs.InTableLaws.{none_some}
 use Rattle.nb_table.proofs.read.scan.Goals as goal
 
 pub returns-in_err-found-clause-turn : goal.returns-in_err-found-clause-turn
@@ -40,9 +40,6 @@ returns-in_err-list-clause-turn g c s t tells same is =
     let still = found.open t tells is in
     tested_does RowMap _ Rows _ _ _ _ _ _ t s (λ (x : Seen). scan_turn x c.args.table.now) None c.from_residual-in_err-list.ensures same (rows.same ∙ found.same) (quiet_joined _ _ _ found.quiet rows.quiet) is (rows.open t tells still)
     (subst (λ (f : Fault). Tested {T = RowMap} (Err f) None) (sym c.in_err-list.ensures.only_memory) tt) (λ r e. absurd (none_some r e))
-  where
-    none_some : (r : Refusal) → None ≡ Some r → ⊥
-    none_some r e = cc
 
 pub returns-clause-turn : goal.returns-clause-turn
 returns-clause-turn g c s t tells same is =

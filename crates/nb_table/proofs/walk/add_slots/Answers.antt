@@ -1,9 +1,10 @@
-use Rattle.std.proofs.Common.{◌≡◌, ℕ, [], ◌∷◌, ◌++◌, length, sym, ap, ◌∙◌, arith}
+use Rattle.std.proofs.Common.{◌≡◌, ℕ, length, sym, ap, ◌∙◌, arith}
 use Rattle.std.specs.Prelude.{Bool}
 use Rattle.nb_model.specs.Chains.{Slot, is_slot}
 use Rattle.nb_table.specs.Walks.{chain_of, gathered, IsPlaced}
 use Rattle.nb_walk.proofs.SlotLaws.{slot_inside, test_first, passes_here, passes_next}
-use Rattle.nb_walk.proofs.SpotLaws.{comes_first, comes_next, comes_last}
+use Rattle.nb_walk.proofs.SpotLaws.{comes_first, comes_last}
+use Rattle.nb_table.proofs.GatherLaws.{gathered_next}
 use Rattle.nb_table.proofs.walk.add_slots.Goals as goal
 
 pub loop-slot-init : goal.loop-slot-init
@@ -31,7 +32,6 @@ add_slot-requires-clause-form c =
 pub loop-slot-preserved : goal.loop-slot-preserved
 loop-slot-preserved c =
     let test : Slot → Bool = is_slot (chain_of c.args.sought.now) in
-    let sought = c.args.sought.now in
     let page = c.args.page.now in
     let count : ℕ = c.slot_count-count.result in
     let slot : ℕ = c.loop-slot.slot in
@@ -40,10 +40,7 @@ loop-slot-preserved c =
       many = c.loop-slot.invariant.many;
       form = passes_next test page count slot c.loop-slot-test.true c.loop-slot.invariant.form;
       comes = λ ss is.
-          comes_next (λ xs. c.loop-slot.walked ≡ gathered sought xs) (λ xs. c.add_slot.new.walked ≡ gathered sought xs) ss page c.args.number count slot c.loop-slot-test.true (c.loop-slot.invariant.comes ss is)
-          (λ front was.
-          c.add_slot.ensures.walked front was
-          ∙ ap (λ (b : Slot). gathered sought (front ++ record { page = c.args.number; slot = slot; bytes = b } ∷ [])) c.slot_at.ensures.bytes);
+          gathered_next c.args.sought.now c.loop-slot.walked c.add_slot.new.walked ss page c.args.number count slot c.loop-slot-test.true _ c.slot_at.ensures.bytes c.add_slot.ensures.walked (c.loop-slot.invariant.comes ss is);
       found = λ found. c.add_slot.ensures.found (length page) placed (c.loop-slot.invariant.found found);
       filled = λ filled. c.add_slot.ensures.filled (c.loop-slot.invariant.filled filled);
       room = λ room. c.add_slot.ensures.room (length page) placed (c.loop-slot.invariant.room room);

@@ -1,5 +1,4 @@
 use Rattle.std.proofs.Common.{◌≡◌, ℕ, List, [], ◌∷◌, length, refl, sym, ap, subst, ◌∙◌, arith}
-use Rattle.nb_host.specs.Files.{Files}
 use Rattle.nb_host.specs.World.{World}
 use Rattle.nb_host.specs.Crash.{IsDurable}
 use Rattle.nb_change.specs.Changes.{Changes, Only, Remade}
@@ -8,7 +7,7 @@ use Rattle.nb_delta.specs.Slots.{HasTable, IsBlank}
 use Rattle.nb_model.specs.Strokes.{begin}
 use Rattle.nb_base.specs.Open.{Held, IsOpen}
 use Rattle.nb_base.specs.Takes.{StrikesFirm}
-use Rattle.nb_base.proofs.StrokeLaws.{h0, waits, not_struck, durable_main, begin_made, begin_image, begin_room, begin_size, begin_struck, begin_open}
+use Rattle.nb_base.proofs.StrokeLaws.{h0, not_struck, begin_ready, begin_room, begin_size, begin_struck, begin_open}
 use Rattle.nb_base.proofs.WriteLaws.{not_done}
 use Rattle.nb_base.proofs.files.TwoFiles.begin.Goals as goal
 
@@ -18,12 +17,10 @@ returns-in_err-make-clause-takes g c t ask tells given low =
     let is = subst (λ (h : Held). IsOpen old h t) (sym c.self.view_is) given in
     let normal = ap (λ (h : Held). h.state) c.self.view_is ∙ c.requires.normal in
     let sync = c.in_ok-sync.ensures in
-    let synced = waits old _ _ t is (g.met.H.Host.timely _) sync.files.still sync.log.said sync.time in
-    let main = durable_main old _ t is _ (sync.files.durable tells) (ap (λ (f : Files). f c.self.inside.name) sync.files.still.files) in
     let made = subst (λ (n : List ℕ). Changes (g.H.Host.world c.sync.new.self) (g.H.Host.world c.make.new.host) (Only n) (Remade (g.H.Host.world c.sync.new.self) n (IsBlank c.self.inside.delta.page_size))) c.self.invariant.5 (c.make.ensures.changes tells) in
-    let so_far = begin_made old _ t is c.args.guid.now ask c.told-guid normal _ _ synced main (IsBlank c.self.inside.delta.page_size) made in
+    let ready = begin_ready old _ t is c.args.guid.now ask c.told-guid normal _ _ (g.met.H.Host.timely _) sync.files.still sync.log.said sync.time (sync.files.durable tells) (IsBlank c.self.inside.delta.page_size) made in
     record {
-      left = subst (λ (h : Held). StrikesFirm old (g.H.Host.world c.make.new.host) h.name t (begin c.args.guid.now ask ∷ [])) c.self.view_is (not_struck old _ _ t (begin c.args.guid.now ask) so_far);
+      left = subst (λ (h : Held). StrikesFirm old (g.H.Host.world c.make.new.host) h.name t (begin c.args.guid.now ask ∷ [])) c.self.view_is (not_struck old _ _ t (begin c.args.guid.now ask) ready.so_far);
       done = not_done c.from_residual-in_err-make.result _ c.from_residual-in_err-make.ensures.0;
     }
 
@@ -33,17 +30,14 @@ returns-in_err-control_block-clause-takes g c t ask tells given low =
     let is = subst (λ (h : Held). IsOpen old h t) (sym c.self.view_is) given in
     let normal = ap (λ (h : Held). h.state) c.self.view_is ∙ c.requires.normal in
     let sync = c.in_ok-sync.ensures in
-    let synced = waits old _ _ t is (g.met.H.Host.timely _) sync.files.still sync.log.said sync.time in
-    let main = durable_main old _ t is _ (sync.files.durable tells) (ap (λ (f : Files). f c.self.inside.name) sync.files.still.files) in
     let made = subst (λ (n : List ℕ). Changes (g.H.Host.world c.sync.new.self) (g.H.Host.world c.make.new.host) (Only n) (Remade (g.H.Host.world c.sync.new.self) n (IsBlank c.self.inside.delta.page_size))) c.self.invariant.5 (c.make.ensures.changes tells) in
-    let so_far = begin_made old _ t is c.args.guid.now ask c.told-guid normal _ _ synced main (IsBlank c.self.inside.delta.page_size) made in
-    let image = begin_image old _ t is c.args.guid.now ask c.told-guid normal _ _ main (IsBlank c.self.inside.delta.page_size) made in
+    let ready = begin_ready old _ t is c.args.guid.now ask c.told-guid normal _ _ (g.met.H.Host.timely _) sync.files.still sync.log.said sync.time (sync.files.durable tells) (IsBlank c.self.inside.delta.page_size) made in
     let empty = subst (λ (n : List ℕ). HasTable c.self.inside.delta.page_size ((g.H.Host.world c.make.new.host).files n) []) c.self.invariant.5 (c.in_ok-make.ensures.table tells) in
     let durable = subst (λ (n : List ℕ). IsDurable (g.H.Host.world c.make.new.host) n ((g.H.Host.world c.make.new.host).files n)) c.self.invariant.5 (c.in_ok-make.ensures.durable tells) in
     let long : c.self.inside.delta.page_size ≡ length c.deref_mut.result.now = omega (arith, c.deref_mut.ensures.len, c.self.invariant.3) in
-    let block = c.control_block.ensures.left (h0 old _ t is).main tells image (sym (begin_size old _ t is c.args.guid.now ask c.told-guid normal) ∙ long) (begin_room old _ t is c.args.guid.now ask c.told-guid normal low) in
+    let block = c.control_block.ensures.left (h0 old _ t is).main tells ready.image (sym (begin_size old _ t is c.args.guid.now ask c.told-guid normal) ∙ long) (begin_room old _ t is c.args.guid.now ask c.told-guid normal low) in
     record {
-      left = subst (λ (h : Held). StrikesFirm old (g.H.Host.world c.control_block.new.host) h.name t (begin c.args.guid.now ask ∷ [])) c.self.view_is (begin_struck old _ t is c.args.guid.now ask c.told-guid normal _ _ so_far empty durable block);
+      left = subst (λ (h : Held). StrikesFirm old (g.H.Host.world c.control_block.new.host) h.name t (begin c.args.guid.now ask ∷ [])) c.self.view_is (begin_struck old _ t is c.args.guid.now ask c.told-guid normal _ _ ready.so_far empty durable block);
       done = not_done c.from_residual-in_err-control_block.result _ c.from_residual-in_err-control_block.ensures.0;
     }
 
@@ -53,18 +47,15 @@ returns-clause-takes g c t ask tells given low =
     let is = subst (λ (h : Held). IsOpen old h t) (sym c.self.view_is) given in
     let normal = ap (λ (h : Held). h.state) c.self.view_is ∙ c.requires.normal in
     let sync = c.in_ok-sync.ensures in
-    let synced = waits old _ _ t is (g.met.H.Host.timely _) sync.files.still sync.log.said sync.time in
-    let main = durable_main old _ t is _ (sync.files.durable tells) (ap (λ (f : Files). f c.self.inside.name) sync.files.still.files) in
     let made = subst (λ (n : List ℕ). Changes (g.H.Host.world c.sync.new.self) (g.H.Host.world c.make.new.host) (Only n) (Remade (g.H.Host.world c.sync.new.self) n (IsBlank c.self.inside.delta.page_size))) c.self.invariant.5 (c.make.ensures.changes tells) in
-    let so_far = begin_made old _ t is c.args.guid.now ask c.told-guid normal _ _ synced main (IsBlank c.self.inside.delta.page_size) made in
-    let image = begin_image old _ t is c.args.guid.now ask c.told-guid normal _ _ main (IsBlank c.self.inside.delta.page_size) made in
+    let ready = begin_ready old _ t is c.args.guid.now ask c.told-guid normal _ _ (g.met.H.Host.timely _) sync.files.still sync.log.said sync.time (sync.files.durable tells) (IsBlank c.self.inside.delta.page_size) made in
     let empty = subst (λ (n : List ℕ). HasTable c.self.inside.delta.page_size ((g.H.Host.world c.make.new.host).files n) []) c.self.invariant.5 (c.in_ok-make.ensures.table tells) in
     let durable = subst (λ (n : List ℕ). IsDurable (g.H.Host.world c.make.new.host) n ((g.H.Host.world c.make.new.host).files n)) c.self.invariant.5 (c.in_ok-make.ensures.durable tells) in
     let long : c.self.inside.delta.page_size ≡ length c.deref_mut.result.now = omega (arith, c.deref_mut.ensures.len, c.self.invariant.3) in
-    let block = c.control_block.ensures.left (h0 old _ t is).main tells image (sym (begin_size old _ t is c.args.guid.now ask c.told-guid normal) ∙ long) (begin_room old _ t is c.args.guid.now ask c.told-guid normal low) in
-    let done = c.in_ok-control_block.ensures.done (h0 old _ t is).main tells image (sym (begin_size old _ t is c.args.guid.now ask c.told-guid normal) ∙ long) (begin_room old _ t is c.args.guid.now ask c.told-guid normal low) in
+    let block = c.control_block.ensures.left (h0 old _ t is).main tells ready.image (sym (begin_size old _ t is c.args.guid.now ask c.told-guid normal) ∙ long) (begin_room old _ t is c.args.guid.now ask c.told-guid normal low) in
+    let done = c.in_ok-control_block.ensures.done (h0 old _ t is).main tells ready.image (sym (begin_size old _ t is c.args.guid.now ask c.told-guid normal) ∙ long) (begin_room old _ t is c.args.guid.now ask c.told-guid normal low) in
     record {
-      left = subst (λ (h : Held). StrikesFirm old (g.H.Host.world c.control_block.new.host) h.name t (begin c.args.guid.now ask ∷ [])) c.self.view_is (begin_struck old _ t is c.args.guid.now ask c.told-guid normal _ _ so_far empty durable block);
-      done = begin_open old _ t is c.args.guid.now ask c.told-guid normal _ _ so_far empty durable block done (g.met.H.Host.reads_left c.make.new.host tells) _ refl (ap (λ (d : Known). d.page_size) c.make.ensures.known) refl refl refl refl
+      left = subst (λ (h : Held). StrikesFirm old (g.H.Host.world c.control_block.new.host) h.name t (begin c.args.guid.now ask ∷ [])) c.self.view_is (begin_struck old _ t is c.args.guid.now ask c.told-guid normal _ _ ready.so_far empty durable block);
+      done = begin_open old _ t is c.args.guid.now ask c.told-guid normal _ _ ready.so_far empty durable block done (g.met.H.Host.reads_left c.make.new.host tells) _ refl (ap (λ (d : Known). d.page_size) c.make.ensures.known) refl refl refl refl
           (ap (λ (d : Known). d.entries) c.make.ensures.known) (ap (λ (d : Known). d.drafted) c.make.ensures.known);
     }

@@ -1,5 +1,5 @@
 use Rattle.std.proofs.Common.{◌≡◌, [], ◌∷◌, length, sym, ap, subst, ◌∙◌}
-use Rattle.std.specs.Prelude.{None}
+use Rattle.std.specs.Prelude.{None, OnOk}
 use Rattle.nb_host.specs.World.{World}
 use Rattle.nb_model.specs.Owner.{delta_name}
 use Rattle.nb_model.specs.Strokes.{finish}
@@ -21,8 +21,8 @@ returns-in_err-count-clause-takes g c t tells is equal =
       done = not_done c.from_residual.result _ c.from_residual.ensures.0;
     }
 
-pub returns-in_err-finish_with-clause-takes : goal.returns-in_err-finish_with-clause-takes
-returns-in_err-finish_with-clause-takes g c t tells is equal =
+pub returns-clause-takes : goal.returns-clause-takes
+returns-clause-takes g c t tells is equal =
     let old : World = g.H.Host.world c.args.host.now in
     let mid : World = g.H.Host.world c.count_filled.new.host in
     let new : World = g.H.Host.world c.finish_with.new.host in
@@ -32,20 +32,6 @@ returns-in_err-finish_with-clause-takes g c t tells is equal =
     let takes = c.finish_with.ensures.takes t tells here merged (c.in_ok-count.ensures.count t tells is) in
     record {
       left = quiet_struck old mid new c.args.self.now t (finish ∷ []) quiet is (subst (λ (h : Held). StrikesFirm mid new h.name t (finish ∷ [])) c.count_filled.ensures.same takes.left);
-      done = not_done c.from_residual-in_err-finish_with.result _ c.from_residual-in_err-finish_with.ensures.0;
-    }
-
-pub returns-clause-takes : goal.returns-clause-takes
-returns-clause-takes g c t tells is equal =
-    let old : World = g.H.Host.world c.args.host.now in
-    let mid : World = g.H.Host.world c.count_filled.new.host in
-    let new : World = g.H.Host.world c.finish_with.new.host in
-    let quiet = c.count_filled.ensures.quiet in
-    let here = subst (λ (h : Held). IsOpen mid h t) (sym c.count_filled.ensures.same) (open_still old mid c.args.self.now t quiet.still is) in
-    let merged = subst (λ (h : Held). AreMerged mid h (length h.entries)) (sym c.count_filled.ensures.same) (merged_still old mid c.args.self.now _ quiet.still equal) in
-    let takes = c.in_ok-finish_with.ensures.takes t tells here merged (c.in_ok-count.ensures.count t tells is) in
-    record {
-      left = quiet_struck old mid new c.args.self.now t (finish ∷ []) quiet is (subst (λ (h : Held). StrikesFirm mid new h.name t (finish ∷ [])) c.count_filled.ensures.same takes.left);
       done = takes.done;
     }
 
@@ -53,4 +39,4 @@ pub finish_with-requires-clause-merge : goal.finish_with-requires-clause-merge
 finish_with-requires-clause-merge g c = ap (λ (h : Held). h.state) c.count_filled.ensures.same ∙ c.requires.merge
 
 pub returns-clause-gone : goal.returns-clause-gone
-returns-clause-gone g c tells = subst (λ (h : Held). (g.H.Host.world c.finish_with.new.host).files (delta_name h.name) ≡ None) c.count_filled.ensures.same (c.in_ok-finish_with.ensures.gone tells)
+returns-clause-gone g c tells = subst (λ (h : Held). OnOk c.finish_with.result ((g.H.Host.world c.finish_with.new.host).files (delta_name h.name) ≡ None)) c.count_filled.ensures.same (c.finish_with.ensures.gone tells)

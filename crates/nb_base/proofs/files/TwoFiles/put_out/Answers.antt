@@ -1,18 +1,13 @@
 use Rattle.std.proofs.Common.{sym, subst}
+use Rattle.std.proofs.lemmas.Result.{on_ok_weaker}
 use Rattle.nb_change.specs.Changes.{Only, Changes}
+use Rattle.nb_change.proofs.ResultLaws.{whole_on_ok}
 use Rattle.nb_model.specs.Strokes.{page, on_base}
 use Rattle.nb_model.specs.Trail.{ShowsIn}
 use Rattle.nb_base.specs.Open.{Held}
 use Rattle.nb_base.specs.Put.{PutLeft}
 use Rattle.nb_base.proofs.PutLaws.{put_left, put_shown}
 use Rattle.nb_base.proofs.files.TwoFiles.put_out.Goals as goal
-
-pub returns-in_err-write_page-clause-left : goal.returns-in_err-write_page-clause-left
-returns-in_err-write_page-clause-left g c tells =
-    let old = g.H.Host.world c.args.host.now in
-    let new = g.H.Host.world c.write_page.new.self in
-    subst (λ (h : Held). Changes old new (Only h.name) (PutLeft old h.name c.args.number c.args.page.now)) c.self.view_is
-    (put_left c.self.inside.name c.args.number c.args.page.now old new g.H.Host.tells c.write_page.result tells (g.met.H.Host.timely c.args.host.now) c.write_page.ensures.files c.write_page.ensures.log.said c.write_page.ensures.time)
 
 pub returns-clause-left : goal.returns-clause-left
 returns-clause-left g c tells =
@@ -25,5 +20,7 @@ pub returns-clause-put : goal.returns-clause-put
 returns-clause-put g c b tells reads may =
     let old = g.H.Host.world c.args.host.now in
     let new = g.H.Host.world c.write_page.new.self in
-    subst (λ (h : Held). ShowsIn h.name (on_base (page c.args.number c.args.page.now) b) new.files) c.self.view_is
-    (put_shown c.self.inside.name c.args.number c.args.page.now old new (c.in_ok-write_page.ensures.files.files tells) b (subst (λ (h : Held). ShowsIn h.name b old.files) (sym c.self.view_is) reads) may)
+    on_ok_weaker c.write_page.result
+    (λ put. subst (λ (h : Held). ShowsIn h.name (on_base (page c.args.number c.args.page.now) b) new.files) c.self.view_is
+    (put_shown c.self.inside.name c.args.number c.args.page.now old new put b (subst (λ (h : Held). ShowsIn h.name b old.files) (sym c.self.view_is) reads) may))
+    (whole_on_ok c.write_page.result _ _ _ (c.write_page.ensures.files.files tells))

@@ -1,15 +1,13 @@
-use Rattle.std.proofs.Common.{[], ◌∷◌, ◌++◌, List, length, ap, subst, ◌∙◌, arith, sym}
+use Rattle.std.proofs.Common.{List, length, ap, subst, ◌∙◌, arith, sym, refl, ◌<◌}
 use Rattle.std.specs.Prelude.{OnOk}
 use Rattle.std.proofs.lemmas.List.{with_items_is}
-use Rattle.nb_level.specs.declared.head.LevelHead.{LevelHead}
 use Rattle.nb_level.specs.Heads.{head_of}
 use Rattle.nb_model.specs.Image.{Numbered}
-use Rattle.nb_model.specs.Levels.{taken_from}
-use Rattle.nb_gather.specs.Gathering.{HasTaken, IsHeaded, MayHave}
+use Rattle.nb_gather.specs.Gathering.{HasTaken, IsHeaded}
 use Rattle.nb_copy.specs.LevelCopying.{LevelCopying}
 use Rattle.nb_gather.specs.Making.{IsMade, IsUnfinished}
 use Rattle.nb_gather.proofs.QuietLaws.{renamed, quiet_then, made_quiet, remade_twice}
-use Rattle.nb_copy.proofs.LevelLaws.{next_taken, below_none, may_below}
+use Rattle.nb_copy.proofs.LevelLaws.{below_none, may_next, taken_next}
 use Rattle.nb_copy.proofs.PlaceLaws.{may_first}
 use Rattle.nb_gather.proofs.TouchLaws.{touches_named, touches_then, touches_quiet}
 use Rattle.nb_copy.proofs.level_copy.LevelCopy.begin.Goals as goal
@@ -27,33 +25,30 @@ returns-clause-left g c t tells open_ stalled of fresh made =
     let name = ap (λ (v : LevelCopying). v.file.name) c.self.view_is in
     let quiet = c.in_ok-read_main.ensures.quiet in
     let empty = made_quiet _ _ _ quiet (subst (λ (v : LevelCopying). IsMade (g.H.Host.world c.args.host.now) v.file.name) (sym c.self.view_is) made) in
-    let begun = c.in_ok-begin.ensures.begun tells empty (ap (λ (v : LevelCopying). v.file.run.count) c.self.view_is ∙ fresh.no_run) (ap (λ (v : LevelCopying). v.file.written) c.self.view_is ∙ fresh.no_page) in
+    let begun = subst (λ (rs : List Numbered). HasTaken (g.H.Host.world c.begin.new.host) c.self.inside.file rs) (sym (below_none c.args.self.now frozen of))
+    (c.in_ok-begin.ensures.begun tells empty (ap (λ (v : LevelCopying). v.file.run.count) c.self.view_is ∙ fresh.no_run) (ap (λ (v : LevelCopying). v.file.written) c.self.view_is ∙ fresh.no_page)) in
     let into = with_items_is c.self.inside.page c.read_main.new.into (omega (arith, c.read_main.auto.into, ap length c.deref_mut.ensures.value, c.self.inside.page.ok.0)) in
     let page = c.deref.ensures.value ∙ into ∙ c.in_ok-read_main.ensures.page t tells open_ stalled (omega (arith, of.least)) in
     let headed = ap (λ (v : LevelCopying). v.file.head) c.self.view_is in
-    let scn = ap (λ (h : LevelHead). h.previous_scn) headed in
-    let all = ap (λ (rs : List Numbered). rs ++ taken_from 0 c.self.inside.file.head.previous_scn (c.deref.result.now ∷ [])) (sym (below_none c.args.self.now frozen of))
-    ∙ next_taken c.args.self.now frozen of 0 c.self.inside.file.head.previous_scn c.deref.result.now (omega (arith, of.least)) page scn (may_first frozen c.args.self.now.file.head.previous_scn) in
-    let may = subst (λ (h : LevelHead). MayHave h ([] ++ taken_from 0 c.self.inside.file.head.previous_scn (c.deref.result.now ∷ []))) (sym headed)
-    (subst (MayHave c.args.self.now.file.head) (sym all) (may_below c.args.self.now frozen of 1 (omega (arith, of.least)))) in
+    let low : 0 < length frozen = omega (arith, of.least) in
+    let may = may_next c.args.self.now frozen of c.self.inside.file.head headed 0 0 refl c.deref.result.now low page (may_first frozen c.args.self.now.file.head.previous_scn) in
     let begin = c.in_ok-begin.ensures.left tells (subst (λ (v : LevelCopying). IsHeaded (head_of v.file.head)) (sym c.self.view_is) of.formed) empty in
-    renamed _ _ _ _ IsUnfinished name (quiet_then c.self.inside.file.name IsUnfinished _ _ _ quiet (remade_twice _ _ _ c.self.inside.file.name IsUnfinished (g.met.H.Host.reads_left _ tells _) begin (c.take.ensures.left tells [] begun may)))
+    renamed _ _ _ _ IsUnfinished name (quiet_then c.self.inside.file.name IsUnfinished _ _ _ quiet (remade_twice _ _ _ c.self.inside.file.name IsUnfinished (g.met.H.Host.reads_left _ tells _) begin (c.take.ensures.left tells _ begun may)))
 
 pub returns-clause-begun : goal.returns-clause-begun
 returns-clause-begun g c t tells open_ stalled of fresh made =
     let frozen = t.base.frozen in
     let quiet = c.in_ok-read_main.ensures.quiet in
     let empty = made_quiet _ _ _ quiet (subst (λ (v : LevelCopying). IsMade (g.H.Host.world c.args.host.now) v.file.name) (sym c.self.view_is) made) in
-    let begun = c.in_ok-begin.ensures.begun tells empty (ap (λ (v : LevelCopying). v.file.run.count) c.self.view_is ∙ fresh.no_run) (ap (λ (v : LevelCopying). v.file.written) c.self.view_is ∙ fresh.no_page) in
+    let begun = subst (λ (rs : List Numbered). HasTaken (g.H.Host.world c.begin.new.host) c.self.inside.file rs) (sym (below_none c.args.self.now frozen of))
+    (c.in_ok-begin.ensures.begun tells empty (ap (λ (v : LevelCopying). v.file.run.count) c.self.view_is ∙ fresh.no_run) (ap (λ (v : LevelCopying). v.file.written) c.self.view_is ∙ fresh.no_page)) in
     let into = with_items_is c.self.inside.page c.read_main.new.into (omega (arith, c.read_main.auto.into, ap length c.deref_mut.ensures.value, c.self.inside.page.ok.0)) in
     let page = c.deref.ensures.value ∙ into ∙ c.in_ok-read_main.ensures.page t tells open_ stalled (omega (arith, of.least)) in
     let headed = ap (λ (v : LevelCopying). v.file.head) c.self.view_is in
-    let scn = ap (λ (h : LevelHead). h.previous_scn) headed in
-    let all = ap (λ (rs : List Numbered). rs ++ taken_from 0 c.self.inside.file.head.previous_scn (c.deref.result.now ∷ [])) (sym (below_none c.args.self.now frozen of))
-    ∙ next_taken c.args.self.now frozen of 0 c.self.inside.file.head.previous_scn c.deref.result.now (omega (arith, of.least)) page scn (may_first frozen c.args.self.now.file.head.previous_scn) in
-    let may = subst (λ (h : LevelHead). MayHave h ([] ++ taken_from 0 c.self.inside.file.head.previous_scn (c.deref.result.now ∷ []))) (sym headed)
-    (subst (MayHave c.args.self.now.file.head) (sym all) (may_below c.args.self.now frozen of 1 (omega (arith, of.least)))) in
-    subst (λ (rs : List Numbered). OnOk c.take.result (HasTaken (g.H.Host.world c.take.new.host) c.take.new.self rs)) all (c.take.ensures.taken tells [] begun may)
+    let low : 0 < length frozen = omega (arith, of.least) in
+    let may = may_next c.args.self.now frozen of c.self.inside.file.head headed 0 0 refl c.deref.result.now low page (may_first frozen c.args.self.now.file.head.previous_scn) in
+    subst (λ (rs : List Numbered). OnOk c.take.result (HasTaken (g.H.Host.world c.take.new.host) c.take.new.self rs))
+    (taken_next c.args.self.now frozen of c.self.inside.file.head headed 0 0 refl c.deref.result.now low page (may_first frozen c.args.self.now.file.head.previous_scn)) (c.take.ensures.taken tells _ begun may)
 
 pub returns-in_err-read_main-clause-touches : goal.returns-in_err-read_main-clause-touches
 returns-in_err-read_main-clause-touches g c tells = touches_quiet _ _ _ c.in_err-read_main.ensures.quiet

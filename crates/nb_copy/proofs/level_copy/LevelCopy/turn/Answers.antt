@@ -1,54 +1,29 @@
-use Rattle.std.proofs.Common.{◌≡◌, inl, List, length, ap, subst, arith, sym}
-use Rattle.nb_change.specs.Changes.{Changes, Only, Remade}
+use Rattle.std.proofs.Common.{◌≡◌, inl, length, ap, arith}
 use Rattle.nb_change.proofs.MovedLaws.{remade_weaker}
-use Rattle.nb_level.specs.Heads.{head_of}
-use Rattle.nb_model.specs.Image.{Numbered}
-use Rattle.nb_model.specs.Levels.{level_bytes, changed}
-use Rattle.nb_gather.specs.Gathering.{LevelWriting, HasTaken, MayHave}
 use Rattle.nb_copy.specs.LevelCopying.{LevelCopying, whole_level}
-use Rattle.nb_gather.specs.Making.{IsUnfinished, IsUnfinishedOr, IsKept}
-use Rattle.nb_copy.proofs.LevelLaws.{below_all, may_below, level_next}
+use Rattle.nb_gather.specs.Making.{IsUnfinished, IsUnfinishedOr}
+use Rattle.nb_copy.proofs.LevelLaws.{level_next, level_left, level_kept}
 use Rattle.nb_copy.proofs.ReadLaws.{reads_first}
 use Rattle.nb_gather.proofs.TouchLaws.{touches_named}
 use Rattle.nb_copy.proofs.level_copy.LevelCopy.turn.Goals as goal
 
 pub returns-in_err-close-clause-left : goal.returns-in_err-close-clause-left
 returns-in_err-close-clause-left g c t tells open_ stalled copying =
-    let frozen = t.base.frozen in
     let copy = c.args.self.now in
-    let filed = ap (λ (v : LevelCopying). v.file) c.self.view_is in
-    let next : copy.next ≡ length frozen = omega (arith, c.if-self.true, ap (λ (v : LevelCopying). v.next) c.self.view_is, ap (λ (v : LevelCopying). v.count) c.self.view_is, copying.of.long) in
-    let begun = copying.begun (omega (arith, next, copying.of.least)) in
-    let all = below_all copy frozen copying.of copy.next (omega (arith, next)) in
-    let has = subst (λ (f : LevelWriting). HasTaken (g.H.Host.world c.args.host.now) f (changed copy.file.head.previous_scn frozen)) (sym filed) (subst (λ (rs : List Numbered). HasTaken (g.H.Host.world c.args.host.now) copy.file rs) all begun.has) in
-    let may = subst (λ (f : LevelWriting). MayHave f.head (changed copy.file.head.previous_scn frozen)) (sym filed) (subst (MayHave copy.file.head) all (may_below copy frozen copying.of copy.next (omega (arith, next)))) in
-    subst (λ (f : LevelWriting). Changes (g.H.Host.world c.args.host.now) (g.H.Host.world c.close.new.host) (Only f.name) (Remade (g.H.Host.world c.args.host.now) f.name (IsUnfinishedOr (level_bytes 102 (head_of f.head) (changed copy.file.head.previous_scn frozen))))) filed
-    (c.close.ensures.left tells _ has may)
+    let all : copy.next ≡ length t.base.frozen = omega (arith, c.if-self.true, ap (λ (v : LevelCopying). v.next) c.self.view_is, ap (λ (v : LevelCopying). v.count) c.self.view_is, copying.of.long) in
+    level_left _ copy t.base.frozen copying all c.self.inside.file (ap (λ (v : LevelCopying). v.file) c.self.view_is) _ (c.close.ensures.left tells)
 
 pub returns-then-self-clause-left : goal.returns-then-self-clause-left
 returns-then-self-clause-left g c t tells open_ stalled copying =
-    let frozen = t.base.frozen in
     let copy = c.args.self.now in
-    let filed = ap (λ (v : LevelCopying). v.file) c.self.view_is in
-    let next : copy.next ≡ length frozen = omega (arith, c.if-self.true, ap (λ (v : LevelCopying). v.next) c.self.view_is, ap (λ (v : LevelCopying). v.count) c.self.view_is, copying.of.long) in
-    let begun = copying.begun (omega (arith, next, copying.of.least)) in
-    let all = below_all copy frozen copying.of copy.next (omega (arith, next)) in
-    let has = subst (λ (f : LevelWriting). HasTaken (g.H.Host.world c.args.host.now) f (changed copy.file.head.previous_scn frozen)) (sym filed) (subst (λ (rs : List Numbered). HasTaken (g.H.Host.world c.args.host.now) copy.file rs) all begun.has) in
-    let may = subst (λ (f : LevelWriting). MayHave f.head (changed copy.file.head.previous_scn frozen)) (sym filed) (subst (MayHave copy.file.head) all (may_below copy frozen copying.of copy.next (omega (arith, next)))) in
-    subst (λ (f : LevelWriting). Changes (g.H.Host.world c.args.host.now) (g.H.Host.world c.close.new.host) (Only f.name) (Remade (g.H.Host.world c.args.host.now) f.name (IsUnfinishedOr (level_bytes 102 (head_of f.head) (changed copy.file.head.previous_scn frozen))))) filed
-    (c.close.ensures.left tells _ has may)
+    let all : copy.next ≡ length t.base.frozen = omega (arith, c.if-self.true, ap (λ (v : LevelCopying). v.next) c.self.view_is, ap (λ (v : LevelCopying). v.count) c.self.view_is, copying.of.long) in
+    level_left _ copy t.base.frozen copying all c.self.inside.file (ap (λ (v : LevelCopying). v.file) c.self.view_is) _ (c.close.ensures.left tells)
 
 pub returns-then-self-clause-answer : goal.returns-then-self-clause-answer
 returns-then-self-clause-answer g c t tells open_ stalled copying =
-    let frozen = t.base.frozen in
     let copy = c.args.self.now in
-    let filed = ap (λ (v : LevelCopying). v.file) c.self.view_is in
-    let next : copy.next ≡ length frozen = omega (arith, c.if-self.true, ap (λ (v : LevelCopying). v.next) c.self.view_is, ap (λ (v : LevelCopying). v.count) c.self.view_is, copying.of.long) in
-    let begun = copying.begun (omega (arith, next, copying.of.least)) in
-    let all = below_all copy frozen copying.of copy.next (omega (arith, next)) in
-    let has = subst (λ (f : LevelWriting). HasTaken (g.H.Host.world c.args.host.now) f (changed copy.file.head.previous_scn frozen)) (sym filed) (subst (λ (rs : List Numbered). HasTaken (g.H.Host.world c.args.host.now) copy.file rs) all begun.has) in
-    let may = subst (λ (f : LevelWriting). MayHave f.head (changed copy.file.head.previous_scn frozen)) (sym filed) (subst (MayHave copy.file.head) all (may_below copy frozen copying.of copy.next (omega (arith, next)))) in
-    subst (λ (f : LevelWriting). IsKept (g.H.Host.world c.close.new.host) f.name (level_bytes 102 (head_of f.head) (changed copy.file.head.previous_scn frozen))) filed (c.in_ok-close.ensures.done tells _ has may)
+    let all : copy.next ≡ length t.base.frozen = omega (arith, c.if-self.true, ap (λ (v : LevelCopying). v.next) c.self.view_is, ap (λ (v : LevelCopying). v.count) c.self.view_is, copying.of.long) in
+    level_kept _ copy t.base.frozen copying all c.self.inside.file (ap (λ (v : LevelCopying). v.file) c.self.view_is) _ (c.in_ok-close.ensures.done tells)
 
 pub returns-in_err-copy_page-clause-left : goal.returns-in_err-copy_page-clause-left
 returns-in_err-copy_page-clause-left g c t tells open_ stalled copying =

@@ -4,13 +4,13 @@ use Rattle.nb_host.specs.Files.{File, Files}
 use Rattle.nb_fields.specs.Table.{table_of}
 use Rattle.nb_delta.specs.Known.{Known}
 use Rattle.nb_delta.specs.Reading.{Reads}
-use Rattle.nb_delta.proofs.AttachLaws.{IsThere, there, not_attached}
+use Rattle.nb_delta.proofs.AttachLaws.{IsLong, long_file, not_attached}
 use Rattle.nb_delta.proofs.delta.Delta.attach.Goals as goal
 
 pub returns-in_err-read_table-clause-answer : goal.returns-in_err-read_table-clause-answer
 returns-in_err-read_table-clause-answer g c tells =
     let file : File = (g.H.Host.world c.args.host.now).files c.args.name.now in
-    let here : IsThere file c.in-Some.len = there file _ c.in-Some.len (c.in_ok-len.ensures.answer tells) c.in-Some.is in
+    let here : IsLong file c.in-Some.len = long_file file _ c.in-Some.len (c.in_ok-len.ensures.answer tells) c.in-Some.is in
     let size_is : c.delta.inside.page_size ≡ c.args.page_size = ap (λ (k : Known). k.page_size) (c.delta.view_is ∙ c.in_ok-delta.ensures.ok) in
     let same : length c.deref_mut.result.now ≡ c.args.page_size = omega (arith, c.deref_mut.ensures.len, c.delta.invariant.1, size_is) in
     not_attached c.args.page_size c.args.name.now file here.bytes _ _ _ here.is c.from_residual-in_err-read_table.ensures

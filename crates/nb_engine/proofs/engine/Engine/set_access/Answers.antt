@@ -1,8 +1,7 @@
-use Rattle.std.proofs.Common.{◌≡◌, ◌≢◌, ℕ, ◌∙◌, refl, sym, ap, subst, rules, arith}
-use Rattle.std.specs.Prelude.{None, Some, Ok, Err, IfErr}
+use Rattle.std.proofs.Common.{◌≡◌, ℕ, ◌∙◌, refl, sym, ap, subst, rules, arith}
+use Rattle.std.specs.Prelude.{None, Some}
 use Rattle.nb_fields.specs.States.{normal_state}
 use denote.Enum.Bare.{same_true, same_false}
-use Rattle.nb_host.specs.declared.faults.Fault.TheVariants.{Memory}
 use Rattle.nb_host.specs.declared.refusals.Refusal.TheVariants.{WrongState}
 use Rattle.nb_page.proofs.QuietLaws.{quiet_begun}
 use Rattle.nb_model.specs.declared.reply.Reply.TheVariants.{Done}
@@ -17,7 +16,7 @@ use Rattle.nb_cases.proofs.StateLaws.{goes, only_normal}
 use Rattle.nb_state.specs.Open.{Held, IsOpen}
 use Rattle.nb_alloc.specs.Tries.{Tries}
 use Rattle.nb_engine.specs.Replies.{done}
-use Rattle.nb_alloc.proofs.DoesLaws.{seeing, if_err, tries_passed, tries_failed, tries_does}
+use Rattle.nb_alloc.proofs.DoesLaws.{seeing, if_ok, tries_failed, tries_does}
 use Rattle.nb_engine.proofs.FlagLaws.{access_is}
 use Rattle.nb_engine.proofs.engine.Engine.set_access.Goals as goal
 
@@ -31,23 +30,6 @@ returns-then-eq-clause-turn g c s t tells same is =
     tries_does done _ first first _ _ t s (λ (x : Seen). access_turn x c.args.closed) _ Done refl _ same (access_is (seeing s t.base) c.args.closed) tt
     (tries_failed (Unit {0}) _ first first _ _ t (not_state normal_state t.base.image) _ other refl (quiet_begun first (g.met.H.Host.timely c.args.host.now)) is is)
 
-pub returns-in_err-put_flag-clause-turn : goal.returns-in_err-put_flag-clause-turn
-returns-in_err-put_flag-clause-turn g c s t tells same is =
-    let old = g.H.Host.world c.args.host.now in
-    let new = g.H.Host.world c.put_flag.new.host in
-    let here = subst (λ (h : Held). IsOpen old h t) (sym c.self.view_is) is in
-    let other = same_false the_type c.case_of.result case.WrongState (sym c.eq.ensures ∙ c.if-eq.false) in
-    let state = c.state-state.ensures.value ∙ here.files.agrees.state in
-    let free : None ≡ not_state normal_state t.base.image = sym (goes (not_state normal_state) c.state-state.result c.state-state.ensures.most c.case_of.result c.case_of.ensures other t.base.image (sym state)) in
-    let fault = c.in_err-put_flag.field-0.0 in
-    let result = c.from_residual.result in
-    let xs = byte_strokes 65 (flag c.args.closed) t.base.image in
-    let made = subst (λ (n : ℕ). Tries {T = Unit {0}} (Err fault) old new c.self.inside.store c.put_flag.new.store t None (byte_strokes n (flag c.args.closed) t.base.image)) (ap (λ (place : ℕ × ℕ). place.0) c.place-at.ensures) (c.in_err-put_flag.ensures.tries t tells here) in
-    let tries = subst (λ (k : Cause). Tries {T = Unit {0}} (Err fault) old new c.self.inside.store c.put_flag.new.store t k xs) free made in
-    tries_does done result old new _ _ t s (λ (x : Seen). access_turn x c.args.closed) _ Done refl _ same (access_is (seeing s t.base) c.args.closed) (if_err result fault _ c.from_residual.ensures)
-    (tries_passed result fault (λ r. Tries r old new c.args.self.now c.put_flag.new.store t (not_state normal_state t.base.image) xs) c.from_residual.ensures
-    (subst (λ (h : Held). Tries {T = Unit {0}} (Err fault) old new h c.put_flag.new.store t (not_state normal_state t.base.image) xs) c.self.view_is tries))
-
 pub returns-clause-turn : goal.returns-clause-turn
 returns-clause-turn g c s t tells same is =
     let old = g.H.Host.world c.args.host.now in
@@ -56,15 +38,15 @@ returns-clause-turn g c s t tells same is =
     let other = same_false the_type c.case_of.result case.WrongState (sym c.eq.ensures ∙ c.if-eq.false) in
     let state = c.state-state.ensures.value ∙ here.files.agrees.state in
     let free : None ≡ not_state normal_state t.base.image = sym (goes (not_state normal_state) c.state-state.result c.state-state.ensures.most c.case_of.result c.case_of.ensures other t.base.image (sym state)) in
+    let result = c.put_flag.result in
     let xs = byte_strokes 65 (flag c.args.closed) t.base.image in
-    let made = subst (λ (n : ℕ). Tries {T = Unit {0}} (Ok tt) old new c.self.inside.store c.put_flag.new.store t None (byte_strokes n (flag c.args.closed) t.base.image)) (ap (λ (place : ℕ × ℕ). place.0) c.place-at.ensures) (c.in_ok-put_flag.ensures.tries t tells here) in
-    let tries = subst (λ (k : Cause). Tries {T = Unit {0}} (Ok tt) old new c.self.inside.store c.put_flag.new.store t k xs) free made in
-    tries_does done (Ok tt) old new _ _ t s (λ (x : Seen). access_turn x c.args.closed) _ Done refl _ same (access_is (seeing s t.base) c.args.closed) refl
-    (subst (λ (h : Held). Tries {T = Unit {0}} (Ok tt) old new h c.put_flag.new.store t (not_state normal_state t.base.image) xs) c.self.view_is tries)
+    let made = subst (λ (n : ℕ). Tries result old new c.self.inside.store c.put_flag.new.store t None (byte_strokes n (flag c.args.closed) t.base.image)) (ap (λ (place : ℕ × ℕ). place.0) c.place-at.ensures) (c.put_flag.ensures.tries t tells here) in
+    let tries = subst (λ (k : Cause). Tries result old new c.self.inside.store c.put_flag.new.store t k xs) free made in
+    tries_does done result old new _ _ t s (λ (x : Seen). access_turn x c.args.closed) _ Done refl _ same (access_is (seeing s t.base) c.args.closed) (if_ok result (λ value. done value ≡ Done) (λ value. refl))
+    (subst (λ (h : Held). Tries result old new h c.put_flag.new.store t (not_state normal_state t.base.image) xs) c.self.view_is tries)
 
-pub returns-in_err-put_flag-clause-takes_none : goal.returns-in_err-put_flag-clause-takes_none
-returns-in_err-put_flag-clause-takes_none g c =
+pub returns-clause-takes_none : goal.returns-clause-takes_none
+returns-clause-takes_none g c =
     let other = same_false the_type c.case_of.result case.WrongState (sym c.eq.ensures ∙ c.if-eq.false) in
     let normal = only_normal c.state-state.result c.state-state.ensures.most c.case_of.result other c.case_of.ensures in
-    tries_passed c.from_residual.result c.in_err-put_flag.field-0.0 (λ r. IfErr r (λ fault. fault ≢ Memory)) c.from_residual.ensures
-    (c.in_err-put_flag.ensures.takes_none (λ stalled. absurd (omega (arith, normal, c.state-state.ensures.value, stalled))))
+    c.put_flag.ensures.takes_none (λ stalled. absurd (omega (arith, normal, c.state-state.ensures.value, stalled)))

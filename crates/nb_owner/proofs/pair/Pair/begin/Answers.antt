@@ -1,4 +1,5 @@
-use Rattle.std.proofs.Common.{List, ℕ, [], ◌∷◌, inl, sym, subst, ap, ◌∙◌}
+use Rattle.std.proofs.Common.{◌≡◌, List, ℕ, [], ◌∷◌, inl, sym, subst, ap, ◌∙◌}
+use Rattle.std.proofs.lemmas.Result.{on_ok_weaker}
 use Rattle.nb_change.proofs.ChangesLaws.{weaker_has}
 use Rattle.nb_change.proofs.ReachedLaws.{strokes_composed}
 use Rattle.nb_model.specs.Strokes.{begin}
@@ -8,7 +9,7 @@ use Rattle.nb_base.specs.Takes.{Strikes}
 use Rattle.nb_base.proofs.WriteLaws.{not_done}
 use Rattle.std.specs.Prelude.{nat_eq}
 use Rattle.std.specs.Map.{remove_entry}
-use Rattle.nb_owner.specs.Open.{Pages, bare}
+use Rattle.nb_owner.specs.Open.{Pages, bare, behind_first}
 use Rattle.nb_owner.proofs.OpenLaws.{bare_removed}
 use Rattle.nb_owner.proofs.pair.Pair.begin.Goals as goal
 
@@ -21,19 +22,6 @@ returns-in_err-write_out-clause-takes g c t ask tells is low = record {
 pub begin_files-requires-clause-normal : goal.begin_files-requires-clause-normal
 begin_files-requires-clause-normal g c = ap (λ f. f.state) c.write_out.ensures.files ∙ c.requires.normal
 
-pub returns-in_err-begin_files-clause-takes : goal.returns-in_err-begin_files-clause-takes
-returns-in_err-begin_files-clause-takes g c t ask tells is low =
-    let old = g.H.Host.world c.args.host.now in
-    let mid = g.H.Host.world c.write_out.new.host in
-    let new = g.H.Host.world c.begin_files.new.host in
-    let name = c.args.self.now.files.name in
-    let first = c.in_ok-write_out.ensures.takes t tells is in
-    record {
-      left = strokes_composed after_stroke (StandsIn name) (OfFiles name) old mid new t [] (begin c.args.guid.now ask ∷ []) first.left
-          (subst (λ (n : List ℕ). Strikes mid new n t (begin c.args.guid.now ask ∷ [])) (ap (λ f. f.name) c.write_out.ensures.files) (c.begin_files.ensures.takes t ask tells first.done low).left);
-      done = not_done c.from_residual-in_err-begin_files.result _ c.from_residual-in_err-begin_files.ensures.0;
-    }
-
 pub returns-clause-takes : goal.returns-clause-takes
 returns-clause-takes g c t ask tells is low =
     let old = g.H.Host.world c.args.host.now in
@@ -41,7 +29,7 @@ returns-clause-takes g c t ask tells is low =
     let new = g.H.Host.world c.begin_files.new.host in
     let name = c.args.self.now.files.name in
     let first = c.in_ok-write_out.ensures.takes t tells is in
-    let second = c.in_ok-begin_files.ensures.takes t ask tells first.done low in
+    let second = c.begin_files.ensures.takes t ask tells first.done low in
     record {
       left = strokes_composed after_stroke (StandsIn name) (OfFiles name) old mid new t [] (begin c.args.guid.now ask ∷ []) first.left
           (subst (λ (n : List ℕ). Strikes mid new n t (begin c.args.guid.now ask ∷ [])) (ap (λ f. f.name) c.write_out.ensures.files) second.left);
@@ -50,4 +38,4 @@ returns-clause-takes g c t ask tells is low =
 
 pub returns-clause-others : goal.returns-clause-others
 returns-clause-others g c =
-    ap (λ (ps : Pages). bare ps) c.in_ok-begin_files.ensures.others ∙ bare_removed 0 c.write_out.new.self.pages ∙ ap (remove_entry (nat_eq 0)) c.write_out.ensures.bare ∙ sym (bare_removed 0 c.args.self.now.pages)
+    on_ok_weaker c.begin_files.result (λ (others : c.begin_files.new.self.pages ≡ behind_first c.write_out.new.self.pages). ap (λ (ps : Pages). bare ps) others ∙ bare_removed 0 c.write_out.new.self.pages ∙ ap (remove_entry (nat_eq 0)) c.write_out.ensures.bare ∙ sym (bare_removed 0 c.args.self.now.pages)) c.begin_files.ensures.others

@@ -1,4 +1,5 @@
-use Rattle.std.proofs.Common.{List, ℕ, [], ◌∷◌, inl, sym, subst, ap, ◌∙◌}
+use Rattle.std.proofs.Common.{◌≡◌, List, ℕ, [], ◌∷◌, inl, sym, subst, ap, ◌∙◌}
+use Rattle.std.proofs.lemmas.Result.{on_ok_weaker}
 use Rattle.nb_change.proofs.ChangesLaws.{weaker_has}
 use Rattle.nb_change.proofs.ReachedLaws.{strokes_composed}
 use Rattle.nb_model.specs.Strokes.{ends}
@@ -8,7 +9,7 @@ use Rattle.nb_base.specs.Takes.{Strikes}
 use Rattle.nb_base.proofs.WriteLaws.{not_done}
 use Rattle.std.specs.Prelude.{nat_eq}
 use Rattle.std.specs.Map.{remove_entry}
-use Rattle.nb_owner.specs.Open.{Pages, bare}
+use Rattle.nb_owner.specs.Open.{Pages, bare, behind_first}
 use Rattle.nb_owner.proofs.OpenLaws.{bare_removed}
 use Rattle.nb_owner.proofs.pair.Pair.end.Goals as goal
 
@@ -21,19 +22,6 @@ returns-in_err-write_out-clause-takes g c t tells is = record {
 pub end_files-requires-clause-stalled : goal.end_files-requires-clause-stalled
 end_files-requires-clause-stalled g c = ap (λ f. f.state) c.write_out.ensures.files ∙ c.requires.stalled
 
-pub returns-in_err-end_files-clause-takes : goal.returns-in_err-end_files-clause-takes
-returns-in_err-end_files-clause-takes g c t tells is =
-    let old = g.H.Host.world c.args.host.now in
-    let mid = g.H.Host.world c.write_out.new.host in
-    let new = g.H.Host.world c.end_files.new.host in
-    let name = c.args.self.now.files.name in
-    let first = c.in_ok-write_out.ensures.takes t tells is in
-    record {
-      left = strokes_composed after_stroke (StandsIn name) (OfFiles name) old mid new t [] (ends ∷ []) first.left
-          (subst (λ (n : List ℕ). Strikes mid new n t (ends ∷ [])) (ap (λ f. f.name) c.write_out.ensures.files) (c.end_files.ensures.takes t tells first.done).left);
-      done = not_done c.from_residual-in_err-end_files.result _ c.from_residual-in_err-end_files.ensures.0;
-    }
-
 pub returns-clause-takes : goal.returns-clause-takes
 returns-clause-takes g c t tells is =
     let old = g.H.Host.world c.args.host.now in
@@ -41,7 +29,7 @@ returns-clause-takes g c t tells is =
     let new = g.H.Host.world c.end_files.new.host in
     let name = c.args.self.now.files.name in
     let first = c.in_ok-write_out.ensures.takes t tells is in
-    let second = c.in_ok-end_files.ensures.takes t tells first.done in
+    let second = c.end_files.ensures.takes t tells first.done in
     record {
       left = strokes_composed after_stroke (StandsIn name) (OfFiles name) old mid new t [] (ends ∷ []) first.left
           (subst (λ (n : List ℕ). Strikes mid new n t (ends ∷ [])) (ap (λ f. f.name) c.write_out.ensures.files) second.left);
@@ -50,7 +38,7 @@ returns-clause-takes g c t tells is =
 
 pub returns-clause-others : goal.returns-clause-others
 returns-clause-others g c =
-    ap (λ (ps : Pages). bare ps) c.in_ok-end_files.ensures.others ∙ bare_removed 0 c.write_out.new.self.pages ∙ ap (remove_entry (nat_eq 0)) c.write_out.ensures.bare ∙ sym (bare_removed 0 c.args.self.now.pages)
+    on_ok_weaker c.end_files.result (λ (others : c.end_files.new.self.pages ≡ behind_first c.write_out.new.self.pages). ap (λ (ps : Pages). bare ps) others ∙ bare_removed 0 c.write_out.new.self.pages ∙ ap (remove_entry (nat_eq 0)) c.write_out.ensures.bare ∙ sym (bare_removed 0 c.args.self.now.pages)) c.end_files.ensures.others
 
 pub returns-in_err-write_out-clause-entries : goal.returns-in_err-write_out-clause-entries
 returns-in_err-write_out-clause-entries g c = ap (λ f. f.entries) c.write_out.ensures.files

@@ -8,7 +8,7 @@ use Rattle.nb_cache.specs.Held.{NoneWaits}
 use Rattle.nb_owner.specs.Open.{Held, Pages, IsOpen, AreOf}
 use Rattle.nb_owner.specs.contracts.pair.Pair.{the_view}
 use Rattle.nb_owner.proofs.RankLaws.{none_found}
-use Rattle.nb_owner.proofs.OpenLaws.{of_ended, none_waits_dropped, gone_behind, valid_gone}
+use Rattle.nb_owner.proofs.OpenLaws.{of_ended, gone_behind, valid_gone, none_gone}
 use Rattle.nb_owner.proofs.WaitLaws.{files_open, open_settled}
 use Rattle.nb_owner.proofs.pair.Pair.end_files.Goals as goal
 
@@ -32,8 +32,7 @@ invariant_of-self-2 g c =
     let none = subst (λ (h : Held). NoneWaits h.pages) (sym c.self.view_is) c.requires.none in (
       valid_gone c.self.inside.cache c.drop_page.new.self c.self.inside.files.page_size c.end.new.self.page_size c.self.invariant.0 c.end.ensures.page_size c.drop_page.ensures,
       c.self.invariant.1 ∙ sym c.end.ensures.page_size,
-      (λ stalled. subst (λ (ps : Pages). NoneWaits ps) (sym (gone_behind c.self.inside.cache c.drop_page.new.self c.self.inside.files.page_size c.self.inside.files.page_size c.self.invariant.0 refl c.drop_page.ensures))
-          (none_waits_dropped c.self.inside.cache.pages c.self.invariant.0.once none)),
+      (λ stalled. none_gone c.self.inside.cache c.drop_page.new.self c.self.inside.files.page_size c.self.inside.files.page_size c.self.invariant.0 refl c.drop_page.ensures none),
     )
 
 pub returns-clause-takes : goal.returns-clause-takes
@@ -48,6 +47,6 @@ returns-clause-takes g c t tells given =
     record {
       left = subst (λ (h : Held). Strikes old new h.files.name t (ends ∷ [])) c.self.view_is
           (strikes_left old new c.self.inside.files.name t (ends ∷ []) takes.left);
-      done = open_settled new now (after_stroke (ends) t) (subst (λ (ps : Pages). NoneWaits ps) (sym gone) (none_waits_dropped c.self.inside.cache.pages c.self.invariant.0.once none)) takes.done
+      done = open_settled new now (after_stroke (ends) t) (none_gone c.self.inside.cache c.drop_page.new.self c.self.inside.files.page_size c.self.inside.files.page_size c.self.invariant.0 refl c.drop_page.ensures none) takes.done
           (subst (λ (ps : Pages). AreOf (after_stroke (ends) t).base.image ps) (sym gone) (of_ended c.self.inside.cache.pages c.self.invariant.0.once t is.pages));
     }

@@ -4,26 +4,14 @@ use Rattle.nb_owner.specs.Open.{Held, IsOpen}
 use Rattle.nb_owner.proofs.WaitLaws.{none_waits, none_drafted}
 use Rattle.nb_owner.proofs.pair.Pair.enter_rest.Goals as goal
 
-pub returns-in_err-enter-clause-takes : goal.returns-in_err-enter-clause-takes
-returns-in_err-enter-clause-takes g c t tells given =
+pub returns-else-drafted-eq0-clause-takes : goal.returns-else-drafted-eq0-clause-takes
+returns-else-drafted-eq0-clause-takes g c t tells given =
     let is = subst (λ (h : Held). IsOpen (g.H.Host.world c.args.host.now) h t) (sym c.self.view_is) given in
     let none = subst (λ (h : Held). NoneWaits h.pages) (sym c.self.view_is) c.requires.none in
     absurd (c.if-drafted-eq0.false (c.drafted.ensures.value ∙ (none_drafted c.self.inside.cache.pages c.self.inside.files.drafted is.sees t (none_waits c.self.inside.cache.pages none) is.waits).0))
 
-pub returns-in_ok-enter-clause-takes : goal.returns-in_ok-enter-clause-takes
-returns-in_ok-enter-clause-takes g c t tells given =
-    let is = subst (λ (h : Held). IsOpen (g.H.Host.world c.args.host.now) h t) (sym c.self.view_is) given in
-    let none = subst (λ (h : Held). NoneWaits h.pages) (sym c.self.view_is) c.requires.none in
-    absurd (c.if-drafted-eq0.false (c.drafted.ensures.value ∙ (none_drafted c.self.inside.cache.pages c.self.inside.files.drafted is.sees t (none_waits c.self.inside.cache.pages none) is.waits).0))
-
-pub returns-in_err-enter-clause-touches : goal.returns-in_err-enter-clause-touches
-returns-in_err-enter-clause-touches g c t tells given =
-    let is = subst (λ (h : Held). IsOpen (g.H.Host.world c.args.host.now) h t) (sym c.self.view_is) given in
-    let none = subst (λ (h : Held). NoneWaits h.pages) (sym c.self.view_is) c.requires.none in
-    absurd (c.if-drafted-eq0.false (c.drafted.ensures.value ∙ (none_drafted c.self.inside.cache.pages c.self.inside.files.drafted is.sees t (none_waits c.self.inside.cache.pages none) is.waits).0))
-
-pub returns-in_ok-enter-clause-touches : goal.returns-in_ok-enter-clause-touches
-returns-in_ok-enter-clause-touches g c t tells given =
+pub returns-else-drafted-eq0-clause-touches : goal.returns-else-drafted-eq0-clause-touches
+returns-else-drafted-eq0-clause-touches g c t tells given =
     let is = subst (λ (h : Held). IsOpen (g.H.Host.world c.args.host.now) h t) (sym c.self.view_is) given in
     let none = subst (λ (h : Held). NoneWaits h.pages) (sym c.self.view_is) c.requires.none in
     absurd (c.if-drafted-eq0.false (c.drafted.ensures.value ∙ (none_drafted c.self.inside.cache.pages c.self.inside.files.drafted is.sees t (none_waits c.self.inside.cache.pages none) is.waits).0))

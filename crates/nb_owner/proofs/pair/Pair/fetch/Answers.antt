@@ -7,7 +7,7 @@ use Rattle.nb_cache.specs.Held.{slot_of, rank_of, dropped, NoneWaits}
 use Rattle.nb_owner.specs.Open.{Held, IsOpen, AreOf, IsValid, cache_of, bare, used}
 use Rattle.nb_owner.specs.contracts.pair.Pair.{the_view}
 use Rattle.nb_owner.proofs.OpenLaws.{bare_put, put_page, first_block}
-use Rattle.nb_owner.proofs.WaitLaws.{still_open, read_open, absent_page, absent_waits, clean_entry, sees_size, kept_ranks}
+use Rattle.nb_owner.proofs.WaitLaws.{files_still, read_open, absent_page, absent_waits, clean_entry, sees_size, kept_ranks}
 use Rattle.nb_owner.proofs.pair.Pair.fetch.Goals as goal
 
 pub returns-in_err-read-clause-open : goal.returns-in_err-read-clause-open
@@ -15,8 +15,7 @@ returns-in_err-read-clause-open g c t tells given =
     let old = g.H.Host.world c.args.host.now in
     let new = g.H.Host.world c.read.new.host in
     let is = subst (λ (h : Held). IsOpen old h t) (sym c.self.view_is) given in
-    subst (λ (f : Rattle.nb_base.specs.Open.Held). let h : Held = record { files = f; pages = c.self.inside.cache.pages; cap = c.self.inside.cache.cap } in IsOpen new h t) (sym c.read.ensures.same)
-    (still_open old new (the_view c.self.inside) t c.read.ensures.quiet.still is)
+    files_still old new (the_view c.self.inside) t c.read.new.self c.read.ensures.same c.read.ensures.quiet.still is
 
 pub returns-clause-open : goal.returns-clause-open
 returns-clause-open g c t tells given =
@@ -24,8 +23,7 @@ returns-clause-open g c t tells given =
     let new = g.H.Host.world c.read.new.host in
     let is = subst (λ (h : Held). IsOpen old h t) (sym c.self.view_is) given in
     let now : Held = record { files = c.read.new.self; pages = c.self.inside.cache.pages; cap = c.self.inside.cache.cap } in
-    let opened : IsOpen new now t = subst (λ (f : Rattle.nb_base.specs.Open.Held). let h : Held = record { files = f; pages = c.self.inside.cache.pages; cap = c.self.inside.cache.cap } in IsOpen new h t) (sym c.read.ensures.same)
-    (still_open old new (the_view c.self.inside) t c.read.ensures.quiet.still is) in
+    let opened : IsOpen new now t = files_still old new (the_view c.self.inside) t c.read.new.self c.read.ensures.same c.read.ensures.quiet.still is in
     let absent : slot_of c.self.inside.cache.pages c.args.number ≡ None = ap (λ (h : Held). slot_of h.pages c.args.number) c.self.view_is ∙ c.requires.absent in
     let valid : IsValid (cache_of now) now.files.page_size = record { wide = refl; once = c.self.invariant.0.once; some = c.self.invariant.0.some; most = c.self.invariant.0.most } in
     ⊎_elim

@@ -4,11 +4,10 @@ use Rattle.nb_base.specs.Open.{AreMerged}
 use Rattle.nb_base.specs.Takes.{Strikes}
 use Rattle.nb_base.proofs.FirmLaws.{strikes_left}
 use Rattle.nb_base.proofs.WriteLaws.{not_done}
-use Rattle.nb_cache.specs.Held.{NoneWaits}
-use Rattle.nb_owner.specs.Open.{Held, Pages, IsOpen}
+use Rattle.nb_owner.specs.Open.{Held, IsOpen}
 use Rattle.nb_owner.specs.contracts.pair.Pair.{the_view}
 use Rattle.nb_owner.proofs.RankLaws.{none_found}
-use Rattle.nb_owner.proofs.OpenLaws.{none_waits_dropped, gone_behind, valid_gone}
+use Rattle.nb_owner.proofs.OpenLaws.{valid_gone, none_gone}
 use Rattle.nb_owner.proofs.WaitLaws.{files_open}
 use Rattle.nb_owner.proofs.pair.Pair.finish_files.Goals as goal
 
@@ -32,8 +31,7 @@ invariant_of-self-2 g c =
     let none = c.self.invariant.2 (ap (λ (h : Held). h.files.state) c.self.view_is ∙ c.requires.merge) in (
       valid_gone c.self.inside.cache c.drop_page.new.self c.self.inside.files.page_size c.finish.new.self.page_size c.self.invariant.0 c.finish.ensures.page_size c.drop_page.ensures,
       c.self.invariant.1 ∙ sym c.finish.ensures.page_size,
-      (λ stalled. subst (λ (ps : Pages). NoneWaits ps) (sym (gone_behind c.self.inside.cache c.drop_page.new.self c.self.inside.files.page_size c.self.inside.files.page_size c.self.invariant.0 refl c.drop_page.ensures))
-          (none_waits_dropped c.self.inside.cache.pages c.self.invariant.0.once none)),
+      (λ stalled. none_gone c.self.inside.cache c.drop_page.new.self c.self.inside.files.page_size c.self.inside.files.page_size c.self.invariant.0 refl c.drop_page.ensures none),
     )
 
 pub returns-clause-takes : goal.returns-clause-takes
@@ -51,5 +49,4 @@ returns-clause-takes g c t tells given merged =
 pub returns-clause-none : goal.returns-clause-none
 returns-clause-none g c =
     let none = c.self.invariant.2 (ap (λ (h : Held). h.files.state) c.self.view_is ∙ c.requires.merge) in
-    subst (λ (ps : Pages). NoneWaits ps) (sym (gone_behind c.self.inside.cache c.drop_page.new.self c.self.inside.files.page_size c.self.inside.files.page_size c.self.invariant.0 refl c.drop_page.ensures))
-    (none_waits_dropped c.self.inside.cache.pages c.self.invariant.0.once none)
+    none_gone c.self.inside.cache c.drop_page.new.self c.self.inside.files.page_size c.self.inside.files.page_size c.self.invariant.0 refl c.drop_page.ensures none

@@ -1,4 +1,5 @@
 use Rattle.std.proofs.Common.{sym, subst}
+use Rattle.std.proofs.lemmas.Result.{on_ok_weaker}
 use Rattle.nb_change.specs.Changes.{Only}
 use Rattle.nb_change.proofs.ChangesLaws.{begun}
 use Rattle.nb_model.specs.Trail.{settled, IsFirm, StandsIn}
@@ -13,29 +14,26 @@ pub returns-in_err-flush_scn_pages-in-Some-clause-left : goal.returns-in_err-flu
 returns-in_err-flush_scn_pages-in-Some-clause-left g c t tells is unsettled normal =
     c.flush_scn_pages.ensures.left is.sees t tells (start_way (g.H.Host.world c.args.host.now) c.args.self.now t is normal) unsettled
 
-pub returns-in_err-sync-in-Some-clause-left : goal.returns-in_err-sync-in-Some-clause-left
-returns-in_err-sync-in-Some-clause-left g c t tells is unsettled normal =
+pub returns-in_ok-flush_scn_pages-in-Some-clause-left : goal.returns-in_ok-flush_scn_pages-in-Some-clause-left
+returns-in_ok-flush_scn_pages-in-Some-clause-left g c t tells is unsettled normal =
     quiet_more (g.H.Host.world c.args.host.now) (g.H.Host.world c.flush_scn_pages.new.host) (g.H.Host.world c.sync.new.host) (Only c.args.self.now.files.name) (StandsIn c.args.self.now.files.name t)
     (c.flush_scn_pages.ensures.left is.sees t tells (start_way (g.H.Host.world c.args.host.now) c.args.self.now t is normal) unsettled) c.sync.ensures.quiet
 
-pub returns-in_ok-sync-in-Some-clause-left : goal.returns-in_ok-sync-in-Some-clause-left
-returns-in_ok-sync-in-Some-clause-left g c t tells is unsettled normal =
-    quiet_more (g.H.Host.world c.args.host.now) (g.H.Host.world c.flush_scn_pages.new.host) (g.H.Host.world c.sync.new.host) (Only c.args.self.now.files.name) (StandsIn c.args.self.now.files.name t)
-    (c.flush_scn_pages.ensures.left is.sees t tells (start_way (g.H.Host.world c.args.host.now) c.args.self.now t is normal) unsettled) c.sync.ensures.quiet
-
-pub returns-in_ok-sync-in-Some-clause-out : goal.returns-in_ok-sync-in-Some-clause-out
-returns-in_ok-sync-in-Some-clause-out g c t is tells unsettled normal =
+pub returns-in_ok-flush_scn_pages-in-Some-clause-out : goal.returns-in_ok-flush_scn_pages-in-Some-clause-out
+returns-in_ok-flush_scn_pages-in-Some-clause-out g c t is tells unsettled normal =
     let mid = g.H.Host.world c.flush_scn_pages.new.host in
     let new = g.H.Host.world c.sync.new.host in
     let held = the_view c.self.inside in
     let both = c.in_ok-flush_scn_pages-in-Some.ensures.out is.sees t tells (start_way (g.H.Host.world c.args.host.now) c.args.self.now t is normal) unsettled in
     let out = subst (λ (h : Held). GoesOut mid h is.sees t (IsOnTheWay is.sees t)) (sym c.self.view_is) both.0 in
     let none = subst (λ (h : Held). NoScnWaits t h.pages) (sym c.self.view_is) both.1 in
-    let kept = c.in_ok-sync-in-Some.ensures.kept out.reads.base tells (reads_agree mid held is.sees t (IsOnTheWay is.sees t) out) out.drafted out.reads.opens in
+    on_ok_weaker c.sync.result
+    (λ kept.
     let firm = synced_firm mid new held is.sees t out unsettled none (subst (λ (f : Rattle.nb_base.specs.Open.Held). AreOpen new f (settled out.reads.base)) c.sync.ensures.same kept) in (
       subst (λ (f : Rattle.nb_base.specs.Open.Held). let h : Held = record { files = f; pages = c.self.inside.cache.pages; cap = c.self.inside.cache.cap } in GoesOut new h is.sees t (IsFirm t)) (sym c.sync.ensures.same) firm,
       none,
-    )
+    ))
+    (c.sync.ensures.kept out.reads.base tells (reads_agree mid held is.sees t (IsOnTheWay is.sees t) out) out.drafted out.reads.opens)
 
 pub returns-in-None-clause-left : goal.returns-in-None-clause-left
 returns-in-None-clause-left g c t tells is unsettled normal =

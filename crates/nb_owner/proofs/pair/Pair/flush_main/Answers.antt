@@ -9,17 +9,6 @@ returns-in_err-flush_first-clause-left g c t tells is normal =
     let waiting = is.waits.each c.requires.some.0 c.requires.some.1 c.requires.some.2 in
     c.flush_first.ensures.left t tells is waiting.unsettled normal
 
-pub returns-in_err-flush_pages-clause-left : goal.returns-in_err-flush_pages-clause-left
-returns-in_err-flush_pages-clause-left g c t tells is normal =
-    let old = g.H.Host.world c.args.host.now in
-    let mid = g.H.Host.world c.flush_first.new.host in
-    let new = g.H.Host.world c.flush_pages.new.host in
-    let name = c.args.self.now.files.name in
-    let waiting = is.waits.each c.requires.some.0 c.requires.some.1 c.requires.some.2 in
-    let out = c.in_ok-flush_first.ensures.out t is tells waiting.unsettled normal in
-    composed old mid new (Only name) (StandsIn name t) (StandsIn name t) (StandsIn name t) (c.flush_first.ensures.left t tells is waiting.unsettled normal)
-    (subst (λ (n : List ℕ). Changes mid new (Only n) (StandsIn n t)) (ap (λ f. f.name) c.flush_first.ensures.files) (c.flush_pages.ensures.left is.sees t tells out.0 out.1)) (λ files so. so) (λ files so. so)
-
 pub returns-clause-left : goal.returns-clause-left
 returns-clause-left g c t tells is normal =
     let old = g.H.Host.world c.args.host.now in
@@ -35,4 +24,4 @@ pub returns-clause-out : goal.returns-clause-out
 returns-clause-out g c t tells is normal =
     let waiting = is.waits.each c.requires.some.0 c.requires.some.1 c.requires.some.2 in
     let out = c.in_ok-flush_first.ensures.out t is tells waiting.unsettled normal in
-    c.in_ok-flush_pages.ensures.out is.sees t tells out.0 out.1
+    c.flush_pages.ensures.out is.sees t tells out.0 out.1

@@ -1,21 +1,15 @@
-use Rattle.std.proofs.Common.{◌<◌, ℕ, List, refl, sym, subst, ap, ◌∙◌}
-use Rattle.nb_change.specs.Changes.{Only, Changes}
-use Rattle.nb_change.proofs.GaveLaws.{nothing_joined}
-use Rattle.nb_model.specs.Trail.{IsFirm, StandsIn}
-use Rattle.nb_owner.specs.Open.{Held, GoesOut, NoScnWaits, bare}
-use Rattle.nb_owner.proofs.RankLaws.{waiting_count, fewer_wait, marked_bare}
+use Rattle.std.proofs.Common.{◌<◌, sym, subst, ap}
+use Rattle.nb_model.specs.Trail.{IsFirm}
+use Rattle.nb_owner.specs.Open.{Held, GoesOut, NoScnWaits}
+use Rattle.nb_owner.proofs.KeepLaws.{keeps_begun, keeps_on}
+use Rattle.nb_owner.proofs.RankLaws.{waiting_count, fewer_wait}
 use Rattle.nb_owner.proofs.OutLaws.{firm_begun, firm_changes, firm_more, none_more, out_open}
 use Rattle.nb_owner.proofs.WaitLaws.{open_settled}
 use Rattle.nb_owner.proofs.pair.Pair.flush_pages.Goals as goal
 
 pub loop-number-init : goal.loop-number-init
 loop-number-init g c = record {
-  files = refl;
-  bare = refl;
-  cap = refl;
-  gave = record { guids = refl; times = refl };
-  reads = refl;
-  cause = refl;
+  keeps = keeps_begun (g.H.Host.world c.args.host.now) c.args.self.now (g.H.Host.faults c.args.host.now);
   out = λ f t tells given cond. (firm_begun (g.H.Host.world c.args.host.now) c.args.self.now f t given cond (g.met.H.Host.timely c.args.host.now), given, cond);
 }
 
@@ -26,42 +20,28 @@ loop-number-smaller g c =
 
 pub loop-number-preserved : goal.loop-number-preserved
 loop-number-preserved g c =
-    let old = g.H.Host.world c.args.host.now in
-    let mid = g.H.Host.world c.loop-number.host in
     let new = g.H.Host.world c.flush_next.new.host in
     let loop = c.loop-number.invariant in
     let ok = c.in_ok-flush_next.ensures in
-    let name = ap (λ f. f.name) loop.files in
     record {
-      files = ap (λ (h : Held). h.files) ok.done ∙ loop.files;
-      bare = ap (λ (h : Held). bare h.pages) ok.done ∙ marked_bare c.in-Some.number _ c.loop-number.self.pages ∙ loop.bare;
-      cap = ap (λ (h : Held). h.cap) ok.done ∙ loop.cap;
-      gave = nothing_joined old mid new loop.gave ok.gave;
-      reads = ok.reads ∙ loop.reads;
-      cause = ok.cause ∙ loop.cause;
+      keeps = keeps_on _ _ _ _ c.loop-number.self _ _ _ _ c.in-Some.number loop.keeps ok.done ok.gave ok.reads ok.cause;
       out = λ f t tells given cond.
           let so = loop.out f t tells given cond in
           let by = c.flush_next.ensures.left t tells so.1.pages in
           let size = c.flush_next.ensures.long t so.1.pages in (
-            subst (λ (n : List ℕ). Changes old new (Only n) (StandsIn n t)) name
-                (firm_changes mid c.loop-number.self f t so.1 so.2 new c.in-Some.number c.in-Some.ensures.next.0 c.in-Some.ensures.next.1 size by old (subst (λ (n : List ℕ). Changes old mid (Only n) (StandsIn n t)) (sym name) so.0)),
+            firm_changes _ c.loop-number.self f t so.1 so.2 new c.in-Some.number c.in-Some.ensures.next.0 c.in-Some.ensures.next.1 size by _ c.args.self.now.files.name (ap (λ f. f.name) loop.keeps.files) so.0,
             subst (λ (h : Held). GoesOut new h f t (IsFirm t)) (sym ok.done)
-                (firm_more mid c.loop-number.self f t so.1 so.2 new c.in-Some.number c.in-Some.ensures.next.0 c.in-Some.ensures.next.1 size by (λ b shows may. ok.put t b tells so.1.pages shows may)),
-            subst (λ (h : Held). NoScnWaits t h.pages) (sym ok.done) (none_more mid c.loop-number.self f t so.1 so.2 new c.in-Some.number c.in-Some.ensures.next.0 c.in-Some.ensures.next.1 size by),
+                (firm_more _ c.loop-number.self f t so.1 so.2 new c.in-Some.number c.in-Some.ensures.next.0 c.in-Some.ensures.next.1 size by (λ b shows may. ok.put t b tells so.1.pages shows may)),
+            subst (λ (h : Held). NoScnWaits t h.pages) (sym ok.done) (none_more _ c.loop-number.self f t so.1 so.2 new c.in-Some.number c.in-Some.ensures.next.0 c.in-Some.ensures.next.1 size by),
           );
     }
 
 pub returns-in_err-flush_next-clause-left : goal.returns-in_err-flush_next-clause-left
 returns-in_err-flush_next-clause-left g c f t tells given cond =
-    let old = g.H.Host.world c.args.host.now in
-    let mid = g.H.Host.world c.loop-number.host in
-    let new = g.H.Host.world c.flush_next.new.host in
     let loop = c.loop-number.invariant in
-    let name = ap (λ f. f.name) loop.files in
     let so = loop.out f t tells given cond in
-    subst (λ (n : List ℕ). Changes old new (Only n) (StandsIn n t)) name
-    (firm_changes mid c.loop-number.self f t so.1 so.2 new c.in-Some.number c.in-Some.ensures.next.0 c.in-Some.ensures.next.1 (c.flush_next.ensures.long t so.1.pages) (c.flush_next.ensures.left t tells so.1.pages) old
-    (subst (λ (n : List ℕ). Changes old mid (Only n) (StandsIn n t)) (sym name) so.0))
+    firm_changes _ c.loop-number.self f t so.1 so.2 (g.H.Host.world c.flush_next.new.host) c.in-Some.number c.in-Some.ensures.next.0 c.in-Some.ensures.next.1 (c.flush_next.ensures.long t so.1.pages) (c.flush_next.ensures.left t tells so.1.pages) _
+    c.args.self.now.files.name (ap (λ f. f.name) loop.keeps.files) so.0
 
 pub returns-clause-left : goal.returns-clause-left
 returns-clause-left g c f t tells given cond = (c.loop-number.invariant.out f t tells given cond).0

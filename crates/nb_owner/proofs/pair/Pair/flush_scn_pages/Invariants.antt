@@ -1,21 +1,16 @@
-use Rattle.std.proofs.Common.{◌≡◌, ◌≢◌, []}
+use Rattle.std.proofs.Common.{◌≢◌, []}
 use Rattle.std.specs.Prelude.{IsTrue}
 use Rattle.nb_change.specs.Changes.{Only, Changes}
-use Rattle.nb_change.specs.Gave.{GaveNothing}
 use Rattle.nb_model.specs.Trail.{Trail, StandsIn}
 use Rattle.nb_model.specs.Behind.{IsOnTheWay}
-use Rattle.nb_owner.specs.Open.{GoesOut, bare}
+use Rattle.nb_owner.specs.Open.{GoesOut}
+use Rattle.nb_owner.proofs.KeepLaws.{Keeps}
 use Rattle.nb_owner.proofs.RankLaws.{waiting_count}
 use Rattle.nb_owner.proofs.pair.Pair.flush_scn_pages.Given as goal
 
 abbrev pub invariant-loop-number : goal.invariant-loop-number
 invariant-loop-number g l = record {
-  files : l.self.files ≡ l.fn.self.files;
-  bare : bare l.self.pages ≡ bare l.fn.self.pages;
-  cap : l.self.cap ≡ l.fn.self.cap;
-  gave : GaveNothing (g.H.Host.world l.fn.host) (g.H.Host.world l.host);
-  reads : (g.H.Host.world l.host).reads ≡ (g.H.Host.world l.fn.host).reads;
-  cause : g.H.Host.faults l.host ≡ g.H.Host.faults l.fn.host;
+  keeps : Keeps (g.H.Host.world l.fn.host) (g.H.Host.world l.host) l.fn.self l.self (g.H.Host.faults l.fn.host) (g.H.Host.faults l.host);
   out : (f t : Trail) → IsTrue g.H.Host.tells → GoesOut (g.H.Host.world l.fn.host) l.fn.self f t (IsOnTheWay f t) → t.earlier ≢ []
       → Changes (g.H.Host.world l.fn.host) (g.H.Host.world l.host) (Only l.fn.self.files.name) (StandsIn l.fn.self.files.name t) × GoesOut (g.H.Host.world l.host) l.self f t (IsOnTheWay f t);
 }

@@ -1,22 +1,17 @@
-use Rattle.std.proofs.Common.{◌<◌, ℕ, List, refl, sym, subst, ap, ◌∙◌}
+use Rattle.std.proofs.Common.{◌<◌, ℕ, List, sym, subst, ap}
 use Rattle.nb_change.specs.Changes.{Only, Changes}
 use Rattle.nb_change.proofs.ChangesLaws.{composed}
-use Rattle.nb_change.proofs.GaveLaws.{nothing_joined}
 use Rattle.nb_model.specs.Owner.{delta_name}
 use Rattle.nb_model.specs.Trail.{StandsIn}
-use Rattle.nb_owner.specs.Open.{Held, bare}
-use Rattle.nb_owner.proofs.RankLaws.{waiting_count, fewer_wait, marked_bare}
+use Rattle.nb_owner.specs.Open.{Held}
+use Rattle.nb_owner.proofs.KeepLaws.{keeps_begun, keeps_on}
+use Rattle.nb_owner.proofs.RankLaws.{waiting_count, fewer_wait}
 use Rattle.nb_owner.proofs.SlotLaws.{slots_begun}
 use Rattle.nb_owner.proofs.pair.Pair.flush_slots.Goals as goal
 
 pub loop-number-init : goal.loop-number-init
 loop-number-init g c = record {
-  files = refl;
-  bare = refl;
-  cap = refl;
-  gave = record { guids = refl; times = refl };
-  reads = refl;
-  cause = refl;
+  keeps = keeps_begun (g.H.Host.world c.args.host.now) c.args.self.now (g.H.Host.faults c.args.host.now);
   out = λ f t tells given. (slots_begun (g.H.Host.world c.args.host.now) c.args.self.now f t given (g.met.H.Host.timely c.args.host.now), given);
 }
 
@@ -32,14 +27,9 @@ loop-number-preserved g c =
     let new = g.H.Host.world c.flush_slot.new.host in
     let loop = c.loop-number.invariant in
     let ok = c.in_ok-flush_slot.ensures in
-    let name = ap (λ f. f.name) loop.files in
+    let name = ap (λ f. f.name) loop.keeps.files in
     record {
-      files = ap (λ (h : Held). h.files) ok.done ∙ loop.files;
-      bare = ap (λ (h : Held). bare h.pages) ok.done ∙ marked_bare c.in-Some.number _ c.loop-number.self.pages ∙ loop.bare;
-      cap = ap (λ (h : Held). h.cap) ok.done ∙ loop.cap;
-      gave = nothing_joined old mid new loop.gave ok.gave;
-      reads = ok.reads ∙ loop.reads;
-      cause = ok.cause ∙ loop.cause;
+      keeps = keeps_on _ _ _ _ c.loop-number.self _ _ _ _ c.in-Some.number loop.keeps ok.done ok.gave ok.reads ok.cause;
       out = λ f t tells given.
           let so = loop.out f t tells given in (
             composed old mid new (Only (delta_name c.args.self.now.files.name)) (StandsIn c.args.self.now.files.name t) (StandsIn c.args.self.now.files.name t) (StandsIn c.args.self.now.files.name t) so.0
@@ -56,7 +46,7 @@ returns-in_err-flush_slot-clause-left g c f t tells given =
     let loop = c.loop-number.invariant in
     let so = loop.out f t tells given in
     composed old mid new (Only (delta_name c.args.self.now.files.name)) (StandsIn c.args.self.now.files.name t) (StandsIn c.args.self.now.files.name t) (StandsIn c.args.self.now.files.name t) so.0
-    (subst (λ (n : List ℕ). Changes mid new (Only (delta_name n)) (StandsIn n t)) (ap (λ f. f.name) loop.files) (c.flush_slot.ensures.left f t tells so.1)) (λ files is. is) (λ files is. is)
+    (subst (λ (n : List ℕ). Changes mid new (Only (delta_name n)) (StandsIn n t)) (ap (λ f. f.name) loop.keeps.files) (c.flush_slot.ensures.left f t tells so.1)) (λ files is. is) (λ files is. is)
 
 pub returns-clause-left : goal.returns-clause-left
 returns-clause-left g c f t tells given = (c.loop-number.invariant.out f t tells given).0

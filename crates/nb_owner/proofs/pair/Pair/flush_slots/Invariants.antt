@@ -1,21 +1,15 @@
-use Rattle.std.proofs.Common.{◌≡◌}
 use Rattle.std.specs.Prelude.{IsTrue}
 use Rattle.nb_change.specs.Changes.{Only, Changes}
-use Rattle.nb_change.specs.Gave.{GaveNothing}
 use Rattle.nb_model.specs.Owner.{delta_name}
 use Rattle.nb_model.specs.Trail.{Trail, StandsIn}
-use Rattle.nb_owner.specs.Open.{GoesSlot, bare}
+use Rattle.nb_owner.specs.Open.{GoesSlot}
+use Rattle.nb_owner.proofs.KeepLaws.{Keeps}
 use Rattle.nb_owner.proofs.RankLaws.{waiting_count}
 use Rattle.nb_owner.proofs.pair.Pair.flush_slots.Given as goal
 
 abbrev pub invariant-loop-number : goal.invariant-loop-number
 invariant-loop-number g l = record {
-  files : l.self.files ≡ l.fn.self.files;
-  bare : bare l.self.pages ≡ bare l.fn.self.pages;
-  cap : l.self.cap ≡ l.fn.self.cap;
-  gave : GaveNothing (g.H.Host.world l.fn.host) (g.H.Host.world l.host);
-  reads : (g.H.Host.world l.host).reads ≡ (g.H.Host.world l.fn.host).reads;
-  cause : g.H.Host.faults l.host ≡ g.H.Host.faults l.fn.host;
+  keeps : Keeps (g.H.Host.world l.fn.host) (g.H.Host.world l.host) l.fn.self l.self (g.H.Host.faults l.fn.host) (g.H.Host.faults l.host);
   out : (f t : Trail) → IsTrue g.H.Host.tells → GoesSlot (g.H.Host.world l.fn.host) l.fn.self f t
       → Changes (g.H.Host.world l.fn.host) (g.H.Host.world l.host) (Only (delta_name l.fn.self.files.name)) (StandsIn l.fn.self.files.name t) × GoesSlot (g.H.Host.world l.host) l.self f t;
 }

@@ -1,6 +1,6 @@
 use Rattle.std.proofs.Common.{[], ap, sym, subst, ◌∙◌}
 use Rattle.std.specs.Prelude.{slice_index, OnOk}
-use Rattle.nb_change.proofs.ResultLaws.{on_ok_then}
+use Rattle.std.proofs.lemmas.Result.{on_ok_weaker}
 use Rattle.nb_base.specs.Merging.{PutsPage}
 use Rattle.nb_base.specs.Open.{AreMerged}
 use Rattle.nb_base.specs.Takes.{Strikes}
@@ -20,7 +20,7 @@ returns-clause-takes g c t tells given =
     let now : Held = record { files = c.merge_entry.new.self; pages = c.self.inside.cache.pages; cap = c.self.inside.cache.cap } in
     record {
       left = subst (λ (h : Held). Strikes old new h.files.name t []) c.self.view_is (strikes_left old new c.self.inside.files.name t [] takes.left);
-      done = on_ok_then c.merge_entry.result (λ files. open_settled new now t none files is.pages) takes.done;
+      done = on_ok_weaker c.merge_entry.result (λ files. open_settled new now t none files is.pages) takes.done;
     }
 
 pub returns-clause-merged : goal.returns-clause-merged

@@ -1,10 +1,11 @@
 use Rattle.std.proofs.Common.{◌≡◌, ◌<◌, refl, ap, sym, subst, ◌∙◌}
 use Rattle.std.specs.Prelude.{None, IsSome}
+use Rattle.std.proofs.lemmas.Result.{on_ok_weaker, on_err_weaker}
 use Rattle.nb_cache.specs.Held.{dropped, NoneWaits}
 use Rattle.nb_owner.specs.Open.{Held, Pages, IsOpen, AreOf, cache_of, bare, used}
 use Rattle.nb_owner.specs.contracts.pair.Pair.{the_view}
 use Rattle.nb_owner.proofs.RankLaws.{rank_promoted}
-use Rattle.nb_owner.proofs.OpenLaws.{of_read, valid_looked, found_put, found_slot, missed_slot, missed_same, found_page, put_page, first_block, on_err, bare_put, looked_none, kept_drops}
+use Rattle.nb_owner.proofs.OpenLaws.{of_read, valid_looked, found_put, found_slot, missed_slot, missed_same, found_page, put_page, first_block, bare_put, looked_none, kept_drops}
 use Rattle.nb_owner.proofs.WaitLaws.{open_with}
 use Rattle.nb_owner.proofs.pair.Pair.read.Goals as goal
 
@@ -66,33 +67,19 @@ fetch-requires-clause-absent g c =
     ap (λ (k : Rattle.nb_cache.specs.Held.Held). Rattle.nb_cache.specs.Held.slot_of k.pages c.args.number)
     (missed_same c.self.inside.cache c.look.new.self c.self.inside.files.page_size c.self.inside.files.page_size c.self.invariant.0 refl c.args.number c.look.ensures.moved none) ∙ none
 
-pub returns-in_err-fetch-clause-open : goal.returns-in_err-fetch-clause-open
-returns-in_err-fetch-clause-open g c t tells given =
+pub returns-clause-failed : goal.returns-clause-failed
+returns-clause-failed g c =
     let none = missed_slot _ (sym c.look.ensures.found ∙ c.if-look.false) in
     let missed = missed_same c.self.inside.cache c.look.new.self c.self.inside.files.page_size c.self.inside.files.page_size c.self.invariant.0 refl c.args.number c.look.ensures.moved none in
     let same = ap (λ (k : Rattle.nb_cache.specs.Held.Held). let h : Held = record { files = c.self.inside.files; pages = k.pages; cap = k.cap } in h) missed ∙ c.self.view_is in
-    c.fetch.ensures.open t tells (subst (λ (h : Held). IsOpen (g.H.Host.world c.args.host.now) h t) (sym same) given)
-
-pub returns-in_err-fetch-clause-failed : goal.returns-in_err-fetch-clause-failed
-returns-in_err-fetch-clause-failed g c =
-    let none = missed_slot _ (sym c.look.ensures.found ∙ c.if-look.false) in
-    let missed = missed_same c.self.inside.cache c.look.new.self c.self.inside.files.page_size c.self.inside.files.page_size c.self.invariant.0 refl c.args.number c.look.ensures.moved none in
-    let same = ap (λ (k : Rattle.nb_cache.specs.Held.Held). let h : Held = record { files = c.self.inside.files; pages = k.pages; cap = k.cap } in h) missed ∙ c.self.view_is in
-    on_err c.from_residual.result _ (c.in_err-fetch.ensures.failed ∙ same)
-
-pub returns-in_err-fetch-clause-full : goal.returns-in_err-fetch-clause-full
-returns-in_err-fetch-clause-full g c full =
-    let none = missed_slot _ (sym c.look.ensures.found ∙ c.if-look.false) in
-    let missed = missed_same c.self.inside.cache c.look.new.self c.self.inside.files.page_size c.self.inside.files.page_size c.self.invariant.0 refl c.args.number c.look.ensures.moved none in
-    let same = ap (λ (k : Rattle.nb_cache.specs.Held.Held). let h : Held = record { files = c.self.inside.files; pages = k.pages; cap = k.cap } in h) missed ∙ c.self.view_is in
-    c.fetch.ensures.full (subst (λ (h : Held). IsSome (dropped (cache_of h) c.args.number)) (sym same) full) ∙ same
+    on_err_weaker c.fetch.result (λ failed. failed ∙ same) c.fetch.ensures.failed
 
 pub returns-clause-page : goal.returns-clause-page
 returns-clause-page g c t tells given low =
     let none = missed_slot _ (sym c.look.ensures.found ∙ c.if-look.false) in
     let missed = missed_same c.self.inside.cache c.look.new.self c.self.inside.files.page_size c.self.inside.files.page_size c.self.invariant.0 refl c.args.number c.look.ensures.moved none in
     let same = ap (λ (k : Rattle.nb_cache.specs.Held.Held). let h : Held = record { files = c.self.inside.files; pages = k.pages; cap = k.cap } in h) missed ∙ c.self.view_is in
-    c.in_ok-fetch.ensures.page t tells (subst (λ (h : Held). IsOpen (g.H.Host.world c.args.host.now) h t) (sym same) given) low
+    c.fetch.ensures.page t tells (subst (λ (h : Held). IsOpen (g.H.Host.world c.args.host.now) h t) (sym same) given) low
 
 pub returns-clause-open : goal.returns-clause-open
 returns-clause-open g c t tells given =
@@ -106,8 +93,8 @@ returns-clause-used g c low drops =
     let none = missed_slot _ (sym c.look.ensures.found ∙ c.if-look.false) in
     let missed = missed_same c.self.inside.cache c.look.new.self c.self.inside.files.page_size c.self.inside.files.page_size c.self.invariant.0 refl c.args.number c.look.ensures.moved none in
     let same = ap (λ (k : Rattle.nb_cache.specs.Held.Held). let h : Held = record { files = c.self.inside.files; pages = k.pages; cap = k.cap } in h) missed ∙ c.self.view_is in
-    c.in_ok-fetch.ensures.used (subst (λ (h : Held). c.args.number < h.files.count) (sym same) low) (subst (λ (h : Held). dropped (cache_of h) c.args.number ≡ None) (sym same) drops)
-    ∙ ap (λ (h : Held). used (bare h.pages) h.cap c.args.number c.fetch.new.into) same
+    on_ok_weaker c.fetch.result (λ put. put ∙ ap (λ (h : Held). used (bare h.pages) h.cap c.args.number c.fetch.new.into) same)
+    (c.fetch.ensures.used (subst (λ (h : Held). c.args.number < h.files.count) (sym same) low) (subst (λ (h : Held). dropped (cache_of h) c.args.number ≡ None) (sym same) drops))
 
 pub returns-clause-full : goal.returns-clause-full
 returns-clause-full g c full =
@@ -121,13 +108,6 @@ returns-then-look-clause-ranks g c p =
     ap (λ (k : Rattle.nb_cache.specs.Held.Held). Rattle.nb_cache.specs.Held.rank_of k.pages p) c.look.ensures.moved ∙ rank_promoted c.args.number p c.self.inside.cache.pages
     ∙ ap (λ (h : Held). Rattle.nb_cache.specs.Held.rank_of h.pages p) c.self.view_is
 
-pub returns-in_err-fetch-clause-ranks : goal.returns-in_err-fetch-clause-ranks
-returns-in_err-fetch-clause-ranks g c p =
-    let none = missed_slot _ (sym c.look.ensures.found ∙ c.if-look.false) in
-    let missed = missed_same c.self.inside.cache c.look.new.self c.self.inside.files.page_size c.self.inside.files.page_size c.self.invariant.0 refl c.args.number c.look.ensures.moved none in
-    let same = ap (λ (k : Rattle.nb_cache.specs.Held.Held). let h : Held = record { files = c.self.inside.files; pages = k.pages; cap = k.cap } in h) missed ∙ c.self.view_is in
-    c.fetch.ensures.ranks p ∙ ap (λ (h : Held). Rattle.nb_cache.specs.Held.rank_of h.pages p) same
-
 pub returns-clause-ranks : goal.returns-clause-ranks
 returns-clause-ranks g c p =
     let none = missed_slot _ (sym c.look.ensures.found ∙ c.if-look.false) in
@@ -138,10 +118,6 @@ returns-clause-ranks g c p =
 pub returns-then-look-clause-none_waits : goal.returns-then-look-clause-none_waits
 returns-then-look-clause-none_waits g c none =
     looked_none c.self.inside.cache c.look.new.self c.args.number c.look.ensures.moved c.self.invariant.0.once (subst (λ (h : Held). NoneWaits h.pages) (sym c.self.view_is) none)
-
-pub returns-in_err-fetch-clause-none_waits : goal.returns-in_err-fetch-clause-none_waits
-returns-in_err-fetch-clause-none_waits g c none =
-    c.fetch.ensures.none_waits (looked_none c.self.inside.cache c.look.new.self c.args.number c.look.ensures.moved c.self.invariant.0.once (subst (λ (h : Held). NoneWaits h.pages) (sym c.self.view_is) none))
 
 pub returns-clause-none_waits : goal.returns-clause-none_waits
 returns-clause-none_waits g c none =

@@ -1,10 +1,10 @@
 use Rattle.std.proofs.Common.{length, sym, subst, ap, ◌∙◌, arith}
-use Rattle.nb_change.proofs.ResultLaws.{on_ok_then}
+use Rattle.std.proofs.lemmas.Result.{on_ok_weaker}
 use Rattle.nb_fields.specs.Header.{state_of}
 use Rattle.nb_model.specs.Image.{Image, page_at}
 use Rattle.nb_owner.specs.Open.{Held, IsOpen}
 use Rattle.nb_owner.specs.contracts.pair.Pair.{the_view}
-use Rattle.nb_owner.proofs.WaitLaws.{still_open, sees_size}
+use Rattle.nb_owner.proofs.WaitLaws.{files_still, sees_size}
 use Rattle.nb_owner.proofs.pair.Pair.read_main.Goals as goal
 
 pub returns-clause-open : goal.returns-clause-open
@@ -12,13 +12,12 @@ returns-clause-open g c t tells given =
     let old = g.H.Host.world c.args.host.now in
     let new = g.H.Host.world c.read_main.new.host in
     let is = subst (λ (h : Held). IsOpen old h t) (sym c.self.view_is) given in
-    subst (λ (f : Rattle.nb_base.specs.Open.Held). let h : Held = record { files = f; pages = c.self.inside.cache.pages; cap = c.self.inside.cache.cap } in IsOpen new h t) (sym c.read_main.ensures.same)
-    (still_open old new (the_view c.self.inside) t c.read_main.ensures.quiet.still is)
+    files_still old new (the_view c.self.inside) t c.read_main.new.self c.read_main.ensures.same c.read_main.ensures.quiet.still is
 
 pub returns-clause-page : goal.returns-clause-page
 returns-clause-page g c t tells given stalled low =
     let old = g.H.Host.world c.args.host.now in
     let is = subst (λ (h : Held). IsOpen old h t) (sym c.self.view_is) given in
-    on_ok_then c.read_main.result (λ same. same ∙ ap (λ (x : Image). page_at x c.args.number) is.waits.behind.frozen)
+    on_ok_weaker c.read_main.result (λ same. same ∙ ap (λ (x : Image). page_at x c.args.number) is.waits.behind.frozen)
     (c.read_main.ensures.page is.sees.base tells is.files.shows (sees_size old (the_view c.self.inside) t is) (ap state_of is.waits.behind.first ∙ sym is.agrees.state ∙ ap (λ (h : Held). h.files.state) c.self.view_is ∙ stalled)
     (omega (arith, low, ap length is.waits.behind.frozen)))

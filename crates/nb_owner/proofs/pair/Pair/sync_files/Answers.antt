@@ -1,30 +1,19 @@
 use Rattle.std.proofs.Common.{sym, subst}
+use Rattle.std.proofs.lemmas.Result.{on_ok_weaker}
 use Rattle.nb_model.specs.Trail.{settled}
 use Rattle.nb_base.specs.Open.{AreMerged}
 use Rattle.nb_cache.specs.Held.{NoneWaits}
 use Rattle.nb_owner.specs.Open.{Held, IsOpen}
 use Rattle.nb_owner.specs.contracts.pair.Pair.{the_view}
-use Rattle.nb_owner.proofs.WaitLaws.{still_open, files_open, open_settled}
+use Rattle.nb_owner.proofs.WaitLaws.{files_still, files_open, open_settled}
 use Rattle.nb_owner.proofs.pair.Pair.sync_files.Goals as goal
-
-pub returns-in_err-sync-clause-open : goal.returns-in_err-sync-clause-open
-returns-in_err-sync-clause-open g c t tells given =
-    let old = g.H.Host.world c.args.host.now in
-    let new = g.H.Host.world c.sync.new.host in
-    let is = subst (λ (h : Held). IsOpen old h t) (sym c.self.view_is) given in
-    subst (λ (f : Rattle.nb_base.specs.Open.Held). let h : Held = record { files = f; pages = c.self.inside.cache.pages; cap = c.self.inside.cache.cap } in IsOpen new h t) (sym c.sync.ensures.same)
-    (still_open old new (the_view c.self.inside) t c.sync.ensures.quiet.still is)
-
-pub returns-in_err-sync-clause-merged : goal.returns-in_err-sync-clause-merged
-returns-in_err-sync-clause-merged g c k merged = c.sync.ensures.merged k (subst (λ (h : Held). AreMerged (g.H.Host.world c.args.host.now) h.files k) (sym c.self.view_is) merged)
 
 pub returns-clause-open : goal.returns-clause-open
 returns-clause-open g c t tells given =
     let old = g.H.Host.world c.args.host.now in
     let new = g.H.Host.world c.sync.new.host in
     let is = subst (λ (h : Held). IsOpen old h t) (sym c.self.view_is) given in
-    subst (λ (f : Rattle.nb_base.specs.Open.Held). let h : Held = record { files = f; pages = c.self.inside.cache.pages; cap = c.self.inside.cache.cap } in IsOpen new h t) (sym c.sync.ensures.same)
-    (still_open old new (the_view c.self.inside) t c.sync.ensures.quiet.still is)
+    files_still old new (the_view c.self.inside) t c.sync.new.self c.sync.ensures.same c.sync.ensures.quiet.still is
 
 pub returns-clause-settled : goal.returns-clause-settled
 returns-clause-settled g c t tells given =
@@ -33,7 +22,7 @@ returns-clause-settled g c t tells given =
     let is = subst (λ (h : Held). IsOpen old h t) (sym c.self.view_is) given in
     let none = subst (λ (h : Held). NoneWaits h.pages) (sym c.self.view_is) c.requires.none in
     let now : Held = record { files = c.sync.new.self; pages = c.self.inside.cache.pages; cap = c.self.inside.cache.cap } in
-    open_settled new now (settled t.base) none (c.in_ok-sync.ensures.settled t tells (files_open old (the_view c.self.inside) t none is)) is.pages
+    on_ok_weaker c.sync.result (λ opened. open_settled new now (settled t.base) none opened is.pages) (c.sync.ensures.settled t tells (files_open old (the_view c.self.inside) t none is))
 
 pub returns-clause-merged : goal.returns-clause-merged
 returns-clause-merged g c k merged = c.sync.ensures.merged k (subst (λ (h : Held). AreMerged (g.H.Host.world c.args.host.now) h.files k) (sym c.self.view_is) merged)

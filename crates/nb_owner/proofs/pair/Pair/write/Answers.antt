@@ -1,10 +1,11 @@
-use Rattle.std.proofs.Common.{ℕ, List, [], ◌∷◌, inl, refl, sym, subst, ap, ◌∙◌, arith}
+use Rattle.std.proofs.Common.{◌≡◌, ℕ, List, [], ◌∷◌, inl, refl, sym, subst, ap, ◌∙◌, arith}
 use Rattle.std.specs.Prelude.{is_some, nat_eq}
 use Rattle.std.proofs.lemmas.Bool.{true≢false}
+use Rattle.std.proofs.lemmas.Result.{on_ok_weaker, on_err_weaker}
 use Rattle.lru.specs.LruCache.{lru_cache, put_entries}
+use Rattle.nb_host.specs.Causes.{CountsRun}
 use Rattle.nb_change.proofs.ChangesLaws.{begun, weaker_has}
 use Rattle.nb_change.proofs.ReachedLaws.{strokes_composed}
-use Rattle.nb_change.proofs.ResultLaws.{passed_on}
 use Rattle.nb_change.specs.Changes.{Reached}
 use Rattle.nb_model.specs.Strokes.{page}
 use Rattle.nb_model.specs.Trail.{StandsIn, after_stroke}
@@ -79,23 +80,6 @@ returns-in_err-write_out-clause-takes g c t tells is = record {
 pub returns-in_err-write_out-clause-waits : goal.returns-in_err-write_out-clause-waits
 returns-in_err-write_out-clause-waits g c may = absurd (true≢false (sym may ∙ sym c.may_wait.ensures.value ∙ c.if-may_wait.false))
 
-pub returns-in_err-write_through-clause-takes : goal.returns-in_err-write_through-clause-takes
-returns-in_err-write_through-clause-takes g c t tells is =
-    let fits = may_write (g.H.Host.world c.args.host.now) c.args.self.now t c.args.number c.args.page.now is c.requires.low (λ first. c.requires.control_block first tells) in
-    let old = g.H.Host.world c.args.host.now in
-    let mid = g.H.Host.world c.write_out.new.host in
-    let new = g.H.Host.world c.write_through.new.host in
-    let name = c.args.self.now.files.name in
-    let first = c.in_ok-write_out.ensures.takes t tells is in
-    record {
-      left = strokes_composed after_stroke (StandsIn name) (OfFiles name) old mid new t [] (page c.args.number c.args.page.now ∷ []) first.left
-          (subst (λ (n : List ℕ). Strikes mid new n t (page c.args.number c.args.page.now ∷ [])) (ap (λ f. f.name) c.write_out.ensures.files) (c.write_through.ensures.takes t tells first.done fits).left);
-      done = not_done c.from_residual-in_err-write_through.result _ c.from_residual-in_err-write_through.ensures.0;
-    }
-
-pub returns-in_err-write_through-clause-waits : goal.returns-in_err-write_through-clause-waits
-returns-in_err-write_through-clause-waits g c may = absurd (true≢false (sym may ∙ sym c.may_wait.ensures.value ∙ c.if-may_wait.false))
-
 pub returns-clause-takes : goal.returns-clause-takes
 returns-clause-takes g c t tells is =
     let fits = may_write (g.H.Host.world c.args.host.now) c.args.self.now t c.args.number c.args.page.now is c.requires.low (λ first. c.requires.control_block first tells) in
@@ -104,7 +88,7 @@ returns-clause-takes g c t tells is =
     let new = g.H.Host.world c.write_through.new.host in
     let name = c.args.self.now.files.name in
     let first = c.in_ok-write_out.ensures.takes t tells is in
-    let second = c.in_ok-write_through.ensures.takes t tells first.done fits in
+    let second = c.write_through.ensures.takes t tells first.done fits in
     record {
       left = strokes_composed after_stroke (StandsIn name) (OfFiles name) old mid new t [] (page c.args.number c.args.page.now ∷ []) first.left
           (subst (λ (n : List ℕ). Strikes mid new n t (page c.args.number c.args.page.now ∷ [])) (ap (λ f. f.name) c.write_out.ensures.files) second.left);
@@ -116,7 +100,7 @@ returns-clause-merged g c t k tells is merges merged =
     let fits = may_write (g.H.Host.world c.args.host.now) c.args.self.now t c.args.number c.args.page.now is c.requires.low (λ first. c.requires.control_block first tells) in
     let idle = c.write_out.ensures.outside merges in
     let first = c.in_ok-write_out.ensures.takes t tells is in
-    c.in_ok-write_through.ensures.merged t k tells first.done fits (ap (λ (h : Held). h.files.state) idle.1 ∙ merges)
+    c.write_through.ensures.merged t k tells first.done fits (ap (λ (h : Held). h.files.state) idle.1 ∙ merges)
     (subst (λ (h : Held). AreMerged (g.H.Host.world c.write_out.new.host) h.files k) (sym idle.1) (subst (λ host. AreMerged (g.H.Host.world host) c.args.self.now.files k) (sym idle.2) merged))
 
 pub returns-clause-waits : goal.returns-clause-waits
@@ -124,28 +108,38 @@ returns-clause-waits g c may = absurd (true≢false (sym may ∙ sym c.may_wait.
 
 pub returns-clause-used : goal.returns-clause-used
 returns-clause-used g c =
-    c.in_ok-write_through.ensures.used ∙ ap (λ ps. used ps c.write_out.new.self.cap c.args.number c.args.page.now) c.write_out.ensures.bare
-    ∙ ap (λ cap. used (bare c.args.self.now.pages) cap c.args.number c.args.page.now) c.write_out.ensures.cap
+    on_ok_weaker c.write_through.result
+    (λ put. put ∙ ap (λ ps. used ps c.write_out.new.self.cap c.args.number c.args.page.now) c.write_out.ensures.bare ∙ ap (λ cap. used (bare c.args.self.now.pages) cap c.args.number c.args.page.now) c.write_out.ensures.cap)
+    c.write_through.ensures.used
 
-pub returns-in_err-write_through-clause-on_memory : goal.returns-in_err-write_through-clause-on_memory
-returns-in_err-write_through-clause-on_memory g c t tells is memory =
+pub returns-clause-failed : goal.returns-clause-failed
+returns-clause-failed g c = on_err_weaker c.write_through.result (λ (same : c.write_through.new.self.pages ≡ c.write_out.new.self.pages). ap (λ (ps : Pages). bare ps) same ∙ c.write_out.ensures.bare) c.write_through.ensures.failed
+
+pub returns-clause-cause : goal.returns-clause-cause
+returns-clause-cause g c = subst (λ (n : ℕ). CountsRun c.write_through.result n (g.H.Host.faults c.write_through.new.host)) c.in_ok-write_out.ensures.cause c.write_through.ensures.cause
+
+pub returns-clause-takes_none : goal.returns-clause-takes_none
+returns-clause-takes_none g c unstalled = c.write_through.ensures.takes_none (λ stalled. unstalled (sym (ap (λ f. f.state) c.write_out.ensures.files) ∙ stalled))
+
+pub returns-clause-on_memory : goal.returns-clause-on_memory
+returns-clause-on_memory g c t tells is memory =
     let old = g.H.Host.world c.args.host.now in
     let first = c.in_ok-write_out.ensures.takes t tells is in
-    let same = c.in_err-write_through.ensures.on_memory (sym (passed_on c.from_residual-in_err-write_through.result _ c.from_residual-in_err-write_through.ensures) ∙ memory) in (
+    let same = c.write_through.ensures.on_memory memory in (
       subst (λ host. Strikes old (g.H.Host.world host) c.args.self.now.files.name t []) (sym same.1) first.left,
       subst (λ (h : Held). IsOpen (g.H.Host.world c.write_through.new.host) h t) (sym same.0) (subst (λ host. IsOpen (g.H.Host.world host) c.write_out.new.self t) (sym same.1) first.done),
     )
 
-pub returns-in_err-write_through-clause-forced : goal.returns-in_err-write_through-clause-forced
-returns-in_err-write_through-clause-forced g c t tells is forced memory =
+pub returns-clause-forced : goal.returns-clause-forced
+returns-clause-forced g c t tells is forced memory =
     let idle = c.write_out.ensures.at_forced t tells is forced in
-    let same = c.in_err-write_through.ensures.on_memory (sym (passed_on c.from_residual-in_err-write_through.result _ c.from_residual-in_err-write_through.ensures) ∙ memory) in
+    let same = c.write_through.ensures.on_memory memory in
     (same.0 ∙ idle.1, same.1 ∙ idle.2)
 
-pub returns-in_err-write_through-clause-idle : goal.returns-in_err-write_through-clause-idle
-returns-in_err-write_through-clause-idle g c none no_drafts memory =
+pub returns-clause-idle : goal.returns-clause-idle
+returns-clause-idle g c none no_drafts memory =
     let idle = c.write_out.ensures.idle none no_drafts in
-    let same = c.in_err-write_through.ensures.on_memory (sym (passed_on c.from_residual-in_err-write_through.result _ c.from_residual-in_err-write_through.ensures) ∙ memory) in
+    let same = c.write_through.ensures.on_memory memory in
     (same.0 ∙ idle.1, same.1 ∙ idle.2)
 
 pub returns-then-may_wait-clause-goes_out : goal.returns-then-may_wait-clause-goes_out
@@ -162,9 +156,6 @@ returns-then-may_wait-clause-others g c may p other =
 pub returns-in_err-write_out-clause-others : goal.returns-in_err-write_out-clause-others
 returns-in_err-write_out-clause-others g c may = absurd (true≢false (sym may ∙ sym c.may_wait.ensures.value ∙ c.if-may_wait.false))
 
-pub returns-in_err-write_through-clause-others : goal.returns-in_err-write_through-clause-others
-returns-in_err-write_through-clause-others g c may = absurd (true≢false (sym may ∙ sym c.may_wait.ensures.value ∙ c.if-may_wait.false))
-
 pub returns-clause-others : goal.returns-clause-others
 returns-clause-others g c may = absurd (true≢false (sym may ∙ sym c.may_wait.ensures.value ∙ c.if-may_wait.false))
 
@@ -173,13 +164,6 @@ returns-in_err-hold-clause-touches g c t tells is = none_touched (g.H.Host.world
 
 pub returns-then-may_wait-clause-touches : goal.returns-then-may_wait-clause-touches
 returns-then-may_wait-clause-touches g c t tells is = none_touched (g.H.Host.world c.args.host.now) (g.H.Host.world c.hold.new.host) _ (g.met.H.Host.timely c.args.host.now) (ap g.H.Host.world c.hold.ensures.no_call)
-
-pub returns-in_err-write_through-clause-touches : goal.returns-in_err-write_through-clause-touches
-returns-in_err-write_through-clause-touches g c t tells is =
-    let mid = g.H.Host.world c.write_out.new.host in
-    let new = g.H.Host.world c.write_through.new.host in
-    touched_joined (g.H.Host.world c.args.host.now) mid new _ (c.write_out.ensures.touches t tells is)
-    (subst (λ (f : Rattle.nb_base.specs.Open.Held). WritesIn mid new f.state f.name) c.write_out.ensures.files (c.write_through.ensures.touches t tells (c.in_ok-write_out.ensures.takes t tells is).done))
 
 pub returns-clause-touches : goal.returns-clause-touches
 returns-clause-touches g c t tells is =

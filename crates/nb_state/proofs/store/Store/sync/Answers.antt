@@ -1,31 +1,21 @@
 use Rattle.std.proofs.Common.{[], refl, sym, subst}
+use Rattle.std.proofs.lemmas.Result.{on_ok_weaker}
 use Rattle.nb_model.specs.Trail.{settled}
 use Rattle.nb_base.specs.Takes.{Strikes}
 use Rattle.nb_base.specs.Touches.{WritesIn}
-use Rattle.nb_base.proofs.WriteLaws.{not_done}
 use Rattle.nb_state.specs.Open.{Held, IsOpen, name_of}
 use Rattle.nb_state.proofs.TurnLaws.{open_out}
 use Rattle.nb_state.proofs.store.Store.sync.Goals as goal
-
-pub returns-in_err-sync-clause-takes : goal.returns-in_err-sync-clause-takes
-returns-in_err-sync-clause-takes g c t tells given =
-    let old = g.H.Host.world c.args.host.now in
-    let new = g.H.Host.world c.sync.new.host in
-    let is = subst (λ (h : Held). IsOpen old h t) (sym c.self.view_is) given in
-    record {
-      left = subst (λ (h : Held). Strikes old new (name_of h) t []) c.self.view_is (c.sync.ensures.takes t tells is.files).left;
-      done = not_done c.from_residual.result _ c.from_residual.ensures.0;
-    }
 
 pub returns-clause-takes : goal.returns-clause-takes
 returns-clause-takes g c t tells given =
     let old = g.H.Host.world c.args.host.now in
     let new = g.H.Host.world c.sync.new.host in
     let is = subst (λ (h : Held). IsOpen old h t) (sym c.self.view_is) given in
-    let takes = c.in_ok-sync.ensures.takes t tells is.files in
+    let takes = c.sync.ensures.takes t tells is.files in
     record {
       left = subst (λ (h : Held). Strikes old new (name_of h) t []) c.self.view_is takes.left;
-      done = open_out old new _ c.sync.new.self t t is refl c.sync.ensures.files takes.done (c.sync.ensures.merged _);
+      done = on_ok_weaker c.sync.result (λ opened. open_out old new _ c.sync.new.self t t is refl c.sync.ensures.files opened (c.sync.ensures.merged _)) takes.done;
     }
 
 pub returns-clause-settled : goal.returns-clause-settled
@@ -33,14 +23,7 @@ returns-clause-settled g c t tells given =
     let old = g.H.Host.world c.args.host.now in
     let new = g.H.Host.world c.sync.new.host in
     let is = subst (λ (h : Held). IsOpen old h t) (sym c.self.view_is) given in
-    open_out old new _ c.sync.new.self t (settled t.base) is refl c.sync.ensures.files (c.in_ok-sync.ensures.settled t tells is.files) (c.sync.ensures.merged _)
-
-pub returns-in_err-sync-clause-touches : goal.returns-in_err-sync-clause-touches
-returns-in_err-sync-clause-touches g c t tells given =
-    let old = g.H.Host.world c.args.host.now in
-    let new = g.H.Host.world c.sync.new.host in
-    let is = subst (λ (h : Held). IsOpen old h t) (sym c.self.view_is) given in
-    subst (λ (h : Held). WritesIn old new h.files.state (name_of h)) c.self.view_is (c.sync.ensures.touches t tells is.files)
+    on_ok_weaker c.sync.result (λ opened. open_out old new _ c.sync.new.self t (settled t.base) is refl c.sync.ensures.files opened (c.sync.ensures.merged _)) (c.sync.ensures.settled t tells is.files)
 
 pub returns-clause-touches : goal.returns-clause-touches
 returns-clause-touches g c t tells given =

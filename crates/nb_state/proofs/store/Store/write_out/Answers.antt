@@ -1,56 +1,44 @@
-use Rattle.std.proofs.Common.{[], refl, sym, subst, ap, ◌∙◌, true≢false}
+use Rattle.std.proofs.Common.{[], refl, sym, subst, ap, ◌∙◌}
+use Rattle.std.specs.Prelude.{Result, Ok, Err, OnOk}
+use Rattle.std.proofs.lemmas.Result.{on_ok_weaker}
 use Rattle.nb_base.specs.Open.{AreMerged}
 use Rattle.nb_base.specs.Takes.{Strikes}
 use Rattle.nb_base.specs.Touches.{WritesIn}
-use Rattle.nb_base.proofs.WriteLaws.{not_done}
 use Rattle.nb_state.specs.Open.{Held, IsOpen, name_of}
 use Rattle.nb_state.proofs.TurnLaws.{open_out}
 use Rattle.nb_state.proofs.store.Store.write_out.Goals as goal
 
-pub returns-in_err-write_out-clause-takes : goal.returns-in_err-write_out-clause-takes
-returns-in_err-write_out-clause-takes g c t tells given =
-    let old = g.H.Host.world c.args.host.now in
-    let new = g.H.Host.world c.write_out.new.host in
-    let is = subst (λ (h : Held). IsOpen old h t) (sym c.self.view_is) given in
-    record {
-      left = subst (λ (h : Held). Strikes old new (name_of h) t []) c.self.view_is (c.write_out.ensures.takes t tells is.files).left;
-      done = not_done c.from_residual.result _ c.from_residual.ensures.0;
-    }
+on_ok_pair : {T E P Q : Type 0} (result : Result T E) → OnOk result P → OnOk result Q → OnOk result (P × Q)
+on_ok_pair (Ok x) p q = (p, q)
+on_ok_pair (Err e) p q = tt
+
+pub returns-clause-none : goal.returns-clause-none
+returns-clause-none g c = on_ok_pair c.write_out.result c.write_out.ensures.none c.write_out.ensures.no_drafts
 
 pub returns-clause-takes : goal.returns-clause-takes
 returns-clause-takes g c t tells given =
     let old = g.H.Host.world c.args.host.now in
     let new = g.H.Host.world c.write_out.new.host in
     let is = subst (λ (h : Held). IsOpen old h t) (sym c.self.view_is) given in
-    let takes = c.in_ok-write_out.ensures.takes t tells is.files in
+    let takes = c.write_out.ensures.takes t tells is.files in
     record {
       left = subst (λ (h : Held). Strikes old new (name_of h) t []) c.self.view_is takes.left;
-      done = open_out old new _ c.write_out.new.self t t is refl c.write_out.ensures.files takes.done (λ apart merged.
+      done = on_ok_weaker c.write_out.result
+          (λ opened. open_out old new _ c.write_out.new.self t t is refl c.write_out.ensures.files opened (λ apart merged.
           let idle = c.write_out.ensures.outside apart in
-          subst (λ host. AreMerged (g.H.Host.world host) c.write_out.new.self.files c.self.inside.merged) (sym idle.2) (subst (λ (p : Rattle.nb_owner.specs.Open.Held). AreMerged old p.files c.self.inside.merged) (sym idle.1) merged));
+          subst (λ host. AreMerged (g.H.Host.world host) c.write_out.new.self.files c.self.inside.merged) (sym idle.2) (subst (λ (p : Rattle.nb_owner.specs.Open.Held). AreMerged old p.files c.self.inside.merged) (sym idle.1) merged)))
+          takes.done;
     }
-
-pub returns-in_err-write_out-clause-at_settled : goal.returns-in_err-write_out-clause-at_settled
-returns-in_err-write_out-clause-at_settled g c t tells given none =
-    let is = subst (λ (h : Held). IsOpen (g.H.Host.world c.args.host.now) h t) (sym c.self.view_is) given in
-    absurd (true≢false (sym (c.in_err-write_out.ensures.at_settled t tells is.files none).0))
 
 pub returns-clause-at_settled : goal.returns-clause-at_settled
 returns-clause-at_settled g c t tells given none =
     let is = subst (λ (h : Held). IsOpen (g.H.Host.world c.args.host.now) h t) (sym c.self.view_is) given in
-    let same = c.in_ok-write_out.ensures.at_settled t tells is.files none in (
-      refl,
+    let same = c.write_out.ensures.at_settled t tells is.files none in (
+      same.0,
       ap (λ (p : Rattle.nb_owner.specs.Open.Held). record { files = p.files; scn = c.self.inside.scn; guid = c.self.inside.guid; read_only = c.self.inside.read_only; running = c.self.inside.running; merged = c.self.inside.merged; pages = p.pages; cap = p.cap })
           same.1 ∙ c.self.view_is,
       same.2,
     )
-
-pub returns-in_err-write_out-clause-touches : goal.returns-in_err-write_out-clause-touches
-returns-in_err-write_out-clause-touches g c t tells given =
-    let old = g.H.Host.world c.args.host.now in
-    let new = g.H.Host.world c.write_out.new.host in
-    let is = subst (λ (h : Held). IsOpen old h t) (sym c.self.view_is) given in
-    subst (λ (h : Held). WritesIn old new h.files.state (name_of h)) c.self.view_is (c.write_out.ensures.touches t tells is.files)
 
 pub returns-clause-touches : goal.returns-clause-touches
 returns-clause-touches g c t tells given =

@@ -1,0 +1,16 @@
+use Rattle.std.proofs.Common.{refl, sym, subst}
+use Rattle.std.specs.Prelude.{Result, Err}
+use Rattle.nb_host.specs.Causes.{CountsDevice}
+use Rattle.nb_host.specs.declared.faults.Fault.{Fault}
+use Rattle.nb_model.specs.declared.reply.Reply.{Reply}
+use Rattle.nb_engine.specs.Replies.{done}
+use Rattle.nb_session.specs.Replies.{Replies}
+use Rattle.nb_session.proofs.StepLaws.{counts_as}
+use Rattle.nb_session.proofs.replies.done.Goals as goal
+
+pub returns-in-Err-clause-reply : goal.returns-in-Err-clause-reply
+returns-in-Err-clause-reply c = subst (λ (r : Result (Unit {0}) Fault). Replies done r (Err c.in-Err.fault)) (sym c.in-Err.is) refl
+
+pub returns-in-Err-clause-cause : goal.returns-in-Err-clause-cause
+returns-in-Err-clause-cause c before after counts =
+    counts_as (Unit {0}) Reply c.in-Err.fault before after (subst (λ (r : Result (Unit {0}) Fault). CountsDevice r before after) c.in-Err.is counts)
