@@ -126,7 +126,7 @@ module _ (old : World) (held : Held) (t : Trail) (k number : ℕ) (page : Page) 
     abbrev after : Image
     after = trimmed laid_over
 
-    laying : MayLay number page (h0 old held t is).main
+    laying : MayLay number page g.main
     laying = may_lay t number page its_hiding merging t.base (itself_firm t) _ _ g
 
     has : HasMain after (new held.name)

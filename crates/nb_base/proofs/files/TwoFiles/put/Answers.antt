@@ -17,10 +17,10 @@ returns-in_err-write_plain-clause-takes g c t tells open_ is must =
     let old = g.H.Host.world c.args.host.now in
     let new = g.H.Host.world c.write_plain.new.host in
     let o = subst (λ (h : Held). IsOpen old h t) (sym c.self.view_is) open_ in
-    takes_named c.from_residual-in_err-write_plain.result old new _ _ t _ c.self.view_is
-    (takes_passed c.write_plain.result c.from_residual-in_err-write_plain.result old old new c.self.inside.name _ _ t _ refl
+    takes_named c.from_residual.result old new _ _ t _ c.self.view_is
+    (takes_passed c.write_plain.result c.from_residual.result old old new c.self.inside.name _ _ t _ refl
     (c.write_plain.ensures.takes t tells (open_seen old _ t o) is (λ e. true≢false (sym (c.is_diverted.ensures.1 (o.agrees.state ∙ e)) ∙ c.if-is_diverted.false)) (sym o.agrees.entries) c.self.invariant.5 must)
-    c.from_residual-in_err-write_plain.ensures.0)
+    c.from_residual.ensures.0)
 
 pub returns-then-is_diverted-clause-takes : goal.returns-then-is_diverted-clause-takes
 returns-then-is_diverted-clause-takes g c t tells open_ is must =
