@@ -8,7 +8,7 @@ use Rattle.nb_host.specs.World.{World}
 use Rattle.nb_host.specs.Crash.{AppendLeft}
 use Rattle.nb_host.specs.Calls.{AppendsBytes, IsSilent, Steps}
 use Rattle.nb_host.specs.Moments.{IsNow, Passes, Elapses}
-use Rattle.nb_mem.proofs.NameLaws.{with_file-same, with_file-again}
+use Rattle.nb_host.proofs.NameLaws.{with_file-same, with_file-again}
 use Rattle.nb_level.specs.Adding.{TwoLeft, IsWhileAdding, AddsTwo}
 
 -- a front of the first piece is one of both

@@ -9,7 +9,7 @@ use Rattle.nb_mem.specs.declared.entry.Entry.TheVariants.{Changed}
 use Rattle.nb_mem.specs.declared.entry.Change.TheVariants.{Synced}
 use Rattle.nb_mem.specs.Histories.{files_of, Now, Back, world_of}
 use Rattle.nb_mem.specs.HistoryLaws.{seen}
-use Rattle.nb_mem.proofs.NameLaws.{decide, at_same, at_other, with_file-keep}
+use Rattle.nb_host.proofs.NameLaws.{decide, at_same, at_other, with_file-keep}
 
 -- a file was synced
 module _ (es : List Entry) (n : List ℕ) where

@@ -8,7 +8,7 @@ use Rattle.nb_mem.specs.declared.entry.Entry.{Entry}
 use Rattle.nb_mem.specs.Changes.{NowAfter, BackAfter}
 use Rattle.nb_mem.specs.Histories.{files_of, Now, Back}
 use Rattle.nb_mem.specs.Crashes.{LeavesAfter, PagesMay, BytesMay, AnewMay, SyncedMay, OthersMay}
-use Rattle.nb_mem.proofs.NameLaws.{at_same, to_same, to_other}
+use Rattle.nb_host.proofs.NameLaws.{at_same, to_same, to_other}
 
 module _ (es : List Entry) (n : List ℕ) where
   to_now : (change : Change) (c : File) → NowAfter change (files_of es n) (Now es n) c → LeavesAfter es n change c

@@ -10,7 +10,7 @@ use Rattle.nb_mem.specs.Slots.{files_in}
 use Rattle.nb_mem.specs.Histories.{files_of, Now, Back, world_of}
 use Rattle.nb_mem.specs.HistoryLaws.{reads_left}
 use Rattle.nb_mem.specs.Outcomes.{placed, IsLeft}
-use Rattle.nb_mem.proofs.NameLaws.{decide, at_same, at_other, with_file-same, with_file-other}
+use Rattle.nb_host.proofs.NameLaws.{decide, at_same, at_other, with_file-same, with_file-other}
 
 -- no slot has the name
 abbrev pub IsUnnamed : List ℕ → List Slot → Type 0

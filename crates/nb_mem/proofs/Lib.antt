@@ -1,4 +1,3 @@
-pub mod NameLaws
 pub mod SlotLaws
 pub mod SlotNames
 pub mod PutLaws

@@ -17,7 +17,7 @@ use Rattle.nb_mem.specs.Changes.{file_after, NowAfter, BackAfter}
 use Rattle.nb_mem.specs.Histories.{files_of, Now, Back, world_of}
 use Rattle.nb_mem.specs.Outcomes.{MayBe, IsOther}
 use Rattle.nb_mem.specs.Chosen.{is_yes, behind, page_by, torn_by, bytes_by, anew_by, settled, outcome_after, choices_after, outcome_by, left_by}
-use Rattle.nb_mem.proofs.NameLaws.{to_same, to_other, with_file-same, with_file-other, same_self, same_other, decide}
+use Rattle.nb_host.proofs.NameLaws.{to_same, to_other, with_file-same, with_file-other, same_self, same_other, decide}
 
 get_or-zeros : (n i : ℕ) → ◌≡◌ {A = ℕ} (get_or (replicate n 0) i 0) 0
 get_or-zeros zero i = refl

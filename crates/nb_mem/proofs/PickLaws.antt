@@ -15,7 +15,7 @@ use Rattle.nb_mem.specs.Chosen.{begun, is_yes, behind, page_by, grown, torn_by, 
 use Rattle.nb_mem.specs.declared.entry.Question.{Question}
 use Rattle.nb_mem.specs.Outcomes.{IsOther}
 use Rattle.nb_mem.specs.Crashes.{LosesAll, settled_after, settled_file, PicksReach}
-use Rattle.nb_mem.proofs.NameLaws.{with_file-same, with_file-other, same_self, same_other, decide}
+use Rattle.nb_host.proofs.NameLaws.{with_file-same, with_file-other, same_self, same_other, decide}
 use Rattle.nb_mem.proofs.OutcomeLaws.{same_outcome, other_outcome}
 
 -- a file that was synced, and then changed once

@@ -9,7 +9,7 @@ use Rattle.nb_host.specs.Names.{same_name}
 use Rattle.nb_host.specs.Files.{File, with_file}
 use Rattle.nb_mem.specs.Slots.{files_in}
 use Rattle.nb_mem.specs.declared.slots.Slot.{Slot}
-use Rattle.nb_mem.proofs.NameLaws.{with_file-same, with_file-other, with_file-again, with_file-swap}
+use Rattle.nb_host.proofs.NameLaws.{with_file-same, with_file-other, with_file-again, with_file-swap}
 
 module _ (n : List ℕ) where
   same : (s : Slot) → same_name n s.name ≡ true → n ≡ s.name

@@ -6,7 +6,7 @@ use Rattle.nb_host.specs.Crash.{Leaves}
 use Rattle.nb_mem.specs.declared.entry.Entry.{Entry}
 use Rattle.nb_mem.specs.Histories.{files_of, Now, Back, world_of}
 use Rattle.nb_mem.specs.Outcomes.{IsLeft, placed}
-use Rattle.nb_mem.proofs.NameLaws.{decide, at_same, at_other, with_file-same, with_file-other}
+use Rattle.nb_host.proofs.NameLaws.{decide, at_same, at_other, with_file-same, with_file-other}
 use Rattle.nb_top.specs.Worlds.{StartsFrom, no_files}
 
 -- before the first call

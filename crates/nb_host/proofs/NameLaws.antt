@@ -1,4 +1,4 @@
--- Files under equal names, and under others.
+-- Names that are equal and others, and files under them.
 use Rattle.std.proofs.Common.{◌≡◌, ◌≢◌, ◌⊎◌, inl, inr, ℕ, Bool, true, false, List, refl, sym, ◌∙◌, ap, subst}
 use Rattle.std.specs.Prelude.{if◌then◌else◌, MatchBool}
 use Rattle.std.specs.Cmp.Lexicographic.{told_text, nat_list_eq_equiv}
