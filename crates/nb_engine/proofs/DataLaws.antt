@@ -1,6 +1,6 @@
 -- A data page is there, and what it then is written as.
 use Rattle.std.proofs.Common.{◌≡◌, ℕ, ◌-◌, ◌<◌, List, [], ◌∷◌, ◌++◌, length, take, drop, refl, sym, ap, subst, ◌∙◌, arith, length-drop}
-use Rattle.std.specs.Prelude.{Some, None, Result, IfErr, IsTrue}
+use Rattle.std.specs.Prelude.{Some, None, Result, IsTrue}
 use Rattle.std.proofs.lemmas.List.{append-nil, drop_all}
 use Rattle.nb_fields.proofs.PageLaws.{padded_whole}
 use Rattle.nb_fields.specs.Page.{with_payload}
@@ -11,26 +11,21 @@ use Rattle.nb_host.specs.declared.faults.Fault.{Fault}
 use Rattle.nb_host.specs.declared.refusals.Refusal.{Refusal}
 use Rattle.nb_host.specs.declared.refusals.Refusal.TheVariants.{NotDatabase}
 use Rattle.nb_page.specs.Quiet.{Quiet}
-use Rattle.nb_model.specs.Image.{Page, Image, image_scn}
+use Rattle.nb_model.specs.Image.{Page, Image}
 use Rattle.nb_model.specs.Forms.{is_kind}
 use Rattle.nb_model.specs.Causes.{not_kind}
-use Rattle.nb_model.specs.Sound.{IsSoundImage}
 use Rattle.nb_model.specs.Trail.{Trail}
-use Rattle.nb_model.proofs.PutSound.{IsPlace}
 use Rattle.nb_model.proofs.StepLaws.{kind_parts}
-use Rattle.nb_base.specs.Takes.{IsNoRefusal}
 use Rattle.nb_state.specs.Open.{Held, IsOpen, but_pages}
-use Rattle.nb_state.specs.Does.{Tested}
 use Rattle.nb_alloc.specs.Data.{data_cause, put_data}
 use Rattle.nb_alloc.specs.Make.{page_strokes}
 use Rattle.nb_alloc.specs.Put.{entry_cause}
 use Rattle.nb_alloc.specs.Tries.{Tries}
 use Rattle.nb_alloc.proofs.CauseLaws.{first_next, first_here, one_cause}
-use Rattle.nb_alloc.proofs.DoesLaws.{sure_of, tries_after, tries_these}
-use Rattle.nb_alloc.proofs.MakeLaws.{entry_none, tries_named}
+use Rattle.nb_alloc.proofs.DoesLaws.{tries_after, tries_these}
+use Rattle.nb_alloc.proofs.MakeLaws.{tries_named}
 use Rattle.nb_alloc.proofs.PutLaws.{none_of}
 use Rattle.nb_alloc.proofs.ReadyLaws.{page_strokes_are}
-use Rattle.nb_engine.proofs.NewTurn.{well_of}
 
 -- a data page is below the length
 pub data_there : (image : Image) (p : ℕ) → not_kind image data_kind p ≡ None → p < length image
@@ -52,17 +47,6 @@ put_tries result old mid new a b c t p bytes is size kind same quiet tries =
     let strokes = (put_data p bytes image).strokes in
     tries_named result old new a c t (entry_cause image p) (data_cause image p) strokes strokes (by_entry image p kind) refl
     (tries_these result old new a c t (entry_cause image p) _ strokes (λ none. page_strokes_are t.base p 5 (drop 16 bytes) sized none) (tries_after result old mid new a b c t _ _ same quiet is tries))
-
--- in a sound database it isn't refused
-pub data_sure : {T : Type 0} (result : Result T Fault) (w : World) (held : Held) (t : Trail) (p : ℕ) → IsOpen w held t → IsTrue (is_page_size held.files.page_size) → IsSoundImage t.base.image → 0 < p
-    → not_kind t.base.image data_kind p ≡ None → Tested result (data_cause t.base.image p) → IfErr result IsNoRefusal
-data_sure result w held t p is size sound some kind =
-    let image = t.base.image in
-    let scn : image_scn image < 4294967296 = omega (arith, is.agrees.scn, is.agrees.four) in
-    let is_well = well_of w held t is size scn sound in
-    let low : p < length image = data_there image p kind in
-    let at : IsPlace image p = record { behind = omega (arith, some); there = omega (arith, low); most = (let most = sound.most in omega (arith, most, low)) } in
-    sure_of result (data_cause image p) (sym (by_entry image p kind) ∙ entry_none image p is_well at)
 
 -- the bytes after the head are the payload
 pub behind_payload : (old bytes : List ℕ) → length bytes ≡ length old → take 16 old ++ drop 16 bytes ≡ with_payload old (drop 16 bytes)

@@ -1,20 +1,17 @@
 // Data pages, of which chains are made, are read, written and given back.
-ghost use Rattle.std.specs.Prelude.{◌≡◌, ◌≢◌, ◌+◌, ◌<◌, ◌≤◌, ◌++◌, true, IsTrue, IfErr, IfOk, OnOk, None, length, take, drop};
+ghost use Rattle.std.specs.Prelude.{◌≡◌, ◌≢◌, ◌+◌, ◌<◌, ◌≤◌, ◌++◌, true, IsTrue, IfErr, IfOk, OnOk, length, take, drop};
 ghost use Rattle.std.specs.List.{list_all};
 ghost use Rattle.nb_fields.specs.Bytes.{with_part};
 ghost use Rattle.nb_fields.specs.Places.{is_page_size, most_pages};
 ghost use Rattle.nb_fields.specs.States.{stalled_state};
-ghost use Rattle.nb_fields.specs.Kinds.{data_kind};
 ghost use Rattle.nb_host.specs.declared.faults.Fault.TheVariants.{Memory};
 ghost use Rattle.nb_host.specs.Causes.{CountsDevice, CountsFault};
 ghost use Rattle.nb_page.specs.Quiet.{Quiet};
-ghost use Rattle.nb_model.specs.Causes.{not_kind, lowest_broken};
+ghost use Rattle.nb_model.specs.Causes.{lowest_broken};
 ghost use Rattle.nb_model.specs.Chains.{is_slot, slots_in, next_in};
 ghost use Rattle.nb_model.specs.Forms.{drafted, give_page};
 ghost use Rattle.nb_model.specs.Image.{page_at};
-ghost use Rattle.nb_model.specs.Sound.{IsSoundImage};
 ghost use Rattle.nb_model.specs.Trail.{Trail};
-ghost use Rattle.nb_base.specs.Takes.{IsNoRefusal};
 ghost use Rattle.nb_state.specs.Open.{IsOpen, but_pages};
 ghost use Rattle.nb_state.specs.Does.{Tested, Goes};
 ghost use Rattle.nb_alloc.specs.Behind.{entry_broken, give_broken};
@@ -184,7 +181,6 @@ impl Engine {
         requires low { 0 < number }
         ensures tries { (t : Trail) → IsTrue H.tells → IsOpen (H.world host.old) self.old t
             → Tries result (H.world host.old) (H.world host.new) self.old self.new t (data_cause t.base.image number) (put_data number page.now t.base.image).strokes }
-        ensures sure { (t : Trail) → IsTrue H.tells → IsOpen (H.world host.old) self.old t → IsSoundImage t.base.image → not_kind t.base.image data_kind number ≡ None → IfErr result IsNoRefusal }
         ensures goes { Goes self.old self.new }
         ensures cause { CountsDevice result (H.faults host.old) (H.faults host.new) }
         ensures takes_none { self.old.files.state ≢ stalled_state → IfErr result (λ fault. fault ≢ Memory) }
@@ -218,7 +214,6 @@ impl Engine {
         requires inside { at + length bytes.now ≤ self.old.files.page_size }
         ensures tries { (t : Trail) → IsTrue H.tells → IsOpen (H.world host.old) self.old t
             → Tries result (H.world host.old) (H.world host.new) self.old self.new t (data_cause t.base.image number) (put_data number (with_part at bytes.now (page_at t.base.image number)) t.base.image).strokes }
-        ensures sure { (t : Trail) → IsTrue H.tells → IsOpen (H.world host.old) self.old t → IsSoundImage t.base.image → not_kind t.base.image data_kind number ≡ None → IfErr result IsNoRefusal }
         ensures goes { Goes self.old self.new }
         ensures once { IsTrue H.tells → (H.world host.new).reads ≤ (H.world host.old).reads + 2 }
         ensures cause { CountsDevice result (H.faults host.old) (H.faults host.new) }
@@ -244,7 +239,6 @@ impl Engine {
         requires high { number < most_pages }
         ensures tries { (t : Trail) → IsTrue H.tells → IsOpen (H.world host.old) self.old t
             → Tries result (H.world host.old) (H.world host.new) self.old self.new t (mark_cause t.base.image number) (give_page number (drafted t.base.image)).strokes }
-        ensures sure { (t : Trail) → IsTrue H.tells → IsOpen (H.world host.old) self.old t → IsSoundImage t.base.image → 2 ≤ number → number < length t.base.image → IfErr result IsNoRefusal }
         ensures goes { Goes self.old self.new }
         ensures once { IsTrue H.tells → (H.world host.new).reads ≤ (H.world host.old).reads + 2 }
         ensures cause { CountsDevice result (H.faults host.old) (H.faults host.new) }

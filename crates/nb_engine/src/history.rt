@@ -9,10 +9,8 @@ ghost use Rattle.nb_model.specs.Causes.{broken_at};
 ghost use Rattle.nb_model.specs.Backups.{room_in};
 ghost use Rattle.nb_model.specs.Chains.{History, pages_of, found_pages, backup_spot, level_in, guid_in, put_slot, backup_slot};
 ghost use Rattle.nb_model.specs.Forms.{drafted};
-ghost use Rattle.nb_model.specs.Sound.{IsSoundImage};
 ghost use Rattle.nb_model.specs.Trail.{Trail};
 ghost use Rattle.nb_state.specs.Open.{IsOpen, but_pages};
-ghost use Rattle.nb_base.specs.Takes.{IsNoRefusal};
 ghost use Rattle.nb_state.specs.Does.{Tested, Goes};
 ghost use Rattle.nb_engine.specs.History.{row_at, IsPlaced};
 ghost use Rattle.nb_engine.specs.Room.{room_cause, write_cause, IsRoomIn};
@@ -134,13 +132,10 @@ impl Engine {
         ensures tries { (t : Trail) → IsTrue H.tells → IsOpen (H.world host.old) self.old t
             → Tries result (H.world host.old) (H.world host.new) self.old self.new t (write_cause t.base.image room.now.page)
             (put_slot room.now.page room.now.slot (backup_slot row.now.level row.now.scn row.now.time row.now.guid row.now.name) (drafted t.base.image)).strokes }
-        ensures sure { (t : Trail) → IsTrue H.tells → IsOpen (H.world host.old) self.old t → room.now.page < length t.base.image → IsSoundImage t.base.image → IfErr result IsNoRefusal }
         ensures goes { Goes self.old self.new }
         ensures cause { CountsDevice result (H.faults host.old) (H.faults host.new) }
         ensures takes_none { self.old.files.state ≢ stalled_state → IfErr result (λ fault. fault ≢ Memory) }
     {
-        // Contracts ask for its range, which is known of what was read.
-        let _scn = self.store.scn();
         let count = self.store.count();
         if room.page >= count {
             return Err(Fault::Refused(Refusal::NotDatabase { page: room.page }));

@@ -222,7 +222,7 @@ module _ (w : World) (held : Held) (f t : Trail) (out : GoesOut w held f t (IsOn
     put_scn b way = way_put t p waiting.some waiting.low (λ stalled. absurd (omega (arith, stalled, out.normal))) f b (low_rank t p rank waiting out.normal low) way
 
     pub way_changes : (old : World) (name : List ℕ) → held.files.name ≡ name → Changes old w (Only name) (StandsIn name t) → Changes old new (Only name) (StandsIn name t)
-    way_changes old name named before = subst (λ (n : List ℕ). Changes old new (Only n) (StandsIn n t)) named
+    way_changes old m named before = subst (λ (n : List ℕ). Changes old new (Only n) (StandsIn n t)) named
         (put_changes held f t (IsOnTheWay f t) same p rank waiting out.normal (size ∙ out.agrees.page_size) put_scn w new out.left (λ b way. way_left f t out.behind b unsettled way) old (subst (λ (n : List ℕ). Changes old w (Only n) (StandsIn n t)) (sym named) before) by)
 
     pub way_more : ((b : Base) → ShowsIn held.files.name b w.files → MayPut b p (page_at t.base.image p) → ShowsIn held.files.name (on_base (page p (page_at t.base.image p)) b) new.files)
@@ -254,7 +254,7 @@ module _ (w : World) (held : Held) (f t : Trail) (out : GoesOut w held f t (IsFi
     put_other b left = firm_put t p waits_p.some waits_p.low (λ stalled. absurd (omega (arith, stalled, out.normal))) b plain waits_p.unsettled left
 
     pub firm_changes : (old : World) (name : List ℕ) → held.files.name ≡ name → Changes old w (Only name) (StandsIn name t) → Changes old new (Only name) (StandsIn name t)
-    firm_changes old name named before = subst (λ (n : List ℕ). Changes old new (Only n) (StandsIn n t)) named
+    firm_changes old m named before = subst (λ (n : List ℕ). Changes old new (Only n) (StandsIn n t)) named
         (put_changes held f t (IsFirm t) same_firm p rank waits_p out.normal (size ∙ out.agrees.page_size) put_other w new out.left (firm_left t) old (subst (λ (n : List ℕ). Changes old w (Only n) (StandsIn n t)) (sym named) before) by)
 
     pub firm_more : ((b : Base) → ShowsIn held.files.name b w.files → MayPut b p (page_at t.base.image p) → ShowsIn held.files.name (on_base (page p (page_at t.base.image p)) b) new.files)

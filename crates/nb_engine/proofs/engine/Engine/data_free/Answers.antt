@@ -1,12 +1,8 @@
-use Rattle.std.proofs.Common.{◌<◌, sym, subst, arith}
-use Rattle.nb_model.specs.Image.{image_scn}
+use Rattle.std.proofs.Common.{sym, subst}
 use Rattle.nb_model.specs.Forms.{drafted, give_page}
 use Rattle.nb_state.specs.Open.{Held, IsOpen}
 use Rattle.nb_alloc.specs.Mark.{mark_cause}
 use Rattle.nb_alloc.specs.Tries.{Tries}
-use Rattle.nb_alloc.proofs.MakeLaws.{mark_none}
-use Rattle.nb_alloc.proofs.DoesLaws.{sure_of}
-use Rattle.nb_engine.proofs.NewTurn.{well_of}
 use Rattle.nb_engine.proofs.engine.Engine.data_free.Goals as goal
 
 pub returns-clause-tries : goal.returns-clause-tries
@@ -15,12 +11,3 @@ returns-clause-tries g c t tells is =
     let here = subst (λ (h : Held). IsOpen w h t) (sym c.self.view_is) is in
     let new = g.H.Host.world c.mark.new.host in
     subst (λ (h : Held). Tries c.mark.result w new h c.mark.new.store t (mark_cause t.base.image c.args.number) (give_page c.args.number (drafted t.base.image)).strokes) c.self.view_is (c.mark.ensures.tries t tells here)
-
-pub returns-clause-sure : goal.returns-clause-sure
-returns-clause-sure g c t tells is sound two low =
-    let w = g.H.Host.world c.args.host.now in
-    let image = t.base.image in
-    let here = subst (λ (h : Held). IsOpen w h t) (sym c.self.view_is) is in
-    let scn : image_scn image < 4294967296 = omega (arith, here.agrees.scn, here.agrees.four) in
-    let is_well = well_of w _ t here c.self.invariant.0 scn sound in
-    sure_of c.mark.result (mark_cause image c.args.number) (mark_none image c.args.number is_well two low) (c.mark.ensures.tries t tells here).test

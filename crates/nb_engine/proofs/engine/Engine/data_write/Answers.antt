@@ -2,13 +2,7 @@ use Rattle.std.proofs.Common.{sym, subst}
 use Rattle.nb_state.specs.Open.{Held, IsOpen}
 use Rattle.nb_alloc.specs.Data.{data_cause, put_data}
 use Rattle.nb_alloc.specs.Tries.{Tries}
-use Rattle.nb_engine.proofs.DataLaws.{data_sure}
 use Rattle.nb_engine.proofs.engine.Engine.data_write.Goals as goal
-
-pub returns-clause-sure : goal.returns-clause-sure
-returns-clause-sure g c t tells is sound kind =
-    let here = subst (λ (h : Held). IsOpen (g.H.Host.world c.args.host.now) h t) (sym c.self.view_is) is in
-    data_sure c.write_data.result _ _ t c.args.number here c.self.invariant.0 sound c.requires.low kind (c.write_data.ensures.tries t tells here).test
 
 pub returns-clause-tries : goal.returns-clause-tries
 returns-clause-tries g c t tells is =

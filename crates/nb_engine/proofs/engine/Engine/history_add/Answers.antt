@@ -2,18 +2,15 @@ use Rattle.std.proofs.Common.{◌<◌, ◌≤◌, ℕ, length, refl, sym, subst,
 use Rattle.nb_host.specs.declared.faults.Fault.TheVariants.{Refused}
 use Rattle.nb_host.specs.declared.refusals.Refusal.TheVariants.{NotDatabase}
 use Rattle.nb_page.proofs.QuietLaws.{quiet_begun}
-use Rattle.nb_model.specs.Image.{image_scn}
 use Rattle.nb_model.specs.Forms.{drafted}
 use Rattle.nb_model.specs.Chains.{backup_slot, put_slot}
-use Rattle.nb_model.proofs.PutSound.{IsPlace}
 use Rattle.nb_state.specs.Open.{Held, IsOpen}
 use Rattle.nb_alloc.specs.Tries.{Tries}
 use Rattle.nb_alloc.specs.Put.{entry_cause}
-use Rattle.nb_alloc.proofs.DoesLaws.{tries_failed, sure_of}
-use Rattle.nb_alloc.proofs.MakeLaws.{entry_none, tries_named}
+use Rattle.nb_alloc.proofs.DoesLaws.{tries_failed}
+use Rattle.nb_alloc.proofs.MakeLaws.{tries_named}
 use Rattle.nb_engine.specs.Room.{write_cause}
 use Rattle.nb_engine.proofs.LinkLaws.{write_low, write_past}
-use Rattle.nb_engine.proofs.NewTurn.{well_of}
 use Rattle.nb_engine.proofs.engine.Engine.history_add.Goals as goal
 
 pub returns-then-room-count-clause-tries : goal.returns-then-room-count-clause-tries
@@ -27,11 +24,6 @@ returns-then-room-count-clause-tries g c t tells is =
     tries_failed (Unit {0}) (Refused (NotDatabase p)) w w c.args.self.now c.args.self.now t (write_cause t.base.image p) strokes (write_past t.base.image p far) refl
     (quiet_begun w (g.met.H.Host.timely c.args.host.now)) is is
 
-pub returns-then-room-count-clause-sure : goal.returns-then-room-count-clause-sure
-returns-then-room-count-clause-sure g c t tells is low sound =
-    let here = subst (λ (h : Held). IsOpen (g.H.Host.world c.args.host.now) h t) (sym c.self.view_is) is in
-    absurd {A = ⊥} (omega (arith, low, here.files.agrees.count, c.count-count.ensures.value, c.if-room-count.true))
-
 pub returns-clause-tries : goal.returns-clause-tries
 returns-clause-tries g c t tells is =
     let w = g.H.Host.world c.args.host.now in
@@ -43,17 +35,6 @@ returns-clause-tries g c t tells is =
     let new = g.H.Host.world c.add_row.new.host in
     tries_named c.add_row.result w new c.args.self.now c.add_row.new.store t (entry_cause t.base.image p) (write_cause t.base.image p) strokes strokes (write_low t.base.image p low) refl
     (subst (λ (h : Held). Tries c.add_row.result w new h c.add_row.new.store t (entry_cause t.base.image p) strokes) c.self.view_is (c.add_row.ensures.tries t tells here))
-
-pub returns-clause-sure : goal.returns-clause-sure
-returns-clause-sure g c t tells is low sound =
-    let w = g.H.Host.world c.args.host.now in
-    let image = t.base.image in
-    let p : ℕ = c.args.room.now.page in
-    let here = subst (λ (h : Held). IsOpen w h t) (sym c.self.view_is) is in
-    let scn : image_scn image < 4294967296 = omega (arith, here.agrees.scn, c.scn-scn.ensures) in
-    let is_well = well_of w _ t here c.self.invariant.0 scn sound in
-    let at : IsPlace image p = record { behind = omega (arith, c.requires.placed.low); there = omega (arith, low); most = c.requires.placed.high } in
-    sure_of c.add_row.result (entry_cause image p) (entry_none image p is_well at) (c.add_row.ensures.tries t tells here).test
 
 pub add_row-requires-clause-inside : goal.add_row-requires-clause-inside
 add_row-requires-clause-inside g c = omega (arith, c.count-count.ensures.value, c.if-room-count.false)

@@ -1,19 +1,20 @@
-use Rattle.std.proofs.Common.{[], refl, sym, subst, ap, ◌∙◌}
+use Rattle.std.proofs.Common.{◌≡◌, [], refl, sym, subst, ap, ◌∙◌}
 use Rattle.std.specs.Prelude.{Result, Ok, Err, OnOk}
 use Rattle.std.proofs.lemmas.Result.{on_ok_weaker}
 use Rattle.nb_base.specs.Open.{AreMerged}
 use Rattle.nb_base.specs.Takes.{Strikes}
 use Rattle.nb_base.specs.Touches.{WritesIn}
+use Rattle.nb_cache.specs.Held.{NoneWaits}
 use Rattle.nb_state.specs.Open.{Held, IsOpen, name_of}
 use Rattle.nb_state.proofs.TurnLaws.{open_out}
 use Rattle.nb_state.proofs.store.Store.write_out.Goals as goal
 
-on_ok_pair : {T E P Q : Type 0} (result : Result T E) → OnOk result P → OnOk result Q → OnOk result (P × Q)
-on_ok_pair (Ok x) p q = (p, q)
-on_ok_pair (Err e) p q = tt
+on_ok_pair : {T E : Type 0} (P Q : Type 0) (result : Result T E) → OnOk result P → OnOk result Q → OnOk result (P × Q)
+on_ok_pair P Q (Ok x) p q = (p, q)
+on_ok_pair P Q (Err e) p q = tt
 
 pub returns-clause-none : goal.returns-clause-none
-returns-clause-none g c = on_ok_pair c.write_out.result c.write_out.ensures.none c.write_out.ensures.no_drafts
+returns-clause-none g c = on_ok_pair (NoneWaits c.write_out.new.self.pages) (c.write_out.new.self.files.drafted ≡ 0) c.write_out.result c.write_out.ensures.none c.write_out.ensures.no_drafts
 
 pub returns-clause-takes : goal.returns-clause-takes
 returns-clause-takes g c t tells given =
