@@ -1,6 +1,6 @@
 -- Leaked pages are given back one after the other, in rising order.
 use Rattle.std.proofs.Common.{◌≡◌, ℕ, zero, suc, ◌+◌, ◌-◌, ◌*◌, ◌<◌, ◌≤◌, List, [], ◌∷◌, ◌++◌, length, refl, sym, ap, subst, append_assoc, ◌∙◌, arith}
-use Rattle.std.specs.Prelude.{Bool, true, false, cond, None, Ok, Err}
+use Rattle.std.specs.Prelude.{Bool, true, false, cond, None, Result, Ok, Err, IfErr}
 use Rattle.std.specs.List.{filter, range_with_len}
 use Rattle.std.proofs.lemmas.List.{append-nil}
 use Rattle.nb_fields.specs.Places.{is_system_place}
@@ -24,10 +24,12 @@ use Rattle.nb_model.proofs.RoundLaws.{AnyPage}
 use Rattle.nb_model.proofs.TableDrafts.{bit_inventory, bit_longer, bit_size}
 use Rattle.nb_base.specs.Takes.{after_strokes, IsNoRefusal}
 use Rattle.nb_state.specs.Open.{Held, IsOpen}
-use Rattle.nb_state.specs.Does.{Makes}
+use Rattle.nb_state.specs.Does.{Makes, Tested}
 use Rattle.nb_state.proofs.MakesLaws.{makes_none, makes_then, makes_front}
+use Rattle.nb_engine.specs.Mark.{mark_cause}
 use Rattle.nb_engine.specs.Tries.{Tries}
-use Rattle.nb_alloc.proofs.DoesLaws.{tries_made}
+use Rattle.nb_alloc.proofs.DoesLaws.{sure_of, tries_made}
+use Rattle.nb_alloc.proofs.MakeLaws.{mark_none}
 use Rattle.nb_alloc.proofs.NewLaws.{image_is}
 use Rattle.nb_model.specs.Leaks.{is_leaked, leaked}
 
@@ -128,7 +130,7 @@ module _ (old mid : World) (a b : Held) (t : Trail) (number : ℕ) (low : number
     plain : is_system_place (image_size x) number ≡ false
     plain = leaked_plain x sound number low holds
 
-    pub giving_below : number < length z
+    giving_below : number < length z
     giving_below = (let longer = g.longer in omega (arith, low, longer))
 
     step : (all_given (leaked x) (drafted x)).strokes ≡ g.made ++ (d.strokes ++ (all_given (leaked_from x (number + 1)) (drafted d.image)).strokes)
@@ -146,7 +148,7 @@ module _ (old mid : World) (a b : Held) (t : Trail) (number : ℕ) (low : number
         (makes_front (Unit {0}) (Unit {0}) fault mid new b c u d.strokes (all_given (leaked_from x (number + 1)) (drafted d.image)).strokes sure makes)))
 
     module _ (header : HasHeader x) where
-      pub giving_two : 2 ≤ number
+      giving_two : 2 ≤ number
       giving_two = leaked_two x header sound number low holds
 
       whole_then : IsWhole d.image
@@ -157,6 +159,10 @@ module _ (old mid : World) (a b : Held) (t : Trail) (number : ℕ) (low : number
       image_then =
           ap (λ (w : Trail). w.base.image) (after_all-joined after_stroke t g.made d.strokes)
           ∙ image_is u number d (set_bit_keeps (IsOf u.base) (drafts_are u.base) 1 number (drafted z) (drafted_is u.base)) d.strokes refl
+
+      -- nothing refuses the call
+      pub giving_sure : (result : Result (Unit {0}) Fault) → Tested result (mark_cause z number) → IfErr result IsNoRefusal
+      giving_sure result tested = sure_of result (mark_cause z number) (mark_none z number (record { sound = g.whole.sound; size = g.whole.fields.size; scn = g.whole.fields.scn }) giving_two giving_below) tested
 
       -- the page is given back
       pub giving_onward : (new : World) (c : Held) → Makes {T = Unit {0}} (Ok tt) mid new b c u d.strokes → IsGiving old new a c t (number + 1)

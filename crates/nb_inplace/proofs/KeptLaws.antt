@@ -1,6 +1,6 @@
 -- A level file whose record is kept: which record it goes on from, and what it holds.
 use Rattle.std.proofs.Common.{◌≡◌, ◌≢◌, ◌⊎◌, inl, inr, ℕ, ◌≤◌, List, [], ◌∷◌, length, refl, sym, ap, subst, ◌∙◌}
-use Rattle.std.specs.Prelude.{true, false, nat_le, Some, None, Ok, Contains}
+use Rattle.std.specs.Prelude.{false, nat_le, Some, None, Ok, Contains}
 use Rattle.std.proofs.lemmas.Bool.{and_parts, true≢false}
 use Rattle.std.proofs.lemmas.Bool.Decides.{leb_tells}
 use Rattle.nb_host.specs.Files.{Files}

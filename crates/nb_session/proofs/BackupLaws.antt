@@ -563,9 +563,9 @@ module _ (how : Told) (old mid : World) (a b : Held) (t : Trail) (now : Now) (se
       (close_behind old mid a b t now session copier later ready further.0 further.1 goes further.2 reply says backed counts (its_turn (Ok Finished) promised asks counts told).answer.written))
 
   -- it isn't refused, and ended early
-  pub backup_lost : (fault : Fault) → Promised (Err fault) → Asks → (new : World) (ended : Result Taken RunError) → EndsEarly session fault ended mid new → (answer : Result Left RunError) → (IsErr ended → IsErr answer)
+  pub backup_lost : (fault : Fault) → Promised (Err fault) → Asks → (new : World) (ended : Result Taken RunError) → (same : Type 0) → (same → new ≡ mid) → EndsEarly session fault ended mid new same → (answer : Result Left RunError) → (IsErr ended → IsErr answer)
       → Turns how left_refused (left_task (Some (Backup later))) answer old new a b t now session next_one next_ones more
-  backup_lost fault promised asks new ended early answer passed =
+  backup_lost fault promised asks new ended same is_same early answer passed =
       turns_lost how (λ (progress : Progress). None) left_refused (left_task (Some (Backup later))) old mid new a b t now session next_one next_ones more its_file its_file_is makes here fault
       (turn_sure old mid a b t now session copier later ready further.0 further.1 goes reads (Err fault) (λ given. promised given going_on) (asks going_on).0 (asks going_on).1)
-      (its_acts (Err fault) promised asks tt) (its_marks (Err fault) promised asks tt) ended early answer passed
+      (its_acts (Err fault) promised asks tt) (its_marks (Err fault) promised asks tt) ended same is_same early answer passed

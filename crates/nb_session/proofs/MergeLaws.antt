@@ -256,10 +256,10 @@ ends_quiet {sound = sound} w held t now session ready going reply more here runs
 -- so where it ended early, it failed
 pub ends_lost : (how : Told) (task : Left → Option Task) (old mid new : World) (a b : Held) (t : Trail) (now : Now) (session : ℕ) (reply : Reply) (more : List Turn) → IsReady old a t now → IsMaking now → slice_index_or now.todo (session - 1) [] ≡ Ends reply ∷ more
     → a.running ≡ Some session → b.cap ≡ a.cap → (fault : Fault) → DoesEnd (Err fault) old mid a b t (end_scn t.base.image) (end_turn (seen_now now) session)
-    → (ended : Result Taken RunError) → EndsEarly session fault ended mid new → (answer : Result Left RunError) → (IsErr ended → IsErr answer) → Turns how left_refused task answer old new a b t now session (Ends reply) [] more
-ends_lost how task old mid new a b t now session reply more ready makes here runs cap fault does ended early answer passed =
+    → (ended : Result Taken RunError) → (same : Type 0) → (same → new ≡ mid) → EndsEarly session fault ended mid new same → (answer : Result Left RunError) → (IsErr ended → IsErr answer) → Turns how left_refused task answer old new a b t now session (Ends reply) [] more
+ends_lost how task old mid new a b t now session reply more ready makes here runs cap fault does ended same is_same early answer passed =
     turns_lost how (λ (scn : ℕ). None) left_refused task old mid new a b t now session (Ends reply) [] more [] (ends_touch session reply now) makes here fault (sure fault does)
-    (ends_acts old mid a b t now session ready reply quiet (Err fault) cap does) (λ acts. marks_none old mid a) ended early answer passed
+    (ends_acts old mid a b t now session ready reply quiet (Err fault) cap does) (λ acts. marks_none old mid a) ended same is_same early answer passed
   where
     quiet : (end_turn (seen_now now) session).reply ≡ None
     quiet = ends_quiet old a t now session ready makes.going reply more here runs

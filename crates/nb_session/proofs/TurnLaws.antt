@@ -150,14 +150,14 @@ module _ (answer : Result Left RunError) (is : IfOk answer (λ left. left ≡ wa
 -- A turn that isn't refused ended early by a fault.
 pub turns_lost : {T S : Type 0} (how : Told) (reply : T → Option Reply) (refused : S → Bool) (task : S → Option Task) (old mid new : World) (e0 e1 : Held) (t : Trail) (now : Now) (session : ℕ) (u : Turn) (tail more : List Turn)
     (files : List MadeFile) → files ≡ touching session u tail now → IsMaking now → slice_index_or now.todo (session - 1) [] ≡ u ∷ (tail ++ more) → (fault : Fault) → IsNoRefusal fault → MayAct reply (Err fault) old mid e0 e1 t now session u files
-    → (Acts reply (Err fault) old mid e0 e1 t now session u files → Marks old mid e0 files) → (ended : Result Taken RunError) → EndsEarly session fault ended mid new → (answer : Result S RunError) → (IsErr ended → IsErr answer)
+    → (Acts reply (Err fault) old mid e0 e1 t now session u files → Marks old mid e0 files) → (ended : Result Taken RunError) → (same : Type 0) → (same → new ≡ mid) → EndsEarly session fault ended mid new same → (answer : Result S RunError) → (IsErr ended → IsErr answer)
     → Turns how refused task answer old new e0 e1 t now session u tail more
-turns_lost how reply refused task old mid new e0 e1 t now session u tail more files files_are makes place (Refused refusal) none may mark ended early answer passed = absurd none
-turns_lost how reply refused task old mid new e0 e1 t now session u tail more files files_are makes place Device none may mark ended early answer passed =
-    subst (λ (w : World). Turns how refused task answer old w e0 e1 t now session u tail more) (sym early.1)
+turns_lost how reply refused task old mid new e0 e1 t now session u tail more files files_are makes place (Refused refusal) none may mark ended same is_same early answer passed = absurd none
+turns_lost how reply refused task old mid new e0 e1 t now session u tail more files files_are makes place Device none may mark ended same is_same early answer passed =
+    subst (λ (w : World). Turns how refused task answer old w e0 e1 t now session u tail more) (sym (is_same early.1))
     (turns_failed how reply (Err Device) refused task old mid mid e0 e1 t now session u tail more files files_are makes place may mark answer (passed early.0))
-turns_lost how reply refused task old mid new e0 e1 t now session u tail more files files_are makes place Memory none may mark ended early answer passed =
-    subst (λ (w : World). Turns how refused task answer old w e0 e1 t now session u tail more) (sym early.1)
+turns_lost how reply refused task old mid new e0 e1 t now session u tail more files files_are makes place Memory none may mark ended same is_same early answer passed =
+    subst (λ (w : World). Turns how refused task answer old w e0 e1 t now session u tail more) (sym (is_same early.1))
     (turns_failed how reply (Err Memory) refused task old mid mid e0 e1 t now session u tail more files files_are makes place may mark answer (passed early.0))
 
 -- what is said of the task that is under way
@@ -211,11 +211,11 @@ module _ {T : Type 0} (how : Told) (reply : T → Option Reply) (old mid new : W
       (Err e) refl
 
   pub begun_ended : (fault : Fault) → MayAct reply (Err fault) old mid e0 e1 t now session (Begins it) files → (Acts reply (Err fault) old mid e0 e1 t now session (Begins it) files → Marks old mid e0 files)
-      → (answer : Result Taken RunError) → EndsEarly session fault answer mid new → IfOk answer (λ taken. taken ≡ record { task = None; refused = true })
+      → (answer : Result Taken RunError) → (same : Type 0) → (same → new ≡ mid) → EndsEarly session fault answer mid new same → IfOk answer (λ taken. taken ≡ record { task = None; refused = true })
       → ((refusal : Refusal) → fault ≡ Refused refusal → Foretells now.given (shown_by (Begins it) e0) old mid → IsBehind new e1 session (Begins it) [] now None)
       → Turns how (λ taken. taken.refused) (λ taken. taken.task) answer old new e0 e1 t now session (Begins it) [] more
-  begun_ended (Refused refusal) may mark answer early is behind = begun_refused refusal may mark answer early is (behind refusal refl)
-  begun_ended Device may mark answer early is behind =
-      turns_lost how reply (λ (x : Taken). x.refused) (λ (x : Taken). x.task) old mid new e0 e1 t now session (Begins it) [] more files files_are makes place Device tt may mark answer early answer (λ failed. failed)
-  begun_ended Memory may mark answer early is behind =
-      turns_lost how reply (λ (x : Taken). x.refused) (λ (x : Taken). x.task) old mid new e0 e1 t now session (Begins it) [] more files files_are makes place Memory tt may mark answer early answer (λ failed. failed)
+  begun_ended (Refused refusal) may mark answer same is_same early is behind = begun_refused refusal may mark answer early is (behind refusal refl)
+  begun_ended Device may mark answer same is_same early is behind =
+      turns_lost how reply (λ (x : Taken). x.refused) (λ (x : Taken). x.task) old mid new e0 e1 t now session (Begins it) [] more files files_are makes place Device tt may mark answer same is_same early answer (λ failed. failed)
+  begun_ended Memory may mark answer same is_same early is behind =
+      turns_lost how reply (λ (x : Taken). x.refused) (λ (x : Taken). x.task) old mid new e0 e1 t now session (Begins it) [] more files files_are makes place Memory tt may mark answer same is_same early answer (λ failed. failed)

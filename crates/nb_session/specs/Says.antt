@@ -24,8 +24,8 @@ pub record SaysLine {T E : Type 0} (result : Result T E) (old new : World) (line
   pub said : OnOk result (new.said ≡ old.said ++ line)
   pub gave : GaveNothing old new
 
--- What ended a statement early: where it is a refusal its line is said, and a failure is handed on, and says nothing.
-abbrev pub EndsEarly : {T E : Type 0} → (session : ℕ) → Fault → Result T E → (old new : World) → Type 0
-EndsEarly session (Refused refusal) result old new = SaysLine result old new (line_text session (RefusedBy refusal))
-EndsEarly session Device result old new = IsErr result × (new ≡ old)
-EndsEarly session Memory result old new = IsErr result × (new ≡ old)
+-- What ended a statement early: where it is a refusal its line is said, and a failure is handed on, and the host is the same then.
+abbrev pub EndsEarly : {T E : Type 0} → (session : ℕ) → Fault → Result T E → (old new : World) → (same : Type 0) → Type 0
+EndsEarly session (Refused refusal) result old new same = SaysLine result old new (line_text session (RefusedBy refusal))
+EndsEarly session Device result old new same = IsErr result × same
+EndsEarly session Memory result old new same = IsErr result × same

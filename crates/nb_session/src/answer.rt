@@ -1,5 +1,5 @@
 // A statement and the line of its reply.
-ghost use Rattle.std.specs.Prelude.{◌≡◌, ◌-◌, List, [], ◌∷◌, None, Some, false, IsTrue, IfOk};
+ghost use Rattle.std.specs.Prelude.{◌≡◌, ℕ, ◌-◌, List, [], ◌∷◌, None, Some, false, IsTrue, IfOk};
 ghost use Rattle.std.specs.List.{slice_index_or};
 ghost use Rattle.nb_host.specs.Causes.{CountsRun};
 ghost use Rattle.nb_change.specs.Gave.{GaveNothing};
@@ -107,7 +107,7 @@ pub fn answer<H: Host>(
         → slice_index_or now.todo (session - 1) [] ≡ Begins statement.now ∷ more
         → Turns told (λ taken. taken.refused) (λ taken. taken.task) result (H.world host.old) (H.world host.new) engine.old engine.new t now session (Begins statement.now) [] more }
     ensures fits { IfOk result (λ taken. TaskFits session taken.task engine.new) }
-    ensures others { KeepsOthers session engine.old engine.new }
+    ensures others { (number : ℕ) → KeepsOthers number engine.old engine.new }
     ensures cause { CountsRun result (H.faults host.old) (H.faults host.new) }
 {
     let reply = reply_to(do_statement(alloc, host, engine, statement))?;

@@ -67,7 +67,7 @@ pub fn end_early<H: Host>(
     session: u32,
     fault: Fault,
 ) -> Result<Taken, RunError>
-    ensures ended { IsTrue H.tells → EndsEarly session fault result (H.world host.old) (H.world host.new) }
+    ensures ended { IsTrue H.tells → EndsEarly session fault result (H.world host.old) (H.world host.new) (host.new ≡ host.old) }
     ensures taken { IfOk result (λ taken. taken ≡ record { task = None; refused = true }) }
     ensures cause { (before : ℕ) → CountsDevice {T = Taken} (Err fault) before (H.faults host.old) → CountsRun result before (H.faults host.new) }
 {

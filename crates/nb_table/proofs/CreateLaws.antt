@@ -171,9 +171,9 @@ module _ (t : Trail) (table : List ℕ) where
         (sym (in_strokes x table place)) (tries_front ℕ (Unit {0}) fault old new a b t (unmade x new_first.0) xs (slot_put x table place).strokes tries)
 
     -- The slot is written, whatever that answers.
-    pub in_then : (n : ℕ) (result : Result (Unit {0}) Fault) (old mid new : World) (a b c : Held) → Tries (Ok n) old mid a b t (unmade x new_first.0) xs → n ≡ new_first.1 → (bytes : Slot) → bytes ≡ table_slot table n
-        → (IsOpen mid b u → Tries result mid new b c u (entry_cause u.base.image place.page) (ys_with bytes)) → Tries result old new a c t (unmade x (created_in x table place)) (created_in x table place).strokes
-    in_then n result old mid new a b c one same bytes are call =
+    pub in_then : (n : ℕ) (result : Result (Unit {0}) Fault) (old mid new : World) (a b c : Held) → Tries (Ok n) old mid a b t (unmade x new_first.0) xs → n ≡ new_first.1 → (slot : Slot) → slot ≡ table_slot table n
+        → (IsOpen mid b u → Tries result mid new b c u (entry_cause u.base.image place.page) (ys_with slot)) → Tries result old new a c t (unmade x (created_in x table place)) (created_in x table place).strokes
+    in_then n result old mid new a b c one same slot are call =
         let two : Tries result mid new b c u (entry_cause u.base.image place.page) (ys n) =
         subst (λ (bs : Slot). Tries result mid new b c u (entry_cause u.base.image place.page) (ys_with bs)) are (call (tries_opened n old mid a b t (unmade x new_first.0) xs one)) in
         let put_is : xs ++ ys n ≡ (created_in x table place).strokes =
@@ -226,9 +226,9 @@ module _ (t : Trail) (table : List ℕ) where
     free n same = clear_made u.base.image (grows_by n) long_then (ap draft_cause (grows_are n same) ∙ both.1)
 
     -- The second page is made, whatever that answers.
-    pub behind_then : (n : ℕ) (result : Result ℕ Fault) (old mid new : World) (a b c : Held) → Tries (Ok n) old mid a b t (unmade x new_first.0) xs → n ≡ new_first.1 → (bytes : Slot) → bytes ≡ table_slot table n
-        → (IsOpen mid b u → Tries result mid new b c u (unmade u.base.image (grows_with bytes)) (grows_with bytes).strokes) → Tries (unnumbered result) old new a c t (unmade x (created_behind x table)) (created_behind x table).strokes
-    behind_then n result old mid new a b c one same bytes are call =
+    pub behind_then : (n : ℕ) (result : Result ℕ Fault) (old mid new : World) (a b c : Held) → Tries (Ok n) old mid a b t (unmade x new_first.0) xs → n ≡ new_first.1 → (slot : Slot) → slot ≡ table_slot table n
+        → (IsOpen mid b u → Tries result mid new b c u (unmade u.base.image (grows_with slot)) (grows_with slot).strokes) → Tries (unnumbered result) old new a c t (unmade x (created_behind x table)) (created_behind x table).strokes
+    behind_then n result old mid new a b c one same slot are call =
         let tries : Tries result mid new b c u (unmade u.base.image (grows_by n)) (grows_by n).strokes =
         subst (λ (bs : Slot). Tries result mid new b c u (unmade u.base.image (grows_with bs)) (grows_with bs).strokes) are (call (tries_opened n old mid a b t (unmade x new_first.0) xs one)) in
         let two = unnumbered_tries result mid new b c u (unmade u.base.image (grows_by n)) (grows_by n).strokes tries in

@@ -1,5 +1,5 @@
 use Rattle.std.proofs.Common.{◌≡◌, ◌≢◌, ℕ, ◌*◌, ◌<◌, List, length, refl, sym, ap, subst, ◌∙◌, arith}
-use Rattle.std.specs.Prelude.{Bool, None, Ok, IfErr}
+use Rattle.std.specs.Prelude.{Bool, None, Ok, Err, IfErr}
 use Rattle.nb_host.specs.declared.faults.Fault.TheVariants.{Memory}
 use Rattle.nb_page.proofs.QuietLaws.{quiet_begun}
 use Rattle.nb_model.specs.Checks.{reclaimed}
@@ -14,7 +14,7 @@ use Rattle.nb_engine.specs.Mark.{mark_cause}
 use Rattle.nb_engine.specs.Tries.{Tries}
 use Rattle.nb_alloc.proofs.DoesLaws.{tries_passed, unless_none}
 use Rattle.nb_check.proofs.AmongLaws.{leaked_each}
-use Rattle.nb_check.proofs.LeakLaws.{leaked_all, step_reads, passed_reads, open_header, giving_begun, giving_done, giving_passed, giving_below, giving_two, giving_failed, giving_onward}
+use Rattle.nb_check.proofs.LeakLaws.{leaked_all, step_reads, passed_reads, open_header, giving_begun, giving_done, giving_passed, giving_sure, giving_failed, giving_onward}
 use Rattle.nb_check.proofs.TriesLaws.{made_anyway}
 use Rattle.nb_check.proofs.checking.give_back.Goals as goal
 
@@ -55,10 +55,11 @@ returns-in_err-data_free-clause-tries g c t tells is sound reported =
     let giving = l.invariant.giving t tells is sound reported in
     let leaks = tells_leaked t.base.image c.args.report.now l.number c.has.result reported c.has.ensures low ∙ c.if-not-has.false in
     let z : Image = (after_strokes t giving.made).base.image in
-    let sure = c.in_err-data_free.ensures.sure (after_strokes t giving.made) tells giving.makes.opened giving.whole.sound (giving_two (g.H.Host.world c.args.host.now) (g.H.Host.world l.host) c.args.engine.now l.engine t l.number low giving leaks sound (open_header _ _ t is)) (giving_below w (g.H.Host.world l.host) c.args.engine.now l.engine t l.number low giving leaks sound) in
+    let tries = c.in_err-data_free.ensures.tries (after_strokes t giving.made) tells giving.makes.opened in
+    let sure = giving_sure w (g.H.Host.world l.host) c.args.engine.now l.engine t l.number low giving leaks sound (open_header _ _ t is) (Err fault) tries.test in
     tries_passed c.from_residual.result fault (λ r. Tries r w new c.args.engine.now c.data_free.new.self t None (reclaimed t.base.image).strokes) c.from_residual.ensures
     (giving_failed w (g.H.Host.world l.host) c.args.engine.now l.engine t l.number low giving leaks sound fault new c.data_free.new.self sure
-    (made_anyway fault (g.H.Host.world l.host) new l.engine c.data_free.new.self (after_strokes t giving.made) (mark_cause z l.number) (give_page l.number (drafted z)).strokes sure (c.in_err-data_free.ensures.tries (after_strokes t giving.made) tells giving.makes.opened).makes))
+    (made_anyway fault (g.H.Host.world l.host) new l.engine c.data_free.new.self (after_strokes t giving.made) (mark_cause z l.number) (give_page l.number (drafted z)).strokes sure tries.makes))
 
 pub loop-number-preserved : goal.loop-number-preserved
 loop-number-preserved g c =

@@ -36,7 +36,7 @@ returns-in_err-end_early-in-Err-clause-turn g c how now t more tells ready makes
     backup_lost how (g.H.Host.world c.args.host.now) (g.H.Host.world c.turn.new.host) c.args.engine.now c.turn.new.engine t now c.args.session copier c.turn.new.self more ready makes here goes of.goes
     (g.met.H.Host.reads_left c.args.host.now tells copier.backing.name) (g.met.H.Host.reads_left c.turn.new.host tells) c.in-Err.fault
     (λ given may most. of.turn (seen_with now given) t tells ready.base ready.opened may.stalled may.entry goes.0 may.below may.apart most) (λ may. of.asks t tells ready.opened may.stalled goes.0 may.apart)
-    (g.H.Host.world c.end_early.new.host) (Err c.in_err-end_early-in-Err.field-0.0) (c.in_err-end_early-in-Err.ensures.ended tells) c.from_residual.result (λ failed. c.from_residual.ensures.0)
+    (g.H.Host.world c.end_early.new.host) (Err c.in_err-end_early-in-Err.field-0.0) (c.end_early.new.host ≡ c.turn.new.host) (ap g.H.Host.world) (c.in_err-end_early-in-Err.ensures.ended tells) c.from_residual.result (λ failed. c.from_residual.ensures.0)
 
 pub returns-in_ok-end_early-in-Err-clause-turn : goal.returns-in_ok-end_early-in-Err-clause-turn
 returns-in_ok-end_early-in-Err-clause-turn g c how now t more tells ready makes here goes =
@@ -45,7 +45,7 @@ returns-in_ok-end_early-in-Err-clause-turn g c how now t more tells ready makes 
     backup_lost how (g.H.Host.world c.args.host.now) (g.H.Host.world c.turn.new.host) c.args.engine.now c.turn.new.engine t now c.args.session copier c.turn.new.self more ready makes here goes of.goes
     (g.met.H.Host.reads_left c.args.host.now tells copier.backing.name) (g.met.H.Host.reads_left c.turn.new.host tells) c.in-Err.fault
     (λ given may most. of.turn (seen_with now given) t tells ready.base ready.opened may.stalled may.entry goes.0 may.below may.apart most) (λ may. of.asks t tells ready.opened may.stalled goes.0 may.apart)
-    (g.H.Host.world c.end_early.new.host) (Ok c.in_ok-end_early-in-Err.field-0) (c.in_ok-end_early-in-Err.ensures.ended tells) _ (λ failed. failed)
+    (g.H.Host.world c.end_early.new.host) (Ok c.in_ok-end_early-in-Err.field-0) (c.end_early.new.host ≡ c.turn.new.host) (ap g.H.Host.world) (c.in_ok-end_early-in-Err.ensures.ended tells) _ (λ failed. failed)
 
 pub returns-in_err-end_early-in-Err-clause-cause : goal.returns-in_err-end_early-in-Err-clause-cause
 returns-in_err-end_early-in-Err-clause-cause g c =

@@ -1,4 +1,4 @@
-use Rattle.std.proofs.Common.{[], sym, ap, subst}
+use Rattle.std.proofs.Common.{◌≡◌, [], sym, ap, subst}
 use Rattle.std.specs.Prelude.{Ok, Err, None}
 use Rattle.nb_host.specs.declared.faults.Fault.{Fault}
 use Rattle.nb_model.specs.Outcomes.{Begins, Given, next_guid}
@@ -50,7 +50,7 @@ returns-in-Err-clause-turn g c how now t more tells ready makes here =
     begun_ended how (λ copier. None) old mid new a b t now session it more (begun_in session (Begins it) now) (start_touch session it now) makes here ready fault
     (start_acts old mid a b t now session it asks ready (Err fault) starts asked.0 asked.2 asked.1 c.start.ensures.cap)
     (marks_made (λ (copier : Backed). None) (Err fault) old mid a b t now session (Begins it) (begun_in session (Begins it) now) (start_apart old mid a b t now session it asks ready plain) (λ m. g.met.H.Host.reads_left c.start.new.host tells m))
-    c.end_early.result (c.end_early.ensures.ended tells) c.end_early.ensures.taken
+    c.end_early.result (c.end_early.new.host ≡ c.start.new.host) (ap g.H.Host.world) (c.end_early.ensures.ended tells) c.end_early.ensures.taken
     (λ refusal is told. start_refused old mid a b t now session it asks ready refusal (next_guid now.given)
     (subst (λ (f : Fault). StartsBackup (Err f) old mid a b t (file_asked it) (next_guid now.given) (first_turn (seen_now now) session it)) is (starts_told old mid a b t now session it asks ready (Err fault) starts asked.0 asked.2 told)) new)
 

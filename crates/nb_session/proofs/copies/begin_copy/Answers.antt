@@ -44,7 +44,7 @@ returns-in-Err-clause-turn g c how now t more tells ready makes here =
     let named : name_of b ≡ name_of a = name_kept a b c.in-Err.ensures.stays in
     let starts = c.in-Err.ensures.turn (seen_now now) t tells ready.base ready.running ready.opened (knows_unused old a t now name ready makes.going c.requires.plain) in
     begun_ended how (λ copy. None) old mid new a b t now session (CopyTo name) more [] (begins_touch session (CopyTo name) now (λ asks. asks)) makes here ready fault
-    (begin_acts old mid a b t now session name ready named (Err fault) (cap_kept a b c.in-Err.ensures.stays) starts) (λ acts. marks_none old mid a) c.end_early.result (c.end_early.ensures.ended tells) c.end_early.ensures.taken
+    (begin_acts old mid a b t now session name ready named (Err fault) (cap_kept a b c.in-Err.ensures.stays) starts) (λ acts. marks_none old mid a) c.end_early.result (c.end_early.new.host ≡ c.start.new.host) (ap g.H.Host.world) (c.end_early.ensures.ended tells) c.end_early.ensures.taken
     (λ refusal is told. begin_refused old mid a b t now session name ready named refusal (subst (λ (f : Fault). StartsCopy (Err f) old mid a b t name (copy_turn (seen_now now) session name)) is starts) new)
 
 pub returns-in-Err-clause-cause : goal.returns-in-Err-clause-cause

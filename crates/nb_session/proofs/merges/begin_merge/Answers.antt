@@ -1,4 +1,4 @@
-use Rattle.std.proofs.Common.{ℕ, [], length, refl, sym, ap, subst}
+use Rattle.std.proofs.Common.{◌≡◌, ℕ, [], length, refl, sym, ap, subst}
 use Rattle.std.specs.Prelude.{Ok, Err, None}
 use Rattle.nb_host.specs.declared.faults.Fault.{Fault}
 use Rattle.nb_model.specs.declared.statement.Statement.TheVariants.{EndBackup}
@@ -37,7 +37,7 @@ returns-in-Err-clause-turn g c how now t more tells ready makes here =
     let fault = c.in-Err.fault in
     let does = c.in-Err.ensures.turn (seen_now now) t tells ready.base ready.running ready.opened in
     begun_ended how (λ scn. None) old mid new a b t now session EndBackup more [] (begins_touch session EndBackup now (λ asks. asks)) makes here ready fault
-    (end_acts old mid a b t now session ready (Err fault) c.end.ensures.cap does) (λ acts. marks_none old mid a) c.end_early.result (c.end_early.ensures.ended tells) c.end_early.ensures.taken
+    (end_acts old mid a b t now session ready (Err fault) c.end.ensures.cap does) (λ acts. marks_none old mid a) c.end_early.result (c.end_early.new.host ≡ c.end.new.host) (ap g.H.Host.world) (c.end_early.ensures.ended tells) c.end_early.ensures.taken
     (λ refusal is told. end_refused old mid a b t now session ready refusal (subst (λ (f : Fault). DoesEnd (Err f) old mid a b t (end_scn t.base.image) (end_turn (seen_now now) session)) is does) new)
 
 pub returns-in-Err-clause-cause : goal.returns-in-Err-clause-cause

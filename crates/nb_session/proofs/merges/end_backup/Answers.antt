@@ -1,4 +1,4 @@
-use Rattle.std.proofs.Common.{ℕ, [], length, refl, sym, ap, subst}
+use Rattle.std.proofs.Common.{◌≡◌, ℕ, [], length, refl, sym, ap, subst}
 use Rattle.std.specs.Prelude.{Ok, Err, Some, None}
 use Rattle.nb_model.specs.declared.reply.Reply.{Reply}
 use Rattle.nb_model.specs.Outcomes.{Ends}
@@ -33,13 +33,13 @@ pub returns-in_err-end_early-in-Err-clause-turn : goal.returns-in_err-end_early-
 returns-in_err-end_early-in-Err-clause-turn g c how now t more tells ready makes here runs =
     ends_lost how (left_task _) (g.H.Host.world c.args.host.now) (g.H.Host.world c.end.new.host) (g.H.Host.world c.end_early.new.host) c.args.engine.now c.end.new.self t now c.args.session c.args.reply.now more ready makes here runs c.end.ensures.cap
     c.in-Err.fault (c.in-Err.ensures.turn (seen_now now) t tells ready.base ready.running ready.opened)
-    (Err c.in_err-end_early-in-Err.field-0.0) (c.in_err-end_early-in-Err.ensures.ended tells) c.from_residual.result (λ failed. c.from_residual.ensures.0)
+    (Err c.in_err-end_early-in-Err.field-0.0) (c.end_early.new.host ≡ c.end.new.host) (ap g.H.Host.world) (c.in_err-end_early-in-Err.ensures.ended tells) c.from_residual.result (λ failed. c.from_residual.ensures.0)
 
 pub returns-in_ok-end_early-in-Err-clause-turn : goal.returns-in_ok-end_early-in-Err-clause-turn
 returns-in_ok-end_early-in-Err-clause-turn g c how now t more tells ready makes here runs =
     ends_lost how (left_task _) (g.H.Host.world c.args.host.now) (g.H.Host.world c.end.new.host) (g.H.Host.world c.end_early.new.host) c.args.engine.now c.end.new.self t now c.args.session c.args.reply.now more ready makes here runs c.end.ensures.cap
     c.in-Err.fault (c.in-Err.ensures.turn (seen_now now) t tells ready.base ready.running ready.opened)
-    (Ok c.in_ok-end_early-in-Err.field-0) (c.in_ok-end_early-in-Err.ensures.ended tells) _ (λ failed. failed)
+    (Ok c.in_ok-end_early-in-Err.field-0) (c.end_early.new.host ≡ c.end.new.host) (ap g.H.Host.world) (c.in_ok-end_early-in-Err.ensures.ended tells) _ (λ failed. failed)
 
 pub returns-in_err-end_early-in-Err-clause-cause : goal.returns-in_err-end_early-in-Err-clause-cause
 returns-in_err-end_early-in-Err-clause-cause g c =

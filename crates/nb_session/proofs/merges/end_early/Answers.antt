@@ -10,17 +10,17 @@ use Rattle.nb_session.proofs.merges.end_early.Goals as goal
 
 pub returns-in-Refused-clause-ended : goal.returns-in-Refused-clause-ended
 returns-in-Refused-clause-ended g c tells =
-    subst (λ (f : Fault). EndsEarly c.args.session f c.say_refused.result (g.H.Host.world c.args.host.now) (g.H.Host.world c.say_refused.new.host)) (sym c.in-Refused.is) (c.say_refused.ensures.line tells)
+    subst (λ (f : Fault). EndsEarly c.args.session f c.say_refused.result (g.H.Host.world c.args.host.now) (g.H.Host.world c.say_refused.new.host) (c.say_refused.new.host ≡ c.args.host.now)) (sym c.in-Refused.is) (c.say_refused.ensures.line tells)
 
 pub returns-in-Device-clause-ended : goal.returns-in-Device-clause-ended
 returns-in-Device-clause-ended g c tells =
     let w = g.H.Host.world c.args.host.now in
-    subst (λ (f : Fault). EndsEarly {T = Taken} {E = RunError} c.args.session f (Err DeviceError) w w) (sym c.in-Device.is) (refl, refl)
+    subst (λ (f : Fault). EndsEarly {T = Taken} {E = RunError} c.args.session f (Err DeviceError) w w (c.args.host.now ≡ c.args.host.now)) (sym c.in-Device.is) (refl, refl)
 
 pub returns-in-Memory-clause-ended : goal.returns-in-Memory-clause-ended
 returns-in-Memory-clause-ended g c tells =
     let w = g.H.Host.world c.args.host.now in
-    subst (λ (f : Fault). EndsEarly {T = Taken} {E = RunError} c.args.session f (Err MemoryError) w w) (sym c.in-Memory.is) (refl, refl)
+    subst (λ (f : Fault). EndsEarly {T = Taken} {E = RunError} c.args.session f (Err MemoryError) w w (c.args.host.now ≡ c.args.host.now)) (sym c.in-Memory.is) (refl, refl)
 
 pub returns-in-Refused-clause-cause : goal.returns-in-Refused-clause-cause
 returns-in-Refused-clause-cause g c before counts =

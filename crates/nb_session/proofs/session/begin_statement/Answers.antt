@@ -31,3 +31,6 @@ returns-in-CopyTo-clause-turn g c now t more tells ready makes =
 
 pub returns-in_default-clause-turn : goal.returns-in_default-clause-turn
 returns-in_default-clause-turn g c now t more tells ready makes here = c.answer.ensures.turn now t more tells ready makes here
+
+pub returns-in_default-clause-others : goal.returns-in_default-clause-others
+returns-in_default-clause-others g c = c.answer.ensures.others c.args.session

@@ -1,4 +1,4 @@
-use Rattle.std.proofs.Common.{[], refl, ap}
+use Rattle.std.proofs.Common.{refl, ap}
 use Rattle.std.specs.Prelude.{Ok, Err}
 use Rattle.nb_model.specs.declared.reply.Reply.TheVariants.{Leaked, Freed}
 use Rattle.nb_model.specs.Turns.{first_turn}
