@@ -43,7 +43,7 @@ bad_line line h = cc
 
 broken_for : (r : Result Plan Refusal) → IsBroken r → IsForScript r
 broken_for (Ok plan) is = tt
-broken_for (Err refusal) is e = bad_line is.0 (sym is.1 ∙ e)
+broken_for (Err refusal) is = λ (e : refusal ≡ Usage). bad_line is.0 (sym is.1 ∙ e)
 
 script_read : (bytes : Bytes) → IsForScript (script_of bytes)
 unfolding script_of

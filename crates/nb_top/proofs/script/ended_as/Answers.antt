@@ -3,6 +3,7 @@ use Rattle.std.specs.Prelude.{Bool, Result, Ok, Err}
 use Rattle.nb_host.specs.Causes.{CountsRun}
 use Rattle.nb_host.specs.declared.faults.RunError.{RunError}
 use Rattle.nb_session.proofs.StepLaws.{counts_handed}
+use Rattle.nb_top.specs.declared.status.Status.{Status}
 use Rattle.nb_top.specs.Numbers.{EndsAs}
 use Rattle.nb_top.proofs.script.ended_as.Goals as goal
 
@@ -17,4 +18,4 @@ returns-in-Ok-clause-cause c before after counts = subst (λ (r : Result Bool Ru
 
 pub returns-in-Err-clause-cause : goal.returns-in-Err-clause-cause
 returns-in-Err-clause-cause c before after counts =
-    counts_handed c.in-Err.error Bool (Err c.in-Err.error) before after (refl, refl) (subst (λ (r : Result Bool RunError). CountsRun r before after) c.in-Err.is counts)
+    counts_handed {S = Status} c.in-Err.error Bool (Err c.in-Err.error) before after (refl, refl) (subst (λ (r : Result Bool RunError). CountsRun r before after) c.in-Err.is counts)
