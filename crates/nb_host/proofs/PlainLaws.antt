@@ -1,0 +1,94 @@
+-- What holds of truth values, options, results, numbers and lists, for all crates.
+use Rattle.std.proofs.Common.{◌≡◌, ◌≢◌, ◌⊎◌, inl, inr, ℕ, ◌+◌, ◌<◌, ◌≤◌, List, [], ◌∷◌, ◌++◌, length, take, refl, sym, ap, ◌∙◌, arith, suc, zero, true≢false}
+use Rattle.std.specs.Prelude.{Bool, true, false, not, ◌&&◌, ◌||◌, Option, Some, None, Result, Ok, Err, IsTrue, is_some, nat_eq, nat_lt, nat_le}
+use Rattle.std.proofs.lemmas.Bool.Decides.{eqb_tells, leb_tells}
+
+-- what is there and what isn't
+pub some_same : {X : Type 0} (x y : X) → Some x ≡ Some y → x ≡ y
+some_same x y e = cc
+
+pub some_none : {X : Type 0} (x : X) → Some x ≡ None → ⊥
+some_none x e = cc
+
+pub none_some : {X : Type 0} (x : X) → None ≡ Some x → ⊥
+none_some x e = cc
+
+pub none_there : {X : Type 0} {x : X} → None ≡ Some x → ⊥
+none_there e = cc
+
+pub not_some : {X : Type 0} (o : Option X) → not (is_some o) ≡ true → o ≡ None
+not_some None h = refl
+not_some (Some x) h = cc
+
+pub err_ok : {E T : Type 0} (e : E) (x : T) → Err e ≡ Ok x → ⊥
+err_ok e x is = cc
+
+-- truth values
+pub false_true : false ≡ true → ⊥
+false_true e = cc
+
+pub never : IsTrue false → ⊥
+never e = cc
+
+pub true_or_false : (b : Bool) → (b ≡ true) ⊎ (b ≡ false)
+true_or_false true = inl refl
+true_or_false false = inr refl
+
+pub not_both : (b : Bool) → b ≡ true → b ≡ false → ⊥
+not_both b one other = cc
+
+pub not_true : (b : Bool) → not b ≡ true → b ≡ false
+not_true true is = absurd (cc is)
+not_true false is = refl
+
+pub not_false : (b : Bool) → not b ≡ false → b ≡ true
+not_false true is = refl
+not_false false is = absurd (true≢false is)
+
+pub or_true : (b : Bool) → (b || true) ≡ true
+or_true true = refl
+or_true false = refl
+
+pub or_false : (b : Bool) → (b || false) ≡ b
+or_false true = refl
+or_false false = refl
+
+pub or_assoc : (a b c : Bool) → a || (b || c) ≡ (a || b) || c
+or_assoc true b c = refl
+or_assoc false b c = refl
+
+pub both_true : (a b : Bool) → (a && b) ≡ true → (a ≡ true) × (b ≡ true)
+both_true true b e = (refl, e)
+both_true false b e = absurd (true≢false (sym e))
+
+-- tests of numbers
+pub eq_self : (n : ℕ) → nat_eq n n ≡ true
+eq_self n = elim (eqb_tells n n) [ inl w ↦ w.0 | inr w ↦ absurd (w.1 refl) ]
+
+pub eq_other : (m n : ℕ) → m ≢ n → nat_eq m n ≡ false
+eq_other m n other = elim (eqb_tells m n) [ inl w ↦ absurd (other w.1) | inr w ↦ w.0 ]
+
+pub le_yes : (m n : ℕ) → m ≤ n → nat_le m n ≡ true
+le_yes m n h = elim (leb_tells m n) [ inl w ↦ w.0 | inr w ↦ absurd (omega (arith, w.1, h)) ]
+
+pub not_le : (m n : ℕ) → nat_le m n ≡ false → n < m
+not_le m n e = elim (leb_tells m n) [ inl w ↦ absurd (true≢false (sym w.0 ∙ e)) | inr w ↦ w.1 ]
+
+pub lt_holds : (m n : ℕ) → nat_lt m n ≡ true → m < n
+lt_holds m n is = elim (leb_tells (suc m) n) [ inl w ↦ w.1 | inr w ↦ absurd (not_both (nat_lt m n) is w.0) ]
+
+pub not_lt : (m n : ℕ) → nat_lt n m ≡ false → m ≤ n
+not_lt m n h = elim (leb_tells (suc n) m) [ inl w ↦ absurd (true≢false (sym w.0 ∙ h)) | inr w ↦ omega (arith, w.1) ]
+
+-- lists
+pub append_none : (xs ys : List ℕ) → xs ++ ys ≡ [] → (xs ≡ []) × (ys ≡ [])
+append_none [] ys e = (refl, e)
+append_none (x ∷ xs) ys e = absurd (cons_none e)
+  where
+    cons_none : x ∷ (xs ++ ys) ≡ [] → ⊥
+    cons_none h = cc
+
+pub take_self : (n : ℕ) (l : List ℕ) → take n l ≡ take (length (take n l)) l
+take_self zero l = refl
+take_self (suc n) [] = refl
+take_self (suc n) (x ∷ l) = ap (λ (k : List ℕ). x ∷ k) (take_self n l)
