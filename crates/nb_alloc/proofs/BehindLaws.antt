@@ -14,22 +14,17 @@ use Rattle.nb_model.specs.Image.{Image, image_size}
 use Rattle.nb_model.specs.Forms.{is_kind, other_kind, has_entry, scn_page_of}
 use Rattle.nb_model.specs.Way.{IsMadeBehind, same_made, made_here, IsFreshBehind, same_fresh, fresh_here}
 use Rattle.nb_model.proofs.ReadLaws.{eq_no, eq_yes}
-use Rattle.nb_model.proofs.SoundLaws.{scn_page_there, scn_place_some}
+use Rattle.nb_model.proofs.SoundLaws.{scn_page_there}
 use Rattle.nb_model.proofs.NewSound.{plain_place}
 use Rattle.nb_model.proofs.OnwardLaws.{kind_same}
-use Rattle.nb_model.proofs.StepLaws.{IsVisited, kind_parts, kind_from}
+use Rattle.nb_model.proofs.StepLaws.{IsVisited, kind_parts}
 use Rattle.nb_alloc.specs.declared.behind.Behind.{Behind}
 use Rattle.nb_alloc.specs.Behind.{judged, entry_broken, page_in, page_if, IsKnown, EndsAlike, passed, gone}
 use Rattle.nb_alloc.specs.Find.{need_cause}
 use Rattle.nb_alloc.proofs.PlaceTests.{system_second}
-
-or_false : (t : Bool) → (t || false) ≡ t
-or_false true = refl
-or_false false = refl
-
-or_true : (t : Bool) → (t || true) ≡ true
-or_true true = refl
-or_true false = refl
+use Rattle.nb_fields.proofs.PlaceLaws.{scn_place-some}
+use Rattle.nb_host.proofs.PlainLaws.{or_false, or_true}
+use Rattle.nb_model.proofs.RoundLaws.{kind_found}
 
 -- a page is of one kind
 pub one_kind : (x : Image) (a b p : ℕ) → a ≢ b → is_kind x a p ≡ true → is_kind x b p ≡ false
@@ -70,7 +65,7 @@ module _ (old now next : Image) (p kind : ℕ) (b : Behind) (known : IsKnown old
   next_size = on.size ∙ now_size
 
   here : is_kind next kind p ≡ true
-  here = kind_from next kind p (let long = on.long in omega (arith, long)) on.of_kind
+  here = kind_found next kind p (let long = on.long in omega (arith, long)) on.of_kind
 
   same : (k r : ℕ) → r ≢ p → is_kind next k r ≡ is_kind now k r
   same k r ne = kind_same now next p kind k r on there ne
@@ -242,7 +237,7 @@ pub known_lacking : (x : Image) (p : ℕ) (lacking : Option ℕ) → IsTrue (is_
     → IsKnown x x (record { page = p; entry = unwrap_or lacking 0; lost = false })
 known_lacking x p None size is broken at = known_begin x p 0 is (sym broken) (λ some. absurd (some refl))
 known_lacking x p (Some q) size is broken at =
-    let low = scn_place_some (image_size x) (p / entries_in (image_size x)) size in
+    let low = scn_place-some (image_size x) (p / entries_in (image_size x)) size in
     let positive : (nat_lt 0 q) ≡ true = elim (leb_tells 1 q) [ inl w ↦ w.0 | inr w ↦ absurd (omega (arith, w.1, low, at)) ] in
     known_begin x p q is (sym broken ∙ sym (ap (λ (t : Bool). page_if t q) positive)) (λ some. at)
 

@@ -19,19 +19,6 @@ pub unless_allowed : (s : Seen) (cause : Cause) (o : Outcome) → cause ≡ None
 unfolding unless
 unless_allowed s cause o e = ap (λ (c : Cause). unless s c o) e
 
--- the first of no causes, of causes after one that doesn't apply, and after one that does
-pub first_none : first_cause [] ≡ None
-unfolding first_cause
-first_none = refl
-
-pub first_next : (c : Cause) (cs : List Cause) → c ≡ None → first_cause (c ∷ cs) ≡ first_cause cs
-unfolding first_cause
-first_next c cs e = ap (λ (x : Cause). first_cause (x ∷ cs)) e
-
-pub first_here : (c : Cause) (cs : List Cause) (r : Refusal) → c ≡ Some r → first_cause (c ∷ cs) ≡ Some r
-unfolding first_cause
-first_here c cs r e = ap (λ (x : Cause). first_cause (x ∷ cs)) e
-
 -- of one cause alone
 pub one_cause : (c : Cause) → first_cause (c ∷ []) ≡ c
 unfolding first_cause

@@ -15,7 +15,7 @@ use Rattle.nb_model.proofs.StepLaws.{kind_parts}
 use Rattle.nb_alloc.specs.Data.{not_data}
 
 -- tests of the owner after tests of the kind
-by_kind : (kind owner : Bool) (r s : Refusal) → when (not kind) r ≡ Some s → when (not (kind && owner)) r ≡ Some s
+pub by_kind : (kind owner : Bool) (r s : Refusal) → when (not kind) r ≡ Some s → when (not (kind && owner)) r ≡ Some s
 by_kind false owner r s e = e
 by_kind true owner r s e = cc
 

@@ -21,10 +21,8 @@ use Rattle.nb_change.proofs.ResultLaws.{passed_on}
 use Rattle.nb_state.proofs.MakesLaws.{makes_none, makes_not, makes_then, makes_front, makes_before, makes_after}
 use Rattle.nb_alloc.specs.Tries.{Tries}
 use Rattle.nb_alloc.proofs.CauseLaws.{told_some}
-
--- the strokes by the cause
-pub unless_none : (cause : Cause) (xs : List Stroke) → cause ≡ None → unless_by cause xs ≡ xs
-unless_none cause xs none = ap (λ (c : Cause). unless_by c xs) none
+use Rattle.nb_host.proofs.PlainLaws.{none_there}
+use Rattle.nb_state.proofs.TurnLaws.{unless_none}
 
 pub unless_some : (cause : Cause) (xs : List Stroke) (r : Refusal) → cause ≡ Some r → unless_by cause xs ≡ []
 unless_some cause xs r some = ap (λ (c : Cause). unless_by c xs) some
@@ -70,13 +68,10 @@ tested_none (Err (RefusedFault r)) cause none never = absurd never
 tested_none (Err Device) cause none never = tt
 tested_none (Err Memory) cause none never = tt
 
-none_some : {r : Refusal} → None ≡ Some r → ⊥
-none_some e = cc
-
 -- a test without a cause refuses nothing
 pub sure_of : {T : Type 0} (result : Result T Fault) (cause : Cause) → cause ≡ None → Tested result cause → IfErr result IsNoRefusal
 sure_of (Ok value) cause none tested = tt
-sure_of (Err (RefusedFault r)) cause none tested = absurd (none_some (sym none ∙ tested))
+sure_of (Err (RefusedFault r)) cause none tested = absurd (none_there (sym none ∙ tested))
 sure_of (Err Device) cause none tested = tt
 sure_of (Err Memory) cause none tested = tt
 
@@ -129,7 +124,7 @@ pub tries_made : {T : Type 0} (result : Result T Fault) (old new : World) (a b :
 tries_made result old new a b t cause xs none never makes = record {
   test = tested_none result cause none never;
   makes = subst (λ (ss : List Stroke). Makes result old new a b t ss) (sym (unless_none cause xs none)) makes;
-  idle = λ r some. absurd (none_some (sym none ∙ some));
+  idle = λ r some. absurd (none_there (sym none ∙ some));
 }
 
 -- what is open after the strokes

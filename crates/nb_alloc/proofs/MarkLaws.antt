@@ -17,12 +17,15 @@ use Rattle.nb_model.specs.Strokes.{page}
 use Rattle.nb_model.specs.Forms.{Draft, drafted, put, set_bit, with_bit, is_kind, inventory_of, bit_number}
 use Rattle.nb_model.specs.Causes.{Cause, not_kind, not_of_form, no_room}
 use Rattle.nb_model.proofs.BitLaws.{with_bit_length}
-use Rattle.nb_model.proofs.StepLaws.{kind_parts, needs_found}
+use Rattle.nb_model.proofs.StepLaws.{kind_parts}
 use Rattle.nb_alloc.specs.Put.{entry_cause, raise_strokes, put_stroke}
 use Rattle.nb_alloc.specs.Mark.{bit_for, mark_cause, bit_stroke, mark_stroke, mark_strokes}
-use Rattle.nb_alloc.proofs.CauseLaws.{first_next, first_here, one_cause}
-use Rattle.nb_alloc.proofs.PutLaws.{Keeps, put_stroke-after, none_of, put_strokes, put_form, put_room, put_refused}
+use Rattle.nb_alloc.proofs.CauseLaws.{one_cause}
+use Rattle.nb_alloc.proofs.PutLaws.{Keeps, put_stroke-after, put_strokes, put_form, put_room, put_refused}
 use Rattle.nb_alloc.proofs.RaiseLaws.{stamped-over}
+use Rattle.nb_base.proofs.AttachLaws.{first_here, first_next}
+use Rattle.nb_model.proofs.RoundLaws.{needs_found}
+use Rattle.nb_model.proofs.TurnCases.{is_so}
 
 -- the bit that says whether a page is free
 pub bit_written : (index : ℕ) (free value : Bool) (old new : Page) → free ≡ value → new ≡ with_bit_at index (bit_for value) old → new ≡ with_bit index (bit_for free) old
@@ -63,7 +66,7 @@ module _ (b : Base) (p : ℕ) where
 
   module _ (form : not_kind b.image inventory_kind place ≡ None) where
     found : is_kind b.image inventory_kind place ≡ true
-    found = none_of (is_kind b.image inventory_kind place) (NotDatabase place) form
+    found = is_so (is_kind b.image inventory_kind place) (NotDatabase place) form
 
     pub there : place < length b.image
     there = (kind_parts b.image inventory_kind place found).0

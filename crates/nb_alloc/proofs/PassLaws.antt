@@ -16,8 +16,9 @@ use Rattle.nb_model.proofs.NewSound.{plain_place, places_apart}
 use Rattle.nb_alloc.specs.Find.{need_cause}
 use Rattle.nb_model.specs.Way.{next_place, maps_up_to, maps_on, entry_on, map_entry_on, own_entry_on, needed_on, IsMadeBehind, same_made, made_here, IsFreshBehind, same_fresh, fresh_here}
 use Rattle.nb_alloc.specs.Way.{way_cause}
-use Rattle.nb_alloc.proofs.CauseLaws.{first_next, first_here, none_behind}
+use Rattle.nb_alloc.proofs.CauseLaws.{none_behind}
 use Rattle.nb_alloc.proofs.PlaceTests.{system_second}
+use Rattle.nb_base.proofs.AttachLaws.{first_here, first_next}
 
 -- the SCN page of an entry: it is made on the way, or there is no entry, or it is tested
 pub entry_made : (x : Image) (made q : ℕ) → scn_page_of x q ≡ made → need_cause (first_not x (entry_on x made q)) ≡ None
@@ -58,10 +59,6 @@ own_asked x made p is = ap (λ (t : Bool). first_not x (elim t as (λ z. List Ne
 pub kept_there : (x : Image) (p : ℕ) (t : Bool) → is_system_place (image_size x) p ≡ true → is_kind x (system_kind x p) p ≡ t → is_kept x p ≡ t
 unfolding is_kept
 kept_there x p t system is = ap (λ (u : Bool). u && is_kind x (system_kind x p) p) system ∙ is
-
-pub kept_plain : (x : Image) (p : ℕ) → is_system_place (image_size x) p ≡ false → is_kept x p ≡ false
-unfolding is_kept
-kept_plain x p plain = ap (λ (u : Bool). u && is_kind x (system_kind x p) p) plain
 
 -- The tests in order: the inventory pages, whether a page is left, and the SCN pages.
 module _ (x : Image) (from made fresh p : ℕ) (at : p ≡ next_place x from fresh) where

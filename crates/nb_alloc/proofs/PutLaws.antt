@@ -16,9 +16,11 @@ use Rattle.nb_model.specs.Strokes.{Stroke, page, on_base, base_after, merged_pag
 use Rattle.nb_model.specs.Forms.{Draft, drafted, old_page, wrote, written, is_kind, needs, scn_page_of, entry_number, scn_entry, has_entry, entry_written, entry_raised, raised, put}
 use Rattle.nb_model.specs.Causes.{Cause, when, not_kind, lowest_broken, not_of_form, no_room}
 use Rattle.nb_model.proofs.StrokeLaws.{stroke_page, stroke_other}
-use Rattle.nb_model.proofs.StepLaws.{kind_parts, needs_found}
+use Rattle.nb_model.proofs.StepLaws.{kind_parts}
 use Rattle.nb_alloc.specs.Put.{entry_cause, must_raise, raise_stroke, raise_strokes, put_stroke}
 use Rattle.nb_alloc.proofs.BehindLaws.{page_alone}
+use Rattle.nb_model.proofs.RoundLaws.{needs_found}
+use Rattle.nb_model.proofs.TurnCases.{is_so}
 
 -- a page stroke below the length keeps the length
 pub length-with_page : (p : ℕ) (bytes : Page) (image : Image) → p < length image → length (with_page p bytes image) ≡ length image
@@ -36,10 +38,6 @@ pub scn_place-some : (size k : ℕ) → 0 < entries_in size → 0 < scn_place si
 scn_place-some size zero some = omega arith
 scn_place-some size (suc k) some = omega (arith, some)
 
-pub none_of : (t : Bool) (r : Refusal) → when (not t) r ≡ None → t ≡ true
-none_of true r e = refl
-none_of false r e = cc
-
 -- what holds where the SCN entry of a page has to be raised and may be
 pub record MayRaise (image : Image) (p : ℕ) : Type 0 where
   pub has : has_entry image p ≡ true
@@ -51,7 +49,7 @@ pub record MayRaise (image : Image) (p : ℕ) : Type 0 where
 pub may_raise : (image : Image) (p : ℕ) → entry_cause image p ≡ None → must_raise image p ≡ true → MayRaise image p
 may_raise image p none must =
     let both = and_parts (has_entry image p) (nat_lt (scn_entry image p) (image_scn image)) must in
-    let is : is_kind image scn_kind (scn_page_of image p) ≡ true = none_of (is_kind image scn_kind (scn_page_of image p)) (NotDatabase (scn_page_of image p)) (sym (there both.0) ∙ none) in
+    let is : is_kind image scn_kind (scn_page_of image p) ≡ true = is_so (is_kind image scn_kind (scn_page_of image p)) (NotDatabase (scn_page_of image p)) (sym (there both.0) ∙ none) in
     let parts = kind_parts image scn_kind (scn_page_of image p) is in
     record { has = both.0; is = is; low = parts.0; kind = parts.1; below = ltb-true (scn_entry image p) (image_scn image) both.1 }
   where
@@ -218,7 +216,7 @@ pub draft_raised : (b : Base) (p : ℕ) → entry_cause b.image p ≡ None → R
 draft_raised b p none = by (has_entry b.image p) (nat_lt (scn_entry b.image p) (image_scn b.image)) refl refl
   where
     is : (has_entry b.image p ≡ true) → is_kind b.image scn_kind (scn_page_of b.image p) ≡ true
-    is e = none_of (is_kind b.image scn_kind (scn_page_of b.image p)) (NotDatabase (scn_page_of b.image p)) (sym (entry_cause-is b.image p e) ∙ none)
+    is e = is_so (is_kind b.image scn_kind (scn_page_of b.image p)) (NotDatabase (scn_page_of b.image p)) (sym (entry_cause-is b.image p e) ∙ none)
 
     by : (has low : Bool) → has_entry b.image p ≡ has → nat_lt (scn_entry b.image p) (image_scn b.image) ≡ low → Raises b p (raised p (drafted b.image))
     by false low e f = subst (Raises b p) (sym (raised-none b.image p e)) (kept_draft b p (not_raised b.image p e))
@@ -229,7 +227,7 @@ draft_raised b p none = by (has_entry b.image p) (nat_lt (scn_entry b.image p) (
         subst (Raises b p) (sym (raised-one b.image p e ∙ ap (entry_raised p) (needs_found b.image 10 (scn_page_of b.image p) (is e)) ∙ entry_raised-done b.image p f))
         (written_draft b p none (must_raise-is b.image p e ∙ f))
 
-none_broken : lowest_broken [] ≡ None
+pub none_broken : lowest_broken [] ≡ None
 unfolding lowest_broken
 none_broken = refl
 

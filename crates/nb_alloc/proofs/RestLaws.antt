@@ -17,7 +17,8 @@ use Rattle.nb_model.proofs.StepLaws.{IsShaped, IsReady, Visits, system_visits}
 use Rattle.nb_model.proofs.SearchLaws.{draft_cause, Met, met, try_stops, try_full, try_more, try_last, joined_cause}
 use Rattle.nb_alloc.specs.Make.{new_of, round, behind}
 use Rattle.nb_alloc.specs.Search.{IsSearchable}
-use Rattle.nb_alloc.proofs.WayLaws.{stopped_cause, full_cause, cause_some}
+use Rattle.nb_alloc.proofs.WayLaws.{stopped_cause, full_cause}
+use Rattle.nb_host.proofs.PlainLaws.{some_none}
 
 -- A try that isn't refused has all that it needs, and finds a page.
 pub record Tried (image : Image) (left : ℕ) : Type 0 where
@@ -28,12 +29,12 @@ pub record Tried (image : Image) (left : ℕ) : Type 0 where
 
 pub tried : (kind : ℕ) (payload : ℕ → List ℕ) (image : Image) (left : ℕ) → draft_cause (new_within left kind payload (drafted image)).0 ≡ None → Tried image left
 unfolding new_within
-tried kind payload image zero clear = absurd (cause_some (Full most_pages) (sym (full_cause image) ∙ clear))
+tried kind payload image zero clear = absurd (some_none (Full most_pages) (sym (full_cause image) ∙ clear))
 tried kind payload image (suc left) clear = by (first_not image (needed_at image (lowest_free image))) (lowest_free image == most_pages) refl refl
   where
     by : (o : Option ℕ) (t : Bool) → first_not image (needed_at image (lowest_free image)) ≡ o → (lowest_free image == most_pages) ≡ t → Tried image (suc left)
-    by (Some q) t e f = absurd (cause_some (NotDatabase q) (sym (ap (λ (y : Draft × ℕ). draft_cause y.0) (try_stops image kind payload left q e) ∙ stopped_cause image q) ∙ clear))
-    by None true e f = absurd (cause_some (Full most_pages) (sym (ap (λ (y : Draft × ℕ). draft_cause y.0) (try_full image kind payload left e f) ∙ full_cause image) ∙ clear))
+    by (Some q) t e f = absurd (some_none (NotDatabase q) (sym (ap (λ (y : Draft × ℕ). draft_cause y.0) (try_stops image kind payload left q e) ∙ stopped_cause image q) ∙ clear))
+    by None true e f = absurd (some_none (Full most_pages) (sym (ap (λ (y : Draft × ℕ). draft_cause y.0) (try_full image kind payload left e f) ∙ full_cause image) ∙ clear))
     by None false e f = record { rest = left; left_is = refl; none = e; page = f }
 
 -- What is left to make of it, where its search comes to that place next.

@@ -29,10 +29,13 @@ use Rattle.nb_alloc.specs.Make.{new_of}
 use Rattle.nb_alloc.specs.Search.{IsShort, Finds, EndsBy}
 use Rattle.nb_alloc.proofs.BehindLaws.{other_page, lowest_min}
 use Rattle.nb_model.proofs.ReadLaws.{lt_no, lt_yes}
-use Rattle.nb_alloc.proofs.CauseLaws.{first_next, first_here, one_cause, none_behind}
+use Rattle.nb_alloc.proofs.CauseLaws.{one_cause, none_behind}
 use Rattle.nb_alloc.proofs.FullLaws.{put_full}
 use Rattle.nb_alloc.proofs.PutLaws.{no_entry_cause, entry_cause-is}
-use Rattle.nb_alloc.proofs.TestLaws.{applies, rests}
+use Rattle.nb_base.proofs.AttachLaws.{applies, first_here, first_next}
+use Rattle.nb_host.proofs.PlainLaws.{append_none}
+use Rattle.nb_model.proofs.RoomThere.{other_met}
+use Rattle.nb_model.proofs.WholeLaws.{when_false}
 
 pub not_lost : (t : Bool) → (t ≡ true → ⊥) → not t ≡ true
 not_lost false never = refl
@@ -208,30 +211,12 @@ judged_empty (p ∷ ps) full none = absurd (page_none none)
     page_none : Some (NotDatabase (lowest_of p ps)) ≡ None → ⊥
     page_none h = cc
 
-pub both_empty : (xs ys : List ℕ) → xs ++ ys ≡ [] → (xs ≡ []) × (ys ≡ [])
-both_empty [] ys e = (refl, e)
-both_empty (x ∷ xs) ys e = absurd (some_none e)
-  where
-    some_none : x ∷ (xs ++ ys) ≡ [] → ⊥
-    some_none h = cc
-
-pub none_broken : (x : Image) (kind p : ℕ) → other_kind x kind p ≡ [] → is_kind x kind p ≡ true
-unfolding other_kind
-none_broken x kind p none = by (is_kind x kind p) refl none
-  where
-    by : (t : Bool) → is_kind x kind p ≡ t → elim t as (λ z. List ℕ) [ true ↦ [] | false ↦ p ∷ [] ] ≡ [] → is_kind x kind p ≡ true
-    by true e h = e
-    by false e h = absurd (some_none h)
-      where
-        some_none : p ∷ [] ≡ [] → ⊥
-        some_none i = cc
-
 pub no_entry_broken : (x : Image) (p : ℕ) → entry_broken x p ≡ [] → entry_cause x p ≡ None
 no_entry_broken x p none = by (has_entry x p) refl none
   where
     by : (t : Bool) → has_entry x p ≡ t → elim t as (λ z. List ℕ) [ true ↦ other_kind x scn_kind (scn_page_of x p) | false ↦ [] ] ≡ [] → entry_cause x p ≡ None
     by false e h = no_entry_cause x p e
-    by true e h = entry_cause-is x p e ∙ ap (λ (t : Bool). when (not t) (NotDatabase (scn_page_of x p))) (none_broken x 10 (scn_page_of x p) h)
+    by true e h = entry_cause-is x p e ∙ ap (λ (t : Bool). when (not t) (NotDatabase (scn_page_of x p))) (other_met x 10 (scn_page_of x p) h)
 
 nothing_judged : judged [] false ≡ None
 unfolding first_cause lowest_broken
@@ -240,11 +225,11 @@ nothing_judged = refl
 pub free_behind : (d : Draft) (p : ℕ) → behind_cause d p ≡ None → IsFreeBehind d p
 free_behind d p none =
     let all = judged_empty (other_kind d.image data_kind p ++ (entry_broken d.image p ++ d.broken)) d.full none in
-    let page = both_empty (other_kind d.image data_kind p) (entry_broken d.image p ++ d.broken) all.0 in
-    let entry = both_empty (entry_broken d.image p) d.broken page.1 in
+    let page = append_none (other_kind d.image data_kind p) (entry_broken d.image p ++ d.broken) all.0 in
+    let entry = append_none (entry_broken d.image p) d.broken page.1 in
     record {
       clear = ap (λ (ps : List ℕ). judged ps d.full) entry.1 ∙ ap (λ (t : Bool). judged [] t) all.1 ∙ nothing_judged;
-      kind = none_broken d.image 5 p page.0;
+      kind = other_met d.image 5 p page.0;
       entry = no_entry_broken d.image p entry.0;
     }
 
@@ -253,13 +238,13 @@ pub unmade_short : (image : Image) (d : Draft) → length image < 5 → unmade i
 unmade_short image d low = first_here (too_short image) (not_of_form d ∷ no_room d ∷ []) (NotDatabase (length image)) (applies _ _ (lt_yes (length image) 5 low))
 
 pub unmade_long : (image : Image) (d : Draft) → 5 ≤ length image → unmade image d ≡ draft_cause d
-unmade_long image d long = first_next (too_short image) (not_of_form d ∷ no_room d ∷ []) (rests _ _ (lt_no (length image) 5 long))
+unmade_long image d long = first_next (too_short image) (not_of_form d ∷ no_room d ∷ []) (when_false _ _ (lt_no (length image) 5 long))
 
 pub behind_short : (image : Image) (d : Draft) (p : ℕ) → length image < 5 → unmade_behind image d p ≡ Some (NotDatabase (length image))
 behind_short image d p low = first_here (too_short image) (behind_cause d p ∷ []) (NotDatabase (length image)) (applies _ _ (lt_yes (length image) 5 low))
 
 pub behind_long : (image : Image) (d : Draft) (p : ℕ) → 5 ≤ length image → unmade_behind image d p ≡ behind_cause d p
-behind_long image d p long = first_next (too_short image) (behind_cause d p ∷ []) (rests _ _ (lt_no (length image) 5 long)) ∙ one_cause (behind_cause d p)
+behind_long image d p long = first_next (too_short image) (behind_cause d p ∷ []) (when_false _ _ (lt_no (length image) 5 long)) ∙ one_cause (behind_cause d p)
 
 pub grown_unmade : (image : Image) (chain : Chain) (pages slots : List ℕ) → 5 ≤ length image → unmade image (grown chain pages slots (drafted image)).0 ≡ behind_cause (new_behind chain slots image).0 (last_of pages)
 grown_unmade image chain pages slots long = unmade_long image (grown chain pages slots (drafted image)).0 long ∙ grown_judged chain pages slots (drafted image)
@@ -285,7 +270,7 @@ slot_named image p slot bytes d = unmade_is image (wants d.image 5 p (put_slot p
 pub joined_clear : (d e : Draft) → draft_cause (joined d e) ≡ None → (draft_cause d ≡ None) × (draft_cause e ≡ None)
 joined_clear d e none =
     let all = judged_empty (e.broken ++ d.broken) (e.full || d.full) none in
-    let pages = both_empty e.broken d.broken all.0 in
+    let pages = append_none e.broken d.broken all.0 in
     let full = neither e.full d.full all.1 in
     (ap (λ (ps : List ℕ). judged ps d.full) pages.1 ∙ ap (judged []) full.1 ∙ nothing_judged, ap (λ (ps : List ℕ). judged ps e.full) pages.0 ∙ ap (judged []) full.0 ∙ nothing_judged)
   where

@@ -14,7 +14,7 @@ use Rattle.nb_state.specs.Open.{Held, IsOpen, but_pages, name_of}
 use Rattle.nb_state.specs.Does.{Makes}
 use Rattle.nb_state.proofs.MakesLaws.{none_yet}
 use Rattle.nb_alloc.specs.Tries.{Tries, StopsBehind}
-use Rattle.nb_alloc.proofs.DoesLaws.{unless_none}
+use Rattle.nb_state.proofs.TurnLaws.{unless_none}
 
 -- calls that change nothing, before strokes
 pub strikes_after : (old mid new : World) (a b : Held) (t : Trail) (xs : List Stroke) → but_pages b ≡ but_pages a → Quiet old mid → IsOpen old a t → Strikes mid new (name_of b) t xs → Strikes old new (name_of a) t xs

@@ -34,8 +34,10 @@ use Rattle.nb_alloc.specs.Behind.{IsKnown, gone}
 use Rattle.nb_alloc.specs.Search.{IsSearchable, Searches, AtPlace, AtKnown, GoesTo, IsShort, Finds, Refuses, EndsBy}
 use Rattle.nb_alloc.proofs.BehindLaws.{known_plain, known_gone}
 use Rattle.nb_alloc.proofs.PassLaws.{place_free}
-use Rattle.nb_alloc.proofs.CauseLaws.{first_none as first_none_cause, first_next, first_here}
 use Rattle.nb_alloc.proofs.FullLaws.{three_apart}
+use Rattle.nb_base.proofs.AttachLaws.{first_here, first_next}
+use Rattle.nb_host.proofs.PlainLaws.{some_none}
+use Rattle.nb_model.proofs.TurnCases.{no_cause}
 
 -- the cause of a draft that ends at a page, and of one for which no page is left
 pub stopped_cause : (x : Image) (q : ℕ) → draft_cause (record (drafted x) { broken = q ∷ [] }) ≡ Some (NotDatabase q)
@@ -336,9 +338,6 @@ module _ (old start now : Image) (first from made fresh tries : ℕ) (s : Search
       ∙ ap (λ (n : ℕ). first_cause (None ∷ when (n == most_pages) (Full most_pages) ∷ [])) end_at
       ∙ first_next None (Some (Full most_pages) ∷ []) refl ∙ first_here (Some (Full most_pages)) [] (Full most_pages) refl
 
-pub cause_some : (r : Refusal) → Some r ≡ None → ⊥
-cause_some r e = cc
-
 -- what the cause of a search tells
 way_none : (old : Image) (from made fresh p : ℕ) → p ≡ next_place old from fresh → way_cause old from made fresh ≡ None → (first_not old (needed_on old from made fresh p) ≡ None) × (p ≢ most_pages)
 way_none old from made fresh p at none = by (first_not old (needed_on old from made fresh p)) (p == most_pages) refl refl (subst (λ (n : ℕ). first_cause (need_cause (first_not old (needed_on old from made fresh n)) ∷ when (n == most_pages) (Full most_pages) ∷ []) ≡ None) (sym at) none)
@@ -348,8 +347,8 @@ way_none old from made fresh p at none = by (first_not old (needed_on old from m
 
     by : (o : Option ℕ) (t : Bool) → first_not old (needed_on old from made fresh p) ≡ o → (p == most_pages) ≡ t → Q o t → (first_not old (needed_on old from made fresh p) ≡ None) × (p ≢ most_pages)
     by None false e f q = (e, λ same. absurd (elim (eqb_tells p most_pages) [ inl w ↦ true≢false (sym w.0 ∙ f) | inr w ↦ w.1 same ]))
-    by None true e f q = absurd (cause_some (Full most_pages) (sym (first_next None (Some (Full most_pages) ∷ []) refl ∙ first_here (Some (Full most_pages)) [] (Full most_pages) refl) ∙ q))
-    by (Some r) t e f q = absurd (cause_some (NotDatabase r) (sym (first_here (Some (NotDatabase r)) (when t (Full most_pages) ∷ []) (NotDatabase r) refl) ∙ q))
+    by None true e f q = absurd (some_none (Full most_pages) (sym (first_next None (Some (Full most_pages) ∷ []) refl ∙ first_here (Some (Full most_pages)) [] (Full most_pages) refl) ∙ q))
+    by (Some r) t e f q = absurd (some_none (NotDatabase r) (sym (first_here (Some (NotDatabase r)) (when t (Full most_pages) ∷ []) (NotDatabase r) refl) ∙ q))
 
 -- it comes to the next page, or is refused as the draft is
 module _ (old start now : Image) (first from made fresh tries : ℕ) (s : Searches old start now first from made fresh tries) (most : length old ≤ most_pages) where
@@ -374,7 +373,7 @@ module _ (old start now : Image) (first from made fresh tries : ℕ) (s : Search
       by None true is end c =
           search_full old start now first from made fresh more.0 again most (next_place old from fresh) refl kind payload is (eqb-true (next_place old from fresh) most_pages end)
           ∙ sym (first_next None (Some (Full most_pages) ∷ []) refl ∙ first_here (Some (Full most_pages)) [] (Full most_pages) refl) ∙ c
-      by None false is end c = absurd (none_is (sym (first_next None (None ∷ []) refl ∙ first_next None [] refl ∙ first_none_cause) ∙ c))
+      by None false is end c = absurd (none_is (sym (first_next None (None ∷ []) refl ∙ first_next None [] refl ∙ no_cause) ∙ c))
         where
           none_is : None ≡ Some r → ⊥
           none_is h = cc
@@ -386,7 +385,7 @@ module _ (old start now : Image) (first from made fresh tries : ℕ) (s : Search
           → first_cause (need_cause o ∷ when t (Full most_pages) ∷ []) ≡ Some r → (new_page kind payload (drafted start)).0.image ≡ now
       by (Some q) t is end c = stops_image old start now first from made fresh more.0 again most (next_place old from fresh) refl q kind payload is
       by None true is end c = full_image old start now first from made fresh more.0 again most (next_place old from fresh) refl kind payload is (eqb-true (next_place old from fresh) most_pages end)
-      by None false is end c = absurd (none_is (sym (first_next None (None ∷ []) refl ∙ first_next None [] refl ∙ first_none_cause) ∙ c))
+      by None false is end c = absurd (none_is (sym (first_next None (None ∷ []) refl ∙ first_next None [] refl ∙ no_cause) ∙ c))
         where
           none_is : None ≡ Some r → ⊥
           none_is h = cc

@@ -30,26 +30,21 @@ use Rattle.nb_base.proofs.OwnedLaws.{behind-added}
 use Rattle.nb_base.specs.Attach.{IsBlank, Tested, length_cause, start_cause, main_cause}
 use Rattle.nb_page.specs.Header.{header_in}
 use Rattle.nb_page.specs.declared.header.Header.{Header}
+use Rattle.nb_model.proofs.TurnCases.{no_cause}
+use Rattle.nb_model.proofs.WholeLaws.{when_false}
 
 -- the first test that applies decides
-first_here : (c : Cause) (cs : List Cause) (r : Refusal) → c ≡ Some r → first_cause (c ∷ cs) ≡ Some r
+pub first_here : (c : Cause) (cs : List Cause) (r : Refusal) → c ≡ Some r → first_cause (c ∷ cs) ≡ Some r
 unfolding first_cause
 first_here c cs r e = rw (e, first_cause) refl
 
-first_next : (c : Cause) (cs : List Cause) → c ≡ None → first_cause (c ∷ cs) ≡ first_cause cs
+pub first_next : (c : Cause) (cs : List Cause) → c ≡ None → first_cause (c ∷ cs) ≡ first_cause cs
 unfolding first_cause
 first_next c cs e = rw (e, first_cause) refl
 
-first_none : first_cause [] ≡ None
-unfolding first_cause
-first_none = refl
-
 -- a test that applies, and one that doesn't
-applies : (test : Bool) (r : Refusal) → test ≡ true → when test r ≡ Some r
+pub applies : (test : Bool) (r : Refusal) → test ≡ true → when test r ≡ Some r
 applies test r e = ap (λ (t : Bool). when t r) e
-
-rests : (test : Bool) (r : Refusal) → test ≡ false → when test r ≡ None
-rests test r e = ap (λ (t : Bool). when t r) e
 
 true_false : true ≡ false → ⊥
 true_false h = cc
@@ -79,10 +74,10 @@ module _ (len size : ℕ) where
   whole_test h k = ap (λ (t : Bool). not t || nat_lt (len / size) 5) (eq_yes (len % size) 0 h) ∙ lt_no (len / size) 5 k
 
   pub too_many : len % size ≡ 0 → 5 ≤ len / size → most_pages < len / size → length_cause len size ≡ Some (NotDatabase most_pages)
-  too_many h k most = first_next _ _ (rests _ _ (whole_test h k)) ∙ first_here _ _ _ (applies _ _ (lt_yes most_pages (len / size) most))
+  too_many h k most = first_next _ _ (when_false _ _ (whole_test h k)) ∙ first_here _ _ _ (applies _ _ (lt_yes most_pages (len / size) most))
 
   pub fits : len % size ≡ 0 → 5 ≤ len / size → len / size ≤ most_pages → length_cause len size ≡ None
-  fits h k most = first_next _ _ (rests _ _ (whole_test h k)) ∙ first_next _ _ (rests _ _ (lt_no most_pages (len / size) most)) ∙ first_none
+  fits h k most = first_next _ _ (when_false _ _ (whole_test h k)) ∙ first_next _ _ (when_false _ _ (lt_no most_pages (len / size) most)) ∙ no_cause
 
 -- the causes of a file, one by one
 module _ (bytes : List ℕ) where
@@ -93,7 +88,7 @@ module _ (bytes : List ℕ) where
   start_unfinished e applying = first_next _ _ e ∙ first_here _ _ _ (applies _ _ (eq_yes (state_of bytes) 3 applying))
 
   pub start_is : not_database bytes ≡ None → state_of bytes ≢ applying_state → start_cause bytes ≡ None
-  start_is e other = first_next _ _ e ∙ first_next _ _ (rests _ _ (eq_no (state_of bytes) 3 other)) ∙ first_none
+  start_is e other = first_next _ _ e ∙ first_next _ _ (when_false _ _ (eq_no (state_of bytes) 3 other)) ∙ no_cause
 
   -- after a form the state decides
   pub start_rest : (r : Refusal) → not_database bytes ≡ None → start_cause bytes ≡ Some r → (state_of bytes ≡ applying_state) × (r ≡ Unfinished)

@@ -32,11 +32,13 @@ use Rattle.nb_model.proofs.OverLaws.{owned_length, owned_at}
 use Rattle.nb_base.specs.Open.{Held, IsOpen}
 use Rattle.nb_base.specs.Going.{StandsAs, HasPageIn, IsSlotted, GoesIn}
 use Rattle.nb_base.proofs.MergingLaws.{entry_named}
-use Rattle.nb_base.proofs.OwnedLaws.{Holds, holds, shows, base-length, base-page, base-state, base-size, owned-entry, owned-none, entry-front, entry-behind, entry-first, entry-later, later, slots_stay, some_same, none_some}
+use Rattle.nb_base.proofs.OwnedLaws.{Holds, holds, shows, base-length, base-page, base-state, base-size, owned-entry, owned-none, entry-front, entry-behind, entry-later, later, slots_stay, some_same}
 use Rattle.nb_base.proofs.StateLaws.{same_main}
 use Rattle.nb_base.proofs.StepLaws.{delta_moved}
 use Rattle.nb_base.proofs.WriteLaws.{main_apart, delta_apart}
 use Rattle.nb_base.proofs.WrittenLaws.{HasMain}
+use Rattle.nb_host.proofs.PlainLaws.{none_there}
+use Rattle.nb_model.proofs.EntryLaws.{for_here}
 
 -- no page stands past the end
 page_past : (image : Image) (p : ℕ) → length image ≤ p → page_at image p ≡ []
@@ -47,14 +49,14 @@ page_past (x ∷ xs) (suc p) past = page_past xs p (omega (arith, past))
 -- The number after the greatest entry.
 entry_more : (p q : ℕ) (qs : List ℕ) (k : ℕ) → entry_for p qs ≡ Some k → (j : ℕ) × (entry_for p (q ∷ qs) ≡ Some j)
 entry_more p q qs k e = elim (eqb_tells p q) [
-  | inl w ↦ (0, entry-first p q qs w.1)
+  | inl w ↦ (0, for_here p q qs w.1)
   | inr w ↦ (suc k, entry-later p q qs w.1 ∙ ap later e)
 ]
 
 behind_most : (n : ℕ) (xs : List ℕ) → ((p k : ℕ) → entry_for p xs ≡ Some k → p < n) → behind_entries xs ≤ n
 behind_most n [] all = omega arith
 behind_most n (x ∷ xs) all =
-    let first = all x 0 (entry-first x x xs refl) in
+    let first = all x 0 (for_here x x xs refl) in
     let rest = behind_most n xs (λ p k e. let more = entry_more p x xs k e in all p more.0 more.1) in
     omega (arith, first, rest)
 
@@ -206,7 +208,7 @@ module _ (w : World) (reads : (n : List ℕ) → Leaves w n (w.files n)) (held :
           where
             by : (x : Option ℕ) → entry_for p table ≡ x → entry_for p table ≡ None
             by None at = at
-            by (Some k) at = absurd (none_some (sym e ∙ entry-front p table front k at))
+            by (Some k) at = absurd (none_there (sym e ∙ entry-front p table front k at))
 
     first : first_page (owned (image_size h.main) h.main (bytes_of c) (f.base.diverted ++ front)) ≡ first_page t.base.image
     first = by (entry_for 0 all) refl

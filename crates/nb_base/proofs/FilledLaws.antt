@@ -24,8 +24,10 @@ use Rattle.nb_base.specs.Takes.{StrikesFirm}
 use Rattle.nb_base.proofs.AgreeLaws.{open_seen, seen_open}
 use Rattle.nb_base.proofs.AttachLaws.{last_other}
 use Rattle.nb_base.proofs.MergingLaws.{seen_still, struck_quiet}
-use Rattle.nb_base.proofs.OwnedLaws.{Holds, owned-none, entry-first, entry-later, later, main-some, base-length, base-page, none_some}
+use Rattle.nb_base.proofs.OwnedLaws.{Holds, owned-none, entry-later, later, main-some, base-length, base-page}
 use Rattle.nb_base.proofs.StrokeLaws.{h0}
+use Rattle.nb_host.proofs.PlainLaws.{none_there}
+use Rattle.nb_model.proofs.EntryLaws.{for_here}
 
 -- The image has so many pages or fewer.
 module _ (image : Image) (n : ℕ) (some : 1 ≤ n) (most : n ≤ length image) (low : length (trimmed image) ≤ n) where
@@ -59,7 +61,7 @@ record IsGreatest (table : List ℕ) : Type 0 where
 greatest : (table : List ℕ) → 0 < behind_entries table → IsGreatest table
 greatest [] some = absurd (omega (arith, some))
 greatest (q ∷ qs) some = elim (leb_tells (behind_entries qs) (q + 1)) [
-  | inl w ↦ record { page = q; entry = 0; at = entry-first q q qs refl; last = omega (arith, w.1) }
+  | inl w ↦ record { page = q; entry = 0; at = for_here q q qs refl; last = omega (arith, w.1) }
   | inr w ↦ by (greatest qs (omega (arith, w.1))) (omega (arith, w.1))
 ]
   where
@@ -87,7 +89,7 @@ none_cut old held t is none = is.agrees.count ∙ all_filled t.base.image (lengt
       | inl w ↦ omega (arith, long, w.1)
       | inr w ↦
           let g : IsGreatest t.base.diverted = greatest t.base.diverted (omega (arith, w.1)) in
-          absurd (none_some (sym unnamed ∙ ap (λ n. entry_for n t.base.diverted) (let e : length t.base.image - 1 ≡ g.page = omega (arith, long, w.1, g.last) in e) ∙ g.at))
+          absurd (none_there (sym unnamed ∙ ap (λ n. entry_for n t.base.diverted) (let e : length t.base.image - 1 ≡ g.page = omega (arith, long, w.1, g.last) in e) ∙ g.at))
     ]
 
     last_page : page_at t.base.image (length t.base.image - 1) ≡ page_at h.main (length t.base.image - 1)

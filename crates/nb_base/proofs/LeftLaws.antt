@@ -1,9 +1,9 @@
 -- What a crash may leave goes on by a page write: by itself, and where the write is lost.
-use Rattle.std.proofs.Common.{◌≡◌, ◌≢◌, ◌⊎◌, inl, inr, ⊎_elim, ℕ, zero, suc, ◌+◌, ◌<◌, List, [], ◌∷◌, ◌++◌, length, take, drop, refl, sym, ap, subst, ◌∙◌, arith, append_assoc, length-append}
+use Rattle.std.proofs.Common.{◌≡◌, ◌≢◌, ◌⊎◌, inl, inr, ⊎_elim, ℕ, zero, suc, ◌+◌, List, [], ◌∷◌, ◌++◌, length, take, drop, refl, sym, ap, subst, ◌∙◌, arith, append_assoc, length-append}
 use Rattle.std.specs.Prelude.{Bool, true, false, ◌||◌, ◌==◌, nat_eq, nat_le, Option, Some, None, max}
 use Rattle.std.specs.List.{list_any}
 use Rattle.std.proofs.lemmas.Bool.{true≢false}
-use Rattle.std.proofs.lemmas.Bool.Decides.{eqb_tells, leb_tells}
+use Rattle.std.proofs.lemmas.Bool.Decides.{eqb_tells}
 use Rattle.std.proofs.lemmas.List.{take-append-drop, append-nil}
 use Rattle.nb_fields.specs.Places.{is_scn_place}
 use Rattle.nb_fields.specs.Header.{state_of, size_of}
@@ -21,6 +21,7 @@ use Rattle.nb_model.proofs.MixtureWrites.{mixture_put, mixture_lost}
 use Rattle.nb_model.proofs.TrailLaws.{itself_firm, trail_base, waits_after}
 use Rattle.nb_base.specs.Open.{Fits}
 use Rattle.nb_base.proofs.OwnedLaws.{entry-front}
+use Rattle.nb_host.proofs.PlainLaws.{not_le}
 
 -- a page that fits is written as it is
 pub merged_fits : (p : ℕ) (bytes : Page) (image : Image) → (p ≡ 0 → take 64 bytes ≡ take 64 (first_page image)) → merged_page p bytes image ≡ bytes
@@ -122,9 +123,6 @@ may_stay false false false longer e = (e, refl, refl, e)
 
 some_base : (xs : List Base) (x : Base) → xs ++ x ∷ [] ≡ [] → ⊥
 some_base xs x e = absurd (omega (arith, ap length e, length-append xs (x ∷ [])))
-
-inside_length : (n p : ℕ) → nat_le n p ≡ false → p < n
-inside_length n p e = elim (leb_tells n p) [ inl w ↦ absurd (true≢false (sym w.0 ∙ e)) | inr w ↦ w.1 ]
 
 -- One page stroke on what was seen.
 module _ (t : Trail) (p : ℕ) (bytes : Page) (fits : Fits p bytes t.base.image) where
@@ -249,7 +247,7 @@ module _ (t : Trail) (p : ℕ) (bytes : Page) (fits : Fits p bytes t.base.image)
         let parts : ((is_forced now || (p == 0 || nat_le (length now) p)) ≡ false) × ((p == 0) ≡ false) × (is_scn_place (image_size now) p ≡ false) × (nat_le (length now) p ≡ false) =
         may_stay (is_forced now) (p == 0) (is_scn_place (image_size now) p) (nat_le (length now) p) waits in
         let mixed : IsMixture (bases_of t ++ on_base s t.base ∷ []) (on_base s t.base).image b.image =
-        mixture_lost (bases_of t) now b.image left.mixed p bytes fits.low (on_base s t.base) base_is (inside_length (length now) p parts.3) (some_page p parts.1) in
+        mixture_lost (bases_of t) now b.image left.mixed p bytes fits.low (on_base s t.base) base_is (not_le (length now) p parts.3) (some_page p parts.1) in
         subst (λ (x : Trail). IsFirm x b) (sym (waits_after s t (waits_none t p bytes parts.0))) (record {
           mixed = mixed;
           kept = λ q at.

@@ -21,11 +21,12 @@ use Rattle.nb_model.proofs.OwnerLaws.{main_here, other_page, written_length}
 use Rattle.nb_base.specs.Open.{Held, IsMerged, AreMerged}
 use Rattle.nb_base.specs.Seen.{IsSeen, IsWrite}
 use Rattle.nb_base.proofs.WrittenLaws.{HasMain, MayWrite, main_put, laid_image, written_same}
-use Rattle.nb_base.proofs.OwnedLaws.{Holds, holds, base-state, base-size, later, some_same, none_some}
+use Rattle.nb_base.proofs.OwnedLaws.{Holds, holds, base-state, base-size, later, some_same}
 use Rattle.nb_base.proofs.StepLaws.{may}
 use Rattle.nb_base.proofs.WriteLaws.{delta_apart, main_apart}
 use Rattle.nb_base.proofs.MergingLaws.{entry_named}
 use Rattle.nb_change.proofs.NameLaws.{with_file-same, with_file-other}
+use Rattle.nb_host.proofs.PlainLaws.{none_there}
 
 -- the table of a difference file names no page twice
 table_apart : (size : ℕ) (file : File) (table : List ℕ) → IsTrue (is_page_size size) → HasTable size file table → IsDistinct nat_eq table
@@ -97,7 +98,7 @@ module _ (old new : World) (held : Held) (t : Trail) (p : ℕ) (bytes : Page) (i
   pub plain_merged : entry_for p held.entries ≡ None → new.files (delta_name held.name) ≡ old.files (delta_name held.name) → (k : ℕ) → AreMerged old held k → AreMerged new held k
   plain_merged none beside k merged j low inside =
       other_merged held old.files new.files h.main p bytes h.has (may t p bytes is t.base (itself_firm t) (old.files held.name) (old.files (delta_name held.name)) h) size_is put j
-      (λ same. none_some (sym none ∙ ap (λ n. entry_for n held.entries) (sym same) ∙ entry_named held.entries j apart inside))
+      (λ same. none_there (sym none ∙ ap (λ n. entry_for n held.entries) (sym same) ∙ entry_named held.entries j apart inside))
       (ap (λ (f : File). slot_page held.page_size f j) beside) (merged j low inside)
 
   pub both_merged : (i : ℕ) → entry_for p held.entries ≡ Some i → SlotPut held.page_size i bytes (old.files (delta_name held.name)) (new.files (delta_name held.name)) → (k : ℕ) → AreMerged old held k → AreMerged new held k

@@ -32,17 +32,18 @@ use Rattle.nb_base.specs.Open.{Held, OfFiles, IsOpen, IsMerged, AreMerged}
 use Rattle.nb_base.specs.Seen.{IsSeen}
 use Rattle.nb_base.specs.Takes.{StrikesFirm}
 use Rattle.nb_base.proofs.MergeLaws.{page_in-main}
-use Rattle.nb_base.proofs.OwnedLaws.{Holds, entry-first, entry-later, later, owned-entry, base-length, base-page, base-size, bytes-size, main-some, main-long, some_same}
+use Rattle.nb_base.proofs.OwnedLaws.{Holds, entry-later, later, owned-entry, base-length, base-page, base-size, bytes-size, main-some, main-long, some_same}
 use Rattle.nb_base.proofs.HiddenLaws.{MayHide, may_lay}
 use Rattle.nb_base.proofs.StrokeLaws.{h0}
 use Rattle.nb_base.proofs.WrittenLaws.{HasMain, MayLay, main_over, written_same, written_sizes, laid_formed, laid_image}
 use Rattle.nb_base.proofs.WriteLaws.{delta_apart}
+use Rattle.nb_model.proofs.EntryLaws.{for_here}
 
 -- no page is named twice, so that each entry is its page's
 pub entry_named : (table : List ℕ) (k : ℕ) → IsDistinct nat_eq table → k < length table → entry_for (get_or table k 0) table ≡ Some k
 unfolding IsDistinct
 entry_named [] k once low = absurd (omega (arith, low))
-entry_named (x ∷ xs) zero once low = entry-first x x xs refl
+entry_named (x ∷ xs) zero once low = for_here x x xs refl
 entry_named (x ∷ xs) (suc k) once low = entry-later (get_or xs k 0) x xs (λ e. other (apart_at x xs k once.0 (omega (arith, low))) e) ∙ ap later (entry_named xs k once.1 (omega (arith, low)))
   where
     other : nat_eq (get_or xs k 0) x ≡ false → get_or xs k 0 ≡ x → ⊥

@@ -27,6 +27,8 @@ use Rattle.nb_model.proofs.StrokeLaws.{with_page_same, with_page_other}
 use Rattle.nb_model.proofs.TrimLaws.{trimmed_length, trimmed_at, trimmed_page}
 use Rattle.nb_model.proofs.OverLaws.{owned_length, owned_at}
 use Rattle.nb_base.proofs.WrittenLaws.{HasMain, laid_formed, laid_image, written_same, written_inner, written_sizes}
+use Rattle.nb_host.proofs.PlainLaws.{none_there}
+use Rattle.nb_model.proofs.EntryLaws.{for_here}
 
 -- The image of two files, page by page.
 module _ (size : ℕ) (main : Image) (delta table : List ℕ) where
@@ -73,10 +75,6 @@ pub owned-alone : (size : ℕ) (main : Image) (delta : List ℕ) → main ≡ ow
 unfolding entry_for
 owned-alone size main delta = is_owned size main delta [] main (omega arith) (λ p low. sym (main_here size main p low) ∙ sym (owned-none size main delta [] p refl))
 
--- Entries by their place.
-pub none_some : {k : ℕ} → None ≡ Some k → ⊥
-none_some h = cc
-
 pub some_same : {j k : ℕ} → Some j ≡ Some k → j ≡ k
 some_same h = cc
 
@@ -84,10 +82,6 @@ some_same h = cc
 abbrev pub later : Option ℕ → Option ℕ
 later None = None
 later (Some k) = Some (suc k)
-
-pub entry-first : (p q : ℕ) (qs : List ℕ) → p ≡ q → entry_for p (q ∷ qs) ≡ Some 0
-unfolding entry_for
-entry-first p q qs same = elim (eqb_tells p q) [ inl w ↦ rw (w.0, entry_for) refl | inr w ↦ absurd (w.1 same) ]
 
 pub entry-later : (p q : ℕ) (qs : List ℕ) → p ≢ q → entry_for p (q ∷ qs) ≡ later (entry_for p qs)
 unfolding entry_for
@@ -99,7 +93,7 @@ entry-later p q qs other = elim (eqb_tells p q) [ inl w ↦ absurd (other w.1) |
 
 later-none : (x : Option ℕ) → later x ≡ None → x ≡ None
 later-none None e = refl
-later-none (Some k) e = absurd (none_some (sym e))
+later-none (Some k) e = absurd (none_there (sym e))
 
 -- the entry at a place names the page
 pub record IsEntry (p k : ℕ) (table : List ℕ) : Type 0 where
@@ -108,9 +102,9 @@ pub record IsEntry (p k : ℕ) (table : List ℕ) : Type 0 where
 
 pub entry_at : (p : ℕ) (table : List ℕ) (k : ℕ) → entry_for p table ≡ Some k → IsEntry p k table
 unfolding entry_for
-entry_at p [] k e = absurd (none_some e)
+entry_at p [] k e = absurd (none_there e)
 entry_at p (q ∷ qs) k e = elim (eqb_tells p q) [
-  | inl w ↦ here k (some_same (sym (entry-first p q qs w.1) ∙ e)) w.1
+  | inl w ↦ here k (some_same (sym (for_here p q qs w.1) ∙ e)) w.1
   | inr w ↦ by (entry_at p qs) (entry_for p qs) refl (sym (entry-later p q qs w.1) ∙ e)
 ]
   where
@@ -119,7 +113,7 @@ entry_at p (q ∷ qs) k e = elim (eqb_tells p q) [
     here (suc k) is same = absurd (omega arith)
 
     by : ((j : ℕ) → entry_for p qs ≡ Some j → IsEntry p j qs) → (x : Option ℕ) → entry_for p qs ≡ x → later (entry_for p qs) ≡ Some k → IsEntry p k (q ∷ qs)
-    by so_far None is h = absurd (none_some (ap later (sym is) ∙ h))
+    by so_far None is h = absurd (none_there (ap later (sym is) ∙ h))
     by so_far (Some j) is h =
         let rest = so_far j is in
         subst (λ n. IsEntry p n (q ∷ qs)) (some_same (ap later (sym is) ∙ h)) (record { below = omega (arith, rest.below); names = rest.names })
@@ -131,9 +125,9 @@ entry_apart p q k j table e f other same = other (sym (entry_at q table j f).nam
 -- with one entry more
 pub entry-added : (p : ℕ) (table : List ℕ) → entry_for p table ≡ None → entry_for p (table ++ p ∷ []) ≡ Some (length table)
 unfolding entry_for
-entry-added p [] none = entry-first p p [] refl
+entry-added p [] none = for_here p p [] refl
 entry-added p (q ∷ qs) none = elim (eqb_tells p q) [
-  | inl w ↦ absurd (none_some (sym none ∙ entry-first p q qs w.1))
+  | inl w ↦ absurd (none_there (sym none ∙ for_here p q qs w.1))
   | inr w ↦ entry-later p q (qs ++ p ∷ []) w.1 ∙ ap later (entry-added p qs (later-none (entry_for p qs) (sym (entry-later p q qs w.1) ∙ none))) ∙ ap (λ n. Some n) (let e : suc (length qs) ≡ length (q ∷ qs) = omega arith in e)
 ]
 
@@ -141,21 +135,21 @@ pub entry-others : (p q : ℕ) (table : List ℕ) → q ≢ p → entry_for q (t
 unfolding entry_for
 entry-others p q [] other = entry-later q p [] other
 entry-others p q (x ∷ xs) other = elim (eqb_tells q x) [
-  | inl w ↦ entry-first q x (xs ++ p ∷ []) w.1 ∙ sym (entry-first q x xs w.1)
+  | inl w ↦ for_here q x (xs ++ p ∷ []) w.1 ∙ sym (for_here q x xs w.1)
   | inr w ↦ entry-later q x (xs ++ p ∷ []) w.1 ∙ ap later (entry-others p q xs other) ∙ sym (entry-later q x xs w.1)
 ]
 
 -- an entry of a front is the same entry of the whole
 pub entry-front : (p : ℕ) (front rest : List ℕ) (k : ℕ) → entry_for p front ≡ Some k → entry_for p (front ++ rest) ≡ Some k
 unfolding entry_for
-entry-front p [] rest k e = absurd (none_some e)
+entry-front p [] rest k e = absurd (none_there e)
 entry-front p (q ∷ qs) rest k e = elim (eqb_tells p q) [
-  | inl w ↦ entry-first p q (qs ++ rest) w.1 ∙ sym (entry-first p q qs w.1) ∙ e
+  | inl w ↦ for_here p q (qs ++ rest) w.1 ∙ sym (for_here p q qs w.1) ∙ e
   | inr w ↦ entry-later p q (qs ++ rest) w.1 ∙ by (entry-front p qs rest) (entry_for p qs) refl (sym (entry-later p q qs w.1) ∙ e)
 ]
   where
     by : ((j : ℕ) → entry_for p qs ≡ Some j → entry_for p (qs ++ rest) ≡ Some j) → (x : Option ℕ) → entry_for p qs ≡ x → later (entry_for p qs) ≡ Some k → later (entry_for p (qs ++ rest)) ≡ Some k
-    by so_far None is h = absurd (none_some (ap later (sym is) ∙ h))
+    by so_far None is h = absurd (none_there (ap later (sym is) ∙ h))
     by so_far (Some j) is h = ap later (so_far j is ∙ sym is) ∙ h
 
 -- and one that the front doesn't have stands after it
@@ -163,12 +157,12 @@ pub entry-behind : (p : ℕ) (front rest : List ℕ) (k : ℕ) → entry_for p f
 unfolding entry_for
 entry-behind p [] rest k none e = omega arith
 entry-behind p (q ∷ qs) rest k none e = elim (eqb_tells p q) [
-  | inl w ↦ absurd (none_some (sym none ∙ entry-first p q qs w.1))
+  | inl w ↦ absurd (none_there (sym none ∙ for_here p q qs w.1))
   | inr w ↦ by (λ j none. entry-behind p qs rest j none) (entry_for p (qs ++ rest)) refl (later-none (entry_for p qs) (sym (entry-later p q qs w.1) ∙ none)) (sym (entry-later p q (qs ++ rest) w.1) ∙ e)
 ]
   where
     by : ((j : ℕ) → entry_for p qs ≡ None → entry_for p (qs ++ rest) ≡ Some j → length qs ≤ j) → (x : Option ℕ) → entry_for p (qs ++ rest) ≡ x → entry_for p qs ≡ None → later (entry_for p (qs ++ rest)) ≡ Some k → suc (length qs) ≤ k
-    by so_far None is none h = absurd (none_some (ap later (sym is) ∙ h))
+    by so_far None is none h = absurd (none_there (ap later (sym is) ∙ h))
     by so_far (Some j) is none h = let low = so_far j none is in omega (arith, low, some_same (ap later (sym is) ∙ h))
 
 pub behind-added : (p : ℕ) (table : List ℕ) → behind_entries (table ++ p ∷ []) ≡ max (behind_entries table) (p + 1)
@@ -234,7 +228,7 @@ module _ (size : ℕ) (main : Image) (delta table : List ℕ) (p : ℕ) (page : 
       ])
       (λ q below. owned_at size main delta table q below
       ∙ sym (owned_alike size (trimmed new) main delta table q (ap (take 64) (trimmed_at new 0 there) ∙ front_stays)
-      (λ none. trimmed_page size new (written_sizes size p page main sizes wide) q ∙ other_page size p page main q (λ same. none_some (sym none ∙ ap (λ n. entry_for n table) same ∙ is))))))
+      (λ none. trimmed_page size new (written_sizes size p page main sizes wide) q ∙ other_page size p page main q (λ same. none_there (sym none ∙ ap (λ n. entry_for n table) same ∙ is))))))
 
 -- The difference file changes, and the main file stays.
 module _ (size : ℕ) (main : Image) (delta new : List ℕ) where

@@ -27,9 +27,10 @@ use Rattle.nb_base.specs.Open.{Held, Agrees}
 use Rattle.nb_base.specs.Seen.{IsSeen, IsWrite}
 use Rattle.nb_base.specs.Going.{StandsAs, HasPageIn, MaySlot, IsSlotted, GoesIn}
 use Rattle.nb_base.proofs.LeftLaws.{stroke-stalled, noted-there}
-use Rattle.nb_base.proofs.OwnedLaws.{Holds, holds, shows, base-length, base-state, base-size, entry-front, entry-behind, entry_apart, some_same, none_some}
+use Rattle.nb_base.proofs.OwnedLaws.{Holds, holds, shows, base-length, base-state, base-size, entry-front, entry-behind, entry_apart, some_same}
 use Rattle.nb_base.proofs.StepLaws.{holds_slots, holds_slot}
 use Rattle.nb_base.proofs.WriteLaws.{main_apart}
+use Rattle.nb_host.proofs.PlainLaws.{none_there}
 
 -- an entry names a page of the image
 pub entry_inside : (b : Base) (m d : File) (h : Holds b m d) (p k : ℕ) → entry_for p b.diverted ≡ Some k → p < length b.image
@@ -129,7 +130,7 @@ module _ (w : World) (held : Held) (f t : Trail) (waits : ℕ → Bool) (seen : 
   }
     where
       by : (p : ℕ) → entry_for p t.base.diverted ≡ None → (u : Bool) → waits p ≡ u → page_at f.base.image p ≡ page_at t.base.image p
-      by p none true is = absurd (none_some (sym none ∙ (each p is).2.1))
+      by p none true is = absurd (none_there (sym none ∙ (each p is).2.1))
       by p none false is = clean p is
 
 -- A page goes into its slot.
@@ -271,7 +272,7 @@ module _ (w new : World) (held : Held) (f t : Trail) (waits : ℕ → Bool) (goe
                     | inr v ↦ slot_there t p k r may.some inside is_one is.first here q v.1 ∙ is.named q i e_q (sym (as_before q v.1) ∙ gone)
                   ];
                   others = λ q none. elim (eqb_tells q p) [
-                    | inl v ↦ absurd (none_some (sym none ∙ ap (entry_for q) (sym is.diverted) ∙ ap (λ n. entry_for n r.diverted) v.1 ∙ here))
+                    | inl v ↦ absurd (none_there (sym none ∙ ap (entry_for q) (sym is.diverted) ∙ ap (λ n. entry_for n r.diverted) v.1 ∙ here))
                     | inr v ↦ slot_there t p k r may.some inside is_one is.first here q v.1 ∙ is.others q none
                   ];
                   frozen = put_frozen r p (page_at t.base.image p) may.some inside ∙ is.frozen;
@@ -287,7 +288,7 @@ module _ (w new : World) (held : Held) (f t : Trail) (waits : ℕ → Bool) (goe
                   long = is.long;
                   first = is.first;
                   named = λ q i e_q gone. elim (eqb_tells q p) [
-                    | inl v ↦ absurd (none_some (sym e ∙ ap (λ n. entry_for n r.diverted) (sym v.1) ∙ ap (entry_for q) is.diverted ∙ e_q))
+                    | inl v ↦ absurd (none_there (sym e ∙ ap (λ n. entry_for n r.diverted) (sym v.1) ∙ ap (entry_for q) is.diverted ∙ e_q))
                     | inr v ↦ is.named q i e_q (sym (as_before q v.1) ∙ gone)
                   ];
                   others = is.others;

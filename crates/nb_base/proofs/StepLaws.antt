@@ -14,8 +14,9 @@ use Rattle.nb_model.specs.Trail.{Trail, IsFirm}
 use Rattle.nb_model.proofs.HeaderLaws.{same-header, same-number}
 use Rattle.nb_base.specs.Seen.{IsWrite}
 use Rattle.nb_base.proofs.WrittenLaws.{HasMain, MayWrite, main_put, main_written}
-use Rattle.nb_base.proofs.OwnedLaws.{Holds, main-some, main-long, base-front, base-state, base-size, front_stays, main_shows, slots_stay, slot_shows, entry-front, none_some}
+use Rattle.nb_base.proofs.OwnedLaws.{Holds, main-some, main-long, base-front, base-state, base-size, front_stays, main_shows, slots_stay, slot_shows, entry-front}
 use Rattle.nb_base.proofs.LeftLaws.{stroke-image, stroke-frozen, stroke-stalled, stroke-other, noted-there, fits_left, state_left, size_left, put_is}
+use Rattle.nb_host.proofs.PlainLaws.{none_there}
 
 -- Another main file with the same header, in the normal and the merge state.
 pub main_moved : (b new : Base) (m d c : File) (h : Holds b m d) (main : Image) → image_state h.main ≢ stalled_state → HasMain main c → take 64 (first_page main) ≡ take 64 (first_page h.main)
@@ -133,4 +134,4 @@ module _ (t : Trail) (p : ℕ) (bytes : Page) (is : IsWrite t p bytes) where
       where
         by : (x : Option ℕ) → entry_for p b.diverted ≡ x → entry_for p b.diverted ≡ None
         by None e = e
-        by (Some k) e = absurd (none_some (sym none ∙ ap (entry_for p) left.rest.diverted.1 ∙ entry-front p b.diverted left.rest.diverted.0 k e))
+        by (Some k) e = absurd (none_there (sym none ∙ ap (entry_for p) left.rest.diverted.1 ∙ entry-front p b.diverted left.rest.diverted.0 k e))

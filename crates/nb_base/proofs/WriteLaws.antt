@@ -26,10 +26,12 @@ use Rattle.nb_base.specs.Seen.{IsSeen, IsWrite}
 use Rattle.nb_base.specs.Takes.{StrikesFirm, TakesFirm}
 use Rattle.nb_delta.specs.Entries.{place_of}
 use Rattle.nb_model.proofs.TrailLaws.{trail_base}
-use Rattle.nb_base.proofs.OwnedLaws.{Holds, holds, base-state, base-size, none_some}
+use Rattle.nb_base.proofs.OwnedLaws.{Holds, holds, base-state, base-size}
 use Rattle.nb_base.proofs.LeftLaws.{later_state, stroke-other}
 use Rattle.nb_base.proofs.PlaceLaws.{place-entry}
 use Rattle.nb_base.proofs.OutcomeLaws.{stands_stays, stands_main, stands_main_put, shows_main_put, all_entries, stands_slot, stands_slot_put, shows_slot_put, stands_add, stands_added, shows_added}
+use Rattle.nb_host.proofs.PlainLaws.{none_there}
+use Rattle.nb_model.proofs.EntryLaws.{for_nothing}
 
 -- a database's two files have different names
 pub delta_apart : (name : List ℕ) → delta_name name ≢ name
@@ -265,13 +267,9 @@ takes_done x y old mid new name opened t strokes same takes = record {
   done = takes.done;
 }
 
-entry_none : (p : ℕ) → entry_for p [] ≡ None
-unfolding entry_for
-entry_none p = refl
-
 -- where there are no entries, none names a page
 pub none_at : (p k : ℕ) (entries : List ℕ) → entries ≡ [] → entry_for p entries ≡ Some k → ⊥
-none_at p k entries none at = none_some (sym (entry_none p) ∙ ap (entry_for p) (sym none) ∙ at)
+none_at p k entries none at = none_there (sym (for_nothing p) ∙ ap (entry_for p) (sym none) ∙ at)
 
 -- where an entry names a page, but not in the stalled state, the state is the merge state
 pub merges_where : (name : List ℕ) (t : Trail) (w : World) → IsSeen w name t → image_state t.base.image ≢ stalled_state → (p k : ℕ) → entry_for p t.base.diverted ≡ Some k → image_state t.base.image ≡ merge_state

@@ -14,9 +14,7 @@ use Rattle.nb_cache.specs.declared.index.Index.{Index}
 use Rattle.nb_cache.specs.Frames.{Frames, NoneHolds, FoundAt}
 use Rattle.nb_cache.specs.Index.{holder, places, Finds}
 use Rattle.nb_cache.proofs.KeyedLaws.{misses_before, last_parts}
-
-same_some : (k q : ℕ) → Some k ≡ Some q → k ≡ q
-same_some k q e = cc
+use Rattle.nb_host.proofs.PlainLaws.{some_same}
 
 -- a frame is in its place
 place_of : (es : Frames) (x : ℕ × Frame) → Contains es x → Contains (places es) (x.1.page, x.0)
@@ -55,7 +53,7 @@ around (e ∷ es) page key c = elim (Contains-cons (e.1.page, e.0) (places es) (
 
 -- a page is in one place only
 pub once : (index : Index) (ps : List (ℕ × ℕ)) → Finds index ps → (page key other : ℕ) → Contains ps (page, key) → Contains ps (page, other) → key ≡ other
-once index ps finds page key other one two = same_some key other (sym (finds.each page key one) ∙ finds.each page other two)
+once index ps finds page key other one two = some_same key other (sym (finds.each page key one) ∙ finds.each page other two)
 
 -- what an index finds, and what it doesn't
 module _ (index : Index) (es : Frames) (held page : ℕ) (finds : Finds index (places (take held es))) where
@@ -80,7 +78,7 @@ module _ (index : Index) (es : Frames) (held page : ℕ) (finds : Finds index (p
         holds = a.holds;
         first = all_from (λ e. nat_eq page e.1.page ≡ false) a.before (λ y c. ne_eqb page y.1.page (λ same.
             let again : holder index page ≡ Some y.0 = ap (holder index) same ∙ finds.each y.1.page y.0 (place_of (take held es) y (here y c)) in
-            eqb-false key y.0 (all_at (λ e. nat_eq key e.0 ≡ false) a.before y only c) (same_some key y.0 (sym some ∙ again))));
+            eqb-false key y.0 (all_at (λ e. nat_eq key e.0 ≡ false) a.before y only c) (some_same key y.0 (sym some ∙ again))));
       } where
         contains_left : (xs ys : Frames) (y : ℕ × Frame) → Contains xs y → Contains (xs ++ ys) y
         contains_left [] ys y c = absurd (Contains-nil y c)
@@ -120,7 +118,7 @@ module _ (old new : Index) (page key : ℕ) (entered : (q : ℕ) → holder new 
   Finds-entered = record {
     only = λ q k some. elim (cases_eq page q) [
       | inl same ↦
-          let one : key ≡ k = same_some key k (sym (here q same) ∙ some) in
+          let one : key ≡ k = some_same key k (sym (here q same) ∙ some) in
           subst (λ (p : ℕ × ℕ). Contains ((page, key) ∷ ps) p) (ap₂ (λ (a b : ℕ). (a, b)) same one) (Contains-head (page, key) ps)
       | inr apart ↦ Contains-tail (page, key) ps (q, k) (finds.only q k (sym (there q apart) ∙ some))
     ];
@@ -136,7 +134,7 @@ module _ (old new : Index) (page key : ℕ) (entered : (q : ℕ) → holder new 
   Finds-pushed = record {
     only = λ q k some. elim (cases_eq page q) [
       | inl same ↦
-          let is : key ≡ k = same_some key k (sym (entered q ∙ ap (λ b. cond b (Some key) (holder old q)) (eq-eqb page q same)) ∙ some) in
+          let is : key ≡ k = some_same key k (sym (entered q ∙ ap (λ b. cond b (Some key) (holder old q)) (eq-eqb page q same)) ∙ some) in
           subst (λ (p : ℕ × ℕ). Contains (ps ++ (page, key) ∷ []) p) (ap₂ (λ (a b : ℕ). (a, b)) same is) (Contains-middle ps (page, key) [])
       | inr apart ↦
           Contains-with ps (page, key) [] (q, k) (subst (λ (l : List (ℕ × ℕ)). Contains l (q, k)) (sym (append-nil ps))

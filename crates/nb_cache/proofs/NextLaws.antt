@@ -5,9 +5,7 @@ use Rattle.std.proofs.lemmas.List.Elements.{Contains-append_right}
 use Rattle.lru.proofs.Splits.{Contains-head}
 use Rattle.nb_cache.specs.Held.{Slot, NoneWaits, IsNoLater, GoesFirst}
 use Rattle.nb_cache.proofs.KeyedLaws.{All-snoc}
-
-same_rank : (r q : ℕ) → Some r ≡ Some q → r ≡ q
-same_rank r q e = cc
+use Rattle.nb_host.proofs.PlainLaws.{some_same}
 
 module _ (pages : List (ℕ × Slot)) (page : ℕ) (bytes : List ℕ) where
   abbrev slot : Option ℕ → ℕ × Slot
@@ -18,7 +16,7 @@ module _ (pages : List (ℕ × Slot)) (page : ℕ) (bytes : List ℕ) where
     here = Contains-append_right pages (slot (Some rank) ∷ []) (slot (Some rank)) (Contains-head (slot (Some rank)) [])
 
     itself : IsNoLater page rank (slot (Some rank))
-    itself r e = inr (same_rank rank r e, omega arith)
+    itself r e = inr (some_same rank r e, omega arith)
 
     none_waits : (ps : List (ℕ × Slot)) → NoneWaits ps → AllByRecursion (IsNoLater page rank) ps
     none_waits [] none = tt

@@ -9,7 +9,6 @@ use Rattle.nb_host.specs.Names.{same_name}
 use Rattle.nb_host.specs.declared.refusals.Refusal.{Refusal}
 use Rattle.nb_host.specs.declared.refusals.Refusal.TheVariants.{BadScript, NoFile, ScriptLong}
 use Rattle.nb_model.specs.Words.{is_file}
-use Rattle.nb_model.proofs.RunLaws.{same_self}
 use Rattle.nb_script.specs.Words.{Bytes}
 use Rattle.nb_script.specs.Lines.{lines_of, left}
 use Rattle.nb_script.specs.Scripts.{Numbered}
@@ -18,6 +17,8 @@ use Rattle.nb_catalog.specs.NameLists.{AreDistinct, is_listed, is_next, list_of,
 use Rattle.nb_catalog.specs.Turns.{names_in}
 use Rattle.nb_catalog.proofs.InLaws.{In, any_of}
 use Rattle.nb_catalog.proofs.ListLaws.{no_name, one_name}
+use Rattle.nb_host.proofs.NameLaws.{same_self}
+use Rattle.nb_host.proofs.PlainLaws.{not_true}
 
 pub none_twice : AreDistinct []
 none_twice i j low high same = absurd (omega (arith, low))
@@ -61,10 +62,6 @@ distinct_more names name distinct none i j low high same = by (cases_lt i (lengt
     by (inl a) (inr b) = absurd (no_place names name i none a (sym (front names name i a) ∙ same ∙ last names name j (at_end j b high)))
     by (inr a) (inl b) = absurd (no_place names name j none b (sym (front names name j b) ∙ sym same ∙ last names name i (at_end i a low)))
     by (inr a) (inr b) = at_end i a low ∙ sym (at_end j b high)
-
-not_true : (b : Bool) → not b ≡ true → b ≡ false
-not_true true is = absurd (cc is)
-not_true false is = refl
 
 pub names_distinct : (most : ℕ) (before : List Bytes) (lines : List Numbered) (names : List Bytes) → AreDistinct before → names_on most before lines ≡ Ok names → AreDistinct (before ++ names)
 unfolding names_on

@@ -21,6 +21,7 @@ use Rattle.nb_chain.specs.First.{FirstSays, FirstRefused, IsRefused, Tested}
 use Rattle.nb_chain.specs.Level.{WholeSays, LevelSays, LevelRefused, IsRead}
 use Rattle.nb_chain.specs.Next.{NextSays, NextRefused, IsNext, tip_link}
 use Rattle.nb_chain.proofs.StartLaws.{first_whole, first_parted, first_unread, first_level, next_signed, next_other, next_unread, next_refused, next_accepted}
+use Rattle.nb_host.proofs.PlainLaws.{some_same}
 
 -- a fault that is passed on
 pub passed : (T : Type 0) (P : Result T Fault → Type 0) (result : Result T Fault) (fault : Fault) → IsErr result × IsErrAnd result (λ f. f ≡ fault) → P (Err fault) → P result
@@ -38,9 +39,6 @@ level_unread file name bytes before after (Refused r) there begins says =
     first_unread name bytes is.0 begins is.1 ∙ ap (λ (x : Refusal). Err x) (sym is.2)
 level_unread file name bytes before after Device there begins says = tt
 level_unread file name bytes before after Memory there begins says = tt
-
-some_same : (a b : List ℕ) → Some a ≡ Some b → a ≡ b
-some_same a b e = cc
 
 pub level_first : (file : File) (name bytes : List ℕ) (before after : ℕ) (head : LevelHead) → file ≡ Some bytes → begins_level bytes ≡ true → WholeSays file name before after (Ok head)
     → first_link name bytes ≡ Err (ChainLevel name head.level 0)

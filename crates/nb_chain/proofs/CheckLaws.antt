@@ -17,8 +17,9 @@ use Rattle.nb_chain.specs.Chain.{CheckSays, IsChain}
 use Rattle.nb_chain.specs.First.{FirstSays, FirstRefused, IsFirst}
 use Rattle.nb_chain.specs.Next.{LevelsSay, AreNext, tip_link, header_link, last_of}
 use Rattle.nb_chain.proofs.ImageLaws.{chain_length, chain_count}
-use Rattle.nb_chain.proofs.LinkLaws.{bare, links_bare, first_there, first_broken, first_missing, is_last, last_bare}
+use Rattle.nb_chain.proofs.LinkLaws.{bare, links_bare, first_broken, first_missing, is_last, last_bare}
 use Rattle.nb_chain.proofs.StartLaws.{size_is}
+use Rattle.nb_model.proofs.WholeLaws.{verdict_there}
 
 -- the first file is refused
 pub check_first : (files : Files) (name : List ℕ) (names : List (List ℕ)) (before after : ℕ) (fault : Fault) → FirstSays (files name) name (Err fault) → CheckSays files (name ∷ names) before after (Err fault)
@@ -38,7 +39,7 @@ module _ (files : Files) (name : List ℕ) (names : List (List ℕ)) (bytes : Li
 
   behind_first : verdict files (name ∷ names) ≡ linked (whole_link bytes) (next_links files 1 (tip_link tip) names)
   behind_first =
-      first_there files name names bytes (whole_link bytes) there is.accepted
+      verdict_there files name names bytes (whole_link bytes) there is.accepted
       ∙ ap (linked (whole_link bytes)) (links_bare files 1 (whole_link bytes) names ∙ ap (λ (l : Link). next_links files 1 l names) (sym begins))
 
   -- one of the others is refused

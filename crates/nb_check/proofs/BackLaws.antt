@@ -33,7 +33,7 @@ use Rattle.nb_check.proofs.CauseLaws.{check_free}
 use Rattle.nb_check.proofs.SoundLaws.{facts_sound, check_parts}
 
 -- A list that a test leaves of a range, without a front of it.
-filter_same : (f g : ℕ → Bool) (n a : ℕ) → ((q : ℕ) → a ≤ q → q < a + n → f q ≡ g q) → filter f (range_with_len a n) ≡ filter g (range_with_len a n)
+pub filter_same : (f g : ℕ → Bool) (n a : ℕ) → ((q : ℕ) → a ≤ q → q < a + n → f q ≡ g q) → filter f (range_with_len a n) ≡ filter g (range_with_len a n)
 filter_same f g zero a same = refl
 filter_same f g (suc n) a same =
     ap (λ (t : Bool). cond t (a ∷ filter f (range_with_len (a + 1) n)) (filter f (range_with_len (a + 1) n))) (same a (omega arith) (omega arith))

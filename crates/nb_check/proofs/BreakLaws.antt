@@ -13,7 +13,8 @@ use Rattle.nb_model.specs.declared.fact.Fact.TheVariants.{BlankPage, SystemPlace
 use Rattle.nb_check.specs.declared.facts.Broken.{Broken}
 use Rattle.nb_model.specs.Facts.{breaks, number_of, facts, first_from, first_broken, covered, unsound, is_entry_low, is_entry_late}
 use Rattle.nb_check.specs.Passes.{IsFirstBelow}
-use Rattle.nb_check.proofs.FirstLaws.{first_none, first_all, first_found, some_none}
+use Rattle.nb_check.proofs.FirstLaws.{first_none, first_all, first_found}
+use Rattle.nb_host.proofs.PlainLaws.{some_none}
 
 abbrev lowest : Image → Fact → Option ℕ
 lowest image f = first_from (covered image) 0 (breaks image f)

@@ -3,7 +3,7 @@ use Rattle.std.proofs.Common.{◌≡◌, inl, inr, ℕ, zero, suc, ◌+◌, ◌-
 use Rattle.std.specs.Prelude.{IsTrue, Bool, true, false, ◌&&◌, ◌||◌, ◌==◌, nat_lt, nat_le}
 use Rattle.std.proofs.Math.Nat.{mod-lt}
 use Rattle.std.proofs.lemmas.Nat.{div-mul-add, div-add-mod'}
-use Rattle.std.proofs.lemmas.Bool.{and_left, and_parts, or_cases, cases_Bool, cases_lt, eqb-true, leb-false}
+use Rattle.std.proofs.lemmas.Bool.{and_left, and_parts, or_cases, cases_Bool, cases_lt, eqb-true}
 use Rattle.nb_fields.specs.Page.{stamp_of}
 use Rattle.nb_fields.specs.Payloads.{entry_of}
 use Rattle.nb_fields.specs.Places.{is_page_size, entries_in, scn_place, is_scn_place}
@@ -15,13 +15,7 @@ use Rattle.nb_model.specs.Forms.{scn_page_of, entry_number, scn_entry, has_entry
 use Rattle.nb_model.proofs.ReadLaws.{eq_no, eq_yes, lt_yes, lt_no, le_no}
 use Rattle.nb_model.specs.declared.fact.Fact.TheVariants.{WrongEntry}
 use Rattle.nb_model.specs.Facts.{breaks}
-
-pub le_yes : (a b : ℕ) → a ≤ b → nat_le a b ≡ true
-le_yes a b low = elim (cases_lt b a) [ inl less ↦ absurd (omega (arith, less, low)) | inr other ↦ by (nat_le a b) refl ]
-  where
-    by : (t : Bool) → nat_le a b ≡ t → nat_le a b ≡ true
-    by true e = e
-    by false e = (let high = leb-false a b e in absurd (omega (arith, high, low)))
+use Rattle.nb_host.proofs.PlainLaws.{le_yes}
 
 -- Where the entries stand.
 module _ (size : ℕ) (valid : IsTrue (is_page_size size)) where

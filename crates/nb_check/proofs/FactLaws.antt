@@ -18,8 +18,8 @@ use Rattle.nb_model.specs.declared.fact.Fact.{Fact}
 use Rattle.nb_model.specs.declared.fact.Fact.TheVariants.{BlankPage, SystemPlace, TakenPast, LateStamp, WrongEntry, HeaderStamp}
 use Rattle.nb_model.specs.Facts.{breaks, number_of}
 use Rattle.nb_check.specs.Passes.{IsLowestAt, IsOf}
-use Rattle.nb_check.proofs.EntryLaws.{le_yes}
 use Rattle.nb_check.specs.declared.facts.Extent.{Extent}
+use Rattle.nb_host.proofs.PlainLaws.{le_yes, never}
 
 -- the extent is that of the image, whichever page of its size says so
 pub of_entries : (image : Image) (size other : ℕ) (extent : Extent) → other ≡ size → IsOf image size extent → IsOf image other extent
@@ -166,10 +166,6 @@ pub stamp_in : (page : Page) → (head_in page).scn ≡ stamp_of page
 unfolding head_in
 stamp_in page = refl
 
--- whether page p is used, by its bit
-not_false : IsTrue false → ⊥
-not_false e = cc
-
 pub used_is : (image : Image) (size p : ℕ) (map : Page) → size ≡ image_size image → map ≡ page_at image (inventory_of image p) → length map ≡ size → p % bits_in size < bits_in size
     → (used : Bool) → (IsTrue used ↔ (get_or (bits map) (p % bits_in size) 0 ≡ 0)) → used ≡ not (is_free_page image p)
 unfolding is_free_page
@@ -189,5 +185,5 @@ used_is image size p map same page long inside used is = by used is
     by true w = sym (ap not (free_is ∙ eq_no _ 1 (λ e. absurd (omega (arith, e, w.0 refl)))))
     by false w =
         let small : bit_of map (p % bits_in size) < 2 = bit_at-lt _ _ in
-        let other : get_or (bits map) (p % bits_in size) 0 ≡ 0 → ⊥ = λ e. not_false (w.1 e) in
+        let other : get_or (bits map) (p % bits_in size) 0 ≡ 0 → ⊥ = λ e. never (w.1 e) in
         sym (ap not (free_is ∙ eq_yes _ 1 (omega (arith, small, read_is, other))))

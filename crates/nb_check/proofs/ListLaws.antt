@@ -9,11 +9,13 @@ use Rattle.nb_model.specs.Causes.{Cause, first_cause, broken_at}
 use Rattle.nb_model.specs.Chains.{Chain, Catalogue, History, RowsFrom, Slot, Spot, is_used, first_in, slots_from, slots_in, spots_on, spots_of, spots, pages_of, found_pages}
 use Rattle.nb_model.specs.Rows.{used, table_chains, chains, pages_of_all}
 use Rattle.nb_model.specs.Leaks.{reached}
-use Rattle.nb_walk.proofs.SlotLaws.{slots_step, spots_both}
+use Rattle.nb_walk.proofs.SlotLaws.{slots_step}
 use Rattle.nb_check.specs.Sets.{IsWithout}
 use Rattle.nb_model.specs.Checks.{chains_cause}
 use Rattle.nb_check.specs.Walks.{chains_on}
 use Rattle.nb_check.proofs.SetLaws.{without_none, without_both}
+use Rattle.nb_host.proofs.PlainLaws.{none_some}
+use Rattle.nb_model.proofs.GrowthTurns.{spots_both}
 
 -- the chains in slots
 pub chains_in : List Slot → List Chain
@@ -103,9 +105,6 @@ cause_here image c cs r e = cause_first image c cs ∙ ap (λ (o : Cause). or_el
 
 pub cause_later : (image : Image) (c : Chain) (cs : List Chain) → broken_at (pages_of c image) ≡ None → chains_cause image (c ∷ cs) ≡ chains_cause image cs
 cause_later image c cs e = cause_first image c cs ∙ ap (λ (o : Cause). or_else o (chains_cause image cs)) e
-
-pub none_some : (r : Refusal) → None ≡ Some r → ⊥
-none_some r e = cc
 
 -- or the first that isn't is among them
 cause_front : (image : Image) (cs ds : List Chain) (r : Refusal) → chains_cause image cs ≡ Some r → chains_cause image (cs ++ ds) ≡ Some r

@@ -18,21 +18,16 @@ use Rattle.nb_model.specs.Rows.{chains}
 use Rattle.nb_model.proofs.PutSound.{no_first}
 use Rattle.nb_model.proofs.RoomLaws.{in_chain, first_found}
 use Rattle.nb_model.specs.Checks.{unsound_by, chains_cause, check_cause}
-use Rattle.nb_check.proofs.EntryLaws.{le_yes}
-use Rattle.nb_check.proofs.FirstLaws.{some_none}
 use Rattle.nb_model.specs.declared.fact.Fact.{Fact}
 use Rattle.nb_model.specs.declared.fact.Fact.TheVariants.{BlankPage, SystemPlace, TakenPast, LateStamp, WrongEntry, HeaderStamp}
 use Rattle.nb_model.specs.Facts.{breaks, unsound, is_entry_low, is_entry_late}
 use Rattle.nb_check.proofs.BreakLaws.{breaks_below, none_unsound, unsound_none}
+use Rattle.nb_host.proofs.PlainLaws.{le_yes, not_false, some_none}
 
 -- one half of a test
 other_half : (a b : Bool) → (a && b) ≡ false → a ≡ true → b ≡ false
 other_half true b fails holds = fails
 other_half false b fails holds = absurd (true≢false (sym holds))
-
-not_no : (a : Bool) → not a ≡ false → a ≡ true
-not_no true e = refl
-not_no false e = absurd (true≢false e)
 
 -- where no fact is broken
 module _ (image : Image) (valid : IsTrue (is_page_size (image_size image))) (none : unsound image ≡ None) where
@@ -74,14 +69,14 @@ module _ (image : Image) (valid : IsTrue (is_page_size (image_size image))) (non
 
   head : stamp_of (first_page image) ≡ image_scn image
   unfolding breaks
-  head = eqb-true _ _ (not_no _ (other_half _ _ (none_at HeaderStamp 0) refl))
+  head = eqb-true _ _ (not_false _ (other_half _ _ (none_at HeaderStamp 0) refl))
 
   pub sound_facts : SoundInventory image
   sound_facts = record {
     no_zeros = all_from (λ page. is_zeros page ≡ false) image blank;
     system = record {
-      inventories = λ p low is. eqb-true _ _ (not_no _ (other_half _ _ (or_parts _ _ (place p low)).0 is));
-      scn_pages = λ p low is. eqb-true _ _ (not_no _ (other_half _ _ (or_parts _ _ (place p low)).1 is));
+      inventories = λ p low is. eqb-true _ _ (not_false _ (other_half _ _ (or_parts _ _ (place p low)).0 is));
+      scn_pages = λ p low is. eqb-true _ _ (not_false _ (other_half _ _ (or_parts _ _ (place p low)).1 is));
     };
     bits = bit;
     entries = record {

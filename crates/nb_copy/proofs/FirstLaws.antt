@@ -7,7 +7,8 @@ use Rattle.nb_model.specs.Image.{Page, Image, first_page, image_size, image_scn,
 use Rattle.nb_model.specs.Forms.{Draft, wrote, written, needs, is_kind, has_entry, scn_page_of, scn_entry, entry_written, entry_raised, raised, put, set_bit, is_free_page, free_from, lowest_free, first_not, needed_at, system_kind, system_page, new_within}
 use Rattle.nb_model.proofs.DraftLaws.{either}
 use Rattle.nb_model.proofs.PutSound.{needs_image}
-use Rattle.nb_model.proofs.SoundLaws.{scn_place_some, inventory_place_some}
+use Rattle.nb_model.proofs.SoundLaws.{inventory_place_some}
+use Rattle.nb_fields.proofs.PlaceLaws.{scn_place-some}
 
 -- the search begins after page 0
 free_least : (left p : ℕ) (image : Image) → p ≤ free_from left p image
@@ -71,7 +72,7 @@ module _ (f : Page) (size : IsTrue (is_page_size (size_of f))) where
   needs_begins kind p d h = subst (Starts f) (sym (needs_image kind p d)) h
 
   scn_behind : (p : ℕ) (d : Draft) → Begins d → 1 ≤ scn_page_of d.image p
-  scn_behind p d h = let two = scn_place_some (image_size d.image) (p / entries_in (image_size d.image)) (sized d h) in omega (arith, two)
+  scn_behind p d h = let two = scn_place-some (image_size d.image) (p / entries_in (image_size d.image)) (sized d h) in omega (arith, two)
 
   entry_begins : (p : ℕ) (d : Draft) → Begins d → Begins (entry_raised p d)
   unfolding entry_raised entry_written

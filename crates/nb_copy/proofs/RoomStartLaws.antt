@@ -35,8 +35,7 @@ use Rattle.nb_engine.specs.declared.walk.Room.{Room as Kept}
 use Rattle.nb_engine.specs.Room.{room_cause, IsRoomIn}
 use Rattle.nb_engine.specs.Tries.{Tries}
 use Rattle.nb_engine.specs.Turns.{starting_cause}
-use Rattle.nb_alloc.proofs.CauseLaws.{first_none, first_next}
-use Rattle.nb_alloc.proofs.DoesLaws.{unless_none, unless_some, tries_opened}
+use Rattle.nb_alloc.proofs.DoesLaws.{unless_some, tries_opened}
 use Rattle.nb_copy.proofs.AsideLaws.{open_aside}
 use Rattle.nb_engine.proofs.WalkLaws.{history_least}
 use Rattle.nb_copy.specs.Starting.{Backed, StartMakes, HasNotBegun, StartsBackup, IsStarted, BeginsFor, earlier_cause, file_cause, ask_in, ask_by, turn_since}
@@ -51,6 +50,9 @@ use Rattle.nb_copy.proofs.FileStartLaws.{file_first, file_starts}
 use Rattle.nb_copy.proofs.RoomedLaws.{roomed_is, roomed_first}
 use Rattle.nb_copy.proofs.BesideLaws.{starts_struck, starts_made, starts_then, starts_more, made_kept}
 use Rattle.nb_copy.proofs.StartLaws.{early, strokes, started, struck_some, struck_most, turn_late, turn_told, turn_strokes, turn_started}
+use Rattle.nb_base.proofs.AttachLaws.{first_next}
+use Rattle.nb_model.proofs.TurnCases.{no_cause}
+use Rattle.nb_state.proofs.TurnLaws.{unless_none}
 
 -- what a page 0 says of why no backup begins
 abbrev starting_of : Page → Cause
@@ -172,7 +174,7 @@ module _ (old mid : World) (a b : Held) (t : Trail) (s : Seen) (session : ℕ) (
         let tests = no_first (file_cause s name) (earlier_cause since image ∷ []) none in
         let first = no_first (read_only image) (not_state normal_state image ∷ not_free name (s.entry name) ∷ []) tests.0 in
         let second = no_first (not_state normal_state image) (not_free name (s.entry name) ∷ []) first.1 in
-        first_next (read_only image) (not_state normal_state image ∷ no_scn image ∷ []) first.0 ∙ first_next (not_state normal_state image) (no_scn image ∷ []) second.0 ∙ first_next (no_scn image) [] may_go_on ∙ first_none
+        first_next (read_only image) (not_state normal_state image ∷ no_scn image ∷ []) first.0 ∙ first_next (not_state normal_state image) (no_scn image ∷ []) second.0 ∙ first_next (no_scn image) [] may_go_on ∙ no_cause
 
     pub starts_there : starting_cause u.base.image ≡ None
     starts_there = ap starting_of same_first ∙ starts_here

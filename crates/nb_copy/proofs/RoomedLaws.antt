@@ -24,6 +24,7 @@ use Rattle.nb_engine.specs.Room.{no_rows, linked_payload}
 use Rattle.nb_alloc.proofs.NewLaws.{told}
 use Rattle.nb_engine.proofs.WalkLaws.{IsData, last_data}
 use Rattle.nb_copy.proofs.FirstLaws.{Starts, starts_itself, first_is, put_begins, new_begins}
+use Rattle.nb_model.proofs.HeldRoom.{needs_image_same}
 
 -- the new page of the history, and its number
 abbrev new_link : Image → Draft × ℕ
@@ -61,14 +62,9 @@ roomed_is t =
     ap (λ (b : Base). b.image) (after_base t (room_in t.base.image).draft.strokes)
     ∙ (subst (λ (r : Room). IsOf t.base r.draft) (sym (room_is t.base.image)) (room_keeps t.base (free_spot (spots History t.base.image)))).is
 
--- where a slot is free it is the image itself
-taken_image : (p : ℕ) (d : Draft) → (needs_taken p d).image ≡ d.image
-unfolding needs_taken
-taken_image p d = either (λ (x : Draft). x.image ≡ d.image) (is_free_page d.image p) _ _ refl refl
-
 taken_same : (image : Image) (s : Spot) → (taken_at image s).image ≡ image
 taken_same image s =
-    taken_image s.page (needs 10 (scn_page_of image s.page) (needs 2 (inventory_of image s.page) (drafted image)))
+    needs_image_same s.page (needs 10 (scn_page_of image s.page) (needs 2 (inventory_of image s.page) (drafted image)))
     ∙ needs_image 10 (scn_page_of image s.page) (needs 2 (inventory_of image s.page) (drafted image)) ∙ needs_image 2 (inventory_of image s.page) (drafted image)
 
 module _ (image : Image) (h : HasHeader image) (linked : broken_at (pages_of History image) ≡ None) where

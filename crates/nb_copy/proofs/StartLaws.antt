@@ -25,13 +25,15 @@ use Rattle.nb_state.specs.Does.{Tested, has_only_told, unless_by}
 use Rattle.nb_state.specs.Turns.{GaveAtMost}
 use Rattle.nb_state.proofs.TurnLaws.{struck_front}
 use Rattle.nb_engine.specs.Room.{room_cause}
-use Rattle.nb_alloc.proofs.CauseLaws.{told_some, unless_refused, unless_allowed, first_here}
+use Rattle.nb_alloc.proofs.CauseLaws.{told_some, unless_refused, unless_allowed}
 use Rattle.nb_copy.specs.Starting.{HasNotBegun, StartsBackup, earlier_row, row_cause, earlier_cause, file_cause, ask_in, turn_since, Backed}
 use Rattle.nb_copy.specs.declared.since.Since.{Since}
 use Rattle.nb_copy.specs.declared.since.Since.TheVariants.{Level, Guid}
 use Rattle.nb_copy.proofs.BesideLaws.{starts_quiet}
 use Rattle.nb_copy.proofs.StartCauses.{after_none}
 use Rattle.nb_change.proofs.ResultLaws.{passed_on}
+use Rattle.nb_base.proofs.AttachLaws.{first_here}
+use Rattle.nb_engine.proofs.BackupLaws.{strokes_by}
 
 -- the tests in the order of the calls are those of the turn
 at_once : (a b c d e f g h i : Cause) → first_cause (first_cause (first_cause (a ∷ b ∷ c ∷ []) ∷ first_cause (d ∷ e ∷ []) ∷ []) ∷ first_cause (d ∷ f ∷ g ∷ h ∷ i ∷ []) ∷ []) ≡ first_cause (a ∷ b ∷ c ∷ d ∷ e ∷ f ∷ g ∷ h ∷ i ∷ [])
@@ -104,11 +106,6 @@ turn_by s session (Level zero) name =
     (not_of_form (room_in s.base.image).draft) (no_room (room_in s.base.image).draft) (no_scn s.base.image)))
 turn_by s session (Level (suc below)) name = row_turn s session name (ask_in (Level (suc below)) s.base.image) (earlier_row (Level (suc below)) s.base.image) (NoHistory below)
 turn_by s session (Guid guid) name = row_turn s session name (ask_in (Guid guid) s.base.image) (earlier_row (Guid guid) s.base.image) (NoGuid guid)
-
-strokes_by : (s : Seen) (cause : Cause) (o : Outcome) → (unless s cause o).strokes ≡ unless_by cause o.strokes
-unfolding unless
-strokes_by s None o = refl
-strokes_by s (Some r) o = refl
 
 pub struck_some : (old new : World) (n : List ℕ) (t : Trail) (cause : Cause) (xs ys : List Stroke) → Strikes old new n t (unless_by cause xs) → Strikes old new n t (unless_by cause (xs ++ ys))
 struck_some old new n t None xs ys struck = struck_front old new n t xs ys struck

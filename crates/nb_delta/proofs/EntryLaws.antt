@@ -13,6 +13,7 @@ use Rattle.std.proofs.lemmas.Bool.Decides.{eqb_tells}
 use Rattle.std.proofs.lemmas.Map.Steps.{length-le_from_distinct_below}
 use Rattle.nb_fields.specs.Places.{most_pages}
 use Rattle.nb_delta.specs.Entries.{place_of, AreEntries, IsIndex}
+use Rattle.nb_host.proofs.PlainLaws.{false_true}
 
 -- no entries
 pub no_entries : AreEntries []
@@ -64,9 +65,6 @@ entry_below (x ∷ xs) n below (suc k) inside = entry_below xs n (λ page is. be
 -- there are no more entries than pages
 pub few : (xs : List ℕ) → AreEntries xs → length xs ≤ most_pages
 few xs are = length-le_from_distinct_below xs most_pages are.once are.below
-
-false_true : false ≡ true → ⊥
-false_true e = cc
 
 none_equal : (x p : ℕ) (xs : List ℕ) → nat_eq x p ≡ false → AllByRecursion (λ y. nat_eq x y ≡ false) xs → AllByRecursion (λ y. nat_eq x y ≡ false) (xs ++ p ∷ [])
 none_equal x p [] other are = (other, tt)

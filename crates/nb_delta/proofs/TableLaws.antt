@@ -12,6 +12,7 @@ use Rattle.nb_delta.specs.Reading.{is_unfit}
 use Rattle.nb_delta.proofs.EntryLaws.{entries_more}
 use Rattle.nb_delta.proofs.ReadLaws.{entries_none, entry_unfit, entry_cut, entry_read, fit_named, fit_below}
 use Rattle.nb_delta.proofs.GroupLaws.{is_misshapen, group_misshapen, group_broken, group_full, group_last, next_group, first_group, whole_pages}
+use Rattle.nb_host.proofs.PlainLaws.{err_ok}
 
 -- the count of a group, and the number of its entry i
 abbrev pub count_at : (size : ℕ) (bytes : List ℕ) (g : ℕ) → ℕ
@@ -44,9 +45,6 @@ same_place room g i h j low lower same = elim (cases_order h g) [
   | inr (inl l) ↦ let m : (h + 1) * room ≤ g * room = mul-le-mul_right room (omega arith) in absurd (omega (arith, m))
   | inr (inr l) ↦ let m : (g + 1) * room ≤ h * room = mul-le-mul_right room (omega arith) in absurd (omega (arith, m))
 ]
-
-err_ok : (page : ℕ) (table : List ℕ) → Err page ≡ Ok table → ⊥
-err_ok page table e = cc
 
 -- a table that was read
 abbrev ok_of : List ℕ → Result (List ℕ) ℕ

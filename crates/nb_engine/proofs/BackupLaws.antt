@@ -21,11 +21,12 @@ use Rattle.nb_state.specs.Does.{Tested, has_only_told, unless_by}
 use Rattle.nb_state.specs.Turns.{begin_cause, end_cause, Begins, Ends}
 use Rattle.nb_state.proofs.MakesLaws.{open_still, none_yet}
 use Rattle.nb_engine.specs.Turns.{DoesBegin, DoesEnd, Starts, starting_cause}
-use Rattle.nb_alloc.proofs.CauseLaws.{told_some, unless_refused, unless_allowed, first_next, first_here}
+use Rattle.nb_alloc.proofs.CauseLaws.{told_some, unless_refused, unless_allowed}
 use Rattle.nb_alloc.proofs.DoesLaws.{seeing}
+use Rattle.nb_base.proofs.AttachLaws.{first_here, first_next}
 
 -- what a turn does that isn't refused, its strokes by the cause
-strokes_by : (s : Seen) (cause : Cause) (o : Outcome) → (unless s cause o).strokes ≡ unless_by cause o.strokes
+pub strokes_by : (s : Seen) (cause : Cause) (o : Outcome) → (unless s cause o).strokes ≡ unless_by cause o.strokes
 unfolding unless
 strokes_by s None o = refl
 strokes_by s (Some r) o = refl

@@ -21,15 +21,16 @@ use Rattle.nb_alloc.specs.Data.{data_cause, put_data}
 use Rattle.nb_alloc.specs.Make.{page_strokes}
 use Rattle.nb_alloc.specs.Put.{entry_cause}
 use Rattle.nb_alloc.specs.Tries.{Tries}
-use Rattle.nb_alloc.proofs.CauseLaws.{first_next, first_here, one_cause}
+use Rattle.nb_alloc.proofs.CauseLaws.{one_cause}
 use Rattle.nb_alloc.proofs.DoesLaws.{tries_after, tries_these}
 use Rattle.nb_alloc.proofs.MakeLaws.{tries_named}
-use Rattle.nb_alloc.proofs.PutLaws.{none_of}
 use Rattle.nb_alloc.proofs.ReadyLaws.{page_strokes_are}
+use Rattle.nb_base.proofs.AttachLaws.{first_here, first_next}
+use Rattle.nb_model.proofs.TurnCases.{is_so}
 
 -- a data page is below the length
 pub data_there : (image : Image) (p : ℕ) → not_kind image data_kind p ≡ None → p < length image
-data_there image p kind = (kind_parts image data_kind p (none_of (is_kind image data_kind p) (NotDatabase p) kind)).0
+data_there image p kind = (kind_parts image data_kind p (is_so (is_kind image data_kind p) (NotDatabase p) kind)).0
 
 -- why it isn't written
 pub none_there : (image : Image) (p : ℕ) (r : Refusal) → not_kind image data_kind p ≡ Some r → data_cause image p ≡ Some r

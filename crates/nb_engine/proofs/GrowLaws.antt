@@ -31,9 +31,10 @@ use Rattle.nb_engine.specs.Room.{no_rows, linked_payload, write_cause, grow_caus
 use Rattle.nb_alloc.specs.Tries.{Tries}
 use Rattle.nb_alloc.proofs.DoesLaws.{tries_other, tries_valued, tries_front, tries_next}
 use Rattle.nb_alloc.proofs.MakeLaws.{tries_named}
-use Rattle.nb_alloc.proofs.CauseLaws.{first_none, first_next, first_here}
 use Rattle.nb_alloc.proofs.NewLaws.{told, image_is}
 use Rattle.nb_engine.proofs.LinkLaws.{write_low}
+use Rattle.nb_base.proofs.AttachLaws.{first_here, first_next}
+use Rattle.nb_model.proofs.TurnCases.{no_cause}
 
 -- the bytes of a page of the history without a row
 pub rows_are : 0 ∷ 0 ∷ 0 ∷ 0 ∷ 1 ∷ 0 ∷ 0 ∷ 0 ∷ 0 ∷ 0 ∷ 0 ∷ 0 ∷ 0 ∷ 0 ∷ 0 ∷ 0 ∷ [] ≡ no_rows
@@ -180,4 +181,4 @@ module _ (image : Image) (pages : List ℕ) where
   grow_spent room r e = grow_is ∙ first_next (draft_cause history) (no_scn image ∷ []) room ∙ first_here (no_scn image) [] r e
 
   pub grow_free : draft_cause history ≡ None → no_scn image ≡ None → grow_cause image pages ≡ None
-  grow_free room scn = grow_is ∙ first_next (draft_cause history) (no_scn image ∷ []) room ∙ first_next (no_scn image) [] scn ∙ first_none
+  grow_free room scn = grow_is ∙ first_next (draft_cause history) (no_scn image ∷ []) room ∙ first_next (no_scn image) [] scn ∙ no_cause

@@ -3,7 +3,6 @@ use Rattle.std.proofs.Common.{◌≡◌, ℕ, ◌<◌, List, [], ◌∷◌, leng
 use Rattle.std.specs.Prelude.{Bool, true, false, Option, Some, None}
 use Rattle.nb_fields.specs.Places.{most_pages}
 use Rattle.nb_host.specs.declared.refusals.Refusal.TheVariants.{Full}
-use Rattle.nb_alloc.proofs.TestLaws.{rests}
 use Rattle.nb_model.proofs.ReadLaws.{lt_no}
 use Rattle.nb_model.specs.Image.{Image}
 use Rattle.nb_model.specs.Forms.{Draft, drafted, needs, is_kind, is_free_page, inventory_of, scn_page_of}
@@ -14,8 +13,10 @@ use Rattle.nb_model.proofs.PutSound.{needs_image}
 use Rattle.nb_engine.specs.declared.walk.Room.{Room}
 use Rattle.nb_engine.specs.History.{room_at}
 use Rattle.nb_engine.specs.Room.{room_cause, IsRoomIn, taken_draft, grow_cause}
-use Rattle.nb_alloc.proofs.CauseLaws.{first_next}
 use Rattle.nb_engine.proofs.WalkLaws.{IsData, history_least}
+use Rattle.nb_base.proofs.AttachLaws.{first_next}
+use Rattle.nb_model.proofs.HeldRoom.{needs_image_same}
+use Rattle.nb_model.proofs.WholeLaws.{when_false}
 
 -- what a test of inventories leaves
 needs_leaves : (kind p : ℕ) (d : Draft) → ((needs kind p d).strokes ≡ d.strokes) × ((needs kind p d).full ≡ d.full)
@@ -53,17 +54,9 @@ module _ (image : Image) (p : ℕ) where
   kept_full : (taken_draft image p).full ≡ false
   kept_full = (taken_leaves p second).1 ∙ (needs_leaves 10 (scn_page_of image p) first).1 ∙ (needs_leaves 2 (inventory_of image p) (drafted image)).1
 
-taken_image : (p : ℕ) (d : Draft) → (needs_taken p d).image ≡ d.image
-unfolding needs_taken
-taken_image p d = by (is_free_page d.image p)
-  where
-    by : (t : Bool) → (elim t as (λ z. Draft) [ true ↦ record d { broken = p ∷ d.broken } | false ↦ d ]).image ≡ d.image
-    by true = refl
-    by false = refl
-
 kept_image : (image : Image) (p : ℕ) → (taken_draft image p).image ≡ image
 kept_image image p =
-    taken_image p (needs 10 (scn_page_of image p) (needs 2 (inventory_of image p) (drafted image))) ∙ needs_image 10 (scn_page_of image p) (needs 2 (inventory_of image p) (drafted image)) ∙ needs_image 2 (inventory_of image p) (drafted image)
+    needs_image_same p (needs 10 (scn_page_of image p) (needs 2 (inventory_of image p) (drafted image))) ∙ needs_image 10 (scn_page_of image p) (needs 2 (inventory_of image p) (drafted image)) ∙ needs_image 2 (inventory_of image p) (drafted image)
 
 -- a cause that doesn't apply
 skip : (a b : Cause) (cs : List Cause) → b ≡ None → first_cause (a ∷ b ∷ cs) ≡ first_cause (a ∷ cs)
@@ -127,7 +120,7 @@ module _ (image : Image) where
     pub grown_cause : broken_at (pages_of History image) ≡ None → grow_cause image (found_pages History image) ≡ room_cause image
     grown_cause linked =
         let least = history_least image linked in
-        let long : too_short image ≡ None = rests _ _ (lt_no (length image) 5 least) in
+        let long : too_short image ≡ None = when_false _ _ (lt_no (length image) 5 least) in
         sym (first_next (broken_at (pages_of History image)) _ linked
         ∙ first_next (short_for (free_spot (spots History image)) image) _ (ap (λ (o : Option Spot). short_for o image) e ∙ long)
         ∙ ap (λ (k : Kept). first_cause (not_of_form k.draft ∷ no_room k.draft ∷ no_scn image ∷ [])) grows_is)

@@ -17,9 +17,11 @@ use Rattle.nb_model.proofs.ReadLaws.{le_no}
 use Rattle.nb_alloc.specs.Put.{entry_cause}
 use Rattle.nb_alloc.specs.Make.{page_strokes}
 use Rattle.nb_engine.specs.Room.{write_cause}
-use Rattle.nb_alloc.proofs.CauseLaws.{first_next, first_here, one_cause}
-use Rattle.nb_alloc.proofs.TestLaws.{applies, rests, le_yes}
+use Rattle.nb_alloc.proofs.CauseLaws.{one_cause}
 use Rattle.nb_alloc.proofs.ReadyLaws.{page_strokes_are}
+use Rattle.nb_base.proofs.AttachLaws.{applies, first_here, first_next}
+use Rattle.nb_host.proofs.PlainLaws.{le_yes}
+use Rattle.nb_model.proofs.WholeLaws.{when_false}
 
 -- bytes after the head of a page were written
 module _ (at : ℕ) (bytes old : List ℕ) (low : 16 ≤ at) (before : at ≤ length old) (long : length (with_part at bytes old) ≡ length old) where
@@ -44,7 +46,7 @@ slot_strokes b p slot bytes size none = page_strokes_are b p 5 (drop 16 (with_pa
 
 -- why a page isn't written
 pub write_low : (image : Image) (p : ℕ) → p < length image → entry_cause image p ≡ write_cause image p
-write_low image p low = sym (first_next (when (nat_le (length image) p) (NotDatabase p)) (entry_cause image p ∷ []) (rests _ _ (le_no (length image) p low)) ∙ one_cause (entry_cause image p))
+write_low image p low = sym (first_next (when (nat_le (length image) p) (NotDatabase p)) (entry_cause image p ∷ []) (when_false _ _ (le_no (length image) p low)) ∙ one_cause (entry_cause image p))
 
 pub write_past : (image : Image) (p : ℕ) → length image ≤ p → write_cause image p ≡ Some (NotDatabase p)
 write_past image p far = first_here (when (nat_le (length image) p) (NotDatabase p)) (entry_cause image p ∷ []) (NotDatabase p) (applies _ _ (le_yes (length image) p far))

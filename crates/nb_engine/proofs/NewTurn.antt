@@ -29,9 +29,11 @@ use Rattle.nb_alloc.specs.Make.{IsWell, new_raw}
 use Rattle.nb_engine.specs.Replies.{page_made}
 use Rattle.nb_alloc.specs.Search.{IsSearchable}
 use Rattle.nb_alloc.specs.Tries.{Tries}
-use Rattle.nb_alloc.proofs.TestLaws.{applies, rests}
-use Rattle.nb_alloc.proofs.CauseLaws.{unless_refused, unless_allowed, first_none, first_next, first_here, refused_by, judged_by}
+use Rattle.nb_alloc.proofs.CauseLaws.{unless_refused, unless_allowed, refused_by, judged_by}
 use Rattle.nb_alloc.proofs.DoesLaws.{seeing, tries_does}
+use Rattle.nb_base.proofs.AttachLaws.{applies, first_here, first_next}
+use Rattle.nb_model.proofs.TurnCases.{no_cause}
+use Rattle.nb_model.proofs.WholeLaws.{when_false}
 
 -- the bytes of the empty text
 pub empty_is : 0 ∷ 0 ∷ [] ≡ text_payload []
@@ -71,11 +73,11 @@ module _ (s : Seen) where
     unfolding new_turn
     new_short low =
         refused_by s (read_only image ∷ too_short image ∷ []) draft reply (NotDatabase (length image))
-        (first_next (read_only image) (too_short image ∷ []) (rests _ _ free) ∙ first_here (too_short image) [] (NotDatabase (length image)) (applies _ _ (lt_yes (length image) 5 low)))
+        (first_next (read_only image) (too_short image ∷ []) (when_false _ _ free) ∙ first_here (too_short image) [] (NotDatabase (length image)) (applies _ _ (lt_yes (length image) 5 low)))
 
     module _ (long : 5 ≤ length image) where
       open_to_change : first_cause (read_only image ∷ too_short image ∷ []) ≡ None
-      open_to_change = first_next (read_only image) (too_short image ∷ []) (rests _ _ free) ∙ first_next (too_short image) [] (rests _ _ (lt_no (length image) 5 long)) ∙ first_none
+      open_to_change = first_next (read_only image) (too_short image ∷ []) (when_false _ _ free) ∙ first_next (too_short image) [] (when_false _ _ (lt_no (length image) 5 long)) ∙ no_cause
 
       pub new_refused : (r : Refusal) → draft_cause draft ≡ Some r → new_turn s ≡ says s (Refused r) []
       unfolding new_turn

@@ -14,7 +14,7 @@ used_level : (level : ℕ) → level < 256 → bytes_of 1 1 ++ bytes_of 1 level 
 unfolding bytes_of
 used_level level low = let same : level % 256 ≡ level = omega (arith, low) in ap (λ (n : ℕ). 1 ∷ n ∷ []) same
 
-zeros_are : replicate 256 0 ≡ padded 256 []
+pub zeros_are : replicate 256 0 ≡ padded 256 []
 unfolding padded
 zeros_are = refl
 

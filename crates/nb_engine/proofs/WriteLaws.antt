@@ -27,11 +27,13 @@ use Rattle.nb_state.specs.Open.{Held, IsOpen}
 use Rattle.nb_state.specs.Does.{Makes, Does}
 use Rattle.nb_alloc.specs.Put.{entry_cause, raise_strokes, raw_stroke}
 use Rattle.nb_alloc.specs.Tries.{Tries}
-use Rattle.nb_alloc.proofs.CauseLaws.{first_none, first_next, first_here, refused_by, judged_by, unless_these}
+use Rattle.nb_alloc.proofs.CauseLaws.{refused_by, judged_by, unless_these}
 use Rattle.nb_alloc.proofs.DoesLaws.{seeing, tries_does, if_ok}
 use Rattle.nb_alloc.proofs.PageLaws.{then_page}
 use Rattle.nb_alloc.proofs.PutLaws.{put_stroke-after, put_strokes, put_form, put_room, put_refused}
 use Rattle.nb_engine.specs.Replies.{done}
+use Rattle.nb_base.proofs.AttachLaws.{first_here, first_next}
+use Rattle.nb_model.proofs.TurnCases.{no_cause}
 
 -- what a taken raw page is
 pub record IsRaw (image : Image) (p : ℕ) : Type 0 where
@@ -81,7 +83,7 @@ put_cause b p kind payload = by (entry_cause b.image p) refl
     abbrev_draft = put p kind payload (drafted b.image)
 
     by : (c : Cause) → entry_cause b.image p ≡ c → first_cause (not_of_form abbrev_draft ∷ no_room abbrev_draft ∷ []) ≡ entry_cause b.image p
-    by None e = first_next (not_of_form abbrev_draft) _ (put_form b p kind payload e) ∙ first_next (no_room abbrev_draft) [] (put_room b p kind payload e) ∙ first_none ∙ sym e
+    by None e = first_next (not_of_form abbrev_draft) _ (put_form b p kind payload e) ∙ first_next (no_room abbrev_draft) [] (put_room b p kind payload e) ∙ no_cause ∙ sym e
     by (Some r) e = first_here (not_of_form abbrev_draft) _ r (put_refused b p kind payload r e) ∙ sym e
 
 -- the turn, by its causes

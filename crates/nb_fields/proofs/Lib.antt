@@ -7,4 +7,4 @@ pub mod LengthLaws
 pub mod PlaceLaws
 pub mod FreshLaws
 pub mod PlainLaws
-mod Rows
+pub mod Rows

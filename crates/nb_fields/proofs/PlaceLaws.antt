@@ -37,7 +37,7 @@ is_inventory_place-at size (suc k) p is at =
     let next : p + 1 ≡ suc k * bits_in size = omega arith in
     or_right (p == 1) ((p + 1) % bits_in size == 0) (eq-eqb ((p + 1) % bits_in size) 0 (ap (λ n. n % bits_in size) next ∙ mul-mod_left (suc k) (bits_in size)))
 
-inventory_place-some : (size k : ℕ) → IsTrue (is_page_size size) → 0 < inventory_place size k
+pub inventory_place-some : (size k : ℕ) → IsTrue (is_page_size size) → 0 < inventory_place size k
 inventory_place-some size zero is = omega arith
 inventory_place-some size (suc k) is =
     let least = bits-least size is in
@@ -80,7 +80,7 @@ scn_place-apart size (suc k) p is at none =
     let zero_too : (p + 1) % entries_in size ≡ 0 = ap (λ n. n % entries_in size) as_entries ∙ mul-mod_left (32 * q) (entries_in size) in
     absurd (omega arith)
 
-scn_place-some : (size k : ℕ) → IsTrue (is_page_size size) → 2 ≤ scn_place size k
+pub scn_place-some : (size k : ℕ) → IsTrue (is_page_size size) → 2 ≤ scn_place size k
 scn_place-some size zero is = omega arith
 scn_place-some size (suc k) is =
     let least = entries-least size is in

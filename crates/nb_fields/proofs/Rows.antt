@@ -79,7 +79,7 @@ unfolding opened
 hello = refl
 
 -- free and not free
-no_file : is_free_file None ≡ true
+pub no_file : is_free_file None ≡ true
 unfolding opened
 no_file = refl
 

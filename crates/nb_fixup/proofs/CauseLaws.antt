@@ -21,9 +21,7 @@ use Rattle.nb_model.proofs.FormLaws.{no_cause}
 use Rattle.nb_model.proofs.HeaderLaws.{same-header, same-number}
 use Rattle.nb_model.proofs.ReadLaws.{lt_yes, eq_no}
 use Rattle.nb_fixup.specs.Tests.{copy_cause, file_cause}
-
-some_none : (r : Refusal) → Some r ≡ None → ⊥
-some_none r e = cc
+use Rattle.nb_host.proofs.PlainLaws.{some_none}
 
 -- a file without a header
 pub unheaded : (bytes : List ℕ) → is_header bytes ≡ false → not_database bytes ≡ Some (NotDatabase 0)

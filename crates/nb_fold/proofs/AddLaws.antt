@@ -1,5 +1,5 @@
 -- A file that is added after others that go on from one another.
-use Rattle.std.proofs.Common.{◌≡◌, ℕ, suc, ◌+◌, ◌-◌, ◌<◌, ◌≤◌, List, [], ◌∷◌, ◌++◌, length, get_or, drop, refl, sym, ap, subst, ◌∙◌, arith, append_assoc, drop-cons}
+use Rattle.std.proofs.Common.{◌≡◌, ℕ, suc, ◌+◌, ◌-◌, ◌<◌, ◌≤◌, List, [], ◌∷◌, ◌++◌, length, get_or, drop, refl, sym, ap, subst, ◌∙◌, arith, append_assoc}
 use Rattle.std.specs.Prelude.{Some, None, Option, Result, Ok, Err, false, ◌==◌}
 use Rattle.std.proofs.lemmas.Bool.{true≢false}
 use Rattle.std.proofs.lemmas.List.{append-nil, drop_all}
@@ -183,10 +183,6 @@ module _ (files : Files) (all left : List (List ℕ)) (name : List ℕ) (old : L
     opened = subst (λ (ss : List Held). AreOpened files (so_far.done ++ name ∷ []) ss (so_far.contents ++ is.contents ∷ [])) (sym is.added) (opened_more files so_far.done old so_far.contents name is.source is.contents so_far.opened is.opened);
     reads = omega (arith, so_far.reads, is.reads, reads_more so_far.contents is.contents);
   }
-
--- the next of those that are left
-pub left_there : (names : List (List ℕ)) (k : ℕ) (name : List ℕ) → k < length names → name ≡ get_or names k name → drop k names ≡ name ∷ drop (k + 1) names
-left_there names k name h is = drop-cons names k name h ∙ ap (λ y. y ∷ drop (suc k) names) (sym is) ∙ ap (λ (n : ℕ). name ∷ drop n names) (let e : suc k ≡ k + 1 = omega arith in e)
 
 pub opened_all : (files : Files) (all : List (List ℕ)) (k : ℕ) (sources : List Held) (before after : ℕ) → length all ≤ k → SoFarOpened files all (drop k all) sources before after → AreChained files all before after sources
 unfolding files_after

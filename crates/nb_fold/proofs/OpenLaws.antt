@@ -11,9 +11,7 @@ use Rattle.nb_level.specs.Heads.{head_of}
 use Rattle.nb_level.specs.Reading.{Reading, still_to_come}
 use Rattle.nb_level.proofs.ToldLaws.{with_head-is}
 use Rattle.nb_fold.specs.Sources.{Held, IsGiven, IsTaken, IsOpened, Waits}
-
-some_same : (a b : List ℕ) → Some a ≡ Some b → a ≡ b
-some_same a b e = cc
+use Rattle.nb_host.proofs.PlainLaws.{some_same}
 
 none_some : (a : List ℕ) (f : File) → f ≡ None → f ≡ Some a → ⊥
 none_some a f e g = cc

@@ -24,6 +24,7 @@ use Rattle.nb_fold.specs.Same.{links_of}
 use Rattle.nb_fold.specs.Verdict.{chained, file_after, files_after, not_after, with_files}
 use Rattle.nb_fold.proofs.FoldedLaws.{folded_rises, none_above, none_below}
 use Rattle.nb_level.proofs.PagesLaws.{level_pages}
+use Rattle.nb_restore.proofs.CopiedLaws.{all_over-append}
 
 -- the page that is seen where one is written, or none
 abbrev pub seen : Option Page → (before : Page) → Page
@@ -96,12 +97,6 @@ pub folded_over : (size : ℕ) (rss : List (List Numbered)) (image : Image) → 
 folded_over size rss image rise =
     trimmed_alike size (over_each size rss image) (overwritten size (folded_pages rss) image)
     (λ p. page_each size rss image p rise ∙ ap (λ o. seen o (main_page size image p)) (sym (folded_page p rss rise)) ∙ sym (page_over size 0 (folded_pages rss) image p (folded_rises most_pages 0 rss (omega arith))))
-
--- the files of a chain
-all_over-append : (ls ms : List Link) (image : Image) → all_over (ls ++ ms) image ≡ all_over ms (all_over ls image)
-unfolding all_over
-all_over-append [] ms image = refl
-all_over-append (l ∷ ls) ms image = all_over-append ls ms (overwritten l.size l.pages image)
 
 -- files whose pages have that size
 abbrev pub AreOf : (size : ℕ) → List Contents → Type 0

@@ -16,11 +16,12 @@ use Rattle.nb_model.proofs.ReadLaws.{eq_yes}
 use Rattle.nb_gather.specs.Gathering.{LevelWriting, Waiting, Holds, HoldsAll, Reads, HasTaken, MayHave, complete, incomplete, level_front}
 use Rattle.nb_gather.specs.Making.{IsUnfinished}
 use Rattle.nb_gather.proofs.AppendLaws.{run_read, run_reads, run_left}
-use Rattle.nb_gather.proofs.FitLaws.{RunsFit, runs_fit, may_front, lt_tells}
+use Rattle.nb_gather.proofs.FitLaws.{RunsFit, runs_fit, may_front}
 use Rattle.nb_gather.proofs.QuietLaws.{renamed}
-use Rattle.nb_gather.proofs.RunLaws.{no_both, one_run, longer_run, goes_on, Grows, runs_added, grown_none, grown_other, grown_more, grown_full}
+use Rattle.nb_gather.proofs.RunLaws.{one_run, longer_run, goes_on, Grows, runs_added, grown_none, grown_other, grown_more, grown_full}
 use Rattle.nb_gather.proofs.UnfinishedLaws.{AreFit}
 use Rattle.nb_gather.proofs.WaitingLaws.{none_waits, one_waits, holds_one, holds_longer, goes_as, taken_still, taken_with}
+use Rattle.nb_host.proofs.PlainLaws.{lt_holds, not_both}
 
 -- the page may go into the run
 abbrev pub may_join : Waiting → Numbered → Bool
@@ -42,11 +43,11 @@ pub record Completes (run : Waiting) (rs : List Numbered) (r : Numbered) (waits 
 
 -- a run that is no run, or that the page goes on with
 or_right : (a b : Bool) → (a || b) ≡ true → a ≡ false → b ≡ true
-or_right true b is none = absurd (no_both true refl none)
+or_right true b is none = absurd (not_both true refl none)
 or_right false b is none = is
 
 or_none : (a b : Bool) → (a || b) ≡ false → (a ≡ false) × (b ≡ false)
-or_none true b is = absurd (no_both true refl is)
+or_none true b is = absurd (not_both true refl is)
 or_none false b is = (refl, is)
 
 module _ (head : LevelHead) (rs : List Numbered) (r : Numbered) (may : MayHave head (rs ++ r ∷ [])) (old : Waiting) (waits : HoldsAll old (incomplete (runs_of rs))) where
@@ -74,7 +75,7 @@ module _ (head : LevelHead) (rs : List Numbered) (r : Numbered) (may : MayHave h
           holds = w.2;
           goes = sym (goes_as old w.0 r w.2) ∙ goes;
           some = (let ne = some.1 in positive old.count ne);
-          few = lt_tells old.count 16 (and_parts (r.0 == old.first + old.count) (nat_lt old.count 16) goes).1;
+          few = lt_holds old.count 16 (and_parts (r.0 == old.first + old.count) (nat_lt old.count 16) goes).1;
         })
   ]
     where
@@ -90,7 +91,7 @@ module _ (head : LevelHead) (rs : List Numbered) (r : Numbered) (may : MayHave h
           taken_still head rs r w name written new counted (one_run r ∷ []) (grown_none r (runs_of rs) (none_waits old head rs before waits none))
           (holds_one old new r joined_.first joined_.more joined_.alone joined_.bytes joined_.count none) stands
       | inr on ↦
-          let other : new.count ≢ 16 = λ e. absurd (no_both (new.count == 16) (eq_yes new.count 16 e) short) in
+          let other : new.count ≢ 16 = λ e. absurd (not_both (new.count == 16) (eq_yes new.count 16 e) short) in
           let room : length on.w.pages + 1 < 16 = below new.count (length on.w.pages) (omega (arith, joined_.count, on.holds.count)) (omega (arith, on.few, on.holds.count)) other in
           taken_still head rs r w name written new counted (longer_run on.w r ∷ []) (grown_more r (runs_of rs) on.w on.is on.goes room)
           (holds_longer old new r joined_.first joined_.more joined_.alone joined_.bytes joined_.count on.w on.some on.holds) stands
@@ -116,7 +117,7 @@ module _ (head : LevelHead) (rs : List Numbered) (r : Numbered) (may : MayHave h
   pub other_run : may_join old r ≡ false → Completes old rs r (one_run r ∷ [])
   other_run not_ =
       let both = or_none (old.count == 0) _ not_ in
-      let some : old.count ≢ 0 = λ e. absurd (no_both (old.count == 0) (eq_yes old.count 0 e) both.0) in
+      let some : old.count ≢ 0 = λ e. absurd (not_both (old.count == 0) (eq_yes old.count 0 e) both.0) in
       let w = one_waits old head rs before waits some in
       record { s = w.0; holds = w.2; grows = grown_other r (runs_of rs) w.0 w.1 (sym (goes_as old w.0 r w.2) ∙ both.1) }
 

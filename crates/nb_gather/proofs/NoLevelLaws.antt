@@ -15,8 +15,8 @@ use Rattle.nb_level.proofs.ToldLaws.{level_told}
 use Rattle.nb_gather.specs.Gathering.{IsHeaded}
 use Rattle.nb_gather.specs.Making.{IsNoBackup}
 use Rattle.nb_gather.proofs.TornLaws.{Torn, torn_take, torn_drop, torn_short, torn_self, torn_longer, torn_more}
-use Rattle.nb_gather.proofs.ReadAgain.{no_both}
 use Rattle.nb_gather.proofs.UnfinishedLaws.{small_torn, AreFit, torn_runs}
+use Rattle.nb_host.proofs.PlainLaws.{not_both}
 
 -- what stands after a head goes on
 pub head_more : (version : ℕ) (h : Head) (a b : List ℕ) → head_then version h a ++ b ≡ head_then version h (a ++ b)
@@ -96,8 +96,8 @@ module _ (h : Head) (is : IsHeaded h) where
         let told = level_told ts c reads in
         let known : (number_in 4 2 ts == 101 || number_in 4 2 ts == 102) ≡ true = ap (λ v. v == 101 || v == 102) (sym told.version) ∙ told.known in
         let sized : is_page_size (number_in 40 4 ts) ≡ true = ap (λ (h : Head). is_page_size h.size) (sym told.head) ∙ told.size in
-        let version : number_in 4 2 ts ≡ 102 = ⊎_elim (λ e. e) (λ e. absurd (no_both (0 == 101 || 0 == 102) (subst (λ v. (v == 101 || v == 102) ≡ true) e known) refl)) (torn_version tail ts torn) in
-        let size : number_in 40 4 ts ≡ h.size = ⊎_elim (λ e. e) (λ e. absurd (no_both (is_page_size 0) (subst (λ v. is_page_size v ≡ true) e sized) refl)) (torn_size tail ts torn) in
+        let version : number_in 4 2 ts ≡ 102 = ⊎_elim (λ e. e) (λ e. absurd (not_both (0 == 101 || 0 == 102) (subst (λ v. (v == 101 || v == 102) ≡ true) e known) refl)) (torn_version tail ts torn) in
+        let size : number_in 40 4 ts ≡ h.size = ⊎_elim (λ e. e) (λ e. absurd (not_both (is_page_size 0) (subst (λ v. is_page_size v ≡ true) e sized) refl)) (torn_size tail ts torn) in
         torn_runs (head_in ts) (total ss) (size_facts (number_in 40 4 ts) sized).at_least few ss (length ts) 52 0 0 end_mark (drop 52 ts) c.pages (subst (λ n. AreFit n ss) (sym size) fit) (let e : 0 + total ss ≡ total ss = omega arith in e) (torn_tail tail ts torn)
         (sym (runs_read ts (number_in 4 2 ts) version) ∙ told.pages)
 

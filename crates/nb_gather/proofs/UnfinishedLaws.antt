@@ -1,5 +1,5 @@
 -- A level file without its end, or with a torn one, is no level file, whatever of it was torn.
-use Rattle.std.proofs.Common.{◌≡◌, ◌≢◌, ◌⊎◌, inl, inr, ⊎_elim, ℕ, zero, suc, ◌+◌, ◌*◌, ◌/◌, ◌%◌, ◌<◌, ◌≤◌, List, [], ◌∷◌, ◌++◌, length, take, drop, refl, sym, ap, subst, ◌∙◌, arith, length-append, append_assoc}
+use Rattle.std.proofs.Common.{◌≡◌, ◌≢◌, ◌⊎◌, inl, inr, ⊎_elim, ℕ, zero, suc, ◌+◌, ◌*◌, ◌/◌, ◌%◌, ◌<◌, ◌≤◌, List, [], ◌∷◌, ◌++◌, length, take, drop, refl, sym, ap, subst, ◌∙◌, arith, length-append}
 use Rattle.std.specs.Prelude.{Ok}
 use Rattle.std.proofs.lemmas.List.{append-nil, drop_at, take_all, drop-drop, length-take-le, length-drop, take-append-drop}
 use Rattle.std.proofs.Math.Nat.{suc-mul}
@@ -10,9 +10,10 @@ use Rattle.nb_model.specs.Image.{Numbered}
 use Rattle.nb_model.specs.Levels.{Head, Stretch, run_bytes, end_bytes, end_mark, joined, read_runs, barred_after}
 use Rattle.nb_model.specs.Sound.{IsOfSize}
 use Rattle.nb_model.proofs.ImageLaws.{length-joined}
-use Rattle.nb_model.proofs.GatherLaws.{total}
+use Rattle.nb_model.proofs.GatherLaws.{total, run_front}
 use Rattle.nb_gather.proofs.TornLaws.{Torn, torn_take, torn_drop, torn_short, torn_number}
 use Rattle.nb_gather.proofs.ReadAgain.{no_value, run_facts, runs_are, end_facts}
+use Rattle.nb_model.proofs.ReadLaws.{eight_bytes}
 
 -- a number of one byte is whole or zero
 pub small_torn : (w b : ℕ) (ts : List ℕ) → b < 256 → Torn (bytes_of (suc w) b) ts → (number_of ts ≡ b) ⊎ (number_of ts ≡ 0)
@@ -52,11 +53,6 @@ pub record IsFit (size : ℕ) (s : Stretch) : Type 0 where
 abbrev pub AreFit : ℕ → List Stretch → Type 0
 AreFit size [] = Unit {0}
 AreFit size (s ∷ ss) = IsFit size s × AreFit size ss
-
--- a run after its number and its count
-run_front : (s : Stretch) (ss : List Stretch) (e : List ℕ) → run_bytes (s ∷ ss) ++ e ≡ bytes_of 4 s.first ++ (bytes_of 4 (length s.pages) ++ (joined s.pages ++ (run_bytes ss ++ e)))
-unfolding run_bytes bytes_of
-run_front s ss e = ap (λ (x : List ℕ). bytes_of 4 s.first ++ (bytes_of 4 (length s.pages) ++ x)) (append_assoc (joined s.pages) (run_bytes ss) e)
 
 run_long : (size : ℕ) (s : Stretch) (ss : List Stretch) → IsFit size s → length (run_bytes (s ∷ ss)) ≡ 8 + length s.pages * size + length (run_bytes ss)
 unfolding run_bytes bytes_of
@@ -99,10 +95,6 @@ end_whole n rest low torn long mark count =
     let second : drop 4 rest ≡ bytes_of 4 n = torn_same (bytes_of 4 n) (drop 4 rest) (subst (λ (x : List ℕ). Torn (bytes_of 4 n) x) all (second_torn end_mark n [] rest none)) (left ∙ sym (length-bytes_of 4 n))
     (ap number_of (sym all) ∙ count ∙ sym (number_of-bytes_of 4 n low)) in
     sym (take-append-drop 4 rest) ∙ ap (λ (x : List ℕ). x ++ drop 4 rest) first ∙ ap (λ (x : List ℕ). bytes_of 4 end_mark ++ x) second
-
-eight_bytes : (n : ℕ) → length (end_bytes n) ≡ 8
-unfolding end_bytes bytes_of
-eight_bytes n = refl
 
 none_behind : (n : ℕ) → run_bytes [] ++ end_bytes n ≡ end_bytes n
 unfolding run_bytes

@@ -21,7 +21,6 @@ use Rattle.nb_level.specs.Heads.{head_of}
 use Rattle.nb_level.specs.Reading.{Reading, still_to_come}
 use Rattle.nb_level.specs.declared.head.LevelHead.{LevelHead}
 use Rattle.nb_chain.specs.Level.{WholeSays, LevelRefused}
-use Rattle.nb_restore.proofs.AnswerLaws.{some_same}
 use Rattle.nb_level.proofs.ToldLaws.{with_head-is}
 use Rattle.nb_fixup.specs.Tests.{Tested}
 use Rattle.nb_inplace.specs.Accepted.{AcceptSays, IsReaderOf}
@@ -30,6 +29,7 @@ use Rattle.nb_inplace.specs.Tests.{not_the_same, not_behind, head_cause, stamp_c
 use Rattle.nb_inplace.specs.declared.standby.Standby.{Standby}
 use Rattle.nb_inplace.proofs.StandbyLaws.{not_there}
 use Rattle.nb_inplace.proofs.VerdictLaws.{by_state, mergeable_by, unfit, no_level, bad_level, answered, verdict_by}
+use Rattle.nb_host.proofs.PlainLaws.{some_none, some_same}
 
 -- four tests, and a fifth after them
 abbrev firsts : (a b c d : Cause) → Cause
@@ -37,9 +37,6 @@ firsts a b c d = first_cause (a ∷ b ∷ c ∷ d ∷ [])
 
 abbrev all_tests : (a b c d e : Cause) → Cause
 all_tests a b c d e = first_cause (a ∷ b ∷ c ∷ d ∷ e ∷ [])
-
-some_none : (r : Refusal) → Some r ≡ None → ⊥
-some_none r h = cc
 
 first_of : (a b c d e : Cause) (r : Refusal) → firsts a b c d ≡ Some r → all_tests a b c d e ≡ Some r
 unfolding first_cause

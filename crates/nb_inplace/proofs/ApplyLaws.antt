@@ -37,7 +37,7 @@ use Rattle.nb_model.proofs.StandsLaws.{header_no_level}
 use Rattle.nb_model.proofs.TrimLaws.{trimmed_alike, trimmed_page}
 use Rattle.nb_level.specs.Reading.{Reading, still_to_come}
 use Rattle.nb_restore.specs.Sources.{AreHeaded}
-use Rattle.nb_restore.proofs.AnswerLaws.{some_same, err_ok}
+use Rattle.nb_restore.proofs.AnswerLaws.{err_ok}
 use Rattle.nb_restore.proofs.HeadLaws.{level-headed}
 use Rattle.nb_inplace.specs.declared.standby.Standby.{Standby}
 use Rattle.nb_inplace.specs.Accepted.{IsFitFor, AcceptSays}
@@ -57,6 +57,7 @@ use Rattle.nb_inplace.proofs.HalfLaws.{front_size, itself_half}
 use Rattle.nb_inplace.proofs.PagesLaws.{over_alike}
 use Rattle.nb_inplace.proofs.StampLaws.{since_image}
 use Rattle.nb_inplace.proofs.VerdictLaws.{answered, verdict_by}
+use Rattle.nb_host.proofs.PlainLaws.{some_same}
 
 -- 1. Nothing was changed.
 module _ (old new : World) (standby name : List ℕ) (quiet : Quiet old new) where

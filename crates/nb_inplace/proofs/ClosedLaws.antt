@@ -18,10 +18,7 @@ use Rattle.nb_model.proofs.MainLaws.{owner-formed}
 use Rattle.nb_inplace.specs.Half.{IsHalf}
 use Rattle.nb_inplace.specs.Verdict.{IsMergeable}
 use Rattle.nb_inplace.proofs.HalfLaws.{half_state, half_pending}
-
-applying_closed : (name bytes : List ℕ) (delta : File) → owner_in 3 name bytes delta ≡ Err Unfinished
-unfolding owner_in
-applying_closed name bytes delta = refl
+use Rattle.nb_model.proofs.OpeningLaws.{owner_applying}
 
 -- what can't be opened is a plain file
 pub closed_entry : (name bytes : List ℕ) (delta : File) (r : Refusal) → owner name (Some bytes) delta ≡ Err r → entry_of_files name (Some bytes) delta ≡ Plain bytes delta
@@ -40,7 +37,7 @@ module _ (files : Files) (standby name bytes : List ℕ) (c : Contents) (m : IsM
   half_applying = is_applying_so half half_header (half_state files standby name bytes c m half h)
 
   pub half_closed : (delta : File) → owner standby (Some half) delta ≡ Err Unfinished
-  half_closed delta = owner-formed standby half delta h.formed ∙ ap (λ (n : ℕ). owner_in n standby half delta) (half_state files standby name bytes c m half h) ∙ applying_closed standby half delta
+  half_closed delta = owner-formed standby half delta h.formed ∙ ap (λ (n : ℕ). owner_in n standby half delta) (half_state files standby name bytes c m half h) ∙ owner_applying standby half delta
 
   pub half_in_use : c.head.guid ≢ nil → is_free_file (Some half) ≡ false
   half_in_use some = by (is_free_file (Some half)) refl

@@ -16,11 +16,11 @@ use Rattle.nb_model.proofs.OwnerLaws.{other_page}
 use Rattle.nb_model.proofs.PutLaws.{put-first}
 use Rattle.nb_model.proofs.TrimLaws.{main_tail, zeros_behind}
 use Rattle.nb_chain.proofs.ImageLaws.{length-written}
-use Rattle.nb_restore.proofs.AnswerLaws.{some_same}
 use Rattle.nb_restore.proofs.CopiedLaws.{put-written, written-sizes, first-written}
 use Rattle.nb_inplace.specs.Half.{IsBetween}
 use Rattle.nb_inplace.specs.Merging.{IsHalfFile, KeepsHalf}
 use Rattle.nb_inplace.proofs.PagesLaws.{written_page}
+use Rattle.nb_host.proofs.PlainLaws.{some_same}
 
 -- a list of pages is its first, and the others
 first_and_rest : (xs : Image) → 1 ≤ length xs → xs ≡ first_page xs ∷ drop 1 xs

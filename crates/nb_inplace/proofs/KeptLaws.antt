@@ -12,13 +12,14 @@ use Rattle.nb_model.specs.Restoring.{Link, level_link, next_link, next_links}
 use Rattle.nb_model.specs.Sound.{IsSoundImage}
 use Rattle.nb_model.specs.Stands.{nil, to_record, IsKeptAs, IsBegun, IsLineTo, IsAncestor, IsSpan, Stands}
 use Rattle.nb_model.proofs.ChainLaws.{kept_accepted}
-use Rattle.nb_restore.proofs.AnswerLaws.{ok_same, some_same}
+use Rattle.nb_restore.proofs.AnswerLaws.{ok_same}
 use Rattle.nb_restore.proofs.AskLaws.{with_ask, guid_long}
 use Rattle.nb_restore.proofs.ChainLaws.{split_next}
 use Rattle.nb_restore.proofs.KeptNext.{HoldsKeptNext, kept_next, file_level, own_file}
 use Rattle.nb_restore.proofs.ParentLaws.{LeadsTo, AsksFrom, own_asks, span_asks}
 use Rattle.nb_level.proofs.ToldLaws.{level_told}
 use Rattle.nb_restore.proofs.ReadLaws.{reads_previous}
+use Rattle.nb_host.proofs.PlainLaws.{some_same}
 
 -- an ancestor is kept
 pub ancestor_there : (kept : List Kept) (between : List Kept) (q r : Kept) → IsLineTo kept q r between → Contains kept q

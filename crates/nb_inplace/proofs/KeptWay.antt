@@ -15,7 +15,6 @@ use Rattle.nb_model.specs.Stands.{nil, IsKeptAs, to_base, to_record, IsBegun, Go
 use Rattle.nb_model.specs.Strokes.{as_standby, merged}
 use Rattle.nb_model.proofs.MainLaws.{owner_main}
 use Rattle.nb_model.proofs.StandsLaws.{header_no_level, opened_entry, StandsUnder, stands_with_both}
-use Rattle.nb_restore.proofs.AnswerLaws.{some_same}
 use Rattle.nb_inplace.specs.Half.{IsBetween, IsHalf}
 use Rattle.nb_inplace.specs.Kept.{MergesBackup}
 use Rattle.nb_inplace.proofs.ClosedLaws.{closed_entry, is_applying_so, half_header, half_applying, half_closed}
@@ -25,6 +24,7 @@ use Rattle.nb_inplace.proofs.SeenLaws.{image_seen, none_seen, none_there}
 use Rattle.nb_inplace.proofs.VerdictLaws.{GoesOnFrom, IsTheSame, IsFor, as_it_stands, begun, IsAccepted, accepted}
 use Rattle.nb_inplace.proofs.WayLaws.{IsOnTheWay, way_gives, way_on, way_begins}
 use Rattle.nb_model.proofs.FormLaws.{formed}
+use Rattle.nb_host.proofs.PlainLaws.{some_same}
 
 module _ (files : Files) (account : Account) (stands : Stands files account) (standby name bytes : List ℕ) (c : Contents) (merges : MergesBackup files standby name bytes c) where
   abbrev its : IsAccepted files name bytes c

@@ -26,6 +26,7 @@ use Rattle.nb_model.proofs.ImageLaws.{AreZeros, trimming, trimmed-other, all-dro
 use Rattle.nb_model.proofs.ReadLaws.{lt_no, lt_yes}
 use Rattle.nb_restore.specs.Copied.{IsDone}
 use Rattle.nb_fixup.specs.Tests.{Tested}
+use Rattle.nb_fields.proofs.NumberLaws.{number_of-zeros}
 
 module _ (name : List ℕ) (scn : ℕ) where
   none_since : written_since name scn [] ≡ None
@@ -131,12 +132,6 @@ done_tested S T P cause Memory says = absurd says
 pub room_for : (len size count : ℕ) → count ≤ len / size → count * size ≤ len
 room_for len size count low = let all : count * size ≤ (len / size) * size = mul-le-mul_right size low in omega (arith, all, div-add-mod' len size)
 
--- a page of zeros has the stamp 0
-number_zeros : (n : ℕ) → number_of (replicate n 0) ≡ 0
-unfolding number_of
-number_zeros zero = refl
-number_zeros (suc n) = let rest = number_zeros n in omega (arith, rest)
-
 stamp_zeros : (p : Page) → is_zeros p ≡ true → stamp_of p ≡ 0
 unfolding number_in
 stamp_zeros p zeros =
@@ -144,8 +139,8 @@ stamp_zeros p zeros =
   where
     front : (n : ℕ) → number_of (take 4 (replicate n 0)) ≡ 0
     front n = elim (cases_lt n 4) [
-      | inl low ↦ ap number_of (take_all 4 (replicate n 0) (omega (arith, low, length-replicate {A = ℕ} n 0))) ∙ number_zeros n
-      | inr long ↦ ap number_of (take-replicate 4 n 0 long) ∙ number_zeros 4
+      | inl low ↦ ap number_of (take_all 4 (replicate n 0) (omega (arith, low, length-replicate {A = ℕ} n 0))) ∙ number_of-zeros n
+      | inr long ↦ ap number_of (take-replicate 4 n 0 long) ∙ number_of-zeros 4
     ]
 
 since_zeros : (name : List ℕ) (scn : ℕ) (zs : List Page) → AreZeros zs → written_since name scn zs ≡ None

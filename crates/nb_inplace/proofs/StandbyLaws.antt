@@ -25,7 +25,7 @@ use Rattle.nb_cases.specs.declared.events.Case.TheVariants.{NoCall, Go, WrongSta
 use Rattle.nb_chain.proofs.StartLaws.{header_same}
 use Rattle.nb_fixup.proofs.CauseLaws.{unheaded, no_page}
 use Rattle.nb_inplace.proofs.VerdictLaws.{by_state, mergeable_by, standby_state}
-use Rattle.nb_inplace.proofs.AgainLaws.{other_texts}
+use Rattle.nb_host.proofs.NameLaws.{same_other}
 
 -- page 0 of the image is what the file begins with
 module _ (bytes : List ℕ) (none : not_database bytes ≡ None) where
@@ -84,7 +84,7 @@ right true b e = refl
 right false b e = e
 
 another_is : (bytes : List ℕ) → is_another bytes (another bytes) ≡ true
-another_is bytes = right _ _ (ap not (other_texts (guid_of bytes) (0 ∷ guid_of bytes) (λ e. longer (guid_of bytes) (sym e))))
+another_is bytes = right _ _ (ap not (same_other (guid_of bytes) (0 ∷ guid_of bytes) (λ e. longer (guid_of bytes) (sym e))))
 
 first_fails : (t : Bool) (r : Refusal) (cs : List Cause) → t ≡ false → first_cause (when (not t) r ∷ cs) ≡ Some r
 unfolding first_cause
@@ -93,7 +93,7 @@ first_fails true r cs e = absurd (true≢false e)
 
 another_next : (name bytes : List ℕ) → not_next name bytes (another bytes) ≡ Some (ChainGuid name (0 ∷ guid_of bytes) (guid_of bytes))
 unfolding not_next
-another_next name bytes = first_fails (same_name (0 ∷ guid_of bytes) (guid_of bytes)) (ChainGuid name (0 ∷ guid_of bytes) (guid_of bytes)) _ (other_texts (0 ∷ guid_of bytes) (guid_of bytes) (longer (guid_of bytes)))
+another_next name bytes = first_fails (same_name (0 ∷ guid_of bytes) (guid_of bytes)) (ChainGuid name (0 ∷ guid_of bytes) (guid_of bytes)) _ (same_other (0 ∷ guid_of bytes) (guid_of bytes) (longer (guid_of bytes)))
 
 another_finishing : (name bytes : List ℕ) → not_finishing name bytes (another bytes) ≡ Some Unfinished
 unfolding not_finishing first_cause

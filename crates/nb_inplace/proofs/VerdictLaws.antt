@@ -16,8 +16,10 @@ use Rattle.nb_model.specs.Levels.{Contents, read_level}
 use Rattle.nb_model.proofs.FormLaws.{formed}
 use Rattle.nb_model.proofs.HeaderLaws.{header-state}
 use Rattle.nb_restore.proofs.AnswerLaws.{ok_same, err_ok}
-use Rattle.nb_restore.proofs.ChainLaws.{clear_head, not_false, test_passed, when_clear}
 use Rattle.nb_inplace.specs.Verdict.{IsMergeable}
+use Rattle.nb_host.proofs.PlainLaws.{not_false}
+use Rattle.nb_model.proofs.PutSound.{no_first, not_when}
+use Rattle.nb_model.proofs.TurnCases.{is_so}
 
 same_text : (a b : List ℕ) → same_name a b ≡ true → a ≡ b
 same_text a b e = told_text a b true (sym e)
@@ -33,16 +35,16 @@ pub record GoesOnFrom (name bytes : List ℕ) (c : Contents) : Type 0 where
 goes_on : (name bytes : List ℕ) (c : Contents) → not_next name bytes c ≡ None → GoesOnFrom name bytes c
 unfolding not_next
 goes_on name bytes c none =
-    let guid = clear_head _ _ none in
-    let size = clear_head _ _ guid.1 in
-    let scn = clear_head _ _ size.1 in
-    let access = clear_head _ _ scn.1 in
-    let stamps = clear_head _ _ access.1 in
+    let guid = no_first _ _ none in
+    let size = no_first _ _ guid.1 in
+    let scn = no_first _ _ size.1 in
+    let access = no_first _ _ scn.1 in
+    let stamps = no_first _ _ access.1 in
     record {
-      previous = same_text c.head.previous (guid_of bytes) (test_passed (same_name c.head.previous (guid_of bytes)) (ChainGuid name c.head.previous (guid_of bytes)) guid.0);
-      size = eqb-true c.head.size (size_of bytes) (test_passed (c.head.size == size_of bytes) (ChainSize name c.head.size (size_of bytes)) size.0);
-      previous_scn = eqb-true c.head.previous_scn (scn_of bytes - 1) (test_passed (c.head.previous_scn == scn_of bytes - 1) (ChainScn name c.head.previous_scn (scn_of bytes - 1)) scn.0);
-      read_only = test_passed (is_read_only (image_in bytes)) (Access 0) access.0;
+      previous = same_text c.head.previous (guid_of bytes) (is_so (same_name c.head.previous (guid_of bytes)) (ChainGuid name c.head.previous (guid_of bytes)) guid.0);
+      size = eqb-true c.head.size (size_of bytes) (is_so (c.head.size == size_of bytes) (ChainSize name c.head.size (size_of bytes)) size.0);
+      previous_scn = eqb-true c.head.previous_scn (scn_of bytes - 1) (is_so (c.head.previous_scn == scn_of bytes - 1) (ChainScn name c.head.previous_scn (scn_of bytes - 1)) scn.0);
+      read_only = is_so (is_read_only (image_in bytes)) (Access 0) access.0;
       unwritten = stamps.0;
     }
 
@@ -70,9 +72,9 @@ pub record IsAccepted (files : Files) (name bytes : List ℕ) (c : Contents) : T
 pub standby_state : (name bytes : List ℕ) → not_standby name (Some bytes) ≡ None → (not_database bytes ≡ None) × ((state_of bytes ≡ normal_state) ⊎ (state_of bytes ≡ applying_state))
 unfolding not_standby
 standby_state name bytes none =
-    let form = clear_head _ _ none in
-    let state = clear_head _ _ form.1 in
-    let other = or_parts (state_of bytes == stalled_state) (state_of bytes == merge_state) (when_clear _ (WrongState (state_of bytes)) state.0) in
+    let form = no_first _ _ none in
+    let state = no_first _ _ form.1 in
+    let other = or_parts (state_of bytes == stalled_state) (state_of bytes == merge_state) (not_when _ (WrongState (state_of bytes)) state.0) in
     (form.0, by (state_of bytes) (header-state bytes (formed bytes form.0).header) (eqb-false (state_of bytes) 1 other.0) (eqb-false (state_of bytes) 2 other.1))
   where
     by : (n : ℕ) → n ≤ 3 → (n ≡ 1 → ⊥) → (n ≡ 2 → ⊥) → (n ≡ 0) ⊎ (n ≡ 3)
@@ -86,13 +88,13 @@ standby_state name bytes none =
 the_same : (name bytes : List ℕ) (c : Contents) → not_finishing name bytes c ≡ None → IsTheSame bytes c
 unfolding not_finishing
 the_same name bytes c none =
-    let guids = clear_head _ _ none in
-    let size = clear_head _ _ guids.1 in
-    let parts = or_parts (not (same_name (pending_of bytes) c.head.guid)) (not (same_name (guid_of bytes) c.head.previous)) (when_clear _ Unfinished guids.0) in
+    let guids = no_first _ _ none in
+    let size = no_first _ _ guids.1 in
+    let parts = or_parts (not (same_name (pending_of bytes) c.head.guid)) (not (same_name (guid_of bytes) c.head.previous)) (not_when _ Unfinished guids.0) in
     record {
       pending = same_text (pending_of bytes) c.head.guid (not_false _ parts.0);
       previous = same_text (guid_of bytes) c.head.previous (not_false _ parts.1);
-      size = eqb-true c.head.size (size_of bytes) (test_passed (c.head.size == size_of bytes) (ChainSize name c.head.size (size_of bytes)) size.0);
+      size = eqb-true c.head.size (size_of bytes) (is_so (c.head.size == size_of bytes) (ChainSize name c.head.size (size_of bytes)) size.0);
     }
 
 -- the tests by the state

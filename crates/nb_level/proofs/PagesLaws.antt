@@ -10,6 +10,7 @@ use Rattle.nb_model.specs.Levels.{Head, Contents, AreRising, AreOfSize, first_fa
 use Rattle.nb_model.proofs.LevelWalk.{FirstIsZero, none_clear, not_long, not_same, zero_tells, good, ok_is, no_pages, singles_are, runs_are}
 use Rattle.nb_model.proofs.ReadLaws.{AreClear, single_tests, run_tests, end_tests}
 use Rattle.nb_level.proofs.ToldLaws.{level_told}
+use Rattle.nb_fields.proofs.PartLaws.{length-part}
 
 -- at the end there are no more, and there were some
 end_is : (at count : ℕ) (rest : List ℕ) (rs : List Numbered) → read_end at count rest ≡ Ok rs → (count ≢ 0) × (rs ≡ [])
@@ -26,9 +27,6 @@ record AreFrom (h : Head) (count least : ℕ) (rs : List Numbered) : Type 0 wher
   pub sizes : AreOfSize h.size rs
   pub first : count ≡ 0 → FirstIsZero h rs
 
-part_long : (at w : ℕ) (xs : List ℕ) → at + w ≤ length xs → length (part at w xs) ≡ w
-part_long at w xs room = length-take-le w (drop at xs) (omega (arith, room, length-drop at xs))
-
 module _ (h : Head) where
   -- the end
   none_from : (count least : ℕ) (rs : List Numbered) → (count ≢ 0) × (rs ≡ []) → AreFrom h count least rs
@@ -41,7 +39,7 @@ module _ (h : Head) where
       let number = good count least n clear.0 in
       record {
         rising = (number.low, number.small, next.rising);
-        sizes = (part_long 4 h.size rest (not_long (length rest) (4 + h.size) clear.1.0), next.sizes);
+        sizes = (length-part 4 h.size rest (not_long (length rest) (4 + h.size) clear.1.0), next.sizes);
         first = λ none. (number.begins none, zero_tells n (is_first_page h (part 4 h.size rest)) clear.1.1.0 (number.begins none));
       }
 
@@ -111,8 +109,8 @@ level_pages bytes c e =
     let are : AreFrom c.head 0 0 c.pages = subst (λ (h : Head). AreFrom h 0 0 c.pages) (sym told.head) (pages_are (head_in bytes) (number_in 4 2 bytes) bytes c.pages told.pages) in
     record {
       level = told.level;
-      guid = ap (λ (h : Head). length h.guid) told.head ∙ part_long 8 16 bytes (omega (arith, told.long));
-      previous = ap (λ (h : Head). length h.previous) told.head ∙ part_long 24 16 bytes (omega (arith, told.long));
+      guid = ap (λ (h : Head). length h.guid) told.head ∙ length-part 8 16 bytes (omega (arith, told.long));
+      previous = ap (λ (h : Head). length h.previous) told.head ∙ length-part 24 16 bytes (omega (arith, told.long));
       size = told.size;
       later = told.later;
       rising = are.rising;

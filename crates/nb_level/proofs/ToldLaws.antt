@@ -6,8 +6,9 @@ use Rattle.nb_fields.specs.Places.{is_page_size}
 use Rattle.nb_model.specs.Image.{Numbered}
 use Rattle.nb_model.specs.Levels.{Head, Contents, first_fault, head_in, read_level, read_pages, with_head}
 use Rattle.nb_model.proofs.LevelLaws.{head_tests}
-use Rattle.nb_model.proofs.LevelWalk.{none_clear, not_long, long_yes, not_not}
+use Rattle.nb_model.proofs.LevelWalk.{none_clear, not_long}
 use Rattle.nb_model.proofs.ReadLaws.{AreClear}
+use Rattle.nb_host.proofs.PlainLaws.{lt_holds, not_false}
 
 pub with_head-is : (version : ℕ) (h : Head) (r : Result (List Numbered) ℕ) (c : Contents) → with_head version h r ≡ Ok c → (r ≡ Ok c.pages) × (c.head ≡ h)
 with_head-is version h (Ok rs) c e =
@@ -51,10 +52,10 @@ level_told bytes c e = by (first_fault (head_tests bytes version h)) refl e
           head = refl;
           pages = is;
           long = not_long (length bytes) 52 clear.1.0;
-          known = not_not (version == 101 || version == 102) clear.1.1.0;
-          level = not_not (nat_le 1 h.level && nat_le h.level 9) clear.1.1.1.0;
-          size = not_not (is_page_size h.size) clear.1.1.1.1.0;
-          later = long_yes h.previous_scn h.scn (not_not (nat_lt h.previous_scn h.scn) clear.1.1.1.1.1.0);
+          known = not_false (version == 101 || version == 102) clear.1.1.0;
+          level = not_false (nat_le 1 h.level && nat_le h.level 9) clear.1.1.1.0;
+          size = not_false (is_page_size h.size) clear.1.1.1.1.0;
+          later = lt_holds h.previous_scn h.scn (not_false (nat_lt h.previous_scn h.scn) clear.1.1.1.1.1.0);
         })
 
     by : (x : Option ℕ) → first_fault (head_tests bytes version h) ≡ x → elim x as (λ z. Result Contents ℕ) [ Some place ↦ Err place | None ↦ with_head version h (read_pages version h bytes) ] ≡ Ok c → IsTold bytes c

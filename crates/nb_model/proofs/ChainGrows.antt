@@ -7,7 +7,8 @@ use Rattle.std.proofs.lemmas.Bool.Decides.{eqb_tells}
 use Rattle.nb_model.specs.Chains.{Chain, last_of, next_in, is_in_chain, linked, walk}
 use Rattle.nb_model.specs.Image.{Image, page_at}
 use Rattle.nb_model.specs.Rows.{AreDistinct}
-use Rattle.nb_model.proofs.ChainWalks.{StaysLinked, IsWalk, ends, leads, walk_cases, walk_on_is, walk_zero, err_ok, onward}
+use Rattle.nb_model.proofs.ChainWalks.{StaysLinked, IsWalk, ends, leads, walk_cases, walk_on_is, walk_zero, onward}
+use Rattle.nb_host.proofs.PlainLaws.{err_ok}
 
 -- Numbers below n with none twice are n at most.
 without : ℕ → List ℕ → List ℕ

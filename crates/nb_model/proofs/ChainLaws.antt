@@ -18,9 +18,9 @@ use Rattle.nb_model.specs.Line.{IsLine, IsKeptNext, HoldsNext, HoldLine, next_fi
 use Rattle.nb_model.proofs.ChangedLaws.{sound_changed}
 use Rattle.nb_model.proofs.ReadLaws.{eq_yes}
 use Rattle.nb_model.proofs.LevelLaws.{level_read, begins_there}
-use Rattle.nb_model.proofs.RunLaws.{same_self}
+use Rattle.nb_host.proofs.NameLaws.{same_self}
 
-weaker : (n : ℕ) (rs : List Numbered) → AreRising (n + 1) rs → AreRising n rs
+pub weaker : (n : ℕ) (rs : List Numbered) → AreRising (n + 1) rs → AreRising n rs
 weaker n [] h = tt
 weaker n (r ∷ rs) h = (omega (arith, h.0), h.1, h.2)
 
@@ -92,12 +92,12 @@ pub when_not : (t : Bool) (r : Refusal) → t ≡ true → when (not t) r ≡ No
 when_not t r e = rw e refl
 
 -- four tests that don't apply
-four_none : (a b c d : Cause) → a ≡ None → b ≡ None → c ≡ None → d ≡ None → first_cause (a ∷ b ∷ c ∷ d ∷ []) ≡ None
+pub four_none : (a b c d : Cause) → a ≡ None → b ≡ None → c ≡ None → d ≡ None → first_cause (a ∷ b ∷ c ∷ d ∷ []) ≡ None
 unfolding first_cause
 four_none a b c d ea eb ec ed = rw (ea, first_cause) (rw (eb, first_cause) (rw (ec, first_cause) (rw (ed, first_cause) refl)))
 
 -- a level file that goes on from the file before is accepted
-accepts : (k : ℕ) (last : Link) (name bytes : List ℕ) (c : Contents) → begins_level bytes ≡ true → read_level bytes ≡ Ok c → not_behind k last name c ≡ None → next_link k last name bytes ≡ Ok (level_link c)
+pub accepts : (k : ℕ) (last : Link) (name bytes : List ℕ) (c : Contents) → begins_level bytes ≡ true → read_level bytes ≡ Ok c → not_behind k last name c ≡ None → next_link k last name bytes ≡ Ok (level_link c)
 unfolding next_link
 accepts k last name bytes c begins read behind = rw (begins, next_link) (rw (read, next_link) (rw (behind, next_link) refl))
 
@@ -136,7 +136,7 @@ pub step_there : (files : Files) (k : ℕ) (last : Link) (name : List ℕ) (name
 unfolding next_links
 step_there files k last name names bytes l is link = rw (is, next_links) (rw (link, next_links) refl)
 
-none_left : (files : Files) (k : ℕ) (last : Link) → next_links files k last [] ≡ Ok []
+pub none_left : (files : Files) (k : ℕ) (last : Link) → next_links files k last [] ≡ Ok []
 unfolding next_links
 none_left files k last = refl
 

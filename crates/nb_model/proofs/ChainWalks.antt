@@ -8,6 +8,7 @@ use Rattle.nb_fields.specs.Kinds.{data_kind}
 use Rattle.nb_model.specs.Causes.{broken_at}
 use Rattle.nb_model.specs.Chains.{Chain, first_of, owner_of, owner_in, next_in, is_slot, slots_in, is_in_chain, linked, walk, pages_of, found_pages, spots_on, spots_of, spots}
 use Rattle.nb_model.specs.Image.{Page, Image, page_at}
+use Rattle.nb_host.proofs.PlainLaws.{err_ok}
 
 -- a page has the form of those of the chain
 pub record HasForm (chain : Chain) (page : Page) : Type 0 where
@@ -42,11 +43,8 @@ linked_same chain x y q longer in_it same = record {
   next = ap next_in same;
 }
 
-ok_is : (r : Result (List ℕ) ℕ) (xs ys : List ℕ) → r ≡ Ok xs → r ≡ Ok ys → xs ≡ ys
+pub ok_is : (r : Result (List ℕ) ℕ) (xs ys : List ℕ) → r ≡ Ok xs → r ≡ Ok ys → xs ≡ ys
 ok_is r xs ys e f = cc
-
-pub err_ok : (p : ℕ) (ys : List ℕ) → Err p ≡ Ok ys → ⊥
-err_ok p ys e = cc
 
 -- A walk by its tests.
 abbrev pub onward : (chain : Chain) (image : Image) (left p : ℕ) → Bool → Result (List ℕ) ℕ

@@ -33,10 +33,11 @@ use Rattle.nb_model.proofs.PutSound.{no_first, needs_image, raw_facts}
 use Rattle.nb_model.proofs.RoomLaws.{in_chain, pages_found, last_of_all, first_passes}
 use Rattle.nb_model.proofs.SoundLaws.{inventory_there, scn_page_there, scn_page_behind}
 use Rattle.nb_model.proofs.SpotLaws.{IsSpotOn, all_on}
-use Rattle.nb_model.proofs.StepLaws.{kind_parts, kind_from, scn_page_moves}
+use Rattle.nb_model.proofs.StepLaws.{kind_parts, scn_page_moves}
 use Rattle.nb_model.proofs.StrokeLaws.{with_page_same, whole_page}
 use Rattle.nb_model.proofs.TableCases.{MayPut, created, dropped, inserted, row_written, create_either, drop_either, insert_either, update_either, delete_either, get_either, scan_either, changes_either, chain_at}
 use Rattle.nb_model.proofs.TurnCases.{refused, unless_either}
+use Rattle.nb_model.proofs.RoundLaws.{kind_found}
 
 -- Of pages of n bytes, page q is one of the SCN inventory.
 module _ (n q : ℕ) (place : is_scn_place n q ≡ true) where
@@ -62,7 +63,7 @@ module _ (n q : ℕ) (place : is_scn_place n q ≡ true) where
       record {
         header = header_kept x p bytes h.header;
         size = size_kept x p bytes h.header ∙ h.size;
-        kind = kind_from (with_page p (merged_page p bytes x) x) scn_kind q (omega (arith, old.0, with_page_longer p (merged_page p bytes x) x)) (elim (eqb_tells p q) [
+        kind = kind_found (with_page p (merged_page p bytes x) x) scn_kind q (omega (arith, old.0, with_page_longer p (merged_page p bytes x) x)) (elim (eqb_tells p q) [
           | inl w ↦
               let at : 1 ≤ p = omega (arith, some, w.1) in
               ap (λ (i : ℕ). kind_of (page_at (with_page p (merged_page p bytes x) x) i)) (sym w.1) ∙ ap kind_of (with_page_same p (merged_page p bytes x) x (omega (arith, w.1, old.0)))

@@ -16,8 +16,9 @@ use Rattle.nb_model.proofs.MainLaws.{some_page}
 use Rattle.nb_model.proofs.MixtureLaws.{has_same, scn_page_same, inventory_same, entry_same, free_same}
 use Rattle.nb_model.proofs.PastLaws.{rows_with, no_history, no_rows_pass}
 use Rattle.nb_model.proofs.PutSound.{header_fields}
-use Rattle.nb_model.proofs.SoundLaws.{HasFields, all_from, all_at, kind_of_header, inventory_behind, inventory_place_some, scn_page_behind, scn_place_some}
+use Rattle.nb_model.proofs.SoundLaws.{HasFields, all_from, all_at, kind_of_header, inventory_behind, inventory_place_some, scn_page_behind}
 use Rattle.nb_model.proofs.StalledLaws.{behind_first}
+use Rattle.nb_fields.proofs.PlaceLaws.{scn_place-some}
 
 -- the image with another page 0
 abbrev pub with_first : Page → Image → Image
@@ -75,7 +76,7 @@ module _ (image : Image) (page : Page) (h : HasHeader image) (is : IsSoundImage 
 
   -- bits and entries stay
   new_entry : (p : ℕ) → scn_entry new p ≡ scn_entry image p
-  new_entry p = entry_same new image new_size p (rest (scn_page_of image p) (omega (arith, scn_place_some (image_size image) (p / entries_in (image_size image)) fields.size)))
+  new_entry p = entry_same new image new_size p (rest (scn_page_of image p) (omega (arith, scn_place-some (image_size image) (p / entries_in (image_size image)) fields.size)))
 
   pub new_free : (p : ℕ) → is_free_page new p ≡ is_free_page image p
   new_free p = free_same new image new_size p (rest (inventory_of image p) (inventory_place_some (image_size image) (p / bits_in (image_size image)) fields.size))

@@ -11,6 +11,7 @@ use Rattle.nb_host.specs.declared.refusals.Refusal.TheVariants.{NotDatabase}
 use Rattle.nb_model.specs.Causes.{Cause, first_cause, when, not_database}
 use Rattle.nb_model.proofs.ReadLaws.{lt_no}
 use Rattle.nb_model.proofs.HeaderLaws.{header-size}
+use Rattle.nb_host.proofs.PlainLaws.{not_lt}
 
 -- what the form of a database says of a file's bytes
 pub record Formed (bytes : List ℕ) : Type 0 where
@@ -51,10 +52,6 @@ not_database-is : (bytes : List ℕ) → not_database bytes ≡ elim (is_header 
 unfolding not_database
 not_database-is bytes = refl
 
--- what the tests of the length say
-at_most : (m n : ℕ) → nat_lt n m ≡ false → m ≤ n
-at_most m n h = elim (leb_tells (suc n) m) [ inl w ↦ absurd (true≢false (sym w.0 ∙ h)) | inr w ↦ omega (arith, w.1) ]
-
 whole_pages : (left count : ℕ) → (not (left == 0) || nat_lt count 5) ≡ false → (left ≡ 0) × (5 ≤ count)
 whole_pages left count h =
     let parts = or_parts (not (left == 0)) (nat_lt count 5) h in
@@ -83,7 +80,7 @@ formed bytes none = by (is_header bytes) refl (sym (not_database-is bytes) ∙ n
           count = count;
           whole = omega (arith, div-add-mod' (length bytes) (size_of bytes), parts.0);
           least = parts.1;
-          most = at_most count most_pages tests.1;
+          most = not_lt count most_pages tests.1;
         }
 
 -- and bytes of which that holds have the form

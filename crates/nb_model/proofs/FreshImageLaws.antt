@@ -76,7 +76,7 @@ length-fresh_page size raw p is =
     length-page_of size (code_of (fresh_kind size p)) 1 1 p (fresh_payload size raw p (fresh_kind size p)) (payload-fits size raw p (fresh_kind size p) wide)
 
 -- no page is all zeros
-code-other : (kind : PageKind) → (code_of kind == 0) ≡ false
+pub code-other : (kind : PageKind) → (code_of kind == 0) ≡ false
 code-other Header = refl
 code-other Inventory = refl
 code-other Data = refl

@@ -43,7 +43,7 @@ unfolding scn_payload bytes_of
 scn_length size k scn = let h = length-same_entries scn (entries_in size) in omega arith
 
 -- no backup is named
-header_guid : (size raw : ℕ) → guid_of (fresh_page size raw 0) ≡ replicate 16 0
+pub header_guid : (size raw : ℕ) → guid_of (fresh_page size raw 0) ≡ replicate 16 0
 unfolding fresh_page fresh_kind fresh_payload page_of head_of padded header_payload control_block bytes_of
 header_guid size raw = refl
 

@@ -42,6 +42,7 @@ use Rattle.nb_model.proofs.TurnCases as cases
 use Rattle.nb_model.proofs.StrokeLaws.{base_after-append}
 use Rattle.nb_model.proofs.TrimLaws.{trimmed_front, finish_base}
 use Rattle.nb_model.proofs.UnseenLaws.{free_unseen}
+use Rattle.nb_host.proofs.PlainLaws.{some_same}
 
 -- the GUIDs that may still be given have 16 bytes
 abbrev AreSixteen : List (List ℕ) → Type 0
@@ -57,9 +58,6 @@ next_sixteen given all = by given.guids all
 rest_sixteen : (guids : List (List ℕ)) → AreSixteen guids → AreSixteen (drop 1 guids)
 rest_sixteen [] h = h
 rest_sixteen (g ∷ gs) h = h.1
-
-some_same : (m n : ℕ) → Some m ≡ Some n → m ≡ n
-some_same m n e = cc
 
 -- one session at most runs
 pub one_runs : (now : Now) (place other m n : ℕ) → Runs now place m → Runs now other n → place ≡ other
@@ -135,7 +133,7 @@ pub record IsStep (sound : Bool) (now : Now) (session : ℕ) (o : Outcome) (rest
   pub own : IsAt sound (stands_then session rest o now) (session - 1) (o.next ++ rest)
   pub others : (other number : ℕ) → other ≢ session - 1 → 1 ≤ number → Runs now other number → OthersStay sound now o
 
-merge_turns : (n : ℕ) (reply : Reply) (rest : List Turn) → AreBeginnings rest → AreMerging ((replicate n Merges ++ Finishes reply ∷ []) ++ rest)
+pub merge_turns : (n : ℕ) (reply : Reply) (rest : List Turn) → AreBeginnings rest → AreMerging ((replicate n Merges ++ Finishes reply ∷ []) ++ rest)
 merge_turns zero reply rest all = all
 merge_turns (suc n) reply rest all = merge_turns n reply rest all
 
@@ -143,7 +141,7 @@ begun_frozen : (b : Base) (guid : List ℕ) (ask : Option Ask) → (base_after b
 unfolding base_after on_base
 begun_frozen b guid ask = refl
 
-no_more : (b : Base) → base_after b [] ≡ b
+pub no_more : (b : Base) → base_after b [] ≡ b
 unfolding base_after
 no_more b = refl
 

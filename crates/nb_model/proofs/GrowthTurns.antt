@@ -53,7 +53,7 @@ last_held (p ∷ []) some = (0, omega arith, refl)
 last_held (p ∷ q ∷ qs) some = let rest = last_held (q ∷ qs) (omega arith) in (suc rest.0, omega (arith, rest.1), rest.2)
 
 -- the slots of pages after others
-spots_both : (x : Image) (ps qs : List ℕ) → spots_of x (ps ++ qs) ≡ spots_of x ps ++ spots_of x qs
+pub spots_both : (x : Image) (ps qs : List ℕ) → spots_of x (ps ++ qs) ≡ spots_of x ps ++ spots_of x qs
 unfolding spots_of
 spots_both x [] qs = refl
 spots_both x (p ∷ ps) qs = ap (λ (us : List Spot). spots_on p 0 (slots_in (page_at x p)) ++ us) (spots_both x ps qs) ∙ sym (append_assoc (spots_on p 0 (slots_in (page_at x p))) (spots_of x ps) (spots_of x qs))

@@ -16,9 +16,10 @@ use Rattle.nb_model.specs.Strokes.{merged_page}
 use Rattle.nb_model.specs.Forms.{has_entry}
 use Rattle.nb_model.specs.Pages.{byte_strokes}
 use Rattle.nb_model.specs.Sound.{IsSoundImage, HasHeader}
-use Rattle.nb_model.proofs.SoundLaws.{all_at, inventory_behind, inventory_place_some, scn_page_behind, scn_place_some, HasFields, FitsAt, kind_of_header}
+use Rattle.nb_model.proofs.SoundLaws.{all_at, inventory_behind, inventory_place_some, scn_page_behind, HasFields, FitsAt, kind_of_header}
 use Rattle.nb_model.proofs.FitLaws.{AreFitting}
 use Rattle.nb_model.proofs.PutSound.{header_fields}
+use Rattle.nb_fields.proofs.PlaceLaws.{scn_place-some}
 
 -- bytes of zeros spell 0
 pub all_zeros : (bytes : List ℕ) → is_zeros bytes ≡ true → bytes ≡ replicate (length bytes) 0
@@ -84,8 +85,8 @@ module _ (image : Image) (bytes : Page) (fields : HasFields image) (is : IsSound
     scn_page = λ at. absurd (scn_page_behind (image_size image) 0 at refl);
     bits = λ q at taken. absurd (let some = inventory_place_some (image_size image) (q / bits_in (image_size image)) fields.size in omega arith);
     current = λ has. absurd (true≢false (sym has ∙ first_has_none));
-    no_lower = λ q at has low. absurd (let some = scn_place_some (image_size image) (q / entries_in (image_size image)) fields.size in omega arith);
-    no_later = λ q at has. absurd (let some = scn_place_some (image_size image) (q / entries_in (image_size image)) fields.size in omega arith);
+    no_lower = λ q at has low. absurd (let some = scn_place-some (image_size image) (q / entries_in (image_size image)) fields.size in omega arith);
+    no_later = λ q at has. absurd (let some = scn_place-some (image_size image) (q / entries_in (image_size image)) fields.size in omega arith);
   }
 
   head_kind : is_header (first_page image) ≡ true → kind_of head_page ≡ header_kind

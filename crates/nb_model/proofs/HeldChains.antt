@@ -13,7 +13,8 @@ use Rattle.nb_model.proofs.ChainWalks.{HasForm, there_by, StaysLinked, linked_sa
 use Rattle.nb_model.proofs.HeldLaws.{IsHeld}
 use Rattle.nb_model.proofs.NeatLaws.{all_go, all_both, once_chain, ChangesChain}
 use Rattle.nb_model.proofs.PutSound.{IsPlain}
-use Rattle.nb_model.proofs.RoomLaws.{in_chain, chain_plain, pages_found, no_system}
+use Rattle.nb_model.proofs.RoomLaws.{in_chain, chain_plain, pages_found}
+use Rattle.nb_model.proofs.OnwardTests.{plain_from}
 
 -- Each page that is held in the one is held in the other; each but one.
 abbrev pub KeepsEach : Image → Image → Type 0
@@ -51,7 +52,7 @@ unfolding pages_of_all
 chain_each image P [] all = tt
 chain_each image P (c ∷ cs) all = join_all P (found_pages c image) (pages_of_all image cs) all.0 (chain_each image P cs all.1)
 
-ok_none : (r : Result (List ℕ) ℕ) (ps : List ℕ) → r ≡ Ok ps → broken_at r ≡ None
+pub ok_none : (r : Result (List ℕ) ℕ) (ps : List ℕ) → r ≡ Ok ps → broken_at r ≡ None
 ok_none r ps is = ap broken_at is
 
 -- A page of a chain that is held.
@@ -63,7 +64,7 @@ module _ (x : Image) (h : HasHeader x) (is : IsSoundImage x) where
   held_in : (c : Chain) (q : ℕ) → is_in_chain c x q ≡ true → is_free_page x q ≡ false → IsHeldIn c x q
   held_in c q in_it taken =
       let plain : IsPlain x q = chain_plain c x q h is in_it in
-      record { in_it = in_it; held = record { is = refl; behind = plain.place.behind; below = (in_chain c x q in_it).0; plain = no_system (image_size x) q plain.no_inventory plain.no_scn_page; taken = taken } }
+      record { in_it = in_it; held = record { is = refl; behind = plain.place.behind; below = (in_chain c x q in_it).0; plain = plain_from (image_size x) q plain.no_inventory plain.no_scn_page; taken = taken } }
 
   all_held : (c : Chain) (ps : List ℕ) → AllByRecursion (λ (q : ℕ). is_in_chain c x q ≡ true) ps → AllByRecursion (λ (q : ℕ). is_free_page x q ≡ false) ps → AllByRecursion (IsHeldIn c x) ps
   all_held c [] a b = tt

@@ -139,7 +139,7 @@ trimmed-cons p ps = by (trimmed ps)
     by [] = refl
     by (q ∷ qs) = refl
 
-trimmed-none : trimmed [] ≡ []
+pub trimmed-none : trimmed [] ≡ []
 unfolding trimmed
 trimmed-none = refl
 

@@ -12,11 +12,12 @@ use Rattle.nb_model.specs.Chains.{History, first_of, owner_in, next_in, is_in_ch
 use Rattle.nb_model.specs.Image.{Page, Image, page_at, with_page}
 use Rattle.nb_model.specs.Stands.{is_history_page}
 use Rattle.nb_model.specs.Strokes.{Stroke, page, on_base, base_after, merged_page}
-use Rattle.nb_model.proofs.ChainWalks.{HasForm, form_there, there_by, IsWalk, ends, leads, Walks, walk_cases, walk_zero, err_ok, ok_found}
+use Rattle.nb_model.proofs.ChainWalks.{HasForm, form_there, there_by, IsWalk, ends, leads, Walks, walk_cases, walk_zero, ok_found}
 use Rattle.nb_model.proofs.FitLaws.{IsWhole, IsFitting, AreFitting, whole_one}
 use Rattle.nb_model.proofs.NoRows.{HasNoRows}
 use Rattle.nb_model.proofs.SoundLaws.{FitsAt, written_other, with_page_length}
 use Rattle.nb_model.proofs.StrokeLaws.{with_page_same}
+use Rattle.nb_host.proofs.PlainLaws.{err_ok}
 
 -- Links lead from page p along these pages to page q: each page before the last is linked to the next one, or is none of the history.
 abbrev pub AreLinks : Image → (p : ℕ) → List ℕ → (q : ℕ) → Type 0

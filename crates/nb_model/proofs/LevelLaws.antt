@@ -86,7 +86,7 @@ read_step bytes version h e f clear =
     ∙ ap (λ v. with_head v (head_in bytes) (read_pages v (head_in bytes) bytes)) e ∙ ap (λ x. with_head version x (read_pages version x bytes)) f
 
 -- rising numbers below the most are few
-rising_few : (least : ℕ) (rs : List Numbered) → least ≤ most_pages → AreRising least rs → least + length rs ≤ most_pages
+pub rising_few : (least : ℕ) (rs : List Numbered) → least ≤ most_pages → AreRising least rs → least + length rs ≤ most_pages
 rising_few least [] low h = omega arith
 rising_few least (r ∷ rs) low h =
     let rest = rising_few (r.0 + 1) rs (omega (arith, h.1)) h.2 in

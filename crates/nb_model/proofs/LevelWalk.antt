@@ -8,6 +8,7 @@ use Rattle.nb_fields.specs.Places.{most_pages}
 use Rattle.nb_model.specs.Image.{Numbered}
 use Rattle.nb_model.specs.Levels.{Head, Test, first_fault, behind, end_mark, read_end, read_singles, read_runs, pages_in, barred_after, is_bad_number, is_first_page}
 use Rattle.nb_model.proofs.ReadLaws.{AreClear, single_tests, run_tests, single_there, run_there}
+use Rattle.nb_host.proofs.PlainLaws.{not_le}
 
 -- where no test fails each is passed
 clear_head : (t : Test) (ts : List Test) → first_fault (t ∷ ts) ≡ None → (t.0 ≡ false) × (first_fault ts ≡ None)
@@ -22,18 +23,8 @@ none_clear (t ∷ ts) e = let h = clear_head t ts e in (h.0, none_clear ts h.1)
 pub not_long : (a b : ℕ) → nat_lt a b ≡ false → b ≤ a
 not_long a b e = elim (leb_tells (suc a) b) [ inl w ↦ absurd (true≢false (sym w.0 ∙ e)) | inr w ↦ omega arith ]
 
-pub long_yes : (a b : ℕ) → nat_lt a b ≡ true → a < b
-long_yes a b e = elim (leb_tells (suc a) b) [ inl w ↦ w.1 | inr w ↦ absurd (true≢false (sym e ∙ w.0)) ]
-
-pub not_low : (a b : ℕ) → nat_le a b ≡ false → b < a
-not_low a b e = elim (leb_tells a b) [ inl w ↦ absurd (true≢false (sym w.0 ∙ e)) | inr w ↦ omega arith ]
-
 pub not_same : (a b : ℕ) → (a == b) ≡ false → a ≢ b
 not_same a b e = elim (eqb_tells a b) [ inl w ↦ absurd (true≢false (sym w.0 ∙ e)) | inr w ↦ w.1 ]
-
-pub not_not : (b : Bool) → not b ≡ false → b ≡ true
-not_not true e = refl
-not_not false e = absurd (true≢false e)
 
 -- a test of page 0 alone
 pub zero_tells : (n : ℕ) (b : Bool) → (n == 0 && not b) ≡ false → n ≡ 0 → b ≡ true
@@ -50,7 +41,7 @@ pub good : (count least n : ℕ) → is_bad_number count least n ≡ false → I
 good count least n e =
     let parts = or_parts (count == 0 && not (n == 0)) (nat_lt n least || nat_le most_pages n) e in
     let ends = or_parts (nat_lt n least) (nat_le most_pages n) parts.1 in
-    record { begins = λ none. eqb-true n 0 (zero_tells count (n == 0) parts.0 none); low = not_long n least ends.0; small = not_low most_pages n ends.1 }
+    record { begins = λ none. eqb-true n 0 (zero_tells count (n == 0) parts.0 none); low = not_long n least ends.0; small = not_le most_pages n ends.1 }
 
 -- what is answered is answered once
 abbrev pub held : Result (List Numbered) ℕ → List Numbered

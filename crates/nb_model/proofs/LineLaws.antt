@@ -19,7 +19,7 @@ pub trimmed_all : (ps zs : Image) → HasNoZeros ps → AreZeroPages zs → trim
 trimmed_all ps zs h z = trimmed-append_zeros ps zs z ∙ trimmed-no_zeros ps h
 
 -- all pages written give the image
-writes_all : (size n : ℕ) (front a : Image) → length front ≡ n → overwritten size (numbered_from n a) front ≡ front ++ a
+pub writes_all : (size n : ℕ) (front a : Image) → length front ≡ n → overwritten size (numbered_from n a) front ≡ front ++ a
 unfolding overwritten numbered_from
 writes_all size n front [] e = sym (append-nil front)
 writes_all size n front (p ∷ ps) e =

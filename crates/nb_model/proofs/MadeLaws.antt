@@ -28,9 +28,10 @@ use Rattle.nb_model.proofs.HeaderLaws.{header-long, same-header, same-number}
 use Rattle.nb_model.proofs.LevelLaws.{begins_there}
 use Rattle.nb_model.proofs.MainLaws.{owner-formed, owner-refused, owner-none}
 use Rattle.nb_model.proofs.OpenedLaws.{joined_front, has_main}
-use Rattle.nb_model.proofs.RunLaws.{same_self}
 use Rattle.nb_model.proofs.SoundLaws.{kind_of_header}
-use Rattle.nb_model.proofs.StandsLaws.{names_tell, delta_named, no_main, StandsUnder, formed_header, no_level_begins, header_no_level, state_of_applying, stands_with_both}
+use Rattle.nb_model.proofs.StandsLaws.{delta_named, no_main, StandsUnder, formed_header, no_level_begins, header_no_level, state_of_applying, stands_with_both}
+use Rattle.nb_host.proofs.NameLaws.{decide, same_self}
+use Rattle.nb_host.proofs.PlainLaws.{some_same}
 
 -- Whole, the file holds the record that it names, isn't opened without a difference file, and waits for no merge.
 pub record IsWholeFile (kept : List Kept) (bytes : List ℕ) : Type 0 where
@@ -43,9 +44,6 @@ pub data IsInMaking (kept : List Kept) (file : File) : Type 0 where
   is_free : is_free_file file ≡ true → IsInMaking kept file
   unfinished : ((bytes : List ℕ) → file ≡ Some bytes → IsNoBackup bytes) → IsInMaking kept file
   whole : (bytes : List ℕ) → file ≡ Some bytes → IsWholeFile kept bytes → IsInMaking kept file
-
-some_same : (a b : List ℕ) → Some a ≡ Some b → a ≡ b
-some_same a b e = cc
 
 err_ok : (answer : Result Base Refusal) (r : Refusal) (b : Base) → answer ≡ Err r → answer ≡ Ok b → ⊥
 err_ok answer r b e f = cc
@@ -300,7 +298,7 @@ stands_those new (f ∷ fs) old account stands each others =
         ∙ ap (λ (x : File). entry_of_files f.0 (new f.0) x) (mid_delta f.0 ∙ sym (others (delta_name f.0) (no_delta old new account.kept (f ∷ fs) each f.0)))
 
     rest : (m : List ℕ) → IsNoneOf fs m → new m ≡ mid m
-    rest m none = elim (names_tell m f.0) [
+    rest m none = elim (decide m f.0) [
       | inl same ↦ ap new same ∙ sym (ap mid same ∙ file_same old f.0 (new f.0))
       | inr off ↦ others m (none_then off) ∙ sym (file_other old f.0 m (new f.0) off)
     ]

@@ -16,7 +16,7 @@ use Rattle.nb_model.specs.Trail.{Trail, settled}
 use Rattle.nb_model.specs.Well.{IsOfRecord}
 use Rattle.nb_model.specs.WellTrail.{IsWellTrail}
 use Rattle.nb_model.proofs.GuidLaws.{strokes_in_steps}
-use Rattle.nb_model.proofs.GoingLaws.{begun_at, going_turn, named_turn}
+use Rattle.nb_model.proofs.GoingLaws.{begun_at, going_turn, named_turn, none_made}
 use Rattle.nb_model.proofs.MakingLaws.{to_make, made_append, made_among}
 use Rattle.nb_model.proofs.SteadyLaws.{WellAlong, along_front, kept_along, kept_append, kept_is, along_last}
 use Rattle.nb_model.proofs.SteadyTurns.{beginnings_recorded, AreRecorded, AllRecorded, StaysWell, one_well, play_along}
@@ -71,10 +71,6 @@ module _ (kept : List Kept) (t : Trail) (now : Now) (base : t.base ≡ base_now 
   -- so is what the next turn makes
   pub made_of_kept : (session : ℕ) (f : MadeFile) → Contains (files_made (one_turn session now).0) f → IsOfKept kept f.1
   made_of_kept session f there = place_of_kept (session - 1) f (made_among session now going f there)
-
-none_made : files_made [] ≡ []
-unfolding files_made
-none_made = refl
 
 -- So is all that turns in an order make.
 pub play_of_kept : (order : List ℕ) (kept : List Kept) (t : Trail) (now : Now) → t.base ≡ base_now now → IsWellTrail kept t → IsGoing true now → AreNamed now → AllRecorded kept t now

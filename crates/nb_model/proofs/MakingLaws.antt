@@ -30,11 +30,12 @@ use Rattle.nb_model.proofs.OpeningLaws.{in_use}
 use Rattle.nb_model.proofs.RunLaws.{entry_same}
 use Rattle.nb_model.proofs.SoundLaws.{kind_of_header}
 use Rattle.nb_model.proofs.SoundTurns.{seen_now}
-use Rattle.nb_model.proofs.StandsLaws.{names_tell, entry_other}
+use Rattle.nb_model.proofs.StandsLaws.{entry_other}
 use Rattle.nb_model.proofs.TurnCases.{begin_either, end_either, backup_either, since_either, copy_either, pages_once, statement_cases}
+use Rattle.nb_host.proofs.NameLaws.{decide}
 
 -- one element
-one_held : (f g : MadeFile) → Contains (f ∷ []) g → f ≡ g
+pub one_held : (f g : MadeFile) → Contains (f ∷ []) g → f ≡ g
 one_held f g (zero, low, is) = is
 one_held f g (suc i, low, is) = absurd (omega (arith, low))
 
@@ -66,7 +67,7 @@ one_making frozen (Ends reply) f g a b = absurd (none_held f a)
 one_making frozen Merges f g a b = absurd (none_held f a)
 one_making frozen (Finishes reply) f g a b = absurd (none_held f a)
 
-beginnings_make : (frozen : Image) (ts : List Turn) → AreBeginnings ts → making frozen ts ≡ []
+pub beginnings_make : (frozen : Image) (ts : List Turn) → AreBeginnings ts → making frozen ts ≡ []
 unfolding making
 beginnings_make frozen [] all = refl
 beginnings_make frozen (Begins statement ∷ ts) all = beginnings_make frozen ts all.1
@@ -279,13 +280,13 @@ module _ {sound : Bool} (session : ℕ) (rest : List Turn) (o : Outcome) (now : 
   -- a name that isn't free stays so, where the file that is made has a free one
   used_then : ((f : MadeFile) → o.made ≡ Some f → is_free_entry (now.account.entry f.0) ≡ true) → (n : List ℕ) → is_free_entry (now.account.entry n) ≡ false → is_free_entry (last.account.entry n) ≡ false
   unfolding with_made
-  used_then free n used = ⊎_elim (own_entry n) (λ off. ap is_free_entry (other_entry n off) ∙ by o.made refl) (names_tell n now.name)
+  used_then free n used = ⊎_elim (own_entry n) (λ off. ap is_free_entry (other_entry n off) ∙ by o.made refl) (decide n now.name)
     where
       by : (made : Option MadeFile) → o.made ≡ made → is_free_entry ((with_made made now.account).entry n) ≡ false
       by None is = used
       by (Some f) is = ⊎_elim
           (λ same. absurd (true≢false (sym (free f is) ∙ ap (λ (m : List ℕ). is_free_entry (now.account.entry m)) (sym same) ∙ used)))
-          (λ other. ap is_free_entry (entry_other f.0 n (Plain f.1 None) now.account other) ∙ used) (names_tell n f.0)
+          (λ other. ap is_free_entry (entry_other f.0 n (Plain f.1 None) now.account other) ∙ used) (decide n f.0)
 
   -- and that of the file that is made isn't free
   made_then : (f : MadeFile) → o.made ≡ Some f → is_free_entry (now.account.entry f.0) ≡ true → is_free_file (Some f.1) ≡ false → is_free_entry (last.account.entry f.0) ≡ false

@@ -14,8 +14,8 @@ use Rattle.nb_model.proofs.ChainWalks.{StaysLinked, pages_stay, found_is}
 use Rattle.nb_model.proofs.RoomLaws.{first_passes}
 use Rattle.nb_model.proofs.SpotKeys.{keys_in}
 use Rattle.nb_model.proofs.SpotMaps.{such_passes}
-use Rattle.nb_model.proofs.StandsLaws.{names_tell}
 use Rattle.nb_model.proofs.TableCases.{chain_at}
+use Rattle.nb_host.proofs.NameLaws.{decide}
 
 -- what holds of each
 pub all_go : {X : Type 0} (P R : X → Type 0) (xs : List X) → ((x : X) → P x → R x) → AllByRecursion P xs → AllByRecursion R xs
@@ -185,7 +185,7 @@ pub table_found : (image : Image) (table : List ℕ) (u : Spot) → table_spot t
 unfolding table_spot
 table_found image table u found =
     let parts = and_parts (is_used u.bytes) (same_name (table_of u.bytes) table) (such_passes _ (spots Catalogue image) u found) in
-    record { held = found_used _ (spots Catalogue image) u found parts.0; its_use = parts.0; named = elim (names_tell (table_of u.bytes) table) [ inl w ↦ w | inr w ↦ absurd (not_same (table_of u.bytes) table w parts.1) ] }
+    record { held = found_used _ (spots Catalogue image) u found parts.0; its_use = parts.0; named = elim (decide (table_of u.bytes) table) [ inl w ↦ w | inr w ↦ absurd (not_same (table_of u.bytes) table w parts.1) ] }
   where
     not_same : (m n : List ℕ) → m ≢ n → same_name m n ≡ true → ⊥
     not_same m n other is = other (told_text m n true (sym is))

@@ -12,8 +12,9 @@ use Rattle.nb_model.specs.Forms.{HasItsEntry, is_kind, inventory_of, scn_page_of
 use Rattle.nb_model.specs.Way.{IsMadeBehind, same_made, made_here, IsFreshBehind, same_fresh, fresh_here}
 use Rattle.nb_model.proofs.SoundLaws.{inventory_place_some, inventory_there}
 use Rattle.nb_model.proofs.NewSound.{inventory_before}
-use Rattle.nb_model.proofs.StepLaws.{IsShaped, IsVisited, kind_from, scn_page_moves, map_entry_before}
+use Rattle.nb_model.proofs.StepLaws.{IsShaped, IsVisited, scn_page_moves, map_entry_before}
 use Rattle.nb_model.proofs.PlaceOrder.{div_rises, map_places_from, map_place_is, map_behind}
+use Rattle.nb_model.proofs.RoundLaws.{kind_found}
 
 -- `now` is the image after a search that started at `old`, has come up to page `from`, and went past places without their system pages:
 -- the last of an SCN page was `made`, the last of an inventory page `fresh`, 0 for none.
@@ -108,7 +109,7 @@ module _ (old now next : Image) (from made fresh p kind m f : ℕ) (way : IsOnTh
   same_kind k r ne = kind_same now next p kind k r on there ne
 
   here_kind : is_kind next kind p ≡ true
-  here_kind = kind_from next kind p (omega (arith, on.long)) on.of_kind
+  here_kind = kind_found next kind p (omega (arith, on.long)) on.of_kind
 
   -- the inventory pages up to that of page p don't stand at p
   map_not_here : (k : ℕ) → k ≤ p / w → inventory_place size k ≢ p

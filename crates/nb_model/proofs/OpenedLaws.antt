@@ -32,11 +32,11 @@ use Rattle.nb_model.proofs.StandsLaws.{header_no_level, state_of_applying, opene
 use Rattle.nb_model.proofs.WellTrailLaws.{settled_well, left_well}
 
 -- zeros after zeros
-zeros_join : (xs ys : List ℕ) → is_zeros xs ≡ true → is_zeros ys ≡ true → is_zeros (xs ++ ys) ≡ true
+pub zeros_join : (xs ys : List ℕ) → is_zeros xs ≡ true → is_zeros ys ≡ true → is_zeros (xs ++ ys) ≡ true
 zeros_join [] ys h k = k
 zeros_join (x ∷ xs) ys h k = let parts = and_parts (x == 0) (is_zeros xs) h in and_from (x == 0) (is_zeros (xs ++ ys)) parts.0 (zeros_join xs ys parts.1 k)
 
-pages_zeros : (zs : List Page) → AreZeros zs → is_zeros (joined zs) ≡ true
+pub pages_zeros : (zs : List Page) → AreZeros zs → is_zeros (joined zs) ≡ true
 pages_zeros [] h = refl
 pages_zeros (z ∷ zs) h = zeros_join z (joined zs) h.0 (pages_zeros zs h.1)
 

@@ -29,9 +29,10 @@ use Rattle.nb_model.proofs.HeaderLaws.{header-other}
 use Rattle.nb_model.proofs.MainLaws.{owner-formed, owner-refused}
 use Rattle.nb_model.proofs.RunLaws.{entry_same, base_in_base}
 use Rattle.nb_model.proofs.StandsLaws.{entry_other, formed_header}
+use Rattle.nb_fields.proofs.Rows.{no_file}
 
 -- in the applying state it isn't opened
-owner_applying : (name bytes : List ℕ) (delta : File) → owner_in 3 name bytes delta ≡ Err Unfinished
+pub owner_applying : (name bytes : List ℕ) (delta : File) → owner_in 3 name bytes delta ≡ Err Unfinished
 unfolding owner_in
 owner_applying name bytes delta = refl
 
@@ -56,14 +57,10 @@ opened_in_use name bytes delta b opens = by (not_database bytes) refl
       | inr w ↦ in_use bytes (formed_header bytes is) w.0
     ]
 
-pub missing_free : is_free_file None ≡ true
-unfolding is_free_file
-missing_free = refl
-
 -- whether a name is free, by its two files
 free_of_files : (name : List ℕ) (main delta : File) → is_free_entry (entry_of_files name main delta) ≡ (is_free_file main && not (is_some delta))
 unfolding entry_of_files is_free_entry
-free_of_files name None delta = rw (missing_free) (alone delta)
+free_of_files name None delta = rw (no_file) (alone delta)
   where
     alone : (delta : File) → is_none delta ≡ not (is_some delta)
     alone None = refl

@@ -1,6 +1,6 @@
 -- The slot of a new table is placed in the catalogue, in an image in which the table's page stands.
 use Rattle.std.proofs.Common.{◌≡◌, ◌≢◌, ◌⊎◌, inl, inr, ⊎_elim, ℕ, zero, suc, ◌+◌, ◌*◌, ◌≤◌, ◌<◌, List, [], ◌∷◌, ◌++◌, length, drop, refl, sym, ap, subst, ◌∙◌, arith}
-use Rattle.std.specs.Prelude.{Bool, true, false, Option, Some, None, is_some, Result, Ok, Contains}
+use Rattle.std.specs.Prelude.{Bool, true, false, Option, Some, None, is_some, Ok, Contains}
 use Rattle.std.specs.List.{AllByRecursion}
 use Rattle.std.specs.Cmp.Lexicographic.{told_text}
 use Rattle.std.proofs.lemmas.Bool.{true≢false, and_from, and_left, and_right, eq-eqb}
@@ -22,9 +22,9 @@ use Rattle.nb_model.proofs.Along.{Along, put_along}
 use Rattle.nb_model.proofs.ChainWalks.{HasForm, there_by, walk_on_is, onward, found_is, spots_are}
 use Rattle.nb_model.proofs.DraftJoin.{Joins, joined, joined_grouped, join_put, join_wants, join_new}
 use Rattle.nb_model.proofs.GrowthTurns.{free_unused, spots_one, begins, behind, grown_spots, grows, new_spot, y as grown_image, made as made_in, last as last_in_chain, last_in, is_made as is_made_in, keeps_x, grown_along, grown_end}
-use Rattle.nb_model.proofs.HeldChains.{KeepsEach, nothing_changes}
+use Rattle.nb_model.proofs.HeldChains.{KeepsEach, nothing_changes, ok_none}
 use Rattle.nb_model.proofs.HeldLaws.{IsHeld}
-use Rattle.nb_model.proofs.Inserted.{Inserted, inserted_last, inserted_used, used_more, Among}
+use Rattle.nb_model.proofs.Inserted.{Inserted, inserted_last, inserted_used, used_more, Among, used_nothing}
 use Rattle.nb_model.proofs.NeatDrops.{has_name}
 use Rattle.nb_model.proofs.NeatGrows.{GrowsChain}
 use Rattle.nb_model.proofs.NeatLaws.{all_go, all_both, pages_among, chain_apart, chains_are, same_pages, stays_neat, other_rows, rows_of_none, used_yes, used_not, ChangesChain}
@@ -40,10 +40,6 @@ use Rattle.nb_model.proofs.SpotWrites.{put_at, put_it, all_change, changes_once}
 use Rattle.nb_model.proofs.TableCases.{chain_at}
 use Rattle.nb_model.proofs.TableSlots.{table_used, table_first, table_name, table_is_slot}
 use Rattle.nb_model.proofs.TableTurns.{table_length, name_short}
-
-nothing_used : used [] ≡ []
-unfolding used
-nothing_used = refl
 
 free_of_catalogue : (image : Image) → free_spot (spots Catalogue image) ≡ free_spot (spots_of image (found_pages Catalogue image))
 unfolding spots
@@ -77,7 +73,7 @@ such_among s free f filled test (x ∷ xs) found = by (test x) refl (λ h. such_
     by false is rest = inr (rest (sym (first_false test x xs is) ∙ found))
 
 used_from : (P : Spot → Type 0) (xs : List Spot) → AllByRecursion P xs → AllByRecursion (λ u. P u × (is_used u.bytes ≡ true)) (used xs)
-used_from P [] all = subst (AllByRecursion (λ u. P u × (is_used u.bytes ≡ true))) (sym nothing_used) tt
+used_from P [] all = subst (AllByRecursion (λ u. P u × (is_used u.bytes ≡ true))) (sym used_nothing) tt
 used_from P (x ∷ xs) all = by (is_used x.bytes) refl (used_from P xs all.1)
   where
     by : (t : Bool) → is_used x.bytes ≡ t → AllByRecursion (λ u. P u × (is_used u.bytes ≡ true)) (used xs) → AllByRecursion (λ u. P u × (is_used u.bytes ≡ true)) (used (x ∷ xs))
@@ -92,9 +88,6 @@ absent_at : (n : ℕ) (qs : List ℕ) (q : ℕ) → Absent n qs → Contains qs 
 absent_at n [] q absent at e = absurd (omega (arith, at.1))
 absent_at n (z ∷ qs) q absent (zero, low, is) e = absent.0 (e ∙ sym is)
 absent_at n (z ∷ qs) q absent (suc k, low, is) e = absent_at n qs q absent.1 (k, omega (arith, low), is) e
-
-ok_unbroken : (r : Result (List ℕ) ℕ) (ps : List ℕ) → r ≡ Ok ps → broken_at r ≡ None
-ok_unbroken r ps is = ap broken_at is
 
 -- The slot of the new table is placed, in an image in which its page stands.
 module _ (c : Base) (header : HasHeader c.image) (is : IsSoundImage c.image) (neat : IsNeat c.image) (n : ℕ) (page : Page) (held : IsHeld n page c.image) (form : HasForm (RowsFrom n) page) (ends : next_in page ≡ 0)
@@ -133,7 +126,7 @@ module _ (c : Base) (header : HasHeader c.image) (is : IsSoundImage c.image) (ne
   pages_are = walked.1 ∙ ap Ok (sym (found_is Catalogue z walked.0 walked.1))
 
   unbroken : broken_at (pages_of Catalogue z) ≡ None
-  unbroken = ok_unbroken (pages_of Catalogue z) ps pages_are
+  unbroken = ok_none (pages_of Catalogue z) ps pages_are
 
   not_of_catalogue : (q : ℕ) → Contains ps q → n ≢ q
   not_of_catalogue q at = absent_at n (pages_of_all z (chains z)) q apart (pages_among z (chains z) Catalogue q of_all at)

@@ -12,7 +12,7 @@ use Rattle.nb_fields.proofs.NumberLaws.{length-bytes_of}
 use Rattle.nb_fields.proofs.PartLaws.{length-with_part, number_in-with_part, number_in-with_part_other}
 use Rattle.nb_fields.proofs.PageLaws.{length-head_of, length-page_of, kind_of-page_of, stamp_of-page_of, padded_whole, part-append}
 use Rattle.nb_fields.proofs.SizeLaws.{SizeFacts, size_facts}
-use Rattle.nb_fields.proofs.PlaceLaws.{entries-least}
+use Rattle.nb_fields.proofs.PlaceLaws.{entries-least, scn_place-some}
 use Rattle.nb_fields.specs.Kinds.{header_kind, raw_kind, scn_kind}
 use Rattle.nb_host.specs.declared.refusals.Refusal.{Refusal}
 use Rattle.nb_model.specs.Image.{Page, Image, page_at, first_page, image_size, image_scn, with_page}
@@ -23,7 +23,7 @@ use Rattle.nb_model.specs.Sound.{IsSoundImage, HasHeader}
 use Rattle.nb_model.proofs.DraftLaws.{either}
 use Rattle.nb_model.proofs.FitLaws.{IsWhole, Fits, fits_first, fits_needs, form_page, written_image, fits_more}
 use Rattle.nb_model.proofs.HeaderLaws.{header-size}
-use Rattle.nb_model.proofs.SoundLaws.{all_at, page_no_zeros, inventory_there, scn_page_there, scn_place_some, scn_place_before, with_page_length, HasFields, FitsAt, scn_no_entry, size_stays, scn_stays, entry_here, kind_of_header, written_other}
+use Rattle.nb_model.proofs.SoundLaws.{all_at, page_no_zeros, inventory_there, scn_page_there, scn_place_before, with_page_length, HasFields, FitsAt, scn_no_entry, size_stays, scn_stays, entry_here, kind_of_header, written_other}
 
 -- page p may be written: it isn't page 0, and stands below the length or at it
 pub record IsPlace (image : Image) (p : ℕ) : Type 0 where
@@ -178,7 +178,7 @@ module _ (image : Image) (p : ℕ) (fields : HasFields image) (is : IsSoundImage
 
   raised_fits : FitsAt image s raised_page
   raised_fits = record {
-    head = λ e. absurd (let two = scn_place_some (image_size image) (p / entries_in (image_size image)) fields.size in omega arith);
+    head = λ e. absurd (let two = scn_place-some (image_size image) (p / entries_in (image_size image)) fields.size in omega arith);
     there = omega arith;
     most = let most = is.most in omega arith;
     size = now_length image s 10 (drop 16 entries) fields is refl room;
@@ -246,7 +246,7 @@ module _ (K : Page → Type 0) (scn_pages : (bytes : Page) → kind_of bytes ≡
       let low : scn_page_of d.image p < length d.image = scn_page_below d.image p h.fields h.sound.least at has in
       let fits : FitsAt d.image (scn_page_of d.image p) (raised_page d.image p h.fields h.sound low) = raised_fits d.image p h.fields h.sound low in
       let of_kind : kind_of (raised_page d.image p h.fields h.sound low) ≡ scn_kind = fits.scn_page (place d.image p h.fields h.sound low) in
-      let behind : 1 ≤ scn_page_of d.image p = let two = scn_place_some (image_size d.image) (p / entries_in (image_size d.image)) h.fields.size in omega arith in
+      let behind : 1 ≤ scn_page_of d.image p = let two = scn_place-some (image_size d.image) (p / entries_in (image_size d.image)) h.fields.size in omega arith in
       record {
         fits = fits_more K b (scn_page_of d.image p) 10 _ d behind before fits (scn_pages _ of_kind);
         raises = subst (λ (x : Image). Raises d.image x p) (sym (written_image (scn_page_of d.image p) 10 _ d behind)) (record {

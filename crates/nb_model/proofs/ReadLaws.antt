@@ -125,7 +125,7 @@ read_end_there : (at count : ℕ) (rest : List ℕ) → first_fault (end_tests a
 unfolding read_end
 read_end_there at count rest clear = rw (clear, read_end) refl
 
-eight_bytes : (count : ℕ) → length (end_bytes count) ≡ 8
+pub eight_bytes : (count : ℕ) → length (end_bytes count) ≡ 8
 unfolding end_bytes bytes_of
 eight_bytes count = refl
 

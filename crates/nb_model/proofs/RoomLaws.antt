@@ -1,6 +1,6 @@
 -- Each stroke that makes room for a row of the history fits at its point, and each stroke that writes the row.
 use Rattle.std.proofs.Common.{◌≡◌, inl, inr, ℕ, zero, suc, ◌+◌, ◌-◌, ◌*◌, ◌/◌, ◌<◌, ◌≤◌, List, [], ◌∷◌, ◌++◌, length, drop, refl, sym, ap, subst, ◌∙◌, arith, length-drop, length-append}
-use Rattle.std.specs.Prelude.{Bool, true, false, ◌||◌, ◌==◌, nat_lt, Option, Some, None, Result, Ok, Err}
+use Rattle.std.specs.Prelude.{Bool, true, false, ◌==◌, nat_lt, Option, Some, None, Result, Ok, Err}
 use Rattle.std.specs.List.{AllByRecursion}
 use Rattle.std.proofs.Math.Nat.{div-mul-le_self}
 use Rattle.std.proofs.lemmas.Bool.{true≢false, and_parts, eqb-true, lt-ltb, ltb-true, false_from_ne_true}
@@ -8,7 +8,7 @@ use Rattle.std.proofs.lemmas.Bool.Decides.{eqb_tells}
 use Rattle.nb_fields.specs.Bytes.{bytes_of, with_part}
 use Rattle.nb_fields.specs.Page.{kind_of, stamped}
 use Rattle.nb_fields.specs.Payloads.{data_payload}
-use Rattle.nb_fields.specs.Places.{is_inventory_place, is_scn_place, is_system_place, most_pages}
+use Rattle.nb_fields.specs.Places.{is_inventory_place, is_scn_place, most_pages}
 use Rattle.nb_fields.proofs.NumberLaws.{length-bytes_of}
 use Rattle.nb_fields.proofs.PageLaws.{length-padded}
 use Rattle.nb_fields.proofs.PartLaws.{length-with_part}
@@ -32,6 +32,9 @@ use Rattle.nb_model.proofs.NewSound.{HoldsOfKinds, plain_place, new_fits}
 use Rattle.nb_model.proofs.PutSound.{IsPlain, IsPut, header_fields, header_whole, old_length, plain_here}
 use Rattle.nb_model.proofs.RoundLaws.{IsNew, new_is_new}
 use Rattle.nb_model.proofs.SoundLaws.{all_at, kind_of_header, with_page_length}
+use Rattle.nb_host.proofs.PlainLaws.{err_ok}
+use Rattle.nb_model.proofs.ChainWalks.{ok_is}
+use Rattle.nb_model.proofs.OnwardTests.{plain_from}
 
 -- What K has to hold of: the pages of the inventories, a new page of the history, and a page that is linked to the next.
 pub record HoldsOfHistory (K : Page → Type 0) : Type 0 where
@@ -88,12 +91,6 @@ pub record AreFound (chain : Chain) (image : Image) (ps : List ℕ) : Type 0 whe
   pub some : 1 ≤ length ps
   pub each : AllByRecursion (λ (q : ℕ). is_in_chain chain image q ≡ true) ps
 
-ok_same : (r : Result (List ℕ) ℕ) (xs ys : List ℕ) → r ≡ Ok xs → r ≡ Ok ys → xs ≡ ys
-ok_same r xs ys e f = cc
-
-err_ok : (p : ℕ) (ys : List ℕ) → Err p ≡ Ok ys → ⊥
-err_ok p ys e = cc
-
 walk_finds : (left : ℕ) (chain : Chain) (image : Image) (p : ℕ) (ps : List ℕ) → walk left chain image p ≡ Ok ps → AreFound chain image ps
 unfolding walk
 walk_finds zero chain image p ps e = absurd (err_ok p ps e)
@@ -106,11 +103,11 @@ walk_finds (suc left) chain image p ps e = by (λ qs. walk_finds left chain imag
     one qs is all same = subst (AreFound chain image) same (record { some = omega arith; each = (is, all) })
 
     by_rest : is_in_chain chain image p ≡ true → (r : Result (List ℕ) ℕ) → ((qs : List ℕ) → r ≡ Ok qs → AreFound chain image qs) → linked p r ≡ Ok ps → AreFound chain image ps
-    by_rest is (Ok qs) rest e = one qs is (rest qs refl).each (ok_same (Ok (p ∷ qs)) (p ∷ qs) ps refl e)
+    by_rest is (Ok qs) rest e = one qs is (rest qs refl).each (ok_is (Ok (p ∷ qs)) (p ∷ qs) ps refl e)
     by_rest is (Err q) rest e = absurd (err_ok q ps e)
 
     by_last : ((qs : List ℕ) → behind ≡ Ok qs → AreFound chain image qs) → is_in_chain chain image p ≡ true → (t : Bool) → elim t as (λ z. Result (List ℕ) ℕ) [ true ↦ Ok (p ∷ []) | false ↦ linked p behind ] ≡ Ok ps → AreFound chain image ps
-    by_last rest is true e = one [] is tt (ok_same (Ok (p ∷ [])) (p ∷ []) ps refl e)
+    by_last rest is true e = one [] is tt (ok_is (Ok (p ∷ [])) (p ∷ []) ps refl e)
     by_last rest is false e = by_rest is behind rest e
 
     by : ((qs : List ℕ) → behind ≡ Ok qs → AreFound chain image qs) → (t : Bool) → is_in_chain chain image p ≡ t
@@ -201,10 +198,6 @@ put_full p kind payload d = put_keeps (λ x. x.full ≡ false → d.full ≡ fal
 pub old_there : (image : Image) (p : ℕ) → p < length image → old_page p image ≡ page_at image p
 unfolding old_page
 old_there image p low = rw (lt-ltb p (length image) low, old_page) refl
-
-pub no_system : (size p : ℕ) → is_inventory_place size p ≡ false → is_scn_place size p ≡ false → is_system_place size p ≡ false
-unfolding is_system_place
-no_system size p inventory scn = ap (λ (t : Bool). t || is_scn_place size p) inventory ∙ scn
 
 pub data_short : (p : ℕ) → length (data_payload 0 1 []) ≤ 1008
 unfolding data_payload bytes_of
@@ -314,7 +307,7 @@ module _ (b : Base) (h : HasHeader b.image) (is : IsSoundImage b.image) (unbroke
       last_kind : kind_of (page_at made.0.image last) ≡ data_kind
       last_kind = elim (eqb_tells last made.1) [
         | inl w ↦ ap (λ (n : ℕ). kind_of (page_at made.0.image n)) w.1 ∙ new.of_kind
-        | inr w ↦ ap kind_of (new.others last (no_system (image_size b.image) last last_plain.no_inventory last_plain.no_scn_page) w.1) ∙ (in_chain History b.image last last_in).1
+        | inr w ↦ ap kind_of (new.others last (plain_from (image_size b.image) last last_plain.no_inventory last_plain.no_scn_page) w.1) ∙ (in_chain History b.image last last_in).1
       ]
 
       page_long : length (page_at made.0.image last) ≡ image_size made.0.image

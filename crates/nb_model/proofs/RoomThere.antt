@@ -26,15 +26,17 @@ use Rattle.nb_model.proofs.NewSound.{lowest_between}
 use Rattle.nb_model.proofs.PagesOnly.{with_page_longer, size_kept, header_kept}
 use Rattle.nb_model.proofs.PutSound.{not_when, needs_image}
 use Rattle.nb_model.proofs.RoomLaws.{in_chain, free_is_spot, put_full}
-use Rattle.nb_model.proofs.StepLaws.{kind_parts, kind_from, scn_page_moves}
+use Rattle.nb_model.proofs.StepLaws.{kind_parts, scn_page_moves}
 use Rattle.nb_model.proofs.SoundLaws.{scn_page_behind, with_page_length}
+use Rattle.nb_host.proofs.PlainLaws.{append_none}
+use Rattle.nb_model.proofs.RoundLaws.{kind_found}
 
 -- A place for a row, whatever else stands in the image.
 pub record IsThere (image : Image) (page : ℕ) : Type 0 where
   pub below : page < length image
   pub entry : HasItsEntry image page
 
-none_broken : (ps : List ℕ) → lowest_broken ps ≡ None → ps ≡ []
+pub none_broken : (ps : List ℕ) → lowest_broken ps ≡ None → ps ≡ []
 unfolding lowest_broken
 none_broken [] e = refl
 none_broken (p ∷ ps) e = cc
@@ -78,11 +80,7 @@ put_met : (p kind : ℕ) (payload : List ℕ) (d : Draft) → (put p kind payloa
 unfolding put written wrote
 put_met p kind payload d none = raised_met p d none
 
-append_none : (xs ys : List ℕ) → xs ++ ys ≡ [] → (xs ≡ []) × (ys ≡ [])
-append_none [] ys e = (refl, e)
-append_none (x ∷ xs) ys e = absurd (some_none x (xs ++ ys) e)
-
-other_met : (image : Image) (kind p : ℕ) → other_kind image kind p ≡ [] → is_kind image kind p ≡ true
+pub other_met : (image : Image) (kind p : ℕ) → other_kind image kind p ≡ [] → is_kind image kind p ≡ true
 unfolding other_kind
 other_met image kind p = by (is_kind image kind p) refl
   where
@@ -317,6 +315,6 @@ begun_there b guid ask p header sixteen scn there =
       below = omega (arith, below, long);
       entry = scn_page_moves old new p (size_then 1 (image_scn old + 1) guid old header (may_begin old header guid sixteen scn))
           (λ kind_is. let parts = kind_parts old scn_kind q kind_is in
-          kind_from new scn_kind q (omega (arith, parts.0, long)) (ap kind_of (control_rest stalled_state (image_scn old + 1) guid old q (omega (arith, some))) ∙ parts.1))
+          kind_found new scn_kind q (omega (arith, parts.0, long)) (ap kind_of (control_rest stalled_state (image_scn old + 1) guid old q (omega (arith, some))) ∙ parts.1))
           there.entry;
     }

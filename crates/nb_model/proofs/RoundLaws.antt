@@ -7,7 +7,7 @@ use Rattle.nb_fields.specs.Places.{entries_in, bits_in, inventory_place, scn_pla
 use Rattle.nb_fields.specs.Page.{kind_of, stamped}
 use Rattle.nb_fields.specs.Payloads.{bit_of}
 use Rattle.nb_fields.proofs.SizeLaws.{SizeFacts, size_facts}
-use Rattle.nb_fields.proofs.PlaceLaws.{bits-least}
+use Rattle.nb_fields.proofs.PlaceLaws.{bits-least, scn_place-some}
 use Rattle.nb_fields.specs.Kinds.{inventory_kind, scn_kind}
 use Rattle.nb_model.specs.Image.{Page, Image, page_at, image_size, image_scn, with_page}
 use Rattle.nb_model.specs.Account.{base_of}
@@ -16,7 +16,7 @@ use Rattle.nb_model.specs.Forms.{Draft, drafted, old_page, wrote, written, needs
 use Rattle.nb_model.proofs.StrokeLaws.{with_page_same, with_page_other}
 use Rattle.nb_model.proofs.NeedLaws.{first_behind, first_append, behind_none, first_none, maps_found, ready_none}
 use Rattle.nb_model.proofs.PlaceOrder.{map_places_from}
-use Rattle.nb_model.proofs.SoundLaws.{all_at, inventory_there, inventory_place_some, scn_page_there, scn_place_some, scn_no_entry, with_page_length}
+use Rattle.nb_model.proofs.SoundLaws.{all_at, inventory_there, inventory_place_some, scn_page_there, scn_no_entry, with_page_length}
 use Rattle.nb_model.proofs.FitLaws.{IsWhole, Fits, fits_first, written_image}
 use Rattle.nb_model.proofs.PutSound.{IsPlace, Raises, is_raised, scn_page_below, plain_put}
 use Rattle.nb_model.proofs.BitLaws.{bit_else, bit_here, with_bit_length, bit_behind, one_bit}
@@ -144,7 +144,7 @@ module _ (image : Image) (h : IsWhole image) (p : ℕ) (at : IsPlace image p) wh
     pub put_size : image_size (put p kind payload (drafted image)).image ≡ image_size image
     put_size =
         ap (λ (x : Page). Rattle.nb_fields.specs.Header.size_of x)
-        (put_other 0 (λ e. absurd (let some = at.behind in omega (arith, e))) (λ e. absurd (let two = scn_place_some (image_size image) (p / entries_in (image_size image)) h.fields.size in omega (arith, e))))
+        (put_other 0 (λ e. absurd (let some = at.behind in omega (arith, e))) (λ e. absurd (let two = scn_place-some (image_size image) (p / entries_in (image_size image)) h.fields.size in omega (arith, e))))
 
     -- nor does a page inventory page, where that is none
     pub put_inventory : (k : ℕ) → inventory_place (image_size image) k ≢ p → page_at (put p kind payload (drafted image)).image (inventory_place (image_size image) k) ≡ page_at image (inventory_place (image_size image) k)

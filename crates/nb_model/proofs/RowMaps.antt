@@ -6,6 +6,7 @@ use Rattle.std.proofs.lemmas.Bool.{true≢false}
 use Rattle.std.proofs.lemmas.Bool.Decides.{eqb_tells, leb_tells}
 use Rattle.nb_model.specs.Chains.{Spot, is_used, key_of, text_in, first_such, row_spot}
 use Rattle.nb_model.specs.Rows.{RowMap, IsRising, with_row, without_row, row_at, rows_in}
+use Rattle.nb_host.proofs.PlainLaws.{eq_other, eq_self}
 
 abbrev Row : Type 0
 Row = ℕ × List ℕ
@@ -87,20 +88,14 @@ at_first : (key : ℕ) (r : Row) (rs : RowMap) → row_at key (r ∷ rs) ≡ her
 unfolding row_at
 at_first key r rs = refl
 
-same_eq : (key : ℕ) → nat_eq key key ≡ true
-same_eq key = elim (eqb_tells key key) [ inl w ↦ w.0 | inr w ↦ absurd (w.1 refl) ]
-
-not_eq : (key other : ℕ) → key ≢ other → nat_eq key other ≡ false
-not_eq key other ne = elim (eqb_tells key other) [ inl w ↦ absurd (ne w.1) | inr w ↦ w.0 ]
-
 equal_by : (key other : ℕ) → nat_eq key other ≡ true → key ≡ other
 equal_by key other e = elim (eqb_tells key other) [ inl w ↦ w.1 | inr w ↦ absurd (true≢false (sym e ∙ w.0)) ]
 
 here_same : (key : ℕ) (text : List ℕ) (rs : RowMap) → row_at key ((key, text) ∷ rs) ≡ Some text
-here_same key text rs = at_first key (key, text) rs ∙ ap (λ (t : Bool). elim t as (λ z. Option (List ℕ)) [ true ↦ Some text | false ↦ row_at key rs ]) (same_eq key)
+here_same key text rs = at_first key (key, text) rs ∙ ap (λ (t : Bool). elim t as (λ z. Option (List ℕ)) [ true ↦ Some text | false ↦ row_at key rs ]) (eq_self key)
 
 here_other : (key : ℕ) (r : Row) (rs : RowMap) → key ≢ r.0 → row_at key (r ∷ rs) ≡ row_at key rs
-here_other key r rs ne = at_first key r rs ∙ ap (λ (t : Bool). elim t as (λ z. Option (List ℕ)) [ true ↦ Some r.1 | false ↦ row_at key rs ]) (not_eq key r.0 ne)
+here_other key r rs ne = at_first key r rs ∙ ap (λ (t : Bool). elim t as (λ z. Option (List ℕ)) [ true ↦ Some r.1 | false ↦ row_at key rs ]) (eq_other key r.0 ne)
 
 pub with_here : (key : ℕ) (text : List ℕ) (rs : RowMap) → row_at key (with_row key text rs) ≡ Some text
 unfolding with_row

@@ -49,14 +49,6 @@ scn_page_there size (suc k) is =
     let more : entries_in size ≤ p = omega arith in
     or_right (p == 2) (nat_lt 0 p && p % entries_in size == 0) (and_from (nat_lt 0 p) (p % entries_in size == 0) (lt-ltb 0 p (omega arith)) (eq-eqb (p % entries_in size) 0 (mul-mod_left (suc k) (entries_in size))))
 
--- it is page 2 or stands after
-pub scn_place_some : (size k : ℕ) → IsTrue (is_page_size size) → 2 ≤ scn_place size k
-scn_place_some size zero is = omega arith
-scn_place_some size (suc k) is =
-    let least = entries-least size is in
-    let more : entries_in size ≤ suc k * entries_in size = omega arith in
-    omega arith
-
 -- no inventory page is page 0, and no SCN page is
 pub inventory_place_some : (size k : ℕ) → IsTrue (is_page_size size) → 1 ≤ inventory_place size k
 inventory_place_some size zero is = omega arith

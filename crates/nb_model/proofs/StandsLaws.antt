@@ -19,15 +19,8 @@ use Rattle.nb_model.specs.Owner.{delta_name, owner, entry_of_files, entry_in}
 use Rattle.nb_model.specs.Sound.{IsSoundImage}
 use Rattle.nb_model.specs.Stands.{nil, IsKeptAs, GoesOnFrom, Belongs, to_base, to_record, IsRaised, IsSameImage, IsFrozenMain, HasSoundImages, HoldsItsRecord, KeepsRecords, NamesItsPast, FollowsHistory, is_applying, HasNoStrayDelta, IsStopped, HasApplyingStandbys, Stands}
 use Rattle.nb_model.proofs.SoundLaws.{kind_of_header}
-use Rattle.nb_model.proofs.RunLaws.{same_self, entry_same}
-
--- two names are the same or not
-pub names_tell : (m n : List ℕ) → (m ≡ n) ⊎ (m ≢ n)
-names_tell m n = by_test (same_name m n) refl
-  where
-    by_test : (t : Bool) → t ≡ same_name m n → (m ≡ n) ⊎ (m ≢ n)
-    by_test true is = inl (told_text m n true is)
-    by_test false is = inr (told_text m n false is)
+use Rattle.nb_model.proofs.RunLaws.{entry_same}
+use Rattle.nb_host.proofs.NameLaws.{decide, same_self}
 
 -- the name of a difference file ends as such
 pub delta_named : (name : List ℕ) → is_delta (delta_name name) ≡ true
@@ -126,7 +119,7 @@ module _ (old new : Files) (account : Account) (name : List ℕ) (entry : Entry)
 
   -- a database of the account is that of the name, or was one before
   whose : (n : List ℕ) (b : Base) → next.entry n ≡ IsBase b → (entry ≡ IsBase b) ⊎ (account.entry n ≡ IsBase b)
-  whose n b e = elim (names_tell n name) [ inl w ↦ inl (sym (here n w) ∙ e) | inr w ↦ inr (sym (elsewhere n w) ∙ e) ]
+  whose n b e = elim (decide n name) [ inl w ↦ inl (sym (here n w) ∙ e) | inr w ↦ inr (sym (elsewhere n w) ∙ e) ]
 
   -- what holds of the image of each database of the name, and of all that belonged before, holds of all that belongs
   belonging : (P : Image → Type 0) → ((b : Base) → entry ≡ IsBase b → P b.image) → ((x : Image) → Belongs account x → P x) → (x : Image) → Belongs next x → P x
@@ -144,7 +137,7 @@ module _ (old new : Files) (account : Account) (name : List ℕ) (entry : Entry)
   plain_other n is e = true≢false (sym (ap is_delta e ∙ delta_named name) ∙ is)
 
   same_image : IsSameImage new next
-  same_image n plain_n = elim (names_tell n name) [
+  same_image n plain_n = elim (decide n name) [
     | inl w ↦ here n w ∙ under.same ∙ ap (λ (m : List ℕ). entry_in new m) (sym w)
     | inr w ↦
         elsewhere n w ∙ stands.same_image n plain_n
@@ -167,7 +160,7 @@ module _ (old new : Files) (account : Account) (name : List ℕ) (entry : Entry)
     distinct = stands.kept_records.distinct;
     not_nil = stands.kept_records.not_nil;
     stalled = λ n b e is. elim (whose n b e) [ inl w ↦ under.stalled b w is | inr w ↦ stands.kept_records.stalled n b w is ];
-    levels = λ n bytes plain_n there. elim (names_tell n name) [
+    levels = λ n bytes plain_n there. elim (decide n name) [
       | inl w ↦ under.holds bytes (ap new (sym w) ∙ there)
       | inr w ↦ stands.kept_records.levels n bytes plain_n (sym (others n w (plain_other n plain_n)) ∙ there)
     ];
@@ -178,7 +171,7 @@ module _ (old new : Files) (account : Account) (name : List ℕ) (entry : Entry)
   history = record { images = belonging (NamesItsPast account.kept) under.past stands.history.images; records = stands.history.records }
 
   no_stray : HasNoStrayDelta new next
-  no_stray n plain_n beside = elim (names_tell n name) [
+  no_stray n plain_n beside = elim (decide n name) [
     | inl w ↦ elim (under.no_stray (subst (λ (m : List ℕ). IsTrue (is_some (new (delta_name m)))) w beside)) [
       | inl base ↦ inl (base.0, here n w ∙ base.1)
       | inr standby ↦ inr (standby.0, ap new w ∙ standby.1, standby.2)
@@ -191,7 +184,7 @@ module _ (old new : Files) (account : Account) (name : List ℕ) (entry : Entry)
 
   standbys : HasApplyingStandbys new next.kept
   unfolding with_entry
-  standbys n bytes r plain_n there applying kept = elim (names_tell n name) [
+  standbys n bytes r plain_n there applying kept = elim (decide n name) [
     | inl w ↦ under.standby bytes r (ap new (sym w) ∙ there) applying kept
     | inr w ↦ stands.standbys n bytes r plain_n (sym (others n w (plain_other n plain_n)) ∙ there) applying kept
   ]

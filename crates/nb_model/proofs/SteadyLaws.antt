@@ -79,7 +79,7 @@ page_frozen : (p : ℕ) (bytes : Page) (t : Trail) → (after_stroke (page p byt
 unfolding on_base
 page_frozen p bytes t = ap (λ (b : Base). b.frozen) (trail_base (page p bytes) t)
 
-stroke_seen : (t : Trail) (s : Stroke) → (after_stroke s t).base ≡ on_base s t.base
+pub stroke_seen : (t : Trail) (s : Stroke) → (after_stroke s t).base ≡ on_base s t.base
 unfolding after_stroke
 stroke_seen t s = trail_base s t
 

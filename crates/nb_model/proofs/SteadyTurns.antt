@@ -24,7 +24,7 @@ use Rattle.nb_model.specs.Turns.{first_turn, turn}
 use Rattle.nb_model.specs.Well.{is_on_pages}
 use Rattle.nb_model.specs.WellTrail.{IsWellTrail}
 use Rattle.nb_model.proofs.BackupWell.{IsLedTo, IsRecorded, StartsWell, made_base, recorded_on, recorded_settled, start_well, close_well}
-use Rattle.nb_model.proofs.GoingLaws.{next_sixteen, one_runs, name_short, then_base, own_todo, other_todo, one_cases, going_turn, named_turn}
+use Rattle.nb_model.proofs.GoingLaws.{next_sixteen, one_runs, name_short, then_base, own_todo, other_todo, one_cases, going_turn, named_turn, merge_turns}
 use Rattle.nb_model.proofs.HeldTurns.{statement_holds}
 use Rattle.nb_model.proofs.LeadLaws.{strokes_lead}
 use Rattle.nb_model.proofs.PagesFit.{pages_fit}
@@ -73,10 +73,6 @@ module _ (kept : List Kept) (t : Trail) where
   copies_left : (left : ℕ) (turns : List Turn) → AreRecorded kept t (replicate left Copies ++ turns) → AreRecorded kept t turns
   copies_left zero turns all = all
   copies_left (suc left) turns all = copies_left left turns all.1
-
-merge_turns : (n : ℕ) (reply : Reply) (rest : List Turn) → AreBeginnings rest → AreMerging ((replicate n Merges ++ Finishes reply ∷ []) ++ rest)
-merge_turns zero reply rest all = all
-merge_turns (suc n) reply rest all = merge_turns n reply rest all
 
 -- What a turn does where it comes: it keeps what was seen well, records the backup that it starts, and leaves one of another session recorded.
 record IsTurn (kept : List Kept) (t : Trail) (now : Now) (session : ℕ) (strokes : List Stroke) (turns : List Turn) : Type 0 where

@@ -7,13 +7,14 @@ use Rattle.std.proofs.Math.Seq.{take-append-add}
 use Rattle.nb_model.specs.declared.reply.Reply.{Reply}
 use Rattle.nb_model.specs.Account.{Base}
 use Rattle.nb_model.specs.Lines.{line_text}
-use Rattle.nb_model.specs.Strokes.{Stroke, on_base, base_after}
+use Rattle.nb_model.specs.Strokes.{Stroke, base_after}
 use Rattle.nb_model.specs.Run.{Event, strokes_of}
 use Rattle.nb_model.specs.Output.{output}
-use Rattle.nb_model.specs.Trail.{Trail, settled, settles_at, bases_of, after_stroke, after_strokes}
+use Rattle.nb_model.specs.Trail.{Trail, settled, after_stroke, after_strokes}
 use Rattle.nb_model.specs.Steps.{Step, makes, settles, after_step, after_steps, made, steps_in, steps_of, acked_turns, acked_steps}
 use Rattle.nb_model.proofs.OutputLaws.{line-some, output-quiet, output-line, output_no_event}
 use Rattle.nb_model.proofs.StrokeLaws.{base_after-append}
+use Rattle.nb_model.proofs.SteadyLaws.{stroke_seen}
 
 -- no step
 pub steps_none : steps_of [] ≡ []
@@ -74,15 +75,6 @@ steps_front es fs count low = ap (take count) (steps_append es fs) ∙ take-appe
 
 pub steps_behind : (es fs : List Event) (count : ℕ) → take (length (steps_of es) + count) (steps_of (es ++ fs)) ≡ steps_of es ++ take count (steps_of fs)
 steps_behind es fs count = ap (take (length (steps_of es) + count)) (steps_append es fs) ∙ take-append-add (steps_of es) (steps_of fs) count
-
--- The database that is seen after steps is the one after their strokes.
-stroke_seen : (t : Trail) (s : Stroke) → (after_stroke s t).base ≡ on_base s t.base
-unfolding after_stroke
-stroke_seen t s = by (settles_at t s)
-  where
-    by : (b : Bool) → (elim b as (λ z. Trail) [ true ↦ settled (on_base s t.base) | false ↦ record { base = on_base s t.base; earlier = bases_of t } ]).base ≡ on_base s t.base
-    by true = refl
-    by false = refl
 
 made_seen : (t : Trail) (ss : List Stroke) → (after_steps t (made ss)).base ≡ base_after t.base ss
 unfolding after_steps after_step made base_after
@@ -149,7 +141,7 @@ unfolding acked_turns
 turns_line e es said r some = rw (some, acked_turns) refl
 
 -- No more turns are acknowledged than there are,
-turns_most : (es : List Event) (said : ℕ) → acked_turns es said ≤ length es
+pub turns_most : (es : List Event) (said : ℕ) → acked_turns es said ≤ length es
 turns_most [] said = let none = turns_none said in omega arith
 turns_most (e ∷ es) said = by (turns_most es) e.reply refl
   where

@@ -25,11 +25,12 @@ use Rattle.nb_model.proofs.HeldLaws.{IsHeld, IsOfHistory, IsMade, held_put, held
 use Rattle.nb_model.proofs.NewSound.{HoldsOfKinds, inventory_before, plain_place, new_fits}
 use Rattle.nb_model.proofs.NoRows.{HasNoRows, no_rows, owner_no_rows}
 use Rattle.nb_model.proofs.PutSound.{IsPlace, IsPlain, plain_here}
-use Rattle.nb_model.proofs.RoomLaws.{last_of_all, no_system, old_there, put_full}
+use Rattle.nb_model.proofs.RoomLaws.{last_of_all, old_there, put_full}
 use Rattle.nb_model.proofs.RoundLaws.{AnyPage, any_kinds, IsNew, new_is_new, no_place, kind_found, put_here, put_other, put_size, put_longer}
 use Rattle.nb_model.proofs.SlotLaws.{linked_owner, written_owner, new_owner}
 use Rattle.nb_model.proofs.SoundLaws.{all_at, inventory_there, inventory_place_some}
 use Rattle.nb_model.proofs.SpotLaws.{IsSpotOn, free_on, spot_within}
+use Rattle.nb_model.proofs.OnwardTests.{plain_from}
 
 -- A page that a chain of tables may have: no system page, and not of the history.
 pub record IsTablePage (image : Image) (p : ℕ) : Type 0 where
@@ -38,7 +39,7 @@ pub record IsTablePage (image : Image) (p : ℕ) : Type 0 where
   pub owner : owner_in (page_at image p) ≢ 1
 
 pub table_system : (image : Image) (p : ℕ) → IsTablePage image p → is_system_place (image_size image) p ≡ false
-table_system image p page = no_system (image_size image) p page.plain.no_inventory page.plain.no_scn_page
+table_system image p page = plain_from (image_size image) p page.plain.no_inventory page.plain.no_scn_page
 
 -- it stands after the first two pages
 pub table_two : (image : Image) (p : ℕ) → IsWhole image → IsTablePage image p → 2 ≤ p

@@ -26,9 +26,7 @@ use Rattle.nb_model.specs.Turns.{first_turn, turn}
 use Rattle.nb_model.specs.Well.{is_on_pages}
 use Rattle.nb_model.proofs.PutSound.{no_first, not_when}
 use Rattle.nb_model.proofs.ToldTurns.{is_told, does_more, told_turn, pages_cases}
-
-false_true : false ≡ true → ⊥
-false_true h = cc
+use Rattle.nb_host.proofs.PlainLaws.{false_true}
 
 -- A statement is one on pages, or one of the five that begin and end backups and copies.
 pub statement_cases : (P : Statement → Type 0) → ((statement : Statement) → is_on_pages statement ≡ true → P statement) → P BeginBackup → P EndBackup
@@ -61,7 +59,7 @@ is_not m n r none = by (m == n) refl (not_when (not (m == n)) r none)
     by true is h = eqb-true m n is
     by false is h = absurd (true≢false h)
 
-is_so : (t : Bool) (r : Refusal) → when (not t) r ≡ None → t ≡ true
+pub is_so : (t : Bool) (r : Refusal) → when (not t) r ≡ None → t ≡ true
 is_so true r none = refl
 is_so false r none = absurd (true≢false (not_when true r none))
 

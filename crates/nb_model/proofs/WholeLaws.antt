@@ -58,10 +58,10 @@ good_length bytes n size e long some least most =
     let count : length bytes / size_of bytes ≡ n = ap (λ x. length bytes / x) e ∙ ap (λ x. x / size) long ∙ mul-div_cancel n some in
     or_no _ _ (ap not (eq_yes _ _ whole)) (or_no _ _ (ap (λ x. nat_lt x 5) count ∙ lt_no n 5 least) (ap (λ x. nat_lt most_pages x) count ∙ lt_no most_pages n most))
 
-when_false : (t : Bool) (r : Refusal) → t ≡ false → when t r ≡ None
+pub when_false : (t : Bool) (r : Refusal) → t ≡ false → when t r ≡ None
 when_false t r e = rw e refl
 
-two_none : (a b : Cause) → a ≡ None → b ≡ None → first_cause (a ∷ b ∷ []) ≡ None
+pub two_none : (a b : Cause) → a ≡ None → b ≡ None → first_cause (a ∷ b ∷ []) ≡ None
 unfolding first_cause
 two_none a b ea eb = rw (ea, first_cause) (rw (eb, first_cause) refl)
 

@@ -16,7 +16,8 @@ use Rattle.nb_base.proofs.WrittenLaws.{written_same}
 use Rattle.nb_cache.specs.Held.{Slot, rank_of}
 use Rattle.nb_owner.specs.Open.{Pages, Held, AreOf, IsOpen, waits}
 use Rattle.nb_owner.specs.Seen.{IsSeenOver, waiting_in}
-use Rattle.nb_owner.proofs.RankLaws.{own_true, rank_here, rank_next}
+use Rattle.nb_owner.proofs.RankLaws.{rank_here, rank_next}
+use Rattle.nb_host.proofs.PlainLaws.{eq_self}
 
 -- a page that isn't in memory doesn't wait
 none_waits : (p : ℕ) (es : Pages) → AllByRecursion (λ k. nat_eq p k ≡ false) (keys_of es) → rank_of es p ≡ None
@@ -73,7 +74,7 @@ overwrites size t (e ∷ es) f once of low long agree =
     by : ((g : Image) → length g ≡ length t → AgreeBut es g t → overwritten size (waiting_in es) g ≡ t) → (r : Option ℕ) → e.1.rank ≡ r → overwritten size (waiting_in (e ∷ es)) f ≡ t
     by rest None is = rw is (rest f long (quiet is))
     by rest (Some rank) is =
-        let there : e.0 < length f = let h = low e.0 rank (rank_here e.0 e es (own_true e.0) ∙ is) in omega (arith, h, long) in
+        let there : e.0 < length f = let h = low e.0 rank (rank_here e.0 e es (eq_self e.0) ∙ is) in omega (arith, h, long) in
         rw is (rest (written_at size (e.0, e.1.bytes) f) (omega (arith, long, there, written_length size e.0 e.1.bytes f)) (agree_written size t e es f of.0 there long agree))
 
 -- the parts of a database that is seen so

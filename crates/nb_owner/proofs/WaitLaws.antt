@@ -28,11 +28,13 @@ use Rattle.nb_base.specs.Seen.{IsSeen}
 use Rattle.nb_base.specs.Going.{Drafts}
 use Rattle.nb_base.proofs.LeftLaws.{stroke-stalled, noted-there, noted-new}
 use Rattle.nb_base.proofs.MergingLaws.{seen_still}
-use Rattle.nb_base.proofs.OwnedLaws.{entry-first, entry-later, entry-added, entry-front, entry_at, later}
+use Rattle.nb_base.proofs.OwnedLaws.{entry-later, entry-added, entry-front, entry_at, later}
 use Rattle.nb_cache.specs.Held.{Slot, slot_of, rank_of, with_rank, dropped, NoneWaits}
 use Rattle.nb_owner.specs.Open.{Held, Pages, AreOf, waits, IsWaiting, AreDrafted, Waits, IsOpen, IsValid, may_wait, cache_of, rank_in}
 use Rattle.nb_owner.proofs.UsedLaws.{All-put}
-use Rattle.nb_owner.proofs.RankLaws.{rank_kept, rank_kept_other, rank_marked, rank_marked_other, none_found, own_true, slot_kept, marked_of}
+use Rattle.nb_owner.proofs.RankLaws.{rank_kept, rank_kept_other, rank_marked, rank_marked_other, none_found, slot_kept, marked_of}
+use Rattle.nb_host.proofs.PlainLaws.{both_true, eq_self, not_true}
+use Rattle.nb_model.proofs.EntryLaws.{for_here}
 
 -- what is held of a database agrees with one that has the same page 0, length, frozen image and entries
 pub agrees_same : (held : Rattle.nb_base.specs.Open.Held) (a b : Base) → length a.image ≡ length b.image → first_page a.image ≡ first_page b.image → a.frozen ≡ b.frozen → a.diverted ≡ b.diverted → Agrees held a → Agrees held b
@@ -167,7 +169,7 @@ entry_front : (p : ℕ) (xs ys : List ℕ) → entry_for p ys ≡ None → entry
 unfolding entry_for
 entry_front p [] ys none = none
 entry_front p (x ∷ xs) ys none = elim (eqb_tells p x) [
-  | inl e ↦ entry-first p x (xs ++ ys) e.1 ∙ sym (entry-first p x xs e.1)
+  | inl e ↦ for_here p x (xs ++ ys) e.1 ∙ sym (for_here p x xs e.1)
   | inr e ↦ entry-later p x (xs ++ ys) e.1 ∙ ap later (entry_front p xs ys none) ∙ sym (entry-later p x xs e.1)
 ]
 
@@ -216,21 +218,12 @@ module _ (w : World) (held : Held) (t : Trail) (is : IsOpen w held t) (valid : I
       (kept_ranks held valid p bytes absent drops_none)
       (All-put p held.pages valid.once held.cap (record { bytes = bytes; rank = None }) (λ e. e.1.bytes ≡ page_at t.base.image e.0) (λ e. e.1.bytes ≡ page_at t.base.image e.0) (λ e apart of. of) same is.pages)
 
--- why a write may wait
-and_parts : (a b : Bool) → (a && b) ≡ true → (a ≡ true) × (b ≡ true)
-and_parts true b e = (refl, e)
-and_parts false b e = absurd (true≢false (sym e))
-
-not_true : (a : Bool) → not a ≡ true → a ≡ false
-not_true true e = absurd (true≢false (sym e))
-not_true false e = refl
-
 pub may_wait_parts : (held : Held) (p : ℕ) → may_wait held p ≡ true → (held.files.forced ≡ false) × (held.files.state ≤ 1) × (1 ≤ p) × (p < held.files.count) × (dropped (cache_of held) p ≡ None)
 may_wait_parts held p is =
-    let a = and_parts (not held.files.forced) (nat_lt held.files.state 2 && (not (p == 0) && (nat_lt p held.files.count && not (is_some (dropped (cache_of held) p))))) is in
-    let b = and_parts (nat_lt held.files.state 2) (not (p == 0) && (nat_lt p held.files.count && not (is_some (dropped (cache_of held) p)))) a.1 in
-    let c = and_parts (not (p == 0)) (nat_lt p held.files.count && not (is_some (dropped (cache_of held) p))) b.1 in
-    let d = and_parts (nat_lt p held.files.count) (not (is_some (dropped (cache_of held) p))) c.1 in (
+    let a = both_true (not held.files.forced) (nat_lt held.files.state 2 && (not (p == 0) && (nat_lt p held.files.count && not (is_some (dropped (cache_of held) p))))) is in
+    let b = both_true (nat_lt held.files.state 2) (not (p == 0) && (nat_lt p held.files.count && not (is_some (dropped (cache_of held) p)))) a.1 in
+    let c = both_true (not (p == 0)) (nat_lt p held.files.count && not (is_some (dropped (cache_of held) p))) b.1 in
+    let d = both_true (nat_lt p held.files.count) (not (is_some (dropped (cache_of held) p))) c.1 in (
       not_true held.files.forced a.0,
       elim (leb_tells (suc held.files.state) 2) [ inl w ↦ omega (arith, w.1) | inr w ↦ absurd (true≢false (sym b.0 ∙ w.0)) ],
       elim (eqb_tells p 0) [ inl w ↦ absurd (true≢false (sym (sym (not_true (p == 0) c.0) ∙ w.0))) | inr w ↦ some p w.1 ],
@@ -362,7 +355,7 @@ module _ (w : World) (held : Held) (t : Trail) (is : IsOpen w held t) (valid : I
   pages_more : AreOf (after_stroke (page p bytes) t).base.image (with_rank p (Some rank) (put_entries nat_eq (lru_cache held.pages held.cap) p (record { bytes = bytes; rank = rank_of held.pages p })))
   pages_more = marked_of (after_stroke (page p bytes) t).base.image p (Some rank) kept
       (All-put p held.pages valid.once held.cap (record { bytes = bytes; rank = rank_of held.pages p }) (λ e. e.1.bytes ≡ page_at t.base.image e.0) (λ e. e.1.bytes ≡ page_at later_t.base.image e.0)
-      (λ e apart of. of ∙ sym (page_other e.0 (λ same. absurd (true≢false (sym (own_true p) ∙ subst (λ (n : ℕ). nat_eq p n ≡ false) same apart))))) (sym page_same) is.pages)
+      (λ e apart of. of ∙ sym (page_other e.0 (λ same. absurd (true≢false (sym (eq_self p) ∙ subst (λ (n : ℕ). nat_eq p n ≡ false) same apart))))) (sym page_same) is.pages)
 
   -- With these entries, of which so many are drafted.
   module _ (entries : List ℕ) (drafted : ℕ) (entries_are : entries ≡ (after_stroke (page p bytes) t).base.diverted)

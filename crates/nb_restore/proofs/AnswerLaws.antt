@@ -1,12 +1,9 @@
 -- One answer holds one value, and none where it is an error.
 use Rattle.std.proofs.Common.{◌≡◌}
-use Rattle.std.specs.Prelude.{Some, Result, Ok, Err}
+use Rattle.std.specs.Prelude.{Result, Ok, Err}
 
 pub ok_same : {X E : Type 0} (x y : X) (answer : Result X E) → answer ≡ Ok x → answer ≡ Ok y → x ≡ y
 ok_same x y answer e f = cc
 
 pub err_ok : {X E : Type 0} (error : E) (x : X) (answer : Result X E) → answer ≡ Err error → answer ≡ Ok x → ⊥
 err_ok error x answer e f = cc
-
-pub some_same : {X : Type 0} (x y : X) → Some x ≡ Some y → x ≡ y
-some_same x y e = cc

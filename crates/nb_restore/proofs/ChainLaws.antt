@@ -2,7 +2,7 @@
 use Rattle.std.proofs.Common.{◌≡◌, ◌≢◌, ℕ, zero, suc, ◌+◌, ◌*◌, ◌<◌, ◌≤◌, List, [], ◌∷◌, length, take, drop, get_or, refl, sym, ap, subst, ◌∙◌, arith}
 use Rattle.std.specs.Prelude.{Bool, true, false, not, ◌==◌, Some, None, Result, Ok, Err, Contains}
 use Rattle.std.specs.Cmp.Lexicographic.{told_text}
-use Rattle.std.proofs.lemmas.Bool.{eqb-true, true≢false}
+use Rattle.std.proofs.lemmas.Bool.{eqb-true}
 use Rattle.std.proofs.lemmas.List.{take-take}
 use Rattle.nb_fields.specs.Bytes.{number_in}
 use Rattle.nb_fields.specs.Free.{is_free_file}
@@ -23,29 +23,8 @@ use Rattle.nb_model.proofs.FreeLaws.{free_no_level, free_header}
 use Rattle.nb_model.proofs.ImageLaws.{page-joined}
 use Rattle.nb_restore.specs.Sources.{IsSource, AreSources}
 use Rattle.nb_restore.proofs.AnswerLaws.{ok_same, err_ok}
-
--- causes of which none applies, one after another
-pub clear_head : (c : Cause) (cs : List Cause) → first_cause (c ∷ cs) ≡ None → (c ≡ None) × (first_cause cs ≡ None)
-unfolding first_cause
-clear_head None cs e = (refl, e)
-clear_head (Some r) cs e = absurd (some_none e)
-  where
-    some_none : Some r ≡ None → ⊥
-    some_none h = cc
-
-pub when_clear : (test : Bool) (r : Refusal) → when test r ≡ None → test ≡ false
-when_clear true r e = absurd (some_none e)
-  where
-    some_none : Some r ≡ None → ⊥
-    some_none h = cc
-when_clear false r e = refl
-
-pub not_false : (b : Bool) → not b ≡ false → b ≡ true
-not_false true e = refl
-not_false false e = absurd (true≢false e)
-
-pub test_passed : (test : Bool) (r : Refusal) → when (not test) r ≡ None → test ≡ true
-test_passed test r e = not_false test (when_clear (not test) r e)
+use Rattle.nb_model.proofs.PutSound.{no_first, not_when}
+use Rattle.nb_model.proofs.TurnCases.{is_so}
 
 -- what the head of a level file in place k names of the file before it
 pub record GoesBehind (k : ℕ) (last : Link) (h : Head) : Type 0 where
@@ -57,15 +36,15 @@ pub record GoesBehind (k : ℕ) (last : Link) (h : Head) : Type 0 where
 pub goes_behind : (k : ℕ) (last : Link) (name : List ℕ) (c : Contents) → not_behind k last name c ≡ None → GoesBehind k last c.head
 unfolding not_behind
 goes_behind k last name c none =
-    let level = clear_head _ _ none in
-    let guid = clear_head _ _ level.1 in
-    let size = clear_head _ _ guid.1 in
-    let scn = clear_head _ _ size.1 in
+    let level = no_first _ _ none in
+    let guid = no_first _ _ level.1 in
+    let size = no_first _ _ guid.1 in
+    let scn = no_first _ _ size.1 in
     record {
-      level = eqb-true c.head.level k (test_passed (c.head.level == k) (ChainLevel name c.head.level k) level.0);
-      previous = told_text c.head.previous last.guid true (sym (test_passed (same_name c.head.previous last.guid) (ChainGuid name c.head.previous last.guid) guid.0));
-      size = eqb-true c.head.size last.size (test_passed (c.head.size == last.size) (ChainSize name c.head.size last.size) size.0);
-      previous_scn = eqb-true c.head.previous_scn last.scn (test_passed (c.head.previous_scn == last.scn) (ChainScn name c.head.previous_scn last.scn) scn.0);
+      level = eqb-true c.head.level k (is_so (c.head.level == k) (ChainLevel name c.head.level k) level.0);
+      previous = told_text c.head.previous last.guid true (sym (is_so (same_name c.head.previous last.guid) (ChainGuid name c.head.previous last.guid) guid.0));
+      size = eqb-true c.head.size last.size (is_so (c.head.size == last.size) (ChainSize name c.head.size last.size) size.0);
+      previous_scn = eqb-true c.head.previous_scn last.scn (is_so (c.head.previous_scn == last.scn) (ChainScn name c.head.previous_scn last.scn) scn.0);
     }
 
 -- the file after another is a level file
@@ -216,9 +195,9 @@ whole_parts name bytes e = by (is_header bytes) refl e
         ] ≡ None → (is_header bytes ≡ true) × (state_of bytes ≡ stalled_state) × (is_bad_length bytes ≡ false)
     by false is h = absurd (some_none (BadLevel name 0) h)
     by true is h =
-        let state = clear_head _ _ h in
-        let long = clear_head _ _ state.1 in
-        (is, eqb-true (state_of bytes) 1 (test_passed (state_of bytes == stalled_state) (BadLevel name 22) state.0), when_clear (is_bad_length bytes) (BadLevel name (length bytes)) long.0)
+        let state = no_first _ _ h in
+        let long = no_first _ _ state.1 in
+        (is, eqb-true (state_of bytes) 1 (is_so (state_of bytes == stalled_state) (BadLevel name 22) state.0), not_when (is_bad_length bytes) (BadLevel name (length bytes)) long.0)
 
 pub copy_of : (name bytes : List ℕ) (l : Link) → first_link name bytes ≡ Ok l → IsCopy bytes l
 unfolding first_link

@@ -20,12 +20,13 @@ use Rattle.nb_model.proofs.HeaderLaws.{header-room}
 use Rattle.nb_model.proofs.WellTrailLaws.{settled_well, well_normal}
 use Rattle.nb_model.proofs.WholeLaws.{copy_accepted, chain_accepted, chain_gives}
 use Rattle.nb_restore.specs.Kept.{AreKept, last_guid, GivesKept, IsLinkOf}
-use Rattle.nb_restore.proofs.AnswerLaws.{ok_same, some_same}
+use Rattle.nb_restore.proofs.AnswerLaws.{ok_same}
 use Rattle.nb_restore.proofs.AskLaws.{with_ask}
 use Rattle.nb_restore.proofs.ChainLaws.{split_chain, split_next, copy_of}
 use Rattle.nb_restore.proofs.FixedLaws.{fixed_well}
 use Rattle.nb_restore.proofs.KeptFirst.{HoldsKeptFirst, kept_first}
 use Rattle.nb_restore.proofs.KeptNext.{HoldsKeptNext, kept_next}
+use Rattle.nb_host.proofs.PlainLaws.{some_same}
 
 -- no name is that of a difference file
 abbrev ArePlain : List (List ℕ) → Type 0

@@ -18,12 +18,12 @@ use Rattle.nb_model.proofs.HeaderLaws.{header-size, header-room, same-header}
 use Rattle.nb_model.proofs.ReadLaws.{eq_no}
 use Rattle.nb_model.proofs.OpenedLaws.{joined_front}
 use Rattle.nb_model.proofs.StandsLaws.{header_no_level}
-use Rattle.nb_restore.proofs.AnswerLaws.{some_same}
 use Rattle.nb_restore.proofs.AskLaws.{with_ask, begun_with, guid_long}
 use Rattle.nb_restore.proofs.ChainLaws.{IsLevelFile}
 use Rattle.nb_restore.proofs.ParentLaws.{LeadsTo, AsksFrom, own_asks, span_asks}
 use Rattle.nb_level.proofs.ToldLaws.{IsTold, level_told}
 use Rattle.nb_restore.proofs.ReadLaws.{reads_level, reads_previous}
+use Rattle.nb_host.proofs.PlainLaws.{some_same}
 
 -- pages with a header are no level file
 no_pages : (image : Image) (bytes : List ℕ) (c : Contents) → is_header (first_page image) ≡ true → read_level bytes ≡ Ok c → bytes ≡ joined image → ⊥

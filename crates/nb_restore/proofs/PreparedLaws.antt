@@ -27,8 +27,9 @@ use Rattle.nb_restore.specs.Copied.{IsDone}
 use Rattle.nb_restore.specs.Plan.{IsAccepted, IsPrepared, PlanSays}
 use Rattle.nb_restore.specs.Sources.{IsLevel0, AreSources, AreReady, IsTaken}
 use Rattle.nb_restore.specs.Target.{IsPlan, IsUnfinishedPage}
-use Rattle.nb_restore.proofs.AnswerLaws.{ok_same, some_same}
+use Rattle.nb_restore.proofs.AnswerLaws.{ok_same}
 use Rattle.nb_restore.proofs.ChainLaws.{sources, IsSplit, split_chain, IsCopy, copy_of, copy_apart, page_0_header, page_0_size, all_apart}
+use Rattle.nb_host.proofs.PlainLaws.{some_same}
 
 -- nothing but the device fails, and memory
 pub taken_fails : (T : Type 0) (P : T → Type 0) (files : Files) (target : List ℕ) (names : List (List ℕ)) (fault : Fault) → IsTaken {T = T} (Err fault) P → PlanSays files target names (Err fault)

@@ -13,9 +13,9 @@ use Rattle.nb_level.specs.Answers.{StartSays}
 use Rattle.nb_level.specs.Heads.{head_of}
 use Rattle.nb_level.specs.Reading.{Reading, still_to_come}
 use Rattle.nb_restore.specs.Sources.{AreHeaded, IsSource, AreSources, IsReady, AreReady, AreOfPages, IsTaken}
-use Rattle.nb_restore.proofs.AnswerLaws.{some_same}
 use Rattle.nb_level.proofs.ToldLaws.{with_head-is}
 use Rattle.nb_restore.proofs.HeadLaws.{level-headed}
+use Rattle.nb_host.proofs.PlainLaws.{some_same}
 
 -- a reader that has begun to read such a file
 pub source_ready : (files : Files) (target name : List ℕ) (size : ℕ) (link : Link) (reader : Reading) (tells : Bool) → IsTrue tells → IsSource files target name size link → StartSays tells (files name) name (Ok reader) → IsReady files target size link reader

@@ -34,7 +34,6 @@ use Rattle.nb_state.specs.Open.{Held, IsOpen, but_pages, name_of}
 use Rattle.nb_state.specs.Does.{WhereEnded, Answers, Does}
 use Rattle.nb_state.specs.Turns.{GaveAtMost}
 use Rattle.nb_state.proofs.MakesLaws.{where_ended, none_yet}
-use Rattle.nb_state.proofs.TurnLaws.{no_call}
 use Rattle.nb_engine.specs.Replies.{scn_is}
 use Rattle.nb_engine.specs.Turns.{SaysNone, DoesBegin}
 use Rattle.nb_session.specs.Acts.{Says, Grows, shown_by, Touched, TurnLeft, AreKept, Acts, MayAct}
@@ -45,6 +44,7 @@ use Rattle.nb_session.proofs.EventLaws.{strokes_are_steps, told_reply}
 use Rattle.nb_session.proofs.GiftLaws.{given_nothing, grows_none}
 use Rattle.nb_session.proofs.KeepLaws.{begin_gives, begin_refused, begin_running, begin_made}
 use Rattle.nb_session.proofs.TurnLaws.{seen_now, outcome_is}
+use Rattle.nb_page.proofs.QuietLaws.{quiet_begun}
 
 -- strokes of a turn that makes no file
 pub strikes_left : (old new : World) (name : List ℕ) (t : Trail) (ss : List Stroke) → Strikes old new name t ss → Changes old new (Touched name []) (TurnLeft old name t ss [])
@@ -299,7 +299,7 @@ module _ (w : World) (held : Held) (t : Trail) (now : Now) (session : ℕ) (stat
     grows = grows_none w w still;
     acts = λ told. record {
       says = ap (λ (x : Outcome). x.reply) shows ∙ ap (λ (n : ℕ). Some (CacheShown n (next_hold now.given))) (sym ready.cache) ∙ ap (λ (n : ℕ). Some (CacheShown held.cap n)) (first_number told) ∙ ap Some (sym answered);
-      left = strikes_left w w (name_of held) t _ (none_yet w w held t _ (no_call w timely) ready.opened);
+      left = strikes_left w w (name_of held) t _ (none_yet w w held t _ (quiet_begun w timely) ready.opened);
       opened = subst (IsOpen w held) (ap (after_strokes t) (sym (ap (λ (x : Outcome). x.strokes) shows)) ∙ trail_plain t (event_of session (Begins statement) (outcome session (Begins statement) now)) (ap (λ (x : Statement). is_sync (Begins x)) is)) ready.opened;
       running = ready.running ∙ sym (ap (λ (x : Outcome). x.running) shows);
       given = subst (λ (g : Given). WasGiven w w now.given g) (sym (ap (λ (x : Outcome). x.given) shows)) (record {

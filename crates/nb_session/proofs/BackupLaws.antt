@@ -65,7 +65,7 @@ use Rattle.nb_session.proofs.ActLaws.{trail_plain, ended_map, kept_none, says_no
 use Rattle.nb_state.specs.Does.{has_only_told}
 use Rattle.nb_session.specs.Replies.{only_told}
 use Rattle.nb_session.proofs.EventLaws.{Marks, marks_made, unsaid}
-use Rattle.nb_session.proofs.CopyLaws.{apart_one, one_file, file_left, each_one, kept_one, made_by, no_stroke, stalled_now, finished_not, more_not}
+use Rattle.nb_session.proofs.CopyLaws.{apart_one, file_left, each_one, kept_one, made_by, no_stroke, stalled_now, finished_not, more_not}
 use Rattle.nb_session.proofs.GiftLaws.{given_nothing, grows_none}
 use Rattle.nb_session.proofs.MakesLaws.{none_runs}
 use Rattle.nb_session.proofs.NameLaws.{given_plain}
@@ -74,6 +74,7 @@ use Rattle.nb_session.proofs.ReadyLaws.{not_own, apart_files}
 use Rattle.nb_session.proofs.TouchingLaws.{asked_either, plain_touch, copy_plain}
 use Rattle.nb_session.proofs.TurnLaws.{seen_now, outcome_is, turns_lost, turns_quiet}
 use Rattle.nb_session.proofs.WayLaws.{copy_turns, BacksUp, backing_at}
+use Rattle.nb_model.proofs.MakingLaws.{one_held}
 
 -- what a turn sees where this is given
 abbrev pub seen_with : Now → Given → Seen
@@ -98,7 +99,7 @@ same_name m n b c same =
     ap (λ (fs : List MadeFile). (slice_index_or fs 0 ([], [])).0)
     (backups_make [] m b ∙ ap (making []) (sym (copy_turns m (ClosesBackup b)) ∙ same ∙ copy_turns n (ClosesBackup c)) ∙ sym (backups_make [] n c))
 
-some_none : (r : Refusal) → Some (RefusedBy r) ≡ None → ⊥
+pub some_none : (r : Refusal) → Some (RefusedBy r) ≡ None → ⊥
 some_none r e = cc
 
 -- A backup that begins: its name was free, its session runs, and a GUID is given.
@@ -211,7 +212,7 @@ module _ (old new : World) (a b : Held) (t : Trail) (now : Now) (session : ℕ) 
     where
       one : (fs : Files) (whole n bytes : List ℕ) → Remade old asked IsEmpty fs → Contains {X = MadeFile} ((asked, whole) ∷ []) (n, bytes) → Remade old n (IsUnfinishedOr bytes) fs
       one fs whole n bytes has there =
-          subst (λ (f : MadeFile). Remade old f.0 (IsUnfinishedOr f.1) fs) (one_file (asked, whole) (n, bytes) there)
+          subst (λ (f : MadeFile). Remade old f.0 (IsUnfinishedOr f.1) fs) (one_held (asked, whole) (n, bytes) there)
           (⊎_elim inl (λ empty. inr (inl (inl (ap is_free_file empty ∙ blank_free (Some []) blank_empty)))) has)
 
       by : (made : List MadeFile) → Files_are made → Changes old new (Touched db made) (TurnLeft old db t begins.strokes made)

@@ -65,6 +65,7 @@ use Rattle.nb_session.proofs.ReadyLaws.{apart_files, not_own}
 use Rattle.nb_session.proofs.TouchingLaws.{plain_touch, copy_plain}
 use Rattle.nb_session.proofs.TurnLaws.{seen_now, outcome_is, was_last, turns_failed, turns_quiet, turns_told}
 use Rattle.nb_session.proofs.WayLaws.{copy_turns, copying_at}
+use Rattle.nb_model.proofs.MakingLaws.{one_held}
 
 -- the name that is held
 pub name_kept : (a b : Held) → b ≡ a → name_of b ≡ name_of a
@@ -83,16 +84,11 @@ pub no_stroke : (b : Base) (ss : List Stroke) → ss ≡ [] → base_after b ss 
 unfolding base_after
 no_stroke b ss none = ap (base_after b) none
 
--- one file
-pub one_file : (f g : MadeFile) → Contains (f ∷ []) g → f ≡ g
-one_file f g (zero, low, is) = is
-one_file f g (suc i, low, is) = absurd (omega (arith, low))
-
 pub kept_one : (w : World) (name whole : List ℕ) → IsKept w name whole → AreKept w ((name, whole) ∷ [])
-kept_one w name whole kept n bytes there = subst (λ (f : MadeFile). IsKept w f.0 f.1) (one_file (name, whole) (n, bytes) there) kept
+kept_one w name whole kept n bytes there = subst (λ (f : MadeFile). IsKept w f.0 f.1) (one_held (name, whole) (n, bytes) there) kept
 
 pub apart_one : (held : Held) (name whole : List ℕ) → IsApart held name → (n bytes : List ℕ) → Contains {X = MadeFile} ((name, whole) ∷ []) (n, bytes) → IsApart held n
-apart_one held name whole apart n bytes there = subst (λ (f : MadeFile). IsApart held f.0) (one_file (name, whole) (n, bytes) there) apart
+apart_one held name whole apart n bytes there = subst (λ (f : MadeFile). IsApart held f.0) (one_held (name, whole) (n, bytes) there) apart
 
 pub made_by : (w : World) (e : Event) (file : MadeFile) → e.made ≡ Some file → AreKept w (file ∷ []) → AreKept w (files_made (e ∷ []))
 unfolding files_made
@@ -104,7 +100,7 @@ module _ (old new : World) (a : Held) (t : Trail) (opened : IsOpen old a t) (nam
   touches m same = inr (whole, (0, omega arith, ap (λ (n : List ℕ). (n, whole)) (sym same)))
 
   pub each_one : (files : Files) → Remade old name (IsUnfinishedOr whole) files → (n bytes : List ℕ) → Contains {X = MadeFile} ((name, whole) ∷ []) (n, bytes) → Remade old n (IsUnfinishedOr bytes) files
-  each_one files has n bytes there = subst (λ (f : MadeFile). Remade old f.0 (IsUnfinishedOr f.1) files) (one_file (name, whole) (n, bytes) there) has
+  each_one files has n bytes there = subst (λ (f : MadeFile). Remade old f.0 (IsUnfinishedOr f.1) files) (one_held (name, whole) (n, bytes) there) has
 
   pub file_left : (ss : List Stroke) → Changes old new (Only name) (Remade old name (IsUnfinishedOr whole)) → Changes old new (Touched (name_of a) ((name, whole) ∷ [])) (TurnLeft old (name_of a) t ss ((name, whole) ∷ []))
   file_left ss changes =

@@ -46,6 +46,7 @@ use Rattle.nb_session.specs.Told.{told_reply as told_as, told_turns, told_line, 
 use Rattle.nb_session.proofs.GiftLaws.{given_nothing, given_joined}
 use Rattle.nb_session.proofs.ReadyLaws.{apart_files, ready_then}
 use Rattle.nb_session.proofs.ToldLaws.{told_one, told_none, told_status_is, told_only, output_told, status_told}
+use Rattle.nb_host.proofs.PlainLaws.{take_self}
 
 -- what holds where a call ended with a value or a refusal
 pub ended : {T P : Type 0} (answer : Result T Fault) → HasEnded answer → WhereEnded answer P → P
@@ -59,11 +60,6 @@ pub strokes_are_steps : (t : Trail) (ss : List Stroke) → after_strokes t ss �
 unfolding after_steps after_step made
 strokes_are_steps t [] = refl
 strokes_are_steps t (s ∷ ss) = strokes_are_steps (after_stroke s t) ss
-
-take_self : (n : ℕ) (l : List ℕ) → take n l ≡ take (length (take n l)) l
-take_self zero l = refl
-take_self (suc n) [] = refl
-take_self (suc n) (x ∷ l) = ap (λ (k : List ℕ). x ∷ k) (take_self n l)
 
 -- an event without a reply
 status_quiet : (e : Event) → e.reply ≡ None → status_of (replies_of (e ∷ [])) ≡ 0
@@ -91,7 +87,7 @@ pub one_told : (e : Event) → list_all only_told (e ∷ []) ≡ true → only_t
 one_told e all = sym (and-true (only_told e)) ∙ all
 
 -- no event made a file
-made_none : (file : MadeFile) → Contains (files_made []) file → ⊥
+pub made_none : (file : MadeFile) → Contains (files_made []) file → ⊥
 unfolding files_made
 made_none file there = omega (arith, there.1)
 

@@ -1,11 +1,11 @@
 -- Lists of files that are made.
-use Rattle.std.proofs.Common.{◌≡◌, ◌⊎◌, inl, inr, ℕ, zero, suc, ◌≤◌, List, [], ◌∷◌, ◌++◌, take, refl, sym, ap, subst, arith}
+use Rattle.std.proofs.Common.{◌⊎◌, inl, inr, ℕ, zero, suc, ◌≤◌, List, [], ◌∷◌, ◌++◌, take, refl, sym, ap, subst, arith}
 use Rattle.std.specs.Prelude.{Contains}
 use Rattle.std.proofs.lemmas.List.Elements.{Contains-append_left, Contains-append_right, Contains-append_cases}
 use Rattle.nb_change.proofs.NameLaws.{decide}
 use Rattle.nb_model.specs.Making.{MadeFile, AreAmong, IsNoneOf, NamesOnce}
 use Rattle.nb_model.specs.Run.{Event, files_made}
-use Rattle.nb_model.proofs.MakingLaws.{made_append}
+use Rattle.nb_model.proofs.MakingLaws.{made_append, one_held}
 
 -- none are among any
 pub none_among : (files : List MadeFile) → AreAmong [] files
@@ -28,10 +28,6 @@ among_more xs ys zs among = both_among xs ys (xs ++ zs) (among_left xs zs) (λ f
 pub once_fewer : (few many : List MadeFile) → AreAmong few many → NamesOnce many → NamesOnce few
 once_fewer few many among once name bytes others one other = once name bytes others (among (name, bytes) one) (among (name, others) other)
 
-alone : (f g : MadeFile) → Contains (f ∷ []) g → f ≡ g
-alone f g (zero, low, is) = is
-alone f g (suc i, low, is) = absurd (omega (arith, low))
-
 -- whether a name is that of one of them
 pub named_tells : (files : List MadeFile) (name : List ℕ) → ((bytes : List ℕ) × Contains files (name, bytes)) ⊎ IsNoneOf files name
 named_tells [] name = inr (λ bytes there. omega (arith, there.1))
@@ -40,7 +36,7 @@ named_tells (f ∷ files) name = elim (decide f.0 name) [
   | inr other ↦ elim (named_tells files name) [
     | inl some ↦ inl (some.0, Contains-append_right (f ∷ []) files (name, some.0) some.1)
     | inr none ↦ inr (λ bytes there. elim (Contains-append_cases (f ∷ []) files (name, bytes) there) [
-      | inl here ↦ other (ap (λ (file : MadeFile). file.0) (alone f (name, bytes) here))
+      | inl here ↦ other (ap (λ (file : MadeFile). file.0) (one_held f (name, bytes) here))
       | inr later ↦ none bytes later
     ])
   ]

@@ -12,6 +12,7 @@ use Rattle.nb_model.specs.Outcomes.{Turn, Begins, Copies, ClosesBackup, ClosesCo
 use Rattle.nb_model.specs.Run.{Now, base_now, outcome, event_of, stands_then, files_made}
 use Rattle.nb_model.specs.Turns.{turn}
 use Rattle.nb_session.proofs.AllLaws.{all_at}
+use Rattle.nb_model.proofs.MakingLaws.{one_held}
 
 -- the turn makes no file of that name
 abbrev pub MakesNo : (name : List ℕ) → Turn → Type 0
@@ -30,16 +31,12 @@ MakeNo name ts = AllByRecursion (MakesNo name) ts
 first_is : (n name bytes : List ℕ) (files : List MadeFile) → n ≡ name → Contains ((n, bytes) ∷ files) (name, bytes)
 first_is n name bytes files same = (0, omega arith, ap (λ (m : List ℕ). (m, bytes)) same)
 
-alone : (f g : MadeFile) → Contains (f ∷ []) g → f ≡ g
-alone f g (zero, low, is) = is
-alone f g (suc i, low, is) = absurd (omega (arith, low))
-
 one_more : (n name bytes : List ℕ) (files : List MadeFile) → IsNoneOf ((n, bytes) ∷ files) name → (n ≢ name) × IsNoneOf files name
 one_more n name bytes files none = (λ same. none bytes (first_is n name bytes files same), λ others there. none others (Contains-append_right ((n, bytes) ∷ []) files (name, others) there))
 
 one_less : (n name bytes : List ℕ) (files : List MadeFile) → n ≢ name → IsNoneOf files name → IsNoneOf ((n, bytes) ∷ files) name
 one_less n name bytes files other none others there = elim (Contains-append_cases ((n, bytes) ∷ []) files (name, others) there) [
-  | inl here ↦ other (ap (λ (f : MadeFile). f.0) (alone (n, bytes) (name, others) here))
+  | inl here ↦ other (ap (λ (f : MadeFile). f.0) (one_held (n, bytes) (name, others) here))
   | inr later ↦ none others later
 ]
 

@@ -51,6 +51,8 @@ use Rattle.nb_session.proofs.GiftLaws.{given_nothing, grows_none}
 use Rattle.nb_session.proofs.TouchingLaws.{ends_touch}
 use Rattle.nb_session.proofs.TurnLaws.{seen_now, outcome_is, turns_lost}
 use Rattle.nb_session.proofs.WayLaws.{merge_turns, ending_at}
+use Rattle.nb_model.proofs.WholeLaws.{two_none}
+use Rattle.nb_session.proofs.BackupLaws.{some_none}
 
 -- The parts of a turn that ends the stalled state.
 module _ (s : Seen) (session : ℕ) (reply : Reply) where
@@ -93,9 +95,6 @@ end_is : (session : ℕ) (now : Now) → end_turn (seen_now now) session ≡ out
 unfolding first_turn
 end_is session now = sym (outcome_is session EndBackup now)
 
-some_none : (r : Refusal) → Some (RefusedBy r) ≡ None → ⊥
-some_none r e = cc
-
 -- where it says nothing yet
 end_goes : (s : Seen) (session : ℕ) → (end_turn s session).reply ≡ None → end_turn s session ≡ ending s session
 end_goes s session = end_either (λ o. o.reply ≡ None → o ≡ ending s session) s session (λ r is. absurd (some_none r is)) (λ may is. refl)
@@ -111,11 +110,6 @@ end_given s session = end_either (λ o. o.given ≡ s.given) s session (λ r. re
 end_made : (s : Seen) (session : ℕ) → (end_turn s session).made ≡ None
 end_made s session = end_either (λ o. o.made ≡ None) s session (λ r. refl) (λ may. ends_made s session (Scn (end_scn s.base.image)))
 
--- In the stalled state the session that runs isn't refused.
-cause_none : (first second : Cause) → first ≡ None → second ≡ None → first_cause (first ∷ second ∷ []) ≡ None
-unfolding first_cause
-cause_none first second one two = rw (one, two, first_cause) refl
-
 own_runs : (session : ℕ) → runs_other (Some session) session ≡ None
 own_runs session = elim (eqb_tells session session) [
   | inl w ↦ ap (λ (b : Bool). when (not b) (BackupRunning session)) w.0
@@ -124,7 +118,7 @@ own_runs session = elim (eqb_tells session session) [
 
 none_against : (s : Seen) (session : ℕ) → image_state s.base.image ≡ stalled_state → s.running ≡ Some session → end_causes s session ≡ None
 none_against s session stalled runs =
-    cause_none _ _ (ap (λ (n : ℕ). when (n == 0) (WrongState 0)) stalled) (ap (λ (r : Option ℕ). runs_other r session) runs ∙ own_runs session)
+    two_none _ _ (ap (λ (n : ℕ). when (n == 0) (WrongState 0)) stalled) (ap (λ (r : Option ℕ). runs_other r session) runs ∙ own_runs session)
 
 unopposed : (s : Seen) (session : ℕ) → (unless s None (ending s session)).reply ≡ None
 unfolding unless

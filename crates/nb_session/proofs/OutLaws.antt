@@ -1,7 +1,7 @@
 -- What waits is written out after the turns.
 use Rattle.std.proofs.Common.{◌≡◌, inl, inr, ℕ, List, [], ◌∷◌, ◌++◌, Bool, true, false, refl, sym, ap, subst, ◌∙◌, arith}
 use Rattle.std.proofs.lemmas.Bool.{true≢false}
-use Rattle.std.specs.Prelude.{Contains, Result, Ok, Err, IsErr, IsErrAnd, ◌||◌}
+use Rattle.std.specs.Prelude.{Contains, Result, Ok, Err, IsErr, IsErrAnd}
 use Rattle.std.proofs.lemmas.List.{append-nil}
 use Rattle.nb_change.proofs.NameLaws.{decide}
 use Rattle.nb_host.specs.Names.{is_delta}
@@ -35,6 +35,7 @@ use Rattle.nb_session.proofs.PlayLaws.{Leads, behind, trail_after, after_none, n
 use Rattle.nb_session.proofs.ToldLaws.{told_among}
 use Rattle.nb_copy.proofs.InUseLaws.{not_free}
 use Rattle.nb_session.proofs.ReadyLaws.{free_same, beside_other}
+use Rattle.nb_host.proofs.PlainLaws.{or_false}
 
 -- Pages go out of a database that was ready: no turn is taken.
 module _ (old new : World) (before after : Held) (t : Trail) (now : Now) (ready : IsReady old before t now) (struck : Strikes old new (name_of before) t []) (same : but_pages after ≡ but_pages before) (gave : GaveNothing old new) where
@@ -93,10 +94,6 @@ module _ (old new : World) (before after : Held) (t : Trail) (now : Now) (ready 
 
   pub out_failed : (e : RunError) → Plays (Err e) old new before after t now ([], now) []
   out_failed e = plays_by (Err e) old new before after t now ([], now) [] out_leads named tt
-
-or_false : (a : Bool) → (a || false) ≡ a
-or_false true = refl
-or_false false = refl
 
 -- after turns
 module _ (old mid new : World) (e0 e1 e2 : Held) (t : Trail) (now : Now) (p : Played) (made : List MadeFile) (once : NamesOnce made) (has : AreAmong (files_made p.0) made) (a : Bool) (first : Plays (Ok a) old mid e0 e1 t now p made) where

@@ -1,6 +1,6 @@
 -- Turns after turns.
 use Rattle.std.proofs.Common.{◌≡◌, inl, inr, ℕ, zero, suc, List, [], ◌∷◌, ◌++◌, take, Bool, false, refl, sym, ap, subst, ◌∙◌, arith, append_assoc, max}
-use Rattle.std.specs.Prelude.{Contains, Result, Ok, Err, IfOk, true, ◌&&◌, ◌||◌, if◌then◌else◌}
+use Rattle.std.specs.Prelude.{Contains, Result, Ok, Err, IfOk, true, ◌||◌, if◌then◌else◌}
 use Rattle.std.specs.List.{list_all}
 use Rattle.std.proofs.lemmas.Bool.{true≢false}
 use Rattle.std.proofs.lemmas.List.{append-nil}
@@ -33,6 +33,7 @@ use Rattle.nb_session.specs.Stops.{StopLeft, PlayedOut, Plays}
 use Rattle.nb_session.proofs.GiftLaws.{given_nothing, given_joined}
 use Rattle.nb_session.proofs.MadeLaws.{among_left, among_right}
 use Rattle.nb_session.proofs.StopLaws.{AreApart, FileLeft, Stays, others_fewer, left_more, stop_wider, stop_more, stop_then}
+use Rattle.nb_host.proofs.PlainLaws.{both_true}
 
 -- one list of turns after another
 abbrev pub behind : Played → Played → Played
@@ -105,10 +106,6 @@ module _ (result : Result Bool RunError) (old new : World) (before after : Held)
   -- the files that they make are among these
   pub plays_wider : (few many : List MadeFile) → AreAmong few many → NamesOnce many → AreApart (name_of before) many → Plays result old new before after t now p few → Plays result old new before after t now p many
   plays_wider few many among once apart plays = plays_by many (leads_wider old new (name_of before) t p.0 few many among once apart (leads_of few plays)) plays.name plays.done
-
-pub both_true : (a b : Bool) → (a && b) ≡ true → (a ≡ true) × (b ≡ true)
-both_true true b all = (refl, all)
-both_true false b all = absurd (true≢false (sym all))
 
 -- After turns that only told something a settled point is one still.
 no_stroke_told : (e : Event) → only_told e ≡ true → e.strokes ≡ []

@@ -60,7 +60,7 @@ module _ (old new : World) (before after : Held) (t u : Trail) (was : IsOpen old
     | inr off ↦ ap is_some (read off)
   ]
 
-own_entry : (b : Base) → is_free_entry (IsBase b) ≡ false
+pub own_entry : (b : Base) → is_free_entry (IsBase b) ≡ false
 unfolding is_free_entry
 own_entry b = refl
 

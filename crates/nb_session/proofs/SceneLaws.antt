@@ -39,6 +39,7 @@ use Rattle.nb_session.proofs.MadeLaws.{none_among}
 use Rattle.nb_session.proofs.NextLaws.{keeps_todo, play_more, giving, making_giving, next_once, next_others, next_among, next_has, holds_left}
 use Rattle.nb_session.proofs.PlayLaws.{behind, trail_after, no_made, plays_none, plays_then}
 use Rattle.nb_session.proofs.ToldLaws.{told_nothing, told_append, told_among, told_others}
+use Rattle.nb_host.proofs.PlainLaws.{or_assoc}
 
 -- the sessions of a script as agents
 abbrev pub sessions_kind : {H : Type 0} (tells : Bool) (world : H → World) (faults : H → ℕ) → Kind Asker H Held
@@ -52,10 +53,6 @@ or_last false true false = refl
 or_last false false true = refl
 or_last false false false = refl
 
-or_group : (a b r : Bool) → a || (b || r) ≡ (a || b) || r
-or_group true b r = refl
-or_group false b r = refl
-
 -- one session more was refused a statement, or not
 pub any_set : (askers : List Asker) (i : ℕ) (a b : Asker) (refused : Bool) → slice_get askers i ≡ Some a → b.refused ≡ (a.refused || refused) → any_refused (slice_set askers i b) ≡ any_refused askers || refused
 any_set [] i a b refused there noted = absurd cc
@@ -63,7 +60,7 @@ any_set (x ∷ xs) zero a b refused there noted =
     let same : x ≡ a = cc in
     ap (λ (r : Bool). r || any_refused xs) (noted ∙ ap (λ (y : Asker). y.refused || refused) (sym same)) ∙ or_last x.refused (any_refused xs) refused
 any_set (x ∷ xs) (suc i) a b refused there noted =
-    ap (λ (r : Bool). x.refused || r) (any_set xs i a b refused there noted) ∙ or_group x.refused (any_refused xs) refused
+    ap (λ (r : Bool). x.refused || r) (any_set xs i a b refused there noted) ∙ or_assoc x.refused (any_refused xs) refused
 
 -- who has finished has nothing to do
 done_parts : (task : Option Task) (statements : List Statement) → length statements ≡ 0 → task_left task ≡ 0 → task_todo task ++ map Begins statements ≡ []

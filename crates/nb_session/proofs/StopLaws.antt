@@ -1,5 +1,5 @@
 -- How what a crash leaves goes on from turn to turn.
-use Rattle.std.proofs.Common.{◌≡◌, ◌⊎◌, inl, inr, ℕ, zero, suc, ◌+◌, ◌-◌, ◌≤◌, List, [], ◌∷◌, ◌++◌, length, take, sym, ap, subst, ◌∙◌, arith, append_assoc, length-append, length-take}
+use Rattle.std.proofs.Common.{◌≡◌, ◌⊎◌, inl, inr, ℕ, zero, suc, ◌+◌, ◌-◌, ◌≤◌, List, ◌++◌, length, take, sym, ap, subst, ◌∙◌, arith, append_assoc, length-append, length-take}
 use Rattle.std.specs.Prelude.{Contains, Bool, true, false, Option, Some, None, nat_le}
 use Rattle.std.proofs.Math.Seq.{take-append-add}
 use Rattle.std.proofs.lemmas.List.{take-append-le}
@@ -17,7 +17,7 @@ use Rattle.nb_model.specs.Output.{output}
 use Rattle.nb_model.specs.Steps.{Step, steps_of, after_steps, acked_turns, acked_steps}
 use Rattle.nb_model.specs.Trail.{Trail, StandsIn}
 use Rattle.nb_model.proofs.OutputLaws.{front_more, front_behind}
-use Rattle.nb_model.proofs.StepsLaws.{steps_length, steps_front, steps_behind, after_steps_append, turns_front, turns_behind, acked_steps_front, acked_steps_behind}
+use Rattle.nb_model.proofs.StepsLaws.{steps_length, steps_front, steps_behind, after_steps_append, turns_front, turns_behind, acked_steps_front, acked_steps_behind, turns_most}
 use Rattle.nb_model.proofs.MakingLaws.{made_append}
 use Rattle.nb_base.specs.Open.{OfFiles}
 use Rattle.nb_gather.specs.Making.{IsUnfinishedOr}
@@ -70,16 +70,6 @@ module _ (name : List ℕ) (few many : List MadeFile) (among : AreAmong few many
 
 part_fits : (part : List ℕ) (all : List ℕ) → part ≡ take (length part) all → length part ≤ length all
 part_fits part all is = omega (arith, ap length is, length-take (length part) all)
-
--- no more turns are acknowledged than there are
-turns_most : (es : List Event) (said : ℕ) → acked_turns es said ≤ length es
-unfolding acked_turns
-turns_most [] said = omega arith
-turns_most (e ∷ es) said = by e.reply (turns_most es)
-  where
-    quiet : (n : ℕ) → n ≤ length es → elim n as (λ z. ℕ) [ zero ↦ 0 | suc k ↦ suc (suc k) ] ≤ suc (length es)
-    quiet zero most = omega arith
-    quiet (suc n) most = omega arith
 
     line : (whole : Bool) (n : ℕ) → n ≤ length es → elim whole as (λ z. ℕ) [ true ↦ suc n | false ↦ 0 ] ≤ suc (length es)
     line true n most = omega arith

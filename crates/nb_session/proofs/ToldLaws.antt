@@ -48,7 +48,7 @@ told_append (WithPages pages) a b = sized_append pages a b
 told_append Sparingly a b = sparing_append a b
 
 -- their steps
-sized_steps : (pages : ℕ) (es : List Event) → steps_of (all_sized pages es) ≡ steps_of es
+pub sized_steps : (pages : ℕ) (es : List Event) → steps_of (all_sized pages es) ≡ steps_of es
 unfolding steps_of all_sized
 sized_steps pages [] = refl
 sized_steps pages (e ∷ es) = ap (λ (ss : List Step). steps_in e ++ ss) (sized_steps pages es)
@@ -64,7 +64,7 @@ told_steps (WithPages pages) es = sized_steps pages es
 told_steps Sparingly es = sparing_steps es
 
 -- their files
-sized_files : (pages : ℕ) (es : List Event) → files_made (all_sized pages es) ≡ files_made es
+pub sized_files : (pages : ℕ) (es : List Event) → files_made (all_sized pages es) ≡ files_made es
 unfolding files_made all_sized
 sized_files pages [] = refl
 sized_files pages (e ∷ es) = ap (λ (files : List MadeFile). elim e.made as (λ z. List MadeFile) [ Some file ↦ file ∷ files | None ↦ files ]) (sized_files pages es)

@@ -11,6 +11,7 @@ use Rattle.nb_model.specs.Run.{Now, base_now}
 use Rattle.nb_model.proofs.GoingLaws.{one_runs}
 use Rattle.nb_session.specs.Askers.{copy_first}
 use Rattle.nb_session.proofs.MadeLaws.{none_among, among_left, among_right}
+use Rattle.nb_model.proofs.MakingLaws.{beginnings_make}
 
 -- turns after turns
 pub making_append : (frozen : Image) (ts us : List Turn) → making frozen (ts ++ us) ≡ making frozen ts ++ making frozen us
@@ -29,12 +30,6 @@ pub making_begins : (frozen : Image) (statements : List Statement) → making fr
 unfolding making
 making_begins frozen [] = refl
 making_begins frozen (s ∷ statements) = making_begins frozen statements
-
-beginnings_make : (frozen : Image) (ts : List Turn) → AreBeginnings ts → making frozen ts ≡ []
-unfolding making
-beginnings_make frozen [] all = refl
-beginnings_make frozen (Begins statement ∷ ts) all = beginnings_make frozen ts all.1
-beginnings_make frozen (other ∷ ts) all = absurd all.0
 
 -- what a session is to make is under way
 at_among : (frozen : Image) (todo : List (List Turn)) (place : ℕ) → AreAmong (making frozen (get_or todo place [])) (making_all frozen todo)

@@ -10,9 +10,7 @@ use Rattle.nb_pip.proofs.BitLaws.{get_or-bits}
 use Rattle.nb_model.specs.Image.{Page, Image, page_at, image_size}
 use Rattle.nb_model.specs.Forms.{is_free_page}
 use Rattle.nb_model.proofs.ReadLaws.{eq_no, eq_yes}
-
-not_false : IsTrue false → ⊥
-not_false e = cc
+use Rattle.nb_host.proofs.PlainLaws.{never}
 
 module _ (image : Image) (size k bit : ℕ) (map : Page) (same : size ≡ image_size image) (page : map ≡ page_at image (inventory_place size k)) (long : length map ≡ size) (inside : bit < bits_in size) where
   abbrev p : ℕ
@@ -35,5 +33,5 @@ module _ (image : Image) (size k bit : ℕ) (map : Page) (same : size ≡ image_
   used_is true is = sym (ap not (free_there ∙ eq_no (get_or (bits map) bit 0) 1 (λ e. absurd (omega (arith, e, is.0 refl)))))
   used_is false is =
       let small : bit_of map bit < 2 = bit_at-lt _ _ in
-      let other : get_or (bits map) bit 0 ≡ 0 → ⊥ = λ e. not_false (is.1 e) in
+      let other : get_or (bits map) bit 0 ≡ 0 → ⊥ = λ e. never (is.1 e) in
       sym (ap not (free_there ∙ eq_yes (get_or (bits map) bit 0) 1 (omega (arith, small, read_is, other))))

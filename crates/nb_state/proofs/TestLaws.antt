@@ -12,7 +12,7 @@ use Rattle.nb_cases.specs.Events.{none_to_end}
 use Rattle.nb_state.specs.Turns.{begin_cause, end_cause}
 
 -- the first of two causes, and the second where the first doesn't apply
-first_applies : (c d : Cause) (r : Refusal) → c ≡ Some r → first_cause (c ∷ d ∷ []) ≡ Some r
+pub first_applies : (c d : Cause) (r : Refusal) → c ≡ Some r → first_cause (c ∷ d ∷ []) ≡ Some r
 unfolding first_cause
 first_applies c d r is = ap (λ (x : Cause). first_cause (x ∷ d ∷ [])) is
 

@@ -6,12 +6,11 @@ use Rattle.nb_fields.specs.Header.{is_header, state_of}
 use Rattle.nb_fields.specs.States.{normal_state, stalled_state, merge_state}
 use Rattle.nb_host.specs.World.{World}
 use Rattle.nb_host.specs.Calls.{IsStill}
-use Rattle.nb_host.specs.Moments.{IsNow, IsTimely, Passes}
+use Rattle.nb_host.specs.Moments.{IsTimely, Passes}
 use Rattle.nb_host.specs.declared.faults.Fault.{Fault}
 use Rattle.nb_host.specs.declared.faults.HostFault.{HostFault}
 use Rattle.nb_host.specs.declared.faults.Fault.TheVariants.{Refused, Device, Memory}
 use Rattle.nb_host.specs.declared.refusals.Refusal.{Refusal}
-use Rattle.nb_change.proofs.MomentLaws.{started, untouched_begun}
 use Rattle.nb_change.proofs.ChangesLaws.{weaker_has}
 use Rattle.nb_change.proofs.CallLaws.{still_alone}
 use Rattle.nb_change.proofs.ReachedLaws.{strokes_composed, reached_front}
@@ -39,10 +38,7 @@ use Rattle.nb_state.specs.Turns.{begin_cause, end_cause, Begins, Ends, Merges}
 use Rattle.nb_state.specs.declared.turns.Progress.{Progress}
 use Rattle.nb_state.proofs.AgreeLaws.{agrees_front, agrees_control}
 use Rattle.nb_state.proofs.MakesLaws.{none_yet, gave_none}
-
--- no call is quiet
-pub no_call : (w : World) → IsTimely w → Quiet w w
-no_call w timely = record { still = record { files = refl; left = untouched_begun w _ }; said = refl; guids = refl; times = refl; moments = started w (IsNow w) timely (λ files said is. is) }
+use Rattle.nb_host.proofs.PlainLaws.{none_there}
 
 -- calls that change no file, and then strokes
 pub still_struck : (old mid new : World) (held : Held) (t : Trail) (xs : List Stroke) → IsOpen old held t → IsTimely old → IsStill old mid → mid.said ≡ old.said → Passes old mid → Strikes mid new (name_of held) t xs → Strikes old new (name_of held) t xs
@@ -220,11 +216,8 @@ unfolding end_scn
 scn_other image ne = ap (λ (b : Bool). elim b as (λ z. ℕ) [ true ↦ image_scn image + 1 | false ↦ image_scn image ]) (ne_eqb (image_state image) 1 ne)
 
 -- strokes that there is no cause against
-unless_none : (cause : Cause) (strokes : List Stroke) → cause ≡ None → unless_by cause strokes ≡ strokes
+pub unless_none : (cause : Cause) (strokes : List Stroke) → cause ≡ None → unless_by cause strokes ≡ strokes
 unless_none cause strokes none = ap (λ (c : Cause). unless_by c strokes) none
-
-none_some : {r : Refusal} → None ≡ Some r → ⊥
-none_some e = cc
 
 -- A backup that may begin, with the GUID that was given.
 module _ (old mid new : World) (before after : Held) (t : Trail) (guid : List ℕ) (ask : Option Ask) (is : IsOpen old before t) (allowed : begin_cause t.base.image ≡ None) (struck : Strikes old new (name_of before) t (begin guid ask ∷ []))
@@ -233,7 +226,7 @@ module _ (old mid new : World) (before after : Held) (t : Trail) (guid : List �
   left = subst (λ (ss : List Stroke). Strikes old new (name_of before) t ss) (sym (unless_none (begin_cause t.base.image) (begin guid ask ∷ []) allowed)) struck
 
   allows : (r : Refusal) → begin_cause t.base.image ≡ Some r → Quiet old new
-  allows r some = absurd (none_some (sym allowed ∙ some))
+  allows r some = absurd (none_there (sym allowed ∙ some))
 
   pub begin_failed : Begins (Err Device) old new before after t guid ask
   begin_failed = record { test = tt; left = left; opened = tt; answer = tt; gave = tt; times = nothing.times ∙ times; refused = tt; idle = allows; running = running; name = name }
@@ -275,7 +268,7 @@ module _ (old new : World) (before after : Held) (t : Trail) (session : ℕ) (al
   end_left = subst (λ (ss : List Stroke). Strikes old new (name_of before) t ss) (sym (unless_none (end_cause t.base.image before.running session) (end_strokes t.base.image) allowed)) struck
 
   end_allows : (r : Refusal) → end_cause t.base.image before.running session ≡ Some r → Quiet old new
-  end_allows r some = absurd (none_some (sym allowed ∙ some))
+  end_allows r some = absurd (none_there (sym allowed ∙ some))
 
   pub end_failed : Ends (Err Device) old new before after t session
   end_failed = record { test = tt; left = end_left; opened = tt; answer = tt; begins = tt; gave = gave; refused = tt; idle = end_allows; name = name }

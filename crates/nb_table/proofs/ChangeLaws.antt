@@ -19,10 +19,9 @@ use Rattle.nb_state.specs.Does.{Does}
 use Rattle.nb_engine.specs.Put.{entry_cause}
 use Rattle.nb_engine.specs.Replies.{done}
 use Rattle.nb_engine.specs.Tries.{Tries}
-use Rattle.nb_alloc.proofs.CauseLaws.{first_none, first_next, first_here, refused_by, judged_by}
+use Rattle.nb_alloc.proofs.CauseLaws.{refused_by, judged_by}
 use Rattle.nb_alloc.proofs.DoesLaws.{seeing, tries_does}
 use Rattle.nb_alloc.proofs.RoomsLaws.{slot_alone}
-use Rattle.nb_alloc.proofs.TestLaws.{applies, rests}
 use Rattle.nb_table.specs.declared.look.Found.{Found}
 use Rattle.nb_table.specs.declared.look.Sought.TheVariants.{Row}
 use Rattle.nb_table.specs.declared.look.Walked.{Walked}
@@ -31,6 +30,9 @@ use Rattle.nb_table.specs.Walks.{gathered, found_at, place_at}
 use Rattle.nb_table.proofs.InTableLaws.{table_refused, table_goes_from}
 use Rattle.nb_table.proofs.PlaceLaws.{IsPlaceOf, found_some, found_there}
 use Rattle.nb_walk.proofs.SpotPages.{row_kind}
+use Rattle.nb_base.proofs.AttachLaws.{applies, first_here, first_next}
+use Rattle.nb_model.proofs.TurnCases.{no_cause}
+use Rattle.nb_model.proofs.WholeLaws.{when_false}
 
 -- what is said is `ok`
 pub said : (result : Result (Unit {0}) Fault) → IfOk result (λ value. done value ≡ Done)
@@ -54,7 +56,7 @@ module _ (s : Seen) (chain : Chain) (key : ℕ) (bytes : Slot) where
   pub row_written : (row : Spot) → row_spot key (spots chain image) ≡ Some row → in_row s chain key bytes ≡ unless s (entry_cause image row.page) (says s Done (put_slot row.page row.slot bytes (drafted image)).strokes)
   unfolding in_row with_spot
   row_written row found =
-      ap row_by found ∙ judged_by s [] (put_slot row.page row.slot bytes (drafted image)) Done first_none
+      ap row_by found ∙ judged_by s [] (put_slot row.page row.slot bytes (drafted image)) Done no_cause
       ∙ ap (λ (c : Cause). unless s c (says s Done (put_slot row.page row.slot bytes (drafted image)).strokes)) (slot_alone image row.page row.slot bytes)
 
 -- the page of a row that was found is a data page
@@ -109,7 +111,7 @@ module _ (s : Seen) (chain : Chain) (key : ℕ) (bytes : Slot) where
   -- or it isn't, and the row is placed
   pub key_new : is_some (row_spot key (spots chain now)) ≡ false → adding ≡ unless s (place_cause chain now bytes) (says s Done into.strokes)
   unfolding changes
-  key_new e = ap (λ (c : Cause). unless s c (says s Done into.strokes)) (first_next known (short ∷ not_of_form into ∷ no_room into ∷ []) (rests _ _ e))
+  key_new e = ap (λ (c : Cause). unless s c (says s Done into.strokes)) (first_next known (short ∷ not_of_form into ∷ no_room into ∷ []) (when_false _ _ e))
 
 -- What a walk for a key came by.
 module _ (first key : ℕ) (ss : List Spot) (walked : Walked) (is : walked ≡ gathered (Row first key) ss) where

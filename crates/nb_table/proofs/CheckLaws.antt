@@ -8,7 +8,7 @@ use Rattle.nb_host.specs.declared.refusals.Refusal.TheVariants.{NotDatabase}
 use Rattle.nb_model.specs.Causes.{Cause, lowest_of, lowest_broken}
 use Rattle.nb_model.specs.Chains.{Chain, first_of, owner_of, next_in, walk, pages_of}
 use Rattle.nb_model.specs.Image.{Image, page_at}
-use Rattle.nb_model.proofs.ChainWalks.{walk_zero, err_ok}
+use Rattle.nb_model.proofs.ChainWalks.{walk_zero}
 use Rattle.nb_model.proofs.RoomLaws.{in_chain, chain_owner}
 use Rattle.nb_engine.specs.Behind.{give_broken}
 use Rattle.nb_engine.specs.Data.{not_data}
@@ -18,6 +18,7 @@ use Rattle.nb_alloc.proofs.RoomsLaws.{lowest_append}
 use Rattle.nb_alloc.proofs.TestLaws.{kind_is}
 use Rattle.nb_table.specs.Drops.{drop_broken}
 use Rattle.nb_table.proofs.GiveLaws.{IsFirst, walk_first}
+use Rattle.nb_host.proofs.PlainLaws.{err_ok}
 
 page_same : (p q : ℕ) → Some (NotDatabase p) ≡ Some (NotDatabase q) → p ≡ q
 page_same p q e = cc

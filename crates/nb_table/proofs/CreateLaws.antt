@@ -27,19 +27,21 @@ use Rattle.nb_engine.specs.Data.{second_data, unmade, unmade_behind}
 use Rattle.nb_engine.specs.Put.{entry_cause}
 use Rattle.nb_engine.specs.Search.{IsShort}
 use Rattle.nb_engine.specs.Tries.{Tries}
-use Rattle.nb_alloc.proofs.CauseLaws.{first_next, one_cause}
+use Rattle.nb_alloc.proofs.CauseLaws.{one_cause}
 use Rattle.nb_alloc.proofs.ContentLaws.{data_short}
-use Rattle.nb_alloc.proofs.DoesLaws.{unless_none, tries_front, tries_then, sure_of, tries_opened}
+use Rattle.nb_alloc.proofs.DoesLaws.{tries_front, tries_then, sure_of, tries_opened}
 use Rattle.nb_engine.proofs.GrowLaws.{new_longer}
 use Rattle.nb_alloc.proofs.MakeLaws.{tries_named}
 use Rattle.nb_alloc.proofs.NewLaws.{image_is}
 use Rattle.nb_alloc.proofs.RoomsLaws.{IsFreeBehind, free_behind, grown_named, slot_named, unmade_is, joined_clear}
-use Rattle.nb_alloc.proofs.TestLaws.{rests}
 use Rattle.nb_model.proofs.ReadLaws.{lt_no}
 use Rattle.nb_table.specs.declared.look.Place.{Place}
 use Rattle.nb_table.specs.Creates.{first_made, created_in, created_behind}
 use Rattle.nb_model.proofs.TableTurns.{table_length}
 use Rattle.nb_table.proofs.PlaceLaws.{unnumbered, unnumbered_tries}
+use Rattle.nb_base.proofs.AttachLaws.{first_next}
+use Rattle.nb_model.proofs.WholeLaws.{when_false}
+use Rattle.nb_state.proofs.TurnLaws.{unless_none}
 
 -- what the first page holds
 abbrev pub first : ℕ → List ℕ
@@ -220,7 +222,7 @@ module _ (t : Trail) (table : List ℕ) where
         some_none e = cc
 
     long_then : too_short u.base.image ≡ None
-    long_then = rests _ _ (lt_no (length u.base.image) 5 (omega (arith, five, new_longer 5 first x, ap length image_then)))
+    long_then = when_false _ _ (lt_no (length u.base.image) 5 (omega (arith, five, new_longer 5 first x, ap length image_then)))
 
     free : (n : ℕ) → n ≡ new_first.1 → unmade u.base.image (grows_by n) ≡ None
     free n same = clear_made u.base.image (grows_by n) long_then (ap draft_cause (grows_are n same) ∙ both.1)

@@ -16,8 +16,7 @@ use Rattle.nb_engine.specs.Data.{unmade}
 use Rattle.nb_model.proofs.PutSound.{no_first}
 use Rattle.nb_model.proofs.ReadLaws.{le_no}
 use Rattle.nb_engine.proofs.DataLaws.{data_there}
-use Rattle.nb_alloc.proofs.TestLaws.{le_yes}
-use Rattle.nb_alloc.proofs.CauseLaws.{first_next, first_here, first_front, first_rest, one_cause, refused_by}
+use Rattle.nb_alloc.proofs.CauseLaws.{first_front, first_rest, one_cause, refused_by}
 use Rattle.nb_table.specs.declared.look.Place.{Place}
 use Rattle.nb_table.specs.Creates.{first_made, created_in, created_behind, new_cause}
 use Rattle.nb_table.specs.declared.look.Sought.TheVariants.{Table}
@@ -25,6 +24,8 @@ use Rattle.nb_table.specs.declared.look.Walked.{Walked}
 use Rattle.nb_table.specs.Walks.{gathered, place_of, place_at as places}
 use Rattle.nb_table.proofs.PlaceLaws.{IsPlaceOf, place_some, found_there}
 use Rattle.nb_walk.proofs.SpotPages.{free_kind}
+use Rattle.nb_base.proofs.AttachLaws.{first_here, first_next}
+use Rattle.nb_host.proofs.PlainLaws.{le_yes}
 
 module _ (image : Image) (table : List ℕ) where
   abbrev broken : Cause

@@ -10,11 +10,12 @@ use Rattle.nb_model.specs.Image.{Image}
 use Rattle.nb_model.specs.Outcomes.{Seen, Outcome, says, unless, changes}
 use Rattle.nb_model.specs.Tables.{all_given, drop_turn}
 use Rattle.nb_model.proofs.PutSound.{no_first}
-use Rattle.nb_alloc.proofs.CauseLaws.{first_none, judged_by}
+use Rattle.nb_alloc.proofs.CauseLaws.{judged_by}
 use Rattle.nb_table.specs.Drops.{IsWholeTable, dropped}
 use Rattle.nb_table.specs.Rows.{chain_cause, rows_cause}
 use Rattle.nb_table.proofs.DropCauseLaws.{dropped_full}
 use Rattle.nb_table.proofs.InTableLaws.{chain_formed, table_refused, table_goes}
+use Rattle.nb_model.proofs.TurnCases.{no_cause}
 
 -- of two causes the first, where there is no second
 alone : (a b : Cause) → b ≡ None → first_cause (a ∷ b ∷ []) ≡ a
@@ -47,5 +48,5 @@ module _ (s : Seen) (table : List ℕ) where
   pub drop_says : tests ≡ None → (spot : Spot) → IsWholeTable image table spot → drop_turn s table ≡ unless s (not_of_form (dropped image spot)) (says s Done (dropped image spot).strokes)
   unfolding drop_turn
   drop_says none spot has =
-      table_goes s (read_only image) table None drops none spot has.found ∙ judged_by s [] (dropped image spot) Done first_none
+      table_goes s (read_only image) table None drops none spot has.found ∙ judged_by s [] (dropped image spot) Done no_cause
       ∙ ap (λ (c : Cause). unless s c (says s Done (dropped image spot).strokes)) (alone (not_of_form (dropped image spot)) (no_room (dropped image spot)) (dropped_full image spot))

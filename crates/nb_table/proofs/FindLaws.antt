@@ -6,9 +6,10 @@ use Rattle.nb_host.specs.declared.refusals.Refusal.TheVariants.{NoKey}
 use Rattle.nb_model.specs.Image.{Image}
 use Rattle.nb_model.specs.Causes.{Cause, first_cause, when, broken_at}
 use Rattle.nb_model.specs.Chains.{Spot, RowsFrom, pages_of, spots, row_spot}
-use Rattle.nb_alloc.proofs.CauseLaws.{first_none, first_next, first_here}
 use Rattle.nb_table.specs.declared.look.Found.{Found}
 use Rattle.nb_table.specs.Walks.{found_of, spot_of, found_at}
+use Rattle.nb_base.proofs.AttachLaws.{first_here, first_next}
+use Rattle.nb_model.proofs.TurnCases.{no_cause}
 
 some_same : (f g : Found) → Some f ≡ Some g → f ≡ g
 some_same f g e = cc
@@ -44,7 +45,7 @@ module _ (broken : Cause) (o : Option Spot) (missing : Refusal) where
   search_missing whole none = first_next broken (when (is_none o) missing ∷ []) whole ∙ first_here (when (is_none o) missing) [] missing (ap (λ (x : Option Spot). when (is_none x) missing) none)
 
   pub search_found : (s : Spot) → broken ≡ None → o ≡ Some s → search_cause ≡ None
-  search_found s whole some = first_next broken (when (is_none o) missing ∷ []) whole ∙ first_next (when (is_none o) missing) [] (ap (λ (x : Option Spot). when (is_none x) missing) some) ∙ first_none
+  search_found s whole some = first_next broken (when (is_none o) missing ∷ []) whole ∙ first_next (when (is_none o) missing) [] (ap (λ (x : Option Spot). when (is_none x) missing) some) ∙ no_cause
 
   -- what a search that isn't refused says
   pub search_whole : search_cause ≡ None → broken ≡ None

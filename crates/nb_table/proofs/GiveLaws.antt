@@ -15,7 +15,7 @@ use Rattle.nb_model.specs.Image.{Image, page_at}
 use Rattle.nb_model.specs.Strokes.{Stroke}
 use Rattle.nb_model.specs.Tables.{all_given}
 use Rattle.nb_model.specs.Trail.{Trail, after_stroke}
-use Rattle.nb_model.proofs.ChainWalks.{IsWalk, ends as walk_ends, leads as walk_leads, Walks, walk_cases, walk_zero, err_ok}
+use Rattle.nb_model.proofs.ChainWalks.{IsWalk, ends as walk_ends, leads as walk_leads, Walks, walk_cases, walk_zero}
 use Rattle.nb_model.proofs.DraftLaws.{IsOf, drafted_is, drafts_are, set_bit_keeps}
 use Rattle.nb_model.proofs.DropTurns.{join_given}
 use Rattle.nb_model.proofs.NeatLaws.{all_go, all_both}
@@ -30,11 +30,13 @@ use Rattle.nb_engine.specs.Data.{not_data}
 use Rattle.nb_engine.specs.Mark.{mark_cause}
 use Rattle.nb_engine.specs.Tries.{Tries}
 use Rattle.nb_alloc.proofs.DataLaws.{owner_is}
-use Rattle.nb_alloc.proofs.DoesLaws.{unless_none, tries_made, sure_of, makes_valued}
+use Rattle.nb_alloc.proofs.DoesLaws.{tries_made, sure_of, makes_valued}
 use Rattle.nb_alloc.proofs.NewLaws.{image_is}
 use Rattle.nb_engine.proofs.NotedLaws.{IsGivenOn, given_cause, given_on, give_same}
 use Rattle.nb_alloc.proofs.TestLaws.{kind_is}
 use Rattle.nb_table.specs.Drops.{IsGivable}
+use Rattle.nb_host.proofs.PlainLaws.{err_ok}
+use Rattle.nb_state.proofs.TurnLaws.{unless_none}
 
 given_first : (p : ℕ) (ps : List ℕ) (z : Image) → (all_given (p ∷ ps) (drafted z)).strokes ≡ (give_page p (drafted z)).strokes ++ (all_given ps (drafted (give_page p (drafted z)).image)).strokes
 unfolding all_given

@@ -19,9 +19,12 @@ use Rattle.nb_model.specs.Trail.{Trail}
 use Rattle.nb_state.specs.Open.{Held, IsOpen, but_pages}
 use Rattle.nb_state.specs.Does.{Does}
 use Rattle.nb_state.proofs.MakesLaws.{makes_after}
-use Rattle.nb_alloc.proofs.CauseLaws.{unless_refused, unless_allowed, first_none, first_next, first_here, one_cause}
+use Rattle.nb_alloc.proofs.CauseLaws.{unless_refused, unless_allowed, one_cause}
 use Rattle.nb_alloc.proofs.DoesLaws.{seeing}
 use Rattle.nb_table.specs.Rows.{chain_cause, rows_cause}
+use Rattle.nb_base.proofs.AttachLaws.{first_here, first_next}
+use Rattle.nb_model.proofs.SpotMaps.{same_some}
+use Rattle.nb_model.proofs.TurnCases.{no_cause}
 
 -- The chain of the rows that a slot of the catalogue leads to.
 abbrev pub chain_at : Spot → Chain
@@ -30,13 +33,6 @@ chain_at spot = RowsFrom (first_in spot.bytes)
 -- why a table isn't found
 abbrev pub find_cause : Image → (table : List ℕ) → Cause
 find_cause image table = first_cause (broken_at (pages_of Catalogue image) ∷ when (is_none (table_spot table image)) NoTable ∷ [])
-
--- a cause isn't none
-pub none_some : (r : Refusal) → None ≡ Some r → ⊥
-none_some r e = cc
-
-some_same : (x y : Spot) → Some x ≡ Some y → x ≡ y
-some_same x y e = cc
 
 -- Why the rows aren't come by, test by test.
 module _ (image : Image) (before : Cause) (table : List ℕ) (behind : Cause) where
@@ -83,7 +79,7 @@ module _ (image : Image) (before : Cause) (table : List ℕ) (behind : Cause) wh
       chain_fails passed r e = leads ∙ first_next behind (broken ∷ []) passed ∙ first_here broken [] r e
 
       pub rows_none : behind ≡ None → broken ≡ None → rows_cause image before table behind ≡ None
-      rows_none passed e = leads ∙ first_next behind (broken ∷ []) passed ∙ first_next broken [] e ∙ first_none
+      rows_none passed e = leads ∙ first_next behind (broken ∷ []) passed ∙ first_next broken [] e ∙ no_cause
 
   -- what none of these tests finds
   module _ (none : rows_cause image before table behind ≡ None) (spot : Spot) (at : table_spot table image ≡ Some spot) where
@@ -145,7 +141,7 @@ module _ (s : Seen) (before : Cause) (table : List ℕ) (behind : Cause) (go : S
       by None (Some q) o f h = cc
       by None None None f h = cc
       by None None (Some x) f h =
-          unless_allowed s _ (go x (chain_at x)) (sym (one_cause (chain_cause image behind (Some x))) ∙ f) ∙ ap (λ (y : Spot). go y (chain_at y)) (some_same x spot h)
+          unless_allowed s _ (go x (chain_at x)) (sym (one_cause (chain_cause image behind (Some x))) ∙ f) ∙ ap (λ (y : Spot). go y (chain_at y)) (same_some x spot h)
 
   pub table_goes_from : rows_cause image before table behind ≡ None → (spot : Spot) → table_spot table image ≡ Some spot → (first : ℕ) → first ≡ first_in spot.bytes → in_table s before table behind go ≡ go spot (RowsFrom first)
   table_goes_from none spot at first e = table_goes none spot at ∙ ap (λ (n : ℕ). go spot (RowsFrom n)) (sym e)

@@ -10,8 +10,9 @@ use Rattle.nb_model.specs.Chains.{Chain, Catalogue, RowsFrom, Spot, pages_of, sp
 use Rattle.nb_model.specs.Outcomes.{Seen, Outcome, says, unless}
 use Rattle.nb_model.specs.Rows.{rows_in}
 use Rattle.nb_model.specs.Tables.{with_spot, in_table, get_turn, scan_turn}
-use Rattle.nb_alloc.proofs.CauseLaws.{unless_refused, unless_allowed, first_next, one_cause}
+use Rattle.nb_alloc.proofs.CauseLaws.{unless_refused, unless_allowed, one_cause}
 use Rattle.nb_table.proofs.FindLaws.{search_cause, search_whole}
+use Rattle.nb_base.proofs.AttachLaws.{first_next}
 
 -- a slot that was looked for, by what was found
 spot_some : (s : Seen) (o : Option Spot) (r : Refusal) (go : Spot → Outcome) (spot : Spot) → o ≡ Some spot → with_spot s o r go ≡ go spot

@@ -8,10 +8,7 @@ use Rattle.nb_fields.proofs.NumberLaws.{length-bytes_of}
 use Rattle.nb_fields.proofs.PageLaws.{with_part-padded, with_part-padded_next}
 use Rattle.nb_model.specs.TableNames.{is_table_name, is_table_byte, is_letter}
 use Rattle.nb_model.specs.Chains.{row_slot, table_slot}
-
-zeros_are : replicate 256 0 ≡ padded 256 []
-unfolding padded
-zeros_are = refl
+use Rattle.nb_engine.proofs.RowLaws.{zeros_are}
 
 -- bytes are written after a gap
 with_gap : (at gap : ℕ) (bytes front : List ℕ) → length front + gap ≡ at → at + length bytes ≤ 256 → with_part at bytes (padded 256 front) ≡ padded 256 (front ++ (replicate gap 0 ++ bytes))

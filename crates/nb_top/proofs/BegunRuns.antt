@@ -37,13 +37,13 @@ use Rattle.nb_top.specs.Performed.{RunLeft, RunReads, RunsTo, Finished, HasSmall
 use Rattle.nb_top.specs.declared.telling.Telling.{Telling}
 use Rattle.nb_top.specs.declared.telling.Telling.TheVariants.{All, Quietly, WithSize, Sparingly}
 use Rattle.nb_top.specs.Requests.{ToRun}
-use Rattle.nb_session.proofs.PlayLaws.{both_true}
 use Rattle.nb_session.proofs.StopLaws.{AreApart}
 use Rattle.nb_top.proofs.FirstEnds.{first_ends}
 use Rattle.nb_top.proofs.FirstLaws.{First, turns}
 use Rattle.nb_top.proofs.MadeRuns.{made_behind}
 use Rattle.nb_top.proofs.QuietRuns.{given_from}
 use Rattle.nb_top.proofs.ToldLaws.{later_files, told_begins, told_cons, told_first_made, told_steps, performed_told}
+use Rattle.nb_host.proofs.PlainLaws.{both_true}
 
 -- it makes no stroke
 opens_without : (e : Event) → only_opens e ≡ true → e.strokes ≡ []

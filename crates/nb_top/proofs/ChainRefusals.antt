@@ -24,10 +24,10 @@ abbrev IsFine : {T : Type 0} → Result T Refusal → Type 0
 IsFine (Ok value) = Unit {0}
 IsFine (Err refusal) = refusal ≢ Usage
 
-no_file : (name : List ℕ) → NoFile name ≢ Usage
+pub no_file : (name : List ℕ) → NoFile name ≢ Usage
 no_file name h = cc
 
-bad_level : (name : List ℕ) (at : ℕ) → BadLevel name at ≢ Usage
+pub bad_level : (name : List ℕ) (at : ℕ) → BadLevel name at ≢ Usage
 bad_level name at h = cc
 
 chain_level : (name : List ℕ) (a b : ℕ) → ChainLevel name a b ≢ Usage
@@ -42,7 +42,7 @@ chain_size name a b h = cc
 chain_scn : (name : List ℕ) (a b : ℕ) → ChainScn name a b ≢ Usage
 chain_scn name a b h = cc
 
-some_other : (r : Refusal) → r ≢ Usage → IsOther (Some r)
+pub some_other : (r : Refusal) → r ≢ Usage → IsOther (Some r)
 some_other r h e = h (same e)
   where
     same : Some r ≡ Some Usage → r ≡ Usage

@@ -12,7 +12,7 @@ use Rattle.nb_change.proofs.NameLaws.{decide}
 use Rattle.nb_page.specs.Free.{is_free_name}
 use Rattle.nb_model.specs.declared.statement.Statement.{Statement}
 use Rattle.nb_model.specs.declared.statement.Statement.TheVariants.{Backup, BackupSince, CopyTo, CreateTable}
-use Rattle.nb_model.specs.Account.{Base, IsBase, Account}
+use Rattle.nb_model.specs.Account.{IsBase, Account}
 use Rattle.nb_model.specs.Causes.{is_free_entry}
 use Rattle.nb_model.specs.Going.{IsNamed, IsGoing, IsMaking}
 use Rattle.nb_model.specs.Image.{Image, first_page, image_state}
@@ -35,18 +35,15 @@ use Rattle.nb_script.specs.Words.{is_given}
 use Rattle.nb_session.specs.Ready.{IsReady}
 use Rattle.nb_session.proofs.NameLaws.{begun_plain, made_named}
 use Rattle.nb_copy.proofs.InUseLaws.{in_use}
-use Rattle.nb_session.proofs.ReadyLaws.{free_same}
+use Rattle.nb_session.proofs.ReadyLaws.{free_same, own_entry}
 use Rattle.nb_top.specs.Performed.{KnowsNames, MayBeGiven}
+use Rattle.nb_host.proofs.PlainLaws.{not_true}
 
 -- a name that a user may give, of so many bytes at most
 pub record GivenName (most : ℕ) (name : List ℕ) : Type 0 where
   pub named : is_name name ≡ true
   pub short : nat_le (length name) most ≡ true
   pub plain : is_delta name ≡ false
-
-not_true : (b : Bool) → not b ≡ true → b ≡ false
-not_true true h = absurd (true≢false (sym h))
-not_true false h = refl
 
 given_name : (most : ℕ) (name : List ℕ) → is_given most name ≡ true → GivenName most name
 given_name most name is =
@@ -57,10 +54,6 @@ given_name most name is =
 -- that of a database
 pub base_name : (name : List ℕ) → is_given 94 name ≡ true → GivenName 94 name
 base_name name is = given_name 94 name is
-
-own_entry : (b : Base) → is_free_entry (IsBase b) ≡ false
-unfolding is_free_entry
-own_entry b = refl
 
 -- The account after the first statement has the database under its name, and under other names what it had.
 pub record IsBehind (before : Account) (name : List ℕ) (now : Now) : Type 0 where

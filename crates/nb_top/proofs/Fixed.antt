@@ -1,6 +1,6 @@
 -- The job of a fixup: its call serves it, and it keeps what stands.
 use Rattle.std.proofs.Common.{true≢false, ◌≡◌, ◌⊎◌, inl, inr, ⊎_elim, ℕ, List, [], ◌∷◌, true, false, refl, sym, ap, subst, ◌∙◌}
-use Rattle.std.specs.Prelude.{Some, None, Result, Ok, Err}
+use Rattle.std.specs.Prelude.{None, Result, Ok, Err}
 use Rattle.std.proofs.lemmas.List.{append-nil}
 use Rattle.nb_fields.specs.Header.{guid_of}
 use Rattle.nb_host.specs.Files.{File, Files}
@@ -9,7 +9,6 @@ use Rattle.nb_host.specs.World.{World}
 use Rattle.nb_host.specs.Crash.{Leaves}
 use Rattle.nb_host.specs.declared.faults.Fault.{Fault}
 use Rattle.nb_host.specs.declared.faults.Fault.TheVariants.{Refused, Device, Memory}
-use Rattle.nb_host.specs.declared.refusals.Refusal.{Refusal}
 use Rattle.nb_change.specs.Changes.{Only}
 use Rattle.nb_change.proofs.ChangesLaws.{weaker_has}
 use Rattle.nb_page.specs.Quiet.{Quiet}
@@ -32,17 +31,12 @@ use Rattle.nb_top.specs.Standing.{StandsFor}
 use Rattle.nb_top.proofs.FixTurns.{FixTurn, refuses, fixes, fixed_turn, base_is, done_turn, fixed_account, refused_fix, refused_turn, turn_is}
 use Rattle.nb_top.proofs.Turns.{served_as}
 use Rattle.nb_top.proofs.TurnsStand.{IsSoundJob, IsWellBased, sound_on}
+use Rattle.nb_host.proofs.PlainLaws.{some_none, some_same}
 
 -- its reply
 abbrev pub done_said : Result (Unit {0}) Fault → Result Reply Fault
 done_said (Ok value) = Ok Done
 done_said (Err fault) = Err fault
-
-some_same : (a b : List ℕ) → Some a ≡ Some b → a ≡ b
-some_same a b e = cc
-
-none_some : (refusal : Refusal) → Some refusal ≡ None → ⊥
-none_some refusal e = cc
 
 module _ (old mid : World) (db : List ℕ) (result : Result (Unit {0}) Fault) (does : Fixes result old mid db) where
   abbrev job : OneTurn
@@ -59,7 +53,7 @@ module _ (old mid : World) (db : List ℕ) (result : Result (Unit {0}) Fault) (d
   idle is = by (turn_is old.files db)
     where
       by : FixTurn old.files db → Quiet old mid
-      by (refuses refusal why same) = does.unfit (λ fit. none_some refusal (sym why ∙ fit))
+      by (refuses refusal why same) = does.unfit (λ fit. some_none refusal (sym why ∙ fit))
       by (fixes bytes copy same) = absurd (true≢false (sym is ∙ ap leaves_all same))
 
   answers : (r : Result (Unit {0}) Fault) → FixAnswers r old mid db → ServedAs (done_said r) old mid job turn

@@ -29,13 +29,10 @@ use Rattle.nb_top.proofs.FoldRecords.{IsOfLine, folded_span, is_span, of_line, s
 use Rattle.nb_top.proofs.FoldTurns.{FoldTurn, made_account, turn_is}
 use Rattle.nb_top.proofs.TargetTurns.{refuses, makes}
 use Rattle.nb_top.proofs.TurnsStand.{IsSoundJob, IsWellDone, sound_named}
+use Rattle.nb_host.proofs.PlainLaws.{not_some}
 
 same_files : (answer : Result (List Contents) Refusal) (a b : List Contents) → answer ≡ Ok a → answer ≡ Ok b → a ≡ b
 same_files answer a b e f = cc
-
-not_some : (file : File) → not (is_some file) ≡ true → file ≡ None
-not_some None h = refl
-not_some (Some bytes) h = cc
 
 -- an unfinished file is one in the making
 in_making : (kept : List Kept) (file : File) → IsUnfinished file → IsInMaking kept file

@@ -31,10 +31,11 @@ use Rattle.nb_top.specs.Requests.{Request, Asked, Runs, Does}
 use Rattle.nb_top.specs.Served.{Serves, TurnsTo, reply_told, status_told}
 use Rattle.nb_top.proofs.ByTurnsLaws.{early_err, run_quietly, run_undone}
 use Rattle.nb_top.proofs.JobRuns.{job_refused, performs_device, performs_ended, performs_memory, undone_goes}
-use Rattle.nb_top.proofs.QuietRuns.{foretold_from, knows_quietly, quiet_gave, runs_quietly}
+use Rattle.nb_top.proofs.QuietRuns.{foretold_from, knows_quietly, runs_quietly}
 use Rattle.nb_top.proofs.RequestLaws.{CanBeMet}
 use Rattle.nb_top.proofs.ScriptRuns.{runs_err}
 use Rattle.nb_top.proofs.Turns.{turn_done, turn_fails, turn_quietly, turn_refused, turn_unsaid}
+use Rattle.nb_gather.proofs.QuietLaws.{quiet_gave}
 
 -- a run that begins with calls that change nothing
 pub goes_quietly : {H : Type 0} (world : H → World) (tells : Bool) (old mid new : H) (asked : Result Request Refusal) (result : Result Status RunError) → Quiet (world old) (world mid) → Goes world tells result mid new (Runs asked)

@@ -22,6 +22,7 @@ use Rattle.nb_top.specs.Requests.{script_in, to_plan}
 use Rattle.nb_top.proofs.GoesLaws.{goes_quietly, goes_turn_quietly}
 use Rattle.nb_top.proofs.ScriptRead.{IsBroken, all_broken}
 use Rattle.nb_model.proofs.StatusLaws.{status_refused}
+use Rattle.nb_top.proofs.ChainRefusals.{no_file}
 
 -- a plan that begins with calls that change nothing
 pub plan_quietly : {H : Type 0} (world : H → World) (tells : Bool) (old mid new : H) (keep : ℕ) (names : Result (List (List ℕ)) Refusal) (result : Result Status RunError) → Quiet (world old) (world mid) → Goes world tells result mid new (to_plan keep names)
@@ -40,9 +41,6 @@ bad_line line h = cc
 
 too_long : (bytes : ℕ) → ScriptLong bytes ≢ Usage
 too_long bytes h = cc
-
-no_list : (name : List ℕ) → NoFile name ≢ Usage
-no_list name h = cc
 
 first_fine : (name : List ℕ) (rest : Result (List (List ℕ)) Refusal) → IsFine rest → IsFine (with_first name rest)
 first_fine name (Ok names) h = tt
@@ -73,7 +71,7 @@ list_fine bytes = by (nat_lt 1048576 (length bytes))
     by false = some_fine (length (lines_of bytes)) (left 0 bytes)
 
 in_fine : (list : List ℕ) (file : File) → IsFine (names_in list file)
-in_fine list None = no_list list
+in_fine list None = no_file list
 in_fine list (Some bytes) = list_fine bytes
 
 -- so its status is that of a refusal
@@ -86,10 +84,10 @@ list_number list file refusal is (Err e) ended = tt
 -- what isn't refused for a line is refused for both alike
 pub unread_list : (name : List ℕ) (file : File) (refusal : Refusal) → ((line : ℕ) → refusal ≢ BadScript line) → script_in name file ≡ Err refusal → names_in name file ≡ Err refusal
 unfolding script_of list_of
-unread_list name None refusal other is = no_file is
+unread_list name None refusal other is = not_read is
   where
-    no_file : ◌≡◌ {A = Result Plan Refusal} (Err (NoFile name)) (Err refusal) → ◌≡◌ {A = Result (List (List ℕ)) Refusal} (Err (NoFile name)) (Err refusal)
-    no_file h = cc
+    not_read : ◌≡◌ {A = Result Plan Refusal} (Err (NoFile name)) (Err refusal) → ◌≡◌ {A = Result (List (List ℕ)) Refusal} (Err (NoFile name)) (Err refusal)
+    not_read h = cc
 unread_list name (Some bytes) refusal other is = by (nat_lt 1048576 (length bytes)) is
   where
     by : (b : Bool) → (if b then Err (ScriptLong (length bytes)) else of_lines (length (lines_of bytes)) (left 0 bytes)) ≡ Err refusal

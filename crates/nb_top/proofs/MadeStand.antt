@@ -1,6 +1,6 @@
 -- While files are made beside what stood, what a crash leaves stands for an account.
 use Rattle.std.proofs.Common.{◌≡◌, ◌≢◌, ◌⊎◌, inl, inr, ⊎_elim, ℕ, zero, suc, List, [], ◌∷◌, map, true, false, refl, sym, ap, subst, ◌∙◌, arith}
-use Rattle.std.specs.Prelude.{not, Some, None, is_some, Contains}
+use Rattle.std.specs.Prelude.{not, None, is_some, Contains}
 use Rattle.std.proofs.lemmas.Bool.{and_parts, true≢false}
 use Rattle.nb_fields.specs.Free.{is_free_file}
 use Rattle.nb_fields.specs.Header.{is_header}
@@ -30,6 +30,7 @@ use Rattle.nb_session.specs.Acts.{MadeLeft}
 use Rattle.nb_top.specs.Standing.{HoldsKept, StandsFor}
 use Rattle.nb_top.proofs.MadeRuns.{no_file}
 use Rattle.nb_top.proofs.AsWas.{IsOff, as_was, was_has, was_off}
+use Rattle.nb_host.proofs.PlainLaws.{not_some}
 
 -- A file that is made is no difference file, and its name was free.
 pub record IsNewFile (account : Account) (file : MadeFile) : Type 0 where
@@ -108,10 +109,6 @@ in_making kept bytes file (inl (inr none)) is = unfinished (λ other there.
     let same : bytes_of file ≡ other = ap bytes_of there in
     record { no_level = λ c reads. none.no_level c (ap read_level same ∙ reads); no_header = ap is_header (sym same) ∙ none.no_header })
 in_making kept bytes file (inr there) is = whole bytes there is
-
-not_some : (file : File) → not (is_some file) ≡ true → file ≡ None
-not_some None h = refl
-not_some (Some bytes) h = cc
 
 module _ (old : World) (account : Account) (stands : StandsFor old account) where
   -- beside a free name no difference file stands, and a crash brings none back

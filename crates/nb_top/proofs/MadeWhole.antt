@@ -14,9 +14,7 @@ use Rattle.nb_model.specs.Stands.{Stands}
 use Rattle.nb_model.proofs.MadeLaws.{IsWholeFile, whole, with_those, stands_those}
 use Rattle.nb_model.proofs.OpenedLaws.{has_main}
 use Rattle.nb_model.proofs.StandsLaws.{delta_named, formed_header}
-
-some_same : (a b : List ℕ) → Some a ≡ Some b → a ≡ b
-some_same a b e = cc
+use Rattle.nb_host.proofs.PlainLaws.{some_same}
 
 -- bytes that are opened have a header
 opened_header : (name bytes : List ℕ) (b : Base) → owner name (Some bytes) None ≡ Ok b → is_header bytes ≡ true

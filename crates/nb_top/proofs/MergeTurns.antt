@@ -18,6 +18,7 @@ use Rattle.nb_model.specs.Run.{Event, account_after, with_made}
 use Rattle.nb_model.specs.Strokes.{merge, merged}
 use Rattle.nb_model.proofs.UsageCauses.{IsOther, other_first, other_when, other_database}
 use Rattle.nb_inplace.specs.Verdict.{IsMergeable}
+use Rattle.nb_top.proofs.ChainRefusals.{bad_level, no_file, some_other}
 
 -- the turn that merges what a level file holds into a standby
 abbrev pub merged_turn : (bytes : List ℕ) → Contents → Event
@@ -27,18 +28,6 @@ merged_turn bytes c = only_turn (Pages (length (merged c.pages (image_in bytes))
 abbrev IsFine : Result Contents Refusal → Type 0
 IsFine (Ok c) = Unit {0}
 IsFine (Err refusal) = refusal ≢ Usage
-
-no_file : (name : List ℕ) → NoFile name ≢ Usage
-no_file name h = cc
-
-bad_level : (name : List ℕ) (at : ℕ) → BadLevel name at ≢ Usage
-bad_level name at h = cc
-
-some_other : (r : Refusal) → r ≢ Usage → IsOther (Some r)
-some_other r h e = h (same e)
-  where
-    same : Some r ≡ Some Usage → r ≡ Usage
-    same k = cc
 
 by_cause : (c : Cause) (found : Contents) → IsOther c → IsFine (elim c as (λ z. Result Contents Refusal) [ Some refusal ↦ Err refusal | None ↦ Ok found ])
 by_cause None found h = tt

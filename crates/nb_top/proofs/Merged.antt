@@ -27,7 +27,7 @@ use Rattle.nb_model.specs.Strokes.{as_standby, merge, merged, on_base, base_afte
 use Rattle.nb_model.specs.Trail.{ShowsIn}
 use Rattle.nb_model.specs.Well.{IsWellBaseIn}
 use Rattle.nb_model.proofs.MainLaws.{owner-formed, owner_main}
-use Rattle.nb_model.proofs.OpeningLaws.{with_kept}
+use Rattle.nb_model.proofs.OpeningLaws.{with_kept, owner_applying}
 use Rattle.nb_model.proofs.StandsLaws.{opened_entry}
 use Rattle.nb_inplace.specs.Apply.{Applies, ApplyAnswers, ApplyLeft, base_with}
 use Rattle.nb_inplace.specs.Kept.{MergesBackup}
@@ -96,10 +96,6 @@ merged_kept : (account : Account) (db : List ℕ) (c : Contents) → account.kep
 unfolding account_after records_after records_of
 merged_kept account db c = sym (append-nil account.kept)
 
-applying_closed : (name bytes : List ℕ) (delta : File) → owner_in 3 name bytes delta ≡ Err Unfinished
-unfolding owner_in
-applying_closed name bytes delta = refl
-
 module _ (old : World) (account : Account) (db name : List ℕ) (stands : StandsFor old account) (plain : is_delta db ≡ false) (level_plain : is_delta name ≡ false)
     (takes : (bytes : List ℕ) (c : Contents) → IsMergeable old.files db name bytes c → TakesKept account.kept bytes c) where
   abbrev sound_job : OneTurn
@@ -155,7 +151,7 @@ module _ (old : World) (account : Account) (db name : List ℕ) (stands : Stands
           let main : HoldsMain (image_in bytes) (Some bytes) = record { bytes = bytes; there = refl; formed = its.formed; normal = zero; is = refl } in
           ap (λ (e : Entry). (base_in e).image) (opened_entry db (Some bytes) beside bytes (base_of (image_in bytes)) refl (owner_main db (image_in bytes) (Some bytes) beside main))
       by (begun three same) =
-          ap (λ (e : Entry). (base_in e).image) (closed_entry db bytes beside Unfinished (owner-formed db bytes beside its.formed ∙ ap (λ (n : ℕ). owner_in n db bytes beside) three ∙ applying_closed db bytes beside))
+          ap (λ (e : Entry). (base_in e).image) (closed_entry db bytes beside Unfinished (owner-formed db bytes beside its.formed ∙ ap (λ (n : ℕ). owner_in n db bytes beside) three ∙ owner_applying db bytes beside))
 
   -- it isn't refused
   module _ (bytes : List ℕ) (c : Contents) (m : IsMergeable old.files db name bytes c) (same : apply_turn old.files db name ≡ merged_turn bytes c) where

@@ -35,7 +35,7 @@ use Rattle.nb_top.specs.Performed.{PlaysOpened, PlaysTold, played_behind, told_t
 use Rattle.nb_top.proofs.FirstLaws.{turns}
 use Rattle.nb_top.proofs.FirstReady.{apart_play}
 use Rattle.nb_top.proofs.MadeRuns.{no_file, none_front, none_made}
-use Rattle.nb_top.proofs.RefusedRuns.{take_self}
+use Rattle.nb_host.proofs.PlainLaws.{take_self}
 
 -- a result that is a failure
 pub opened_err : (result : Result Bool RunError) (P : Result Bool RunError → Type 0) → IsErr result → ((e : RunError) → P (Err e)) → P result

@@ -42,8 +42,9 @@ use Rattle.nb_top.specs.Performed.{IsPerformed, IsReadRun, IsScriptRun, IsUnaske
 use Rattle.nb_top.specs.Requests.{Asked, Does, Request, Runs, ToGenerate, ToRun, request_asked}
 use Rattle.nb_top.specs.Touched.{AsksToMake, MayTouch, OfAsked, OfTarget, ReadMakes, SaysRefusal, TouchesOnly, ends_refused}
 use Rattle.nb_top.proofs.KnownLaws.{account_told, told_known}
-use Rattle.nb_top.proofs.MadeRuns.{first_or, made_behind, no_file, none_made}
+use Rattle.nb_top.proofs.MadeRuns.{first_or, made_behind, none_made}
 use Rattle.nb_top.proofs.ToldLaws.{told_files}
+use Rattle.nb_session.proofs.EventLaws.{made_none}
 
 -- ---- the files that a run makes
 
@@ -68,17 +69,13 @@ module _ (account : Account) (given : Given) (sessions : List (List Statement)) 
   opening_so (OpenDb name cache) = unless_so name cache _ _ (not_opened name (account.entry name))
   opening_so other = record { none = refl; todo = λ now is. ap (todo_or sessions) (sym is) }
 
-none_in : (f : MadeFile) → Contains (files_made []) f → ⊥
-unfolding files_made
-none_in f there = no_file f there
-
 module _ (plan : Plan) (account : Account) (given : Given) (last : Account) (left : Given) where
   -- after it turns make the files that statements ask for
   rest_makes : (o : Opening) → BeginsSo plan.sessions o → (rest : List Event) → IsRest plan.schedule o given rest last left → (f : MadeFile) → Contains (files_made rest) f → ScriptMakes plan f.0
   rest_makes o so rest goes f there = by o.now refl goes
     where
       by : (n : Option Now) → o.now ≡ n → IsRest plan.schedule (record { event = o.event; account = o.account; now = n }) given rest last left → ScriptMakes plan f.0
-      by None is on = absurd (none_in f (subst (λ (es : List Event). Contains (files_made es) f) on.0 there))
+      by None is on = absurd (made_none f (subst (λ (es : List Event). Contains (files_made es) f) on.0 there))
       by (Some now) is on =
           made_named (ScriptMakes plan) (plan.schedule ++ rounds on.1.how_often) now (begun_asked plan now (so.todo now is)) f
           (subst (λ (es : List Event). Contains (files_made es) f) (sym (ap (λ (p : Played). p.0) on.1.is)) there)

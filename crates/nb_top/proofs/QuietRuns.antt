@@ -22,14 +22,11 @@ use Rattle.nb_top.specs.Performed.{RunLeft, RunsTo, Finished, IsPerformed, IsUnd
 use Rattle.nb_top.specs.Requests.{Request}
 use Rattle.nb_top.proofs.LeftLaws.{left_first, left_before_all}
 use Rattle.nb_top.proofs.ReadsLaws.{reads_quietly}
+use Rattle.nb_gather.proofs.QuietLaws.{quiet_gave}
 
 -- nothing may be given
 abbrev pub no_given : Given
 no_given = record { guids = []; times = []; holds = [] }
-
--- nothing was given
-pub quiet_gave : (old mid : World) → Quiet old mid → GaveNothing old mid
-quiet_gave old mid quiet = record { guids = quiet.guids; times = quiet.times }
 
 -- what is foretold is foretold after calls that ask for nothing
 pub foretold_from : (old mid new : World) (given : Given) (shown : List ℕ) → GaveNothing old mid → Foretells given shown old new → Foretells given shown mid new

@@ -1,5 +1,5 @@
 -- A run that is refused at once.
-use Rattle.std.proofs.Common.{◌≡◌, inl, ℕ, zero, suc, List, [], ◌∷◌, ◌++◌, length, take, refl, sym, ap, subst, ◌∙◌, arith}
+use Rattle.std.proofs.Common.{◌≡◌, inl, ℕ, List, [], ◌∷◌, ◌++◌, length, take, refl, sym, ap, subst, ◌∙◌, arith}
 use Rattle.std.specs.Prelude.{Result, Ok, Err, IfOk, OnOk, Option, None}
 use Rattle.std.proofs.lemmas.List.{append-nil}
 use Rattle.nb_host.specs.Files.{Files}
@@ -25,12 +25,7 @@ use Rattle.nb_top.specs.Numbers.{number_of}
 use Rattle.nb_top.specs.Performed.{RunLeft, RunReads, RunsTo, Finished, HasSmallScn, IsPerformed, Target, first_event, target_of}
 use Rattle.nb_top.specs.Requests.{Request, ToRun, ToGenerate}
 use Rattle.nb_top.proofs.MadeRuns.{none_front, none_made}
-
--- what is taken of a list is a front of it
-pub take_self : (n : ℕ) (l : List ℕ) → take n l ≡ take (length (take n l)) l
-take_self zero l = refl
-take_self (suc n) [] = refl
-take_self (suc n) (x ∷ l) = ap (λ (k : List ℕ). x ∷ k) (take_self n l)
+use Rattle.nb_host.proofs.PlainLaws.{take_self}
 
 module _ (old new : World) (session : ℕ) (refusal : Refusal) (account : Account) (given : Given) (asked : Result Request Refusal) where
   abbrev event : Event

@@ -33,7 +33,7 @@ use Rattle.nb_script.specs.Scripts.{Plan}
 use Rattle.nb_top.specs.Performed.{cache_asked, KnowsNames, MayBeGiven, RunsTo, HoldsUnder, opened_reply, pages_first, refused_at}
 use Rattle.nb_top.specs.declared.telling.Telling.{Telling}
 use Rattle.nb_top.specs.Requests.{ToRun}
-use Rattle.nb_top.proofs.QuietRuns.{left_quietly, quiet_gave}
+use Rattle.nb_top.proofs.QuietRuns.{left_quietly}
 use Rattle.nb_top.proofs.ReadsLaws.{reads_quiet}
 use Rattle.nb_top.proofs.FirstLaws.{First, first_opened, opened_base}
 use Rattle.nb_top.proofs.FirstReady.{IsBehind, base_name, first_ready, opened_making}
@@ -42,6 +42,7 @@ use Rattle.nb_top.proofs.ByTurnsLaws.{beside_quiet}
 use Rattle.nb_top.proofs.Beginnings.{Beginning, FirstRefused, FirstDone}
 use Rattle.nb_top.proofs.ToldLaws.{Ran, performed_refused}
 use Rattle.nb_top.proofs.OpenLaws.{shown_entry, refused_entry, owner_never_usage}
+use Rattle.nb_gather.proofs.QuietLaws.{quiet_gave}
 
 module _ (old : World) (account : Account) (given : Given) (plan : Plan) (telling : Telling) (askable : IsAskable plan) (name : List ℕ) (cache : ℕ) (first_is : plan.first ≡ OpenDb name cache) (knows : HoldsUnder old.files account name) where
   -- what the call tells is what the run must say

@@ -42,6 +42,7 @@ use Rattle.nb_top.proofs.RestoreTurns.{RestoreTurn, WhyRefused, made_turn, made_
 use Rattle.nb_top.proofs.TargetTurns.{refuses, makes}
 use Rattle.nb_top.proofs.Turns.{served_as}
 use Rattle.nb_top.proofs.TurnsStand.{IsSoundJob, IsWellBased, sound_on}
+use Rattle.nb_host.proofs.PlainLaws.{not_some}
 
 -- its reply
 abbrev pub pages_said : Result ℕ Fault → Result Reply Fault
@@ -111,10 +112,6 @@ made_entries account db image n = refl
 made_kept : (account : Account) (db : List ℕ) (image : Image) → account.kept ≡ (account_after db (make image ∷ []) None account).kept
 unfolding account_after records_after records_of
 made_kept account db image = sym (append-nil account.kept)
-
-not_some : (file : File) → not (is_some file) ≡ true → file ≡ None
-not_some None h = refl
-not_some (Some bytes) h = cc
 
 module _ (old : World) (account : Account) (db : List ℕ) (names : List (List ℕ)) (stands : StandsFor old account) (plain : is_delta db ≡ false) (plain_names : AllByRecursion (λ (name : List ℕ). is_delta name ≡ false) names) (some : 1 ≤ length names)
     (takes : (links : List Link) → verdict old.files names ≡ Ok links → AreKept account.kept links) where

@@ -1,5 +1,5 @@
 -- A script is run, from its first statement on.
-use Rattle.std.proofs.Common.{◌≡◌, ℕ, ◌<◌, List, true, false, refl, subst}
+use Rattle.std.proofs.Common.{◌≡◌, ℕ, ◌<◌, List, refl, subst}
 use Rattle.std.specs.Prelude.{Result, Ok, Err, IfOk, IfErr}
 use Rattle.std.specs.Result.{IsErr}
 use Rattle.nb_fields.specs.Fresh.{fresh}
@@ -22,9 +22,10 @@ use Rattle.nb_top.specs.Performed.{cache_asked, RunsTo, Knows, KnowsOpened, MayB
 use Rattle.nb_top.specs.declared.telling.Telling.{Telling}
 use Rattle.nb_top.specs.Requests.{ToRun}
 use Rattle.nb_top.proofs.Beginnings.{Beginning}
-use Rattle.nb_top.proofs.QuietRuns.{quiet_gave}
 use Rattle.nb_top.proofs.CreatingRuns.{creates_begins, creating_unbegun}
 use Rattle.nb_top.proofs.ReopeningRuns.{attaches_begins, open_fails}
+use Rattle.nb_gather.proofs.QuietLaws.{quiet_gave}
+use Rattle.nb_host.proofs.PlainLaws.{false_true}
 
 -- a result that is a failure
 pub runs_err : (result : Result Status RunError) → IsErr result → (P : Result Status RunError → Type 0) → ((e : RunError) → P (Err e)) → P result
@@ -40,9 +41,6 @@ settled_value {T} s v P is holds = subst (λ (x : Result T Refusal). IfOk x P) i
 
 pub settled_refusal : {T : Type 0} (s : Result T Refusal) (r : Refusal) (P : Refusal → Type 0) → s ≡ Err r → IfErr s P → P r
 settled_refusal {T} s r P is holds = subst (λ (x : Result T Refusal). IfErr x P) is holds
-
-false_true : false ≡ true → ⊥
-false_true h = cc
 
 -- A first statement that can be asked today creates a database or opens one.
 pub data Opens (statement : Statement) : Type 0 where

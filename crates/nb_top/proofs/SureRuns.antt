@@ -47,9 +47,8 @@ use Rattle.nb_top.proofs.SureFiles.{still_stands}
 use Rattle.nb_top.proofs.SureTargets.{IsSureRun, target_after, target_left, target_end}
 use Rattle.nb_top.proofs.ToldLaws.{told_files, told_steps, told_begins}
 use Rattle.nb_top.proofs.WellRuns.{IsWellRun, IsWellBehind, rest_well}
-
-false_true : false ≡ true → ⊥
-false_true h = cc
+use Rattle.nb_host.proofs.PlainLaws.{false_true}
+use Rattle.nb_model.proofs.StepsLaws.{after_no_step}
 
 -- an event with a refusal begins no run
 refused_begins : (o : Opening) (session : ℕ) (refusal : Refusal) (account : Account) (events rest : List Event) → events ≡ o.event ∷ rest → o ≡ refused_opening session (Refused refusal) account → begins_refused events ≡ true
@@ -76,10 +75,6 @@ made_seen b image = refl
 made_keeps : (b : Base) (image : Image) → records_after b (strokes_in (makes (make image) ∷ [])) ≡ []
 unfolding strokes_in records_after records_of
 made_keeps b image = refl
-
-none_seen : (t : Trail) → after_steps t [] ≡ t
-unfolding after_steps
-none_seen t = refl
 
 none_keeps : (b : Base) → records_after b (strokes_in []) ≡ []
 unfolding strokes_in records_after
@@ -136,7 +131,7 @@ module _ (account : Account) (given : Given) (plan : Plan) (askable : IsAskable 
     begun : (count : ℕ) (files : Files) → StandsIn name (seen_after account name (take count (steps_of events))) files → 1 ≤ count
     begun zero files s =
         absurd (unseen name (account.entry name) (files name) (files (delta_name name)) was_free
-        (settled_shows name (base_in (account.entry name)) (files name) (files (delta_name name)) (subst (λ (t : Trail). StandsIn name t files) (none_seen (settled (base_in (account.entry name)))) s)))
+        (settled_shows name (base_in (account.entry name)) (files name) (files (delta_name name)) (subst (λ (t : Trail). StandsIn name t files) (after_no_step (settled (base_in (account.entry name)))) s)))
     begun (suc n) files s = omega arith
 
     pub creating_sure : IsSureRun account (record { name = name; creates = true }) events last
@@ -195,7 +190,7 @@ module _ (old : World) (account : Account) (given : Given) (plan : Plan) (askabl
       further = settles ∷ steps_of runs.rest;
       steps = ap steps_of runs.is ∙ ap (λ (e : Event). steps_of (e ∷ runs.rest)) again.event ∙ opened_steps plan.first_session _ runs.rest;
       base = b;
-      seen = none_seen (settled (base_in (account.entry name))) ∙ ap settled base_is;
+      seen = after_no_step (settled (base_in (account.entry name))) ∙ ap settled base_is;
       none = none_keeps (base_in (account.entry name));
       along = opened_behind.along;
       made = λ file there. opened_behind.made file (subst (λ (fs : List MadeFile). Contains fs file) opened_files there);

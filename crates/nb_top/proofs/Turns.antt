@@ -31,7 +31,7 @@ use Rattle.nb_top.specs.declared.status.Status.TheVariants.{Done, Refused}
 use Rattle.nb_top.specs.Numbers.{number_of}
 use Rattle.nb_top.specs.OneTurn.{OneTurn, OfName, Was, IsAsWas, IsDoneFor, Read, FileLeft, IsOnItsWay, TurnEnded, TurnLeft, leaves_all}
 use Rattle.nb_top.specs.Served.{IsRefusedWith, IsServed, ServedAs, Serves, TurnsTo}
-use Rattle.nb_top.proofs.RefusedRuns.{take_self}
+use Rattle.nb_host.proofs.PlainLaws.{take_self}
 
 -- all are as they were, and so is that one
 as_was : (was : Was) (name : Option (List ℕ)) (files : Files) → ((m : List ℕ) → was m (files m)) → IsAsWas was name files

@@ -28,6 +28,7 @@ use Rattle.nb_top.specs.declared.status.Status.TheVariants.{Device, Memory}
 use Rattle.nb_top.specs.OneTurn.{OneTurn, OfName, Was, IsAsWas, Read, IsOnItsWay, behind, TurnEnded, TurnLeft, TurnStands, leaves_all}
 use Rattle.nb_top.specs.Standing.{HoldsKept, StandsFor}
 use Rattle.nb_top.proofs.OpenLaws.{none_shown}
+use Rattle.nb_host.proofs.PlainLaws.{some_same}
 
 -- What a job that isn't refused leaves of the file of that name, half way and once it is done, and the entry that it has in the account after the
 -- turn.
@@ -95,13 +96,10 @@ well_based old account job name plain w = record {
   gives = w.gives;
 }
 
-some_name : (a b : List ℕ) → Some a ≡ Some b → a ≡ b
-some_name a b e = cc
-
 -- a job on the file of that name
 pub sound_named : (old : World) (account : Account) (name : List ℕ) (job : OneTurn) → is_delta name ≡ false → job.name ≡ Some name → (leaves_all (job.turn account) ≡ false → IsWellDone old account job name) → IsSoundJob old account job
 sound_named old account name job plain named done = record {
-  plain = λ n is. subst (λ (m : List ℕ). is_delta m ≡ false) (some_name name n (sym named ∙ is)) plain;
+  plain = λ n is. subst (λ (m : List ℕ). is_delta m ≡ false) (some_same name n (sym named ∙ is)) plain;
   done = λ some. (name, named, done some);
 }
 

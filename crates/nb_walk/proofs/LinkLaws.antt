@@ -12,18 +12,14 @@ use Rattle.nb_model.specs.Causes.{when}
 use Rattle.nb_model.specs.Chains.{Chain, owner_of, is_slot, slots_in, is_in_chain, owner_in}
 use Rattle.nb_model.proofs.ReadLaws.{and_no_right}
 use Rattle.nb_alloc.specs.Data.{is_data, not_data}
-use Rattle.nb_alloc.proofs.PutLaws.{none_of}
 use Rattle.nb_walk.specs.Walks.{not_linked}
+use Rattle.nb_alloc.proofs.DataLaws.{by_kind}
+use Rattle.nb_model.proofs.TurnCases.{is_so}
 
 and_groups : (a b c d : Bool) → (a && (b && (c && d))) ≡ (((a && b) && c) && d)
 and_groups true true c d = refl
 and_groups true false c d = refl
 and_groups false b c d = refl
-
--- what refuses the first of two tests refuses both
-first_refused : (one two : Bool) (q r : Refusal) → when (not one) q ≡ Some r → when (not (one && two)) q ≡ Some r
-first_refused false two q r e = e
-first_refused true two q r e = cc
 
 module _ (chain : Chain) (image : Image) (p : ℕ) where
   abbrev page : Page
@@ -41,7 +37,7 @@ module _ (chain : Chain) (image : Image) (p : ℕ) where
 
   -- it is no data page of that owner
   pub data_not : (r : Refusal) → not_data image (owner_of chain) p ≡ Some r → not_linked chain image p ≡ Some r
-  data_not r some = by_tests ∙ first_refused is_its all (NotDatabase p) r some
+  data_not r some = by_tests ∙ by_kind is_its all (NotDatabase p) r some
 
   -- a slot is of no form
   pub slots_not : all ≡ false → not_linked chain image p ≡ Some (NotDatabase p)
@@ -50,4 +46,4 @@ module _ (chain : Chain) (image : Image) (p : ℕ) where
   -- it is one
   pub linked_yes : not_data image (owner_of chain) p ≡ None → all ≡ true → not_linked chain image p ≡ None
   linked_yes none good =
-      by_tests ∙ ap (λ (t : Bool). when (not (t && all)) (NotDatabase p)) (none_of is_its (NotDatabase p) none) ∙ ap (λ (t : Bool). when (not t) (NotDatabase p)) good
+      by_tests ∙ ap (λ (t : Bool). when (not (t && all)) (NotDatabase p)) (is_so is_its (NotDatabase p) none) ∙ ap (λ (t : Bool). when (not t) (NotDatabase p)) good

@@ -4,7 +4,8 @@ use Rattle.std.proofs.lemmas.List.{append-nil}
 use Rattle.nb_fields.specs.Bytes.{part}
 use Rattle.nb_model.specs.Image.{Page, Image, page_at}
 use Rattle.nb_model.specs.Chains.{Chain, Slot, Spot, slots_from, slots_in, spots_on, spots_of, spots, found_pages}
-use Rattle.nb_walk.proofs.SlotLaws.{slots_step, spots_both}
+use Rattle.nb_walk.proofs.SlotLaws.{slots_step}
+use Rattle.nb_model.proofs.GrowthTurns.{spots_both}
 
 -- What was gathered on a page, up to one slot.
 pub record Comes (P : List Spot → Type 0) (ss : List Spot) (page : Page) (number count slot : ℕ) : Type 0 where

@@ -9,11 +9,9 @@ use Rattle.nb_model.specs.Causes.{when, broken_at}
 use Rattle.nb_model.specs.Chains.{Chain, first_of, is_in_chain, next_in, linked, walk, pages_of, found_pages, last_of}
 use Rattle.nb_model.proofs.ChainWalks.{onward, walk_on_is, walk_zero, found_is}
 use Rattle.nb_model.proofs.ReadLaws.{eq_no, eq_yes}
-use Rattle.nb_alloc.proofs.PutLaws.{none_of}
 use Rattle.nb_walk.specs.Walks.{not_linked}
-
-none_some : (r : Refusal) → None ≡ Some r → ⊥
-none_some r e = cc
+use Rattle.nb_host.proofs.PlainLaws.{none_some}
+use Rattle.nb_model.proofs.TurnCases.{is_so}
 
 -- a test that is refused fails
 refused : (t : Bool) (q r : Refusal) → when (not t) q ≡ Some r → (t ≡ false) × (Some q ≡ Some r)
@@ -86,7 +84,7 @@ module _ (chain : Chain) (image : Image) (P : List ℕ → Type 0) (all number :
     next_page = next_in (page_at image number)
 
     is_linked : is_in_chain chain image number ≡ true
-    is_linked = none_of (is_in_chain chain image number) (NotDatabase number) none
+    is_linked = is_so (is_in_chain chain image number) (NotDatabase number) none
 
     ended : next_page ≡ 0 → pages_of chain image ≡ Ok (so.seen ++ number ∷ [])
     ended end = so.are ∙ ap (behind so.seen) (walk_ended chain image left number is_linked end)

@@ -6,8 +6,7 @@ use Rattle.nb_model.specs.declared.job.Job.TheVariants.{Run, Attach, Turn}
 use Rattle.std.proofs.lemmas.List.{take_more, take_all, map-append, get_or_default, length-map}
 use Rattle.std.proofs.Common.{drop, nat_le, take, ◌++◌, ◌-◌, ap₂, slice_index, ◌≡◌, ◌∙◌, ◌+◌, ◌<◌, ◌≤◌, ℕ, zero, suc, ◌&&◌, Bool, true, false, List, [], ◌∷◌, length, get_or, Option, Some, None, refl, ap, sym, subst, cond, arith, Bor, codes}
 use Rattle.std.specs.List.{list_all}
-use Rattle.std.specs.Prelude.{not}
-use Rattle.std.proofs.lemmas.Bool.{and_left, and_right, and_from, le-leb, true≢false}
+use Rattle.std.proofs.lemmas.Bool.{and_left, and_right, and_from, le-leb}
 use Rattle.nb_host.specs.Names.{same_name}
 use Rattle.nb_model.specs.Words.{Word, is_database, is_file, job_if, asks_one, named_job, backup_job, fold_job, restore_job}
 use Rattle.nb_model.specs.declared.job.Job.{Job}
@@ -159,10 +158,6 @@ restored (w ∷ ws) d db files least most named all =
 
 all_five : (a b c d e : Bool) → a ≡ true → b ≡ true → c ≡ true → d ≡ true → e ≡ true → (a && b && c && d && e) ≡ true
 all_five a b c d e f g h i j = and_from (a && b && c && d) e (all_four a b c d f g h i) j
-
-pub not_other : (b : Bool) → not b ≡ false → b ≡ true
-not_other true is = refl
-not_other false is = absurd (true≢false is)
 
 pub folded : (verb word : Word) (words : List (Bor Word)) (out : Word) (files : List Word) → same_name verb (codes "fold") ≡ true → 2 ≤ length words → length words ≤ 9
     → cond (is_file word) (Some word) None ≡ Some out

@@ -6,9 +6,9 @@ use Rattle.nb_model.specs.Causes.{not_kind}
 use Rattle.nb_alloc.proofs.TestLaws.{inventory_place_is}
 use Rattle.nb_alloc.proofs.MarkLaws.{mark_other}
 use Rattle.nb_alloc.proofs.DoesLaws.{tries_early, tries_after}
-use Rattle.nb_alloc.proofs.SearchReads.{inventory_place_some}
 use Rattle.nb_state.specs.Open.{Held}
 use Rattle.nb_alloc.proofs.WantLaws.{stops_after}
+use Rattle.nb_fields.proofs.PlaceLaws.{inventory_place-some}
 use Rattle.nb_alloc.proofs.bit.mark.Goals as goal
 
 pub returns-in_err-read-clause-tries : goal.returns-in_err-read-clause-tries
@@ -30,13 +30,13 @@ returns-clause-tries g c t tells is =
 
 pub returns-in_err-read-clause-once : goal.returns-in_err-read-clause-once
 returns-in_err-read-clause-once g c tells =
-    let some = inventory_place_some c.page_size-page_size.result c.covers-k.result.0 c.page_size-page_size.ensures.one_of in
+    let some = inventory_place-some c.page_size-page_size.result c.covers-k.result.0 c.page_size-page_size.ensures.one_of in
     let read = c.in_err-read.ensures.once tells (omega (arith, some, c.place_of.ensures)) in
     omega (arith, read)
 
 pub returns-clause-once : goal.returns-clause-once
 returns-clause-once g c tells =
-    let some = inventory_place_some c.page_size-page_size.result c.covers-k.result.0 c.page_size-page_size.ensures.one_of in
+    let some = inventory_place-some c.page_size-page_size.result c.covers-k.result.0 c.page_size-page_size.ensures.one_of in
     let read = c.in_ok-read.ensures.once tells (omega (arith, some, c.place_of.ensures)) in
     omega (arith, read, c.put_map.ensures.once tells)
 

@@ -15,13 +15,14 @@ use Rattle.nb_alloc.specs.Put.{entry_cause, raise_strokes}
 use Rattle.nb_alloc.specs.Make.{page_strokes}
 use Rattle.nb_alloc.proofs.DoesLaws.{tries_passed, tries_front}
 use Rattle.nb_alloc.proofs.RaiseLaws.{stamped-some}
-use Rattle.nb_alloc.proofs.MakeLaws.{kind_some, stamped_page, put_then}
+use Rattle.nb_alloc.proofs.MakeLaws.{stamped_page, put_then}
+use Rattle.nb_model.proofs.FreshImageLaws.{code-other}
 use Rattle.nb_alloc.proofs.make.put_page.Goals as goal
 
 pub write-requires-clause-some : goal.write-requires-clause-some
 write-requires-clause-some g c =
     subst (λ (x : Page). is_zeros x ≡ false) (sym c.stamp.ensures.written)
-    (stamped-some c.args.page.now c.code.result _ c.scn.result c.args.number (ap (λ (k : ℕ). k == 0) c.code.ensures ∙ kind_some c.args.kind))
+    (stamped-some c.args.page.now c.code.result _ c.scn.result c.args.number (ap (λ (k : ℕ). k == 0) c.code.ensures ∙ code-other c.args.kind))
 
 pub returns-in_err-raise_entry-clause-tries : goal.returns-in_err-raise_entry-clause-tries
 returns-in_err-raise_entry-clause-tries g c t payload tells is room filled =

@@ -11,7 +11,6 @@ use Rattle.nb_alloc.specs.Put.{entry_cause}
 use Rattle.nb_alloc.specs.Find.{IsMap}
 use Rattle.nb_alloc.specs.Make.{page_strokes, content}
 use Rattle.nb_alloc.proofs.PageLaws.{seen_after}
-use Rattle.nb_alloc.proofs.PassLaws.{kept_plain}
 use Rattle.nb_alloc.proofs.ReadyLaws.{entry_ready, mark_put, page_strokes_are}
 use Rattle.nb_fields.proofs.SizeLaws.{SizeFacts, size_facts}
 use Rattle.nb_alloc.proofs.ContentLaws.{content_short}
@@ -19,6 +18,7 @@ use Rattle.nb_alloc.proofs.DoesLaws.{tries_opened}
 use Rattle.nb_alloc.proofs.MakeLaws.{tries_named, map_kept}
 use Rattle.nb_alloc.proofs.NewLaws.{take_not, take_after, put_of}
 use Rattle.nb_alloc.proofs.SearchReads.{inventory_most}
+use Rattle.nb_model.proofs.StepLaws.{plain_unkept}
 use Rattle.nb_alloc.proofs.make.take_new.Goals as goal
 
 pub returns-in_err-make_page-clause-makes : goal.returns-in_err-make_page-clause-makes
@@ -28,7 +28,7 @@ returns-in_err-make_page-clause-makes g c t tells is supplied plain holds =
     let kind : ℕ = code_of c.args.kind in
     let payload : List ℕ = content c.args.own c.args.payload.now p in
     let e : Draft = put p kind payload (drafted image) in
-    let none = entry_ready image p (supplied.ready.entry (kept_plain image p plain)) in
+    let none = entry_ready image p (supplied.ready.entry (plain_unkept image p plain)) in
     take_not t p e (put_of t.base p kind payload) (Unit {0}) c.from_residual.result c.in_err-make_page.field-0.0 _ _ _ _ c.from_residual.ensures
     (tries_named _ _ _ _ _ t (entry_cause image p) None (page_strokes image p kind payload) e.strokes none (page_strokes_are t.base p kind payload supplied.shaped.size none) (c.in_err-make_page.ensures.tries t tells is))
 
@@ -45,7 +45,7 @@ returns-clause-makes g c t tells is supplied plain holds =
     let e : Draft = put p kind payload (drafted image) in
     let old = g.H.Host.world c.args.host.now in
     let mid = g.H.Host.world c.make_page.new.host in
-    let own = supplied.ready.entry (kept_plain image p plain) in
+    let own = supplied.ready.entry (plain_unkept image p plain) in
     let none = entry_ready image p own in
     let are = page_strokes_are t.base p kind payload supplied.shaped.size none in
     let first = tries_named {T = Unit {0}} (Ok tt) old mid c.args.store.now c.make_page.new.store t (entry_cause image p) None (page_strokes image p kind payload) e.strokes none are (c.in_ok-make_page.ensures.tries t tells is) in

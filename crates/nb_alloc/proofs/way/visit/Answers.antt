@@ -10,9 +10,10 @@ use Rattle.nb_state.specs.Open.{IsOpen}
 use Rattle.nb_alloc.specs.Find.{need_cause}
 use Rattle.nb_alloc.specs.Way.{way_cause}
 use Rattle.nb_alloc.proofs.DoesLaws.{tested_on}
-use Rattle.nb_alloc.proofs.PassLaws.{way_maps, way_full, way_map_entry, way_own, own_asked, kept_plain, made_plain, fresh_plain}
+use Rattle.nb_alloc.proofs.PassLaws.{way_maps, way_full, way_map_entry, way_own, own_asked, made_plain, fresh_plain}
 use Rattle.nb_alloc.proofs.way.visit.Goals as goal
 use Rattle.nb_alloc.proofs.way.visit.Goals.{After-is_system_place}
+use Rattle.nb_model.proofs.StepLaws.{plain_unkept}
 
 -- The search has come to a page below the greatest number, and the SCN page of its inventory page was tested: that of the page itself decides.
 module _ (g : _) (c : goal.After-is_system_place g) (t : Trail) (tells : IsTrue g.H.Host.tells) (is : IsOpen (g.H.Host.world c.args.host.now) c.args.store.now t) where
@@ -71,13 +72,13 @@ pub returns-in_err-check_unless-clause-test : goal.returns-in_err-check_unless-c
 returns-in_err-check_unless-clause-test g c t tells is =
     let tests = (goal.at.returns-in_err-check_unless-clause-test g c).After-is_system_place in
     let plain = system g tests t tells is false c.if-is_system_place.false in
-    tested_on (Unit {0}) ℕ _ _ _ _ c.from_residual-in_err-check_unless.ensures (λ r e. own g tests t tells is ∙ ap need_cause (own_asked _ _ _ (kept_plain _ _ plain)) ∙ e) (c.in_err-check_unless.ensures.test t tells (still g tests t tells is))
+    tested_on (Unit {0}) ℕ _ _ _ _ c.from_residual-in_err-check_unless.ensures (λ r e. own g tests t tells is ∙ ap need_cause (own_asked _ _ _ (plain_unkept _ _ plain)) ∙ e) (c.in_err-check_unless.ensures.test t tells (still g tests t tells is))
 
 pub returns-clause-test : goal.returns-clause-test
 returns-clause-test g c t tells is =
     let tests = (goal.at.returns-clause-test g c).After-is_system_place in
     let plain = system g tests t tells is false c.if-is_system_place.false in
-    own g tests t tells is ∙ ap need_cause (own_asked _ _ _ (kept_plain _ _ plain)) ∙ c.in_ok-check_unless.ensures.test t tells (still g tests t tells is)
+    own g tests t tells is ∙ ap need_cause (own_asked _ _ _ (plain_unkept _ _ plain)) ∙ c.in_ok-check_unless.ensures.test t tells (still g tests t tells is)
 
 pub returns-clause-value : goal.returns-clause-value
 returns-clause-value g c t tells is = c.in_ok-place.ensures.value t tells is

@@ -12,10 +12,11 @@ use Rattle.nb_state.specs.Does.{Makes}
 use Rattle.nb_state.proofs.MakesLaws.{goes_on, goes_nowhere}
 use Rattle.nb_engine.specs.Mark.{mark_cause}
 use Rattle.nb_engine.specs.Tries.{Tries}
-use Rattle.nb_alloc.proofs.DoesLaws.{tries_passed, unless_none}
+use Rattle.nb_alloc.proofs.DoesLaws.{tries_passed}
 use Rattle.nb_check.proofs.AmongLaws.{leaked_each}
 use Rattle.nb_check.proofs.LeakLaws.{leaked_all, step_reads, passed_reads, open_header, giving_begun, giving_done, giving_passed, giving_sure, giving_failed, giving_onward}
 use Rattle.nb_check.proofs.TriesLaws.{made_anyway}
+use Rattle.nb_state.proofs.TurnLaws.{unless_none}
 use Rattle.nb_check.proofs.checking.give_back.Goals as goal
 
 -- whether a page of the report is leaked

@@ -6,7 +6,7 @@ use Rattle.nb_model.specs.Image.{image_size}
 use Rattle.nb_state.specs.Open.{Held}
 use Rattle.nb_check.specs.Passes.{IsOf, IsFirstBelow, HoldsTaken, AreSized, IsMapOf, HasEntryOf}
 use Rattle.nb_check.proofs.CoverLaws.{first_far, none_few, none_far, group_end, group_within, valid_of, ends_of}
-use Rattle.nb_check.proofs.PassLaws.{some_pages}
+use Rattle.nb_engine.proofs.FlagLaws.{some_first}
 use Rattle.nb_check.proofs.pass.pass.Goals as goal
 
 pub pass_pages-requires-clause-room : goal.pass_pages-requires-clause-room
@@ -30,7 +30,7 @@ returns-then-extent-le1-clause-broken g c t tells is first =
     let still = c.in_ok-read_first.ensures.open t tells is in
     let valid : IsTrue (is_page_size (image_size image)) = subst (λ (s : ℕ). IsTrue (is_page_size s)) (c.requires.room ∙ is.files.agrees.page_size) c.requires.size in
     let few : length image ≤ 1 = omega (arith, c.if-extent-le1.true, c.count.ensures.value, is.files.agrees.count) in
-    first_far image (length image) (covered image) c.pass_pages.new.found.broken (omega arith) (λ f p past low. none_few image valid (some_pages image is.files.agrees.header) few f p past)
+    first_far image (length image) (covered image) c.pass_pages.new.found.broken (omega arith) (λ f p past low. none_few image valid (some_first image is.files.agrees.header) few f p past)
     (subst (λ (n : ℕ). IsFirstBelow image n c.pass_pages.new.found.broken) still.files.agrees.count (c.in_ok-pass_pages.ensures.broken t tells still (c.in_ok-read_first.ensures.entries t tells is) first))
 
 pub returns-then-extent-le1-clause-taken : goal.returns-then-extent-le1-clause-taken
@@ -66,7 +66,7 @@ returns-clause-broken g c t tells is first =
     let entries = subst (λ (n : ℕ). HasEntryOf image (n - 1) c.pass_pages.new.entries) count (c.in_ok-pass_pages.ensures.entries t tells still (c.in_ok-read_first.ensures.entries t tells is)) in
     let pages = subst (λ (n : ℕ). IsFirstBelow image n c.pass_pages.new.found.broken) count (c.in_ok-pass_pages.ensures.broken t tells still (c.in_ok-read_first.ensures.entries t tells is) first) in
     let valid : IsTrue (is_page_size (image_size image)) = valid_of image (length c.pass_pages.new.map) _ here of in
-    first_far image (group_end image valid) (covered image) c.look_past.new.found.broken (group_within image valid) (λ f p past low. none_far image valid (some_pages image is.files.agrees.header) f p past)
+    first_far image (group_end image valid) (covered image) c.look_past.new.found.broken (group_within image valid) (λ f p past low. none_far image valid (some_first image is.files.agrees.header) f p past)
     (subst (λ (n : ℕ). IsFirstBelow image n c.look_past.new.found.broken) (ends_of image (length c.pass_pages.new.map) _ here of) (c.look_past.ensures.broken image of map entries pages))
 
 pub returns-clause-taken : goal.returns-clause-taken

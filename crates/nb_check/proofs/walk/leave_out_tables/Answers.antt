@@ -8,12 +8,13 @@ use Rattle.nb_state.specs.Open.{Held, IsOpen}
 use Rattle.nb_alloc.proofs.DoesLaws.{tested_on}
 use Rattle.nb_walk.specs.Walks.{not_linked}
 use Rattle.nb_check.specs.Walks.{chains_on}
-use Rattle.nb_check.proofs.ListLaws.{AreOut, chains_of_pages, tables, tables_begun, tables_more, tables_are, tables_broken, none_some}
+use Rattle.nb_check.proofs.ListLaws.{AreOut, chains_of_pages, tables, tables_begun, tables_more, tables_are, tables_broken}
 use Rattle.nb_walk.proofs.WalkLaws.{so, walks_first, walks_broken, walks_split, walks_next, walks_all, walks_over, Walks}
 use Rattle.nb_model.specs.Trail.{Trail}
 use Rattle.nb_model.specs.Causes.{broken_at}
 use Rattle.nb_check.proofs.walk.leave_out_tables.Goals as goal
 use Rattle.nb_check.proofs.walk.leave_out_tables.Goals.{In_ok-leave_out_listed}
+use Rattle.nb_host.proofs.PlainLaws.{none_some}
 
 -- what came of the pages of the catalogue so far
 abbrev Out : Image → (before after : List ℕ) (old now : ℕ) → List ℕ → Type 0

@@ -11,7 +11,7 @@ use Rattle.nb_session.specs.Replies.{some_said}
 use Rattle.nb_session.proofs.ActLaws.{some_by, does_acts, does_replied, replied_err, replied_memory, may_passed, may_value, sync_acts, sync_failed, begin_acts, cache_acts}
 use Rattle.nb_session.proofs.HeaderLaws.{header_does}
 use Rattle.nb_session.proofs.TurnLaws.{seen_now}
-use Rattle.nb_state.proofs.TurnLaws.{no_call}
+use Rattle.nb_page.proofs.QuietLaws.{quiet_begun}
 use Rattle.nb_session.proofs.statement.do_statement.Goals as goal
 
 pub returns-in-Write-clause-turn : goal.returns-in-Write-clause-turn
@@ -96,7 +96,7 @@ returns-in-ShowHeader-clause-turn g c now t session tells ready =
     let w = g.H.Host.world c.args.host.now in
     let held = c.args.engine.now in
     does_acts (λ r. r) (Ok c.header_shown.result) w w held held t now session c.args.statement.now _ c.in-ShowHeader.is refl refl refl (header_turn s) refl ready
-    (header_does w held t s c.header_shown.result ready.base (no_call w (g.met.H.Host.timely _)) ready.opened (c.header_shown.ensures t.base ready.opened.files.agrees ready.opened.agrees))
+    (header_does w held t s c.header_shown.result ready.base (quiet_begun w (g.met.H.Host.timely _)) ready.opened (c.header_shown.ensures t.base ready.opened.files.agrees ready.opened.agrees))
 
 pub returns-in-ShowCache-clause-turn : goal.returns-in-ShowCache-clause-turn
 returns-in-ShowCache-clause-turn g c now t session tells ready =

@@ -7,7 +7,6 @@ use Rattle.nb_model.specs.Causes.{read_only}
 use Rattle.nb_model.specs.Forms.{is_kind}
 use Rattle.nb_host.specs.declared.refusals.Refusal.TheVariants.{NotDatabase}
 use Rattle.nb_engine.specs.Data.{unmade}
-use Rattle.nb_alloc.proofs.PutLaws.{none_of}
 use Rattle.nb_model.specs.Chains.{Catalogue}
 use Rattle.nb_model.specs.Image.{is_read_only}
 use Rattle.nb_model.specs.Outcomes.{Seen}
@@ -21,6 +20,7 @@ use Rattle.nb_table.specs.Creates.{new_cause, created_in, created_behind}
 use Rattle.nb_table.proofs.CreateTurnLaws.{create_denied, create_refused, create_at, create_last, new_formed, place_data}
 use Rattle.nb_table.proofs.PlaceLaws.{last_is_data}
 use Rattle.nb_table.proofs.ChangeLaws.{said}
+use Rattle.nb_model.proofs.TurnCases.{is_so}
 use Rattle.nb_table.proofs.creating.create.Goals as goal
 
 pub returns-in_err-check_access-clause-turn : goal.returns-in_err-check_access-clause-turn
@@ -50,7 +50,7 @@ returns-in-Some-clause-turn g c s t tells same is =
     let new = tests.test t tells is in
     let place = c.in-Some.place in
     let at = sym c.in-Some.is ∙ tests.room t tells is in
-    let kind = none_of (is_kind image data_kind place.page) (NotDatabase place.page) (place_data image (new_formed image table new) place at).1 in
+    let kind = is_so (is_kind image data_kind place.page) (NotDatabase place.page) (place_data image (new_formed image table new) place at).1 in
     let made = created_in image table place in
     tries_does done c.create_in.result _ _ _ _ t s (λ (x : Seen). create_turn x table) (unmade image made) Done refl made.strokes same
     (create_at (seeing s t.base) table (c.in_ok-check_access.ensures.test image closed) new place at) (said c.create_in.result)

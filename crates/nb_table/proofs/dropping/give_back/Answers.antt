@@ -6,7 +6,7 @@ use Rattle.nb_engine.specs.Data.{not_data}
 use Rattle.nb_engine.specs.Mark.{mark_cause}
 use Rattle.nb_engine.specs.Tries.{Tries}
 use Rattle.nb_alloc.proofs.DoesLaws.{tries_early, tries_passed, tries_after, tries_other, tries_valued}
-use Rattle.nb_table.proofs.InTableLaws.{none_some}
+use Rattle.nb_host.proofs.PlainLaws.{none_some}
 use Rattle.nb_table.proofs.dropping.give_back.Goals as goal
 
 pub returns-in_err-data_read-clause-tries : goal.returns-in_err-data_read-clause-tries

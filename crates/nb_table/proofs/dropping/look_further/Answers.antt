@@ -4,7 +4,7 @@ use Rattle.nb_model.specs.Chains.{next_in}
 use Rattle.nb_engine.specs.Behind.{give_broken}
 use Rattle.nb_engine.specs.Data.{not_data}
 use Rattle.nb_alloc.proofs.DoesLaws.{tested_on}
-use Rattle.nb_table.proofs.InTableLaws.{none_some}
+use Rattle.nb_host.proofs.PlainLaws.{none_some}
 use Rattle.nb_table.proofs.dropping.look_further.Goals as goal
 
 pub returns-in_err-data_read-clause-test : goal.returns-in_err-data_read-clause-test

@@ -14,7 +14,7 @@ use Rattle.nb_alloc.proofs.DoesLaws.{seeing, valued_does, tested_does}
 use Rattle.nb_table.specs.declared.look.Found.{Found}
 use Rattle.nb_table.specs.Walks.{spot_of}
 use Rattle.nb_table.proofs.ReadTurns.{scan_missing, scan_broken, scan_says}
-use Rattle.nb_table.proofs.InTableLaws.{none_some}
+use Rattle.nb_host.proofs.PlainLaws.{none_some}
 use Rattle.nb_table.proofs.read.scan.Goals as goal
 
 pub returns-in_err-found-clause-turn : goal.returns-in_err-found-clause-turn

@@ -22,8 +22,8 @@ use Rattle.nb_top.proofs.GeneratedGoes.{writing_goes, written_goes}
 use Rattle.nb_top.proofs.GeneratedRuns.{taken_refused}
 use Rattle.nb_top.proofs.GoesLaws.{goes_quietly, goes_refused, goes_undone}
 use Rattle.nb_top.proofs.JobRuns.{script_number}
-use Rattle.nb_top.proofs.QuietRuns.{quiet_gave}
 use Rattle.nb_top.proofs.ScriptRuns.{settled_value, settled_refusal}
+use Rattle.nb_gather.proofs.QuietLaws.{quiet_gave}
 use Rattle.nb_top.proofs.generating.run_generated.Goals as goal
 
 pub returns-in_err-is_free-clause-goes : goal.returns-in_err-is_free-clause-goes

@@ -18,15 +18,15 @@ use Rattle.nb_engine.specs.declared.walk.Walked.{Walked}
 use Rattle.nb_engine.specs.Room.{room_cause, taken_draft, grow_cause}
 use Rattle.nb_alloc.specs.Search.{IsSearchable}
 use Rattle.nb_alloc.specs.Tries.{Tries}
-use Rattle.nb_alloc.proofs.CauseLaws.{first_here}
 use Rattle.nb_alloc.proofs.DoesLaws.{tries_early, tries_passed, tries_made, tries_after, tries_other, tries_valued}
 use Rattle.nb_engine.proofs.KeepLaws.{IsSpot, kept_room, kept_below, kept_none, kept_cause, grown_room, grown_low, grown_draft, grown_cause, room_some, room_none}
 use Rattle.nb_alloc.proofs.MakeLaws.{tries_named}
 use Rattle.nb_engine.proofs.NewTurn.{searchable_of}
-use Rattle.nb_model.proofs.StepLaws.{kind_from}
 use Rattle.nb_engine.proofs.WalkLaws.{last_data, spot_data, history_least}
 use Rattle.nb_engine.proofs.engine.Engine.history_room.Goals as goal
 use Rattle.nb_engine.proofs.engine.Engine.history_room.Goals.{In-Some, In-None}
+use Rattle.nb_base.proofs.AttachLaws.{first_here}
+use Rattle.nb_model.proofs.RoundLaws.{kind_found}
 
 -- The walk has found a free slot.
 module _ (g : _) (c : goal.In-Some g) (t : Trail) (tells : IsTrue g.H.Host.tells) (is : IsOpen (g.H.Host.world c.args.host.now) c.args.self.now t) where
@@ -66,7 +66,7 @@ module _ (g : _) (c : goal.In-None g) (t : Trail) (tells : IsTrue g.H.Host.tells
   is_data : is_kind t.base.image data_kind c.in_ok-walked.last ≡ true
   is_data =
       let data_page = last_data t.base.image linked_none in
-      ap (is_kind t.base.image data_kind) last_is ∙ kind_from t.base.image data_kind (last_of (found_pages History t.base.image)) data_page.low data_page.kind
+      ap (is_kind t.base.image data_kind) last_is ∙ kind_found t.base.image data_kind (last_of (found_pages History t.base.image)) data_page.low data_page.kind
 
   shaped : IsSearchable t.base.image
   shaped = searchable_of _ _ t (subst (λ (h : Held). IsOpen (g.H.Host.world c.args.host.now) h t) (sym c.self.view_is) is) c.self.invariant.0 (history_least t.base.image linked_none)
